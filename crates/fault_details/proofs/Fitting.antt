@@ -16,19 +16,22 @@ module _ (types : List Type_) (overrides : List Override) where
   so_many (size.Pending handle) = refl
   so_many size.Dynamic = refl
 
-  pub known_within : (it : TypeInner) → knows_override (global_context types overrides) it ≡ length_within (length overrides) it
+  pub known_within : (it : TypeInner) → knows_override (global_context types overrides) it
+      ≡ length_within (length overrides) it
   known_within (inner.Array base count stride) = so_many count
   known_within (inner.BindingArray base count) = so_many count
   known_within _ = refl
 
-  pub fits_after : (it : TypeInner) → StandsAfter (length types) (length overrides) it ↔ Fits (global_context types overrides) it
+  pub fits_after : (it : TypeInner) → StandsAfter (length types) (length overrides) it ↔ Fits
+      (global_context types overrides) it
   fits_after it = (
     λ stands. record { in_range = stands.before; knows = known_within it ∙ stands.known },
     λ fits. record { before = fits.in_range; known = sym (known_within it) ∙ fits.knows },
   )
 
   -- in order, each type stands after those that it names
-  pub after_in_order : IsInOrder (global_context types overrides) → (handle : ℕ) (t : Type_) → slice_get types handle ≡ Some t →
+  pub after_in_order : IsInOrder (global_context types overrides) → (handle : ℕ) (t : Type_) →
+      slice_get types handle ≡ Some t →
       StandsAfter handle (length overrides) t.inner
   after_in_order order handle t at = record {
     before = order.before handle t at;

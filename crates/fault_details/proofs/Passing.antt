@@ -31,11 +31,15 @@ passed_item (suc n) (x ∷ xs) = passed_item n xs
 module _ (breaks continues : Bool) where
   pub block_next : (n : ℕ) (ss : List Statement) (i : ℕ) (d : Statement) → i < length ss
       → passed n (statements_in breaks continues (block_of (drop i ss)))
-      ≡ onward (passed n (record { breaks = breaks; continues = continues; tree = tree_of (slice_index_or ss i d) } ∷ statements_inside breaks continues (tree_of (slice_index_or ss i d))))
+      ≡ onward (passed n
+      (record { breaks = breaks; continues = continues; tree = tree_of (slice_index_or ss i d) }
+      ∷ statements_inside breaks continues (tree_of (slice_index_or ss i d))))
       (statements_in breaks continues (block_of (drop (i + 1) ss)))
   block_next n ss i d h =
       ap (λ ts. passed n (statements_in breaks continues (block_of ts))) (drop_more ss i d h)
-      ∙ passed_append n (record { breaks = breaks; continues = continues; tree = tree_of (slice_index_or ss i d) } ∷ statements_inside breaks continues (tree_of (slice_index_or ss i d)))
+      ∙ passed_append n
+      (record { breaks = breaks; continues = continues; tree = tree_of (slice_index_or ss i d) }
+      ∷ statements_inside breaks continues (tree_of (slice_index_or ss i d)))
       (statements_in breaks continues (block_of (drop (i + 1) ss)))
 
   pub cases_next : (n : ℕ) (cs : List SwitchCase) (i : ℕ) (d : SwitchCase) → i < length cs

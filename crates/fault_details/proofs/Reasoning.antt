@@ -1,6 +1,7 @@
 -- A fault of types has a reason: where a test fails, what is told of it is there.
 --
--- Throughout, types are a module's types, known the types of several expressions, r is one of them, h and x are handles, and fails says that a test fails.
+-- Throughout, types are a module's types, known the types of several expressions, r is one of them,
+-- h and x are handles, and fails says that a test fails.
 use Rattle.std.proofs.Common.{◌≡◌, ◌∙◌, ◌≤◌, ◌==◌, ◌&&◌, ℕ, Bool, true, false, List, [], ◌∷◌}
 use Rattle.std.proofs.Common.{length, Option, Some, None, IsSome}
 use Rattle.std.proofs.Common.{arith, ⊎_elim, ap, is_some, nat_lt, not, option_and_then, option_map}
@@ -32,8 +33,8 @@ use Rattle.module_meaning.specs.acceptance.StatementsFit.{last_falls_through, se
 use Rattle.module_meaning.specs.acceptance.StatementsFit.{selects, value_has_type}
 use Rattle.module_meaning.specs.TypeParts.{known_inner, known_pointee, pointee_type}
 use Rattle.fault_details.specs.Reasons.{Reason, OtherClass, OtherType, Unexpected, class_reason}
-use Rattle.fault_details.specs.Reasons.{is_in_class, case_value_reason, label_type_reason}
-use Rattle.fault_details.specs.Reasons.{label_types_reason}
+use Rattle.fault_details.specs.Reasons.{is_in_class, case_value_reason, case_value_type_reason}
+use Rattle.fault_details.specs.Reasons.{case_value_types_reason}
 use Rattle.fault_details.specs.Reasons.{need_unless, number_reason, passed_reason, return_reason}
 use Rattle.fault_details.specs.Reasons.{store_reason, stored_reason, switch_reason, type_reason}
 use Rattle.fault_details.specs.Reasons.{unlike}
@@ -58,7 +59,8 @@ module _ {X : Type 0} where
   some_unless true x fails = absurd (true≢false fails)
   some_unless false x fails = refl
 
-  pub some_then : {Y : Type 0} (f : Y → Option X) (o : Option Y) (y : Y) → o ≡ Some y → IsSome (f y) → IsSome (option_and_then f o)
+  pub some_then : {Y : Type 0} (f : Y → Option X) (o : Option Y) (y : Y) → o ≡ Some y → IsSome (f y) →
+      IsSome (option_and_then f o)
   some_then f o y is some = ap (λ o. is_some (option_and_then f o)) is ∙ some
 
 -- a test that asks whether something is gives false where nothing is given
@@ -68,8 +70,11 @@ none_is test g same None none = refl
 none_is test g same (Some x) none = same x ∙ ap is_some none
 
 -- an item before the end of a list is there
-pub item_before : {X : Type 0} (xs : List X) (n h : ℕ) → n ≤ length xs → nat_lt h n ≡ true → (x : X) × (slice_get xs h ≡ Some x)
-item_before xs n h within below = ⊎_elim (λ found. (found.0, found.2)) (λ past. absurd (omega (arith, within, past.0, ltb-true h n below))) (slice_get_cases xs h).1
+pub item_before : {X : Type 0} (xs : List X) (n h : ℕ) → n ≤ length xs → nat_lt h n ≡ true →
+    (x : X) × (slice_get xs h ≡ Some x)
+item_before xs n h within below =
+    ⊎_elim (λ found. (found.0, found.2)) (λ past. absurd (omega (arith, within, past.0, ltb-true h n below)))
+    (slice_get_cases xs h).1
 
 -- ---- types
 
@@ -77,29 +82,38 @@ module _ (types : List Type_) (known : List TypeResolution) where
   abbrev pub IsKnown : ℕ → Type 0
   IsKnown h = (r : TypeResolution) × (slice_get known h ≡ Some r)
 
-  pub seen : (demand : TypeInner → Bool) (h : ℕ) (k : IsKnown h) → operand_is types known demand h ≡ option_map_or demand (inner_of k.0 types) false
+  pub seen : (demand : TypeInner → Bool) (h : ℕ) (k : IsKnown h) → operand_is types known demand h
+      ≡ option_map_or demand (inner_of k.0 types) false
   seen demand h k = ap (λ o. option_map_or demand (option_and_then (λ r. inner_of r types) o) false) k.1
 
   -- an operand of no type of a class
-  pub class_told : (it : TypeClass) (h : ℕ) → IsKnown h → operand_is types known (is_in_class types it) h ≡ false → IsSome (class_reason types known it h)
+  pub class_told : (it : TypeClass) (h : ℕ) → IsKnown h → operand_is types known (is_in_class types it) h
+      ≡ false → IsSome (class_reason types known it h)
   class_told it h k fails =
-      some_then (λ r. if option_map_or (is_in_class types it) (inner_of r types) false then None else Some (OtherClass it r)) (slice_get known h) k.0 k.1
-      (some_unless (option_map_or (is_in_class types it) (inner_of k.0 types) false) (OtherClass it k.0) (sym (seen (is_in_class types it) h k) ∙ fails))
+      some_then (λ r. if option_map_or (is_in_class types it) (inner_of r types) false then None else Some
+      (OtherClass it r)) (slice_get known h) k.0 k.1
+      (some_unless (option_map_or (is_in_class types it) (inner_of k.0 types) false) (OtherClass it k.0)
+      (sym (seen (is_in_class types it) h k) ∙ fails))
 
   -- a value of another type
-  pub type_told : (wanted : TypeResolution) (h : ℕ) → IsKnown h → value_has_type types known h wanted ≡ false → IsSome (type_reason types known wanted h)
+  pub type_told : (wanted : TypeResolution) (h : ℕ) → IsKnown h → value_has_type types known h wanted ≡ false →
+      IsSome (type_reason types known wanted h)
   type_told wanted h k fails =
       some_then (unlike types wanted) (slice_get known h) k.0 k.1
-      (some_unless (are_alike types k.0 wanted) (OtherType wanted k.0) (sym (ap (λ o. option_map_or (λ r. are_alike types r wanted) o false) k.1) ∙ fails))
+      (some_unless (are_alike types k.0 wanted) (OtherType wanted k.0)
+      (sym (ap (λ o. option_map_or (λ r. are_alike types r wanted) o false) k.1) ∙ fails))
 
   -- ---- values that are stored, returned and passed
 
-  pub store_told : (pointer value : ℕ) → IsKnown pointer → IsKnown value → is_stored types known pointer value ≡ false → IsSome (store_reason types known pointer value)
+  pub store_told : (pointer value : ℕ) → IsKnown pointer → IsKnown value → is_stored types known pointer value
+      ≡ false → IsSome (store_reason types known pointer value)
   store_told pointer value k v fails = by (known_pointee types known pointer) refl fails
     where
-      by : (o : Option TypeResolution) → known_pointee types known pointer ≡ o → option_map_or (λ wanted. value_has_type types known value wanted) o false ≡ false →
+      by : (o : Option TypeResolution) → known_pointee types known pointer ≡ o →
+          option_map_or (λ wanted. value_has_type types known value wanted) o false ≡ false →
           IsSome (stored_reason types known value pointer o)
-      by None e unread = class_told class.Pointer pointer k (none_is (is_pointer types) (pointee_type types) (λ it. refl) (known_inner types known pointer) e)
+      by None e unread = class_told class.Pointer pointer k (none_is (is_pointer types) (pointee_type types)
+          (λ it. refl) (known_inner types known pointer) e)
       by (Some wanted) e other = type_told wanted value v other
 
   pub return_told : (answer : Option FunctionResult) (value : Option ℕ) → ((h : ℕ) → value ≡ Some h → IsKnown h) →
@@ -110,7 +124,8 @@ module _ (types : List Type_) (known : List TypeResolution) where
   return_told None None there fails = absurd (true≢false fails)
 
   module _ (n : ℕ) (there : (h : ℕ) → nat_lt h n ≡ true → IsKnown h) where
-    pub passed_told : (arguments : List FunctionArgument) (xs : List ℕ) → length arguments ≡ length xs → all_below n xs ≡ true →
+    pub passed_told : (arguments : List FunctionArgument) (xs : List ℕ) → length arguments ≡ length xs →
+        all_below n xs ≡ true →
         are_passed types known arguments xs ≡ false → IsSome (passed_reason types known arguments xs)
     passed_told [] [] same below fails = absurd (true≢false fails)
     passed_told [] (x ∷ xs) same below fails = absurd (omega (arith, same))
@@ -118,76 +133,98 @@ module _ (types : List Type_) (known : List TypeResolution) where
     passed_told (a ∷ arguments) (x ∷ xs) same below fails =
         let parts = and_parts (nat_lt x n) (all_below n xs) below in
         ⊎_elim
-        (λ first. some_first (type_reason types known (Handle a.ty) x) (passed_reason types known arguments xs) (type_told (Handle a.ty) x (there x parts.0) first))
-        (λ later. some_second (type_reason types known (Handle a.ty) x) (passed_reason types known arguments xs) (passed_told arguments xs (omega (arith, same)) parts.1 later))
+        (λ first. some_first (type_reason types known (Handle a.ty) x) (passed_reason types known arguments xs)
+        (type_told (Handle a.ty) x (there x parts.0) first))
+        (λ later. some_second (type_reason types known (Handle a.ty) x) (passed_reason types known arguments xs)
+        (passed_told arguments xs (omega (arith, same)) parts.1 later))
         (and_cases (value_has_type types known x (Handle a.ty)) (are_passed types known arguments xs) fails)
 
     -- another number of values is passed, or one of another type; what else is told comes after it
-    pub call_told : (arguments : List FunctionArgument) (xs : List ℕ) (further : Option Reason) → all_below n xs ≡ true → are_passed types known arguments xs ≡ false →
-        IsSome (option_or (number_reason counted.Arguments (length arguments) (length xs)) (option_or (passed_reason types known arguments xs) further))
+    pub call_told : (arguments : List FunctionArgument) (xs : List ℕ) (further : Option Reason) → all_below n xs
+        ≡ true → are_passed types known arguments xs ≡ false →
+        IsSome (option_or (number_reason counted.Arguments (length arguments) (length xs))
+        (option_or (passed_reason types known arguments xs) further))
     call_told arguments xs further below fails = by (length arguments == length xs) refl
       where
         by : (same : Bool) → (length arguments == length xs) ≡ same →
-            IsSome (option_or (number_reason counted.Arguments (length arguments) (length xs)) (option_or (passed_reason types known arguments xs) further))
+            IsSome (option_or (number_reason counted.Arguments (length arguments) (length xs))
+            (option_or (passed_reason types known arguments xs) further))
         by true same =
-            some_second (number_reason counted.Arguments (length arguments) (length xs)) (option_or (passed_reason types known arguments xs) further)
-            (some_first (passed_reason types known arguments xs) further (passed_told arguments xs (eqb-true (length arguments) (length xs) same) below fails))
+            some_second (number_reason counted.Arguments (length arguments) (length xs))
+            (option_or (passed_reason types known arguments xs) further)
+            (some_first (passed_reason types known arguments xs) further
+            (passed_told arguments xs (eqb-true (length arguments) (length xs) same) below fails))
         by false other =
-            some_first (number_reason counted.Arguments (length arguments) (length xs)) (option_or (passed_reason types known arguments xs) further)
+            some_first (number_reason counted.Arguments (length arguments) (length xs))
+            (option_or (passed_reason types known arguments xs) further)
             (some_unless (length arguments == length xs) _ other)
 
   -- ---- switches
 
-  label_type_told : (s : Scalar) (v : SwitchValue) → case_value_is_of s v ≡ false → IsSome (label_type_reason s v)
+  label_type_told : (s : Scalar) (v : SwitchValue) → case_value_is_of s v ≡ false → IsSome (case_value_type_reason s v)
   label_type_told s (switch_value.I32 number) fails = some_unless _ _ fails
   label_type_told s (switch_value.U32 number) fails = some_unless _ _ fails
   label_type_told s switch_value.Default fails = absurd (true≢false fails)
 
-  label_types_told : (s : Scalar) (cs : CaseTrees) → case_values_are_of s cs ≡ false → IsSome (label_types_reason s cs)
+  label_types_told : (s : Scalar) (cs : CaseTrees) → case_values_are_of s cs ≡ false → IsSome (case_value_types_reason s cs)
   label_types_told s no_cases fails = absurd (true≢false fails)
   label_types_told s (case v b falls cs) fails =
       ⊎_elim
-      (λ first. some_first (label_type_reason s v) (label_types_reason s cs) (label_type_told s v first))
-      (λ later. some_second (label_type_reason s v) (label_types_reason s cs) (label_types_told s cs later))
+      (λ first. some_first (case_value_type_reason s v) (case_value_types_reason s cs) (label_type_told s v first))
+      (λ later. some_second (case_value_type_reason s v) (case_value_types_reason s cs) (label_types_told s cs later))
       (and_cases (case_value_is_of s v) (case_values_are_of s cs) fails)
 
   need_told : (test : Bool) (it : Need) → test ≡ false → IsSome (need_unless test it)
   need_told test it fails = some_unless test _ fails
 
-  labels_told : (s : Scalar) (cs : CaseTrees) → case_values_fit s cs ≡ false → IsSome (case_value_reason cs (inner.Scalar s))
+  labels_told : (s : Scalar) (cs : CaseTrees) → case_values_fit s cs ≡ false →
+      IsSome (case_value_reason cs (inner.Scalar s))
   labels_told s cs fails =
       let differ = need_unless (case_values_differ cs) need.DistinctCaseValues in
       let default = need_unless (has_case_value switch_value.Default cs) need.Default in
       let end = need_unless (not (last_falls_through false cs)) need.End in
       ⊎_elim
-      (λ a. some_first (label_types_reason s cs) (option_or differ (option_or default end)) (label_types_told s cs a))
-      (λ others. some_second (label_types_reason s cs) (option_or differ (option_or default end)) (⊎_elim
+      (λ a. some_first (case_value_types_reason s cs) (option_or differ (option_or default end)) (label_types_told s cs a))
+      (λ others. some_second (case_value_types_reason s cs) (option_or differ (option_or default end)) (⊎_elim
       (λ b. some_first differ (option_or default end) (need_told _ _ b))
       (λ last. some_second differ (option_or default end) (⊎_elim
       (λ c. some_first default end (need_told _ _ c))
       (λ d. some_second default end (need_told _ _ d))
       (and_cases (has_case_value switch_value.Default cs) (not (last_falls_through false cs)) last)))
-      (and_cases (case_values_differ cs) (has_case_value switch_value.Default cs && not (last_falls_through false cs)) others)))
-      (and_cases (case_values_are_of s cs) (case_values_differ cs && (has_case_value switch_value.Default cs && not (last_falls_through false cs))) fails)
+      (and_cases (case_values_differ cs) (has_case_value switch_value.Default cs
+      && not (last_falls_through false cs)) others)))
+      (and_cases (case_values_are_of s cs)
+      (case_values_differ cs && (has_case_value switch_value.Default cs
+      && not (last_falls_through false cs))) fails)
 
-  pub switch_told : (selector : ℕ) (cs : CaseTrees) → IsKnown selector → is_selection types known selector cs ≡ false → IsSome (switch_reason types known selector cs)
+  pub switch_told : (selector : ℕ) (cs : CaseTrees) → IsKnown selector → is_selection types known selector cs
+      ≡ false → IsSome (switch_reason types known selector cs)
   switch_told selector cs k fails = by (known_inner types known selector) refl fails
     where
-      first : (o : Option TypeInner) → known_inner types known selector ≡ o → option_map_or (is_in_class types class.Selector) o false ≡ false → IsSome (switch_reason types known selector cs)
+      first : (o : Option TypeInner) → known_inner types known selector ≡ o →
+          option_map_or (is_in_class types class.Selector) o false ≡ false →
+          IsSome (switch_reason types known selector cs)
       first o e other =
-          some_first (class_reason types known class.Selector selector) _ (class_told class.Selector selector k (ap (λ o. option_map_or (is_in_class types class.Selector) o false) e ∙ other))
+          some_first (class_reason types known class.Selector selector) _
+          (class_told class.Selector selector k
+          (ap (λ o. option_map_or (is_in_class types class.Selector) o false) e ∙ other))
 
-      scalar : (s : Scalar) → known_inner types known selector ≡ Some (inner.Scalar s) → (selects s && case_values_fit s cs) ≡ false → IsSome (switch_reason types known selector cs)
+      scalar : (s : Scalar) → known_inner types known selector ≡ Some (inner.Scalar s) →
+          (selects s && case_values_fit s cs) ≡ false → IsSome (switch_reason types known selector cs)
       scalar s e fails =
           ⊎_elim
           (λ other. first (Some (inner.Scalar s)) e other)
-          (λ labels. some_second (class_reason types known class.Selector selector) _ (some_then (case_value_reason cs) (known_inner types known selector) (inner.Scalar s) e (labels_told s cs labels)))
+          (λ labels. some_second (class_reason types known class.Selector selector) _
+          (some_then (case_value_reason cs) (known_inner types known selector) (inner.Scalar s) e
+          (labels_told s cs labels)))
           (and_cases (selects s) (case_values_fit s cs) fails)
 
-      one : (it : TypeInner) → known_inner types known selector ≡ Some it → selection_fits cs it ≡ false → IsSome (switch_reason types known selector cs)
+      one : (it : TypeInner) → known_inner types known selector ≡ Some it → selection_fits cs it ≡ false →
+          IsSome (switch_reason types known selector cs)
       one (inner.Scalar s) e fails = scalar s e fails
       one _ e fails = first _ e refl
 
-      by : (o : Option TypeInner) → known_inner types known selector ≡ o → option_map_or (selection_fits cs) o false ≡ false → IsSome (switch_reason types known selector cs)
+      by : (o : Option TypeInner) → known_inner types known selector ≡ o →
+          option_map_or (selection_fits cs) o false ≡ false → IsSome (switch_reason types known selector cs)
       by None e fails = first None e refl
       by (Some it) e fails = one it e fails

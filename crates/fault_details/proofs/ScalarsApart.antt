@@ -16,14 +16,17 @@ use Rattle.module_meaning.specs.TypeIdentity.{kind_number, level}
 
 -- Numbers of scalars begin with 0 and the kind's, and those of a type without a form with another one.
 apart : (a b w : ℕ) (unspelled : List ℕ) → (a == b) ≡ false → (formed : Bool) →
-    bytes_eq (level 0 a 4 0 0 0) (unwrap_or (if formed then Some (level 0 b w 0 0 0) else None) (32 ∷ unspelled)) ≡ false
+    bytes_eq (level 0 a 4 0 0 0) (unwrap_or (if formed then Some (level 0 b w 0 0 0) else None)
+    (32 ∷ unspelled)) ≡ false
 apart a b w unspelled differ true = rw differ refl
 apart a b w unspelled differ false = refl
 
 module _ (types : List Type_) (w : ℕ) where
-  scalar_apart : (k l : ScalarKind) → is_some (scalar_word (scalar_of k 4)) ≡ true → (kind_number k == kind_number l) ≡ false →
+  scalar_apart : (k l : ScalarKind) → is_some (scalar_word (scalar_of k 4)) ≡ true →
+      (kind_number k == kind_number l) ≡ false →
       are_alike types (Value (inner.Scalar (scalar_of k 4))) (Value (inner.Scalar (scalar_of l w))) ≡ false
-  scalar_apart k l formed differ = rw formed (apart (kind_number k) (kind_number l) w _ differ (is_some (scalar_word (scalar_of l w))))
+  scalar_apart k l formed differ =
+      rw formed (apart (kind_number k) (kind_number l) w _ differ (is_some (scalar_word (scalar_of l w))))
 
   pub signed_apart : (k : ScalarKind) → is_signed k ≡ false →
       are_alike types (Value (inner.Scalar (scalar_of kind.Sint 4))) (Value (inner.Scalar (scalar_of k w))) ≡ false

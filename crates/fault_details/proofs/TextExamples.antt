@@ -15,7 +15,8 @@ one_wanted : many_text 1 counted.Arguments ≡ codes "1 argument"
 unfolding digits
 one_wanted = refl
 
-not_before : wanted_text (wanted.EarlierItem list.Expressions 7 3) ≡ codes "names expressions[7], wanted one before expressions[3]"
+not_before : wanted_text (wanted.EarlierItem list.Expressions 7 3)
+    ≡ codes "names expressions[7], wanted one before expressions[3]"
 unfolding digits
 not_before = refl
 

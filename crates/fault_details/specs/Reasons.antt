@@ -17,7 +17,7 @@ use Rattle.indexmap.specs.IndexMap.{keys, values}
 use Rattle.naga_ir.specs.contracts.expression.SwizzleComponent.{the_type as letter_type}
 use Rattle.naga_ir.specs.Operands.{expression_operands, own_operands, own_result}
 use Rattle.naga_ir.specs.StatementTree.{SimpleStatement, emit, break, continue, return, store}
-use Rattle.naga_ir.specs.StatementTree.{atomic, call, cooperative_store, subgroup_ballot}
+use Rattle.naga_ir.specs.StatementTree.{atomic, call, subgroup_ballot}
 use Rattle.naga_ir.specs.StatementTree.{subgroup_collective_operation, subgroup_gather}
 use Rattle.naga_ir.specs.StatementTree.{work_group_uniform_load}
 use Rattle.naga_ir.specs.StatementTree.{StatementTree, simple, branch, switch, loop, CaseTrees}
@@ -61,7 +61,8 @@ use Rattle.module_meaning.specs.acceptance.ExpressionTypes.{Nothing}
 use Rattle.module_meaning.specs.acceptance.ExpressionTypes.{is_bool, expected_type}
 use Rattle.module_meaning.specs.acceptance.OperandDemands.{is_components, is_integer, is_pointer}
 use Rattle.module_meaning.specs.acceptance.OperandDemands.{points_to_components}
-use Rattle.module_meaning.specs.acceptance.StatementsFit.{has_case_value, is_atomic_result}
+use Rattle.module_meaning.specs.acceptance.StatementsFit.{components_pointer, has_case_value}
+use Rattle.module_meaning.specs.acceptance.StatementsFit.{is_atomic_result}
 use Rattle.module_meaning.specs.acceptance.StatementsFit.{is_ballot_result}
 use Rattle.module_meaning.specs.acceptance.StatementsFit.{is_result, is_result_of}
 use Rattle.module_meaning.specs.acceptance.StatementsFit.{is_subgroup_result}
@@ -69,7 +70,7 @@ use Rattle.module_meaning.specs.acceptance.StatementsFit.{is_signed, is_uniform_
 use Rattle.module_meaning.specs.acceptance.StatementsFit.{is_unsigned}
 use Rattle.module_meaning.specs.acceptance.StatementsFit.{case_values_differ, last_falls_through}
 use Rattle.module_meaning.specs.acceptance.StatementsFit.{selects}
-use Rattle.module_meaning.specs.TypeIdentity.{vector_number}
+use Rattle.module_meaning.specs.TypeIdentity.{component_count}
 use Rattle.module_meaning.specs.TypeParts.{has_computed_parts, inner_at, known_inner}
 use Rattle.module_meaning.specs.TypeParts.{known_pointee, part_count, points_to_atomic}
 use Rattle.module_meaning.specs.TypeParts.{vector_scalar}
@@ -276,7 +277,7 @@ index_reason index count = if nat_lt index count then None else Some (PastParts 
 
 -- Does the type have a component for the letter?
 abbrev pub has_letter : SwizzleComponent → TypeInner → Bool
-has_letter letter (inner.Vector n s) = nat_lt (tag_of letter_type letter) (vector_number n)
+has_letter letter (inner.Vector n s) = nat_lt (tag_of letter_type letter) (component_count n)
 has_letter letter it = false
 
 -- a type that has none
@@ -291,7 +292,7 @@ abbrev pub swizzle_reason :
     (vector : ℕ) → Option Reason
 swizzle_reason types known chosen letters vector =
     option_and_then
-    (λ r. first_reason (letter_reason types r) (take (vector_number chosen) letters))
+    (λ r. first_reason (letter_reason types r) (take (component_count chosen) letters))
     (slice_get known vector)
 
 -- what an expression asks of its operands
@@ -326,23 +327,23 @@ scalar_unless test wanted got =
     if test then None
     else Some (OtherType (Value (inner.Scalar wanted)) (Value (inner.Scalar got)))
 
-abbrev pub label_type_reason : Scalar → SwitchValue → Option Reason
-label_type_reason s (switch_value.I32 number) =
+abbrev pub case_value_type_reason : Scalar → SwitchValue → Option Reason
+case_value_type_reason s (switch_value.I32 number) =
     scalar_unless (is_signed s.kind) s (scalar_of kind.Sint 4)
-label_type_reason s (switch_value.U32 number) =
+case_value_type_reason s (switch_value.U32 number) =
     scalar_unless (is_unsigned s.kind) s (scalar_of kind.Uint 4)
-label_type_reason s switch_value.Default = None
+case_value_type_reason s switch_value.Default = None
 
 -- the first case value of another scalar
-abbrev pub label_types_reason : Scalar → CaseTrees → Option Reason
-label_types_reason s no_cases = None
-label_types_reason s (case v b falls cs) =
-    option_or (label_type_reason s v) (label_types_reason s cs)
+abbrev pub case_value_types_reason : Scalar → CaseTrees → Option Reason
+case_value_types_reason s no_cases = None
+case_value_types_reason s (case v b falls cs) =
+    option_or (case_value_type_reason s v) (case_value_types_reason s cs)
 
 -- case values of a selector that is this scalar
 abbrev pub case_value_reason : CaseTrees → TypeInner → Option Reason
 case_value_reason cs (inner.Scalar s) =
-    option_or (label_types_reason s cs)
+    option_or (case_value_types_reason s cs)
     (option_or (need_unless (case_values_differ cs) need.DistinctCaseValues)
     (option_or (need_unless (has_case_value switch_value.Default cs) need.Default)
     (need_unless (not (last_falls_through false cs)) need.End)))
@@ -409,11 +410,6 @@ call_reason types known f function arguments outcome callee =
 abbrev pub result_reason : (Expression → Bool) → Function → (outcome : ℕ) → Option Reason
 result_reason test f outcome = need_unless (is_result test f outcome) need.OwnResult
 
--- the type that a statement wants of one of its operands, where it wants nothing else
-abbrev pub class_wanted : SimpleStatement → Option (TypeClass × ℕ)
-class_wanted (cooperative_store target place) = Some (class.ComponentsPointer, place.pointer)
-class_wanted _ = None
-
 abbrev pub simple_reason :
     Module → Function → (known : List TypeResolution) → (breaks continues : Bool) →
     SimpleStatement → Option Reason
@@ -439,7 +435,7 @@ simple_reason m f known breaks continues
     (subgroup_collective_operation op collective_op argument outcome) =
     result_reason is_subgroup_result f outcome
 simple_reason m f known breaks continues s =
-    option_and_then (λ p. class_reason m.types known p.0 p.1) (class_wanted s)
+    option_and_then (class_reason m.types known class.ComponentsPointer) (components_pointer s)
 
 -- a statement by itself, its blocks left out, does not get what it wants
 abbrev pub own_reason :

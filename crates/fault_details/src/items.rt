@@ -274,7 +274,7 @@ fn placed_reason<'a>(
         number) }
 {
     match statement_at(&function.body, number) {
-        Some(place) => statement_reason(module, callees, function, known, fault, place),
+        Some(position) => statement_reason(module, callees, function, known, fault, position),
         None => None,
     }
 }
@@ -286,12 +286,12 @@ fn function_reason<'a>(
     function: &Function,
     known: Known<'a>,
     fault: Fault,
-    place: FunctionPosition,
+    position: FunctionPosition,
 ) -> Option<Reason<'a>>
     ensures { option_map shown result ≡ function_reason «module».now callees function.now
-        (known_types known.entry) fault place }
+        (known_types known.entry) fault position }
 {
-    match place {
+    match position {
         FunctionPosition::Whole => whole_reason(module, function, known, fault),
         FunctionPosition::Local(handle) => local_reason(module, function, known, fault, handle),
         FunctionPosition::Expression(handle) => {
@@ -308,18 +308,25 @@ fn entry_point_reason<'a>(
     entry_point: &EntryPoint,
     known: Known<'a>,
     fault: Fault,
-    place: FunctionPosition,
+    position: FunctionPosition,
 ) -> Option<Reason<'a>>
     ensures { option_map shown result ≡ entry_point_reason «module».now entry_point.now
-        (known_types known.entry) fault place }
+        (known_types known.entry) fault position }
 {
-    match (place, fault) {
+    match (position, fault) {
         (FunctionPosition::Whole, Fault::Names) => {
             variables_reason(module.global_variables.len(), entry_point)
         }
         _ => {
             let callees = module.functions.len();
-            function_reason(module, callees, &entry_point.function, known, fault, place)
+            function_reason(
+                module,
+                callees,
+                &entry_point.function,
+                known,
+                fault,
+                position,
+            )
         }
     }
 }
@@ -339,10 +346,10 @@ fn function_reason_at<'a>(
     info: &'a ModuleInfo,
     fault: Fault,
     handle: Handle<Function>,
-    place: FunctionPosition,
+    position: FunctionPosition,
 ) -> Option<Reason<'a>>
     ensures { option_map shown result
-        ≡ item_reason «module».now info.now fault (Item.Function handle place) }
+        ≡ item_reason «module».now info.now fault (Item.Function handle position) }
 {
     let index = handle.index();
     if index < module.functions.len() {
@@ -353,7 +360,7 @@ fn function_reason_at<'a>(
             &module.functions[handle],
             known,
             fault,
-            place,
+            position,
         )
     } else {
         None
@@ -365,15 +372,15 @@ fn entry_point_reason_at<'a>(
     info: &'a ModuleInfo,
     fault: Fault,
     index: usize,
-    place: FunctionPosition,
+    position: FunctionPosition,
 ) -> Option<Reason<'a>>
     ensures { option_map shown result
-        ≡ item_reason «module».now info.now fault (Item.EntryPoint index place) }
+        ≡ item_reason «module».now info.now fault (Item.EntryPoint index position) }
 {
     match module.entry_points.get(index) {
         Some(entry_point) => {
             let known = known_at(info.entry_points.as_slice(), index);
-            entry_point_reason(module, entry_point, known, fault, place)
+            entry_point_reason(module, entry_point, known, fault, position)
         }
         None => None,
     }
@@ -458,9 +465,11 @@ fn item_reason<'a>(
         Item::Override(handle) => override_reason(module, info, fault, handle),
         Item::GlobalVariable(handle) => variable_reason(module, info, fault, handle),
         Item::GlobalExpression(handle) => global_expression_reason(module, info, fault, handle),
-        Item::Function(handle, place) => function_reason_at(module, info, fault, handle, place),
-        Item::EntryPoint(index, place) => {
-            entry_point_reason_at(module, info, fault, index, place)
+        Item::Function(handle, position) => function_reason_at(
+            module, info, fault, handle, position,
+        ),
+        Item::EntryPoint(index, position) => {
+            entry_point_reason_at(module, info, fault, index, position)
         }
     }
 }

@@ -121,8 +121,8 @@ fn with_place(
 {
     match named {
         Some(base) => {
-            let place = Numbered(ListName::Types, base.index());
-            format!(in alloc; "{} of {}", alone, place)
+            let position = Numbered(ListName::Types, base.index());
+            format!(in alloc; "{} of {}", alone, position)
         }
         None => Ok(alone),
     }

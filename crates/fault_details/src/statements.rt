@@ -8,8 +8,8 @@ ghost use Rattle.module_meaning.specs.acceptance.StatementsFit.{is_atomic_result
 ghost use Rattle.module_meaning.specs.acceptance.StatementsFit.{is_subgroup_result};
 ghost use Rattle.module_meaning.specs.acceptance.StatementsFit.{is_uniform_load_result};
 ghost use Rattle.fault_details.specs.Reasons.{answer_reason, call_reason, class_reason};
-ghost use Rattle.fault_details.specs.Reasons.{case_value_reason, label_type_reason};
-ghost use Rattle.fault_details.specs.Reasons.{label_types_reason, own_reason, passed_reason};
+ghost use Rattle.fault_details.specs.Reasons.{case_value_reason, case_value_type_reason};
+ghost use Rattle.fault_details.specs.Reasons.{case_value_types_reason, own_reason, passed_reason};
 ghost use Rattle.fault_details.specs.Reasons.{result_reason, return_reason, store_reason};
 ghost use Rattle.fault_details.specs.Reasons.{statement_reason, switch_reason};
 ghost use Rattle.fault_details.specs.Shown.{placed, shown};
@@ -23,8 +23,8 @@ use naga_acceptance::Fault;
 use naga_acceptance::expression_types::pointee_at;
 use naga_acceptance::parts::{InferredType, Known, known_inner, known_type};
 use naga_acceptance::statements::{
-    case_values_differ, has_case_value, is_atomic_result, is_ballot_result, is_call_result,
-    is_subgroup_result, is_uniform_load_result, last_falls_through,
+    case_values_differ, components_pointer, has_case_value, is_atomic_result, is_ballot_result,
+    is_call_result, is_subgroup_result, is_uniform_load_result, last_falls_through,
 };
 use naga_ir::{
     Expression, Function, FunctionArgument, FunctionResult, Handle, Module, Scalar, ScalarKind,
@@ -49,10 +49,10 @@ fn condition_reason<'a>(
 // ---- switches
 
 /// A case value of another type than the selector.
-fn label_type_reason<'a>(scalar: Scalar, label: SwitchValue) -> Option<Reason<'a>>
-    ensures { option_map shown result ≡ label_type_reason scalar label }
+fn case_value_type_reason<'a>(scalar: Scalar, case_value: SwitchValue) -> Option<Reason<'a>>
+    ensures { option_map shown result ≡ case_value_type_reason scalar case_value }
 {
-    let kind = match (label, scalar.kind) {
+    let kind = match (case_value, scalar.kind) {
         (SwitchValue::I32(_), ScalarKind::Sint) => return None,
         (SwitchValue::U32(_), ScalarKind::Uint) => return None,
         (SwitchValue::Default, _) => return None,
@@ -65,11 +65,11 @@ fn label_type_reason<'a>(scalar: Scalar, label: SwitchValue) -> Option<Reason<'a
     })
 }
 
-fn label_types_reason<'a>(scalar: Scalar, cases: &[SwitchCase]) -> Option<Reason<'a>>
-    ensures { option_map shown result ≡ label_types_reason scalar (cases_of cases.now) }
+fn case_value_types_reason<'a>(scalar: Scalar, cases: &[SwitchCase]) -> Option<Reason<'a>>
+    ensures { option_map shown result ≡ case_value_types_reason scalar (cases_of cases.now) }
 {
     for case in cases {
-        let found = label_type_reason(scalar, case.value);
+        let found = case_value_type_reason(scalar, case.value);
         if found.is_some() {
             return found;
         }
@@ -81,7 +81,7 @@ fn scalar_case_value_reason<'a>(scalar: Scalar, cases: &[SwitchCase]) -> Option<
     ensures { option_map shown result
         ≡ case_value_reason (cases_of cases.now) (TypeInner.Scalar scalar) }
 {
-    let found = label_types_reason(scalar, cases);
+    let found = case_value_types_reason(scalar, cases);
     if found.is_some() {
         return found;
     }
@@ -357,10 +357,10 @@ fn own_reason<'a>(
             result: outcome,
             ..
         } => subgroup_reason(function, *outcome),
-        Statement::CooperativeStore { data_, .. } => {
-            class_reason(types, known, TypeClass::ComponentsPointer, data_.pointer)
-        }
-        _ => None,
+        _ => match components_pointer(statement) {
+            Some(pointer) => class_reason(types, known, TypeClass::ComponentsPointer, pointer),
+            None => None,
+        },
     }
 }
 

@@ -3,7 +3,7 @@
 ghost use Rattle.std.specs.Prelude.{◌≡◌, [], false, take};
 ghost use Rattle.std.specs.Option.{option_and_then, option_copied, option_map, option_map_or};
 ghost use Rattle.std.specs.Option.{option_or};
-ghost use Rattle.module_meaning.specs.TypeIdentity.{vector_number};
+ghost use Rattle.module_meaning.specs.TypeIdentity.{component_count};
 ghost use Rattle.module_meaning.specs.TypeParts.{known_inner, part_count};
 ghost use Rattle.naga_acceptance.specs.KnownTypes.{inferred, known_types, wanted};
 ghost use Rattle.naga_info.specs.Resolution.{inner_of};
@@ -21,7 +21,7 @@ use naga_acceptance::alike::is_like;
 use naga_acceptance::demands::{is_components, is_integer, is_pointer, points_to_components};
 use naga_acceptance::expression_types::{Expected, expected_type, is_bool};
 use naga_acceptance::parts::{
-    InferredType, Known, has_computed_parts, known_inner, known_type, part_count, vector_number,
+    InferredType, Known, component_count, has_computed_parts, known_inner, known_type, part_count,
     vector_scalar,
 };
 use naga_acceptance::statements::{points_to_atomic, selects};
@@ -218,7 +218,7 @@ fn has_letter(letter: SwizzleComponent, inner: &TypeInner) -> bool
     ensures { result ≡ has_letter letter inner.now }
 {
     match inner {
-        TypeInner::Vector { size, .. } => (letter as usize) < vector_number(*size),
+        TypeInner::Vector { size, .. } => (letter as usize) < component_count(*size),
         _ => false,
     }
 }
@@ -271,7 +271,7 @@ fn letters_reason<'a>(
 
 /// The letters of a swizzle, as many as are chosen.
 fn chosen_letters(chosen: VectorSize, letters: &[SwizzleComponent; 4]) -> &[SwizzleComponent]
-    ensures { result.now ≡ take (vector_number chosen) letters.now }
+    ensures { result.now ≡ take (component_count chosen) letters.now }
 {
     match chosen {
         VectorSize::Bi => &letters[..2],

@@ -1,6 +1,7 @@
 -- The digits and the exponent by which a number of eight bytes is written tell what its numeral
 -- denotes, and their text is read so.
-use Rattle.std.proofs.Common.{◌≡◌, ℕ, suc, ◌+◌, ◌-◌, ◌*◌, ◌^◌, ◌<◌, ◌≤◌, refl, sym, ap, ◌∙◌, arith, Bool, true, false, cond}
+use Rattle.std.proofs.Common.{◌≡◌, ℕ, suc, ◌+◌, ◌-◌, ◌*◌, ◌^◌, ◌<◌, ◌≤◌, refl, sym, ap, ◌∙◌, arith}
+use Rattle.std.proofs.Common.{Bool, true, false, cond}
 use Rattle.std.proofs.Common.{ℤ, pos, negsuc, nat_abs, ◌+ℤ◌, List, [], ◌∷◌, ◌++◌, length, take, drop, replicate}
 use Rattle.std.specs.Prelude.{Some}
 use Rattle.std.specs.Float.{Format}
@@ -21,24 +22,28 @@ use Rattle.float_numerals.specs.declared.decimal.Decimal.{Decimal}
 use Rattle.float_numerals.specs.Denoted.{denoted, told}
 use Rattle.float_numerals.specs.Texts.{whole_of, fraction_of, some_fraction_of, leading_power, has_plain_form}
 use Rattle.float_numerals.specs.Texts.{double_whole, double_fraction, double_exponent, double_numeral_text}
-use Rattle.float_numerals.proofs.Numerals.{after_append, zeros_after, front_digits, rest_digits, split, plain_told, text_read}
+use Rattle.float_numerals.proofs.Numerals.{after_append, zeros_after, front_digits, rest_digits}
+use Rattle.float_numerals.proofs.Numerals.{split, plain_told, text_read}
 
 ten_pos : (n : ℕ) → 0 < 10 ^ n
 ten_pos n = one-le-pow n 10 (omega arith)
 
 -- a numerator and a denominator, both times a power of ten
-up_told : (f : Format) (negative : Bool) (n a m : ℕ) → round f negative (n * 10 ^ (a + m)) (10 ^ m) ≡ round f negative (n * 10 ^ a) 1
+up_told : (f : Format) (negative : Bool) (n a m : ℕ) → round f negative (n * 10 ^ (a + m)) (10 ^ m)
+    ≡ round f negative (n * 10 ^ a) 1
 up_told f negative n a m =
     round_same f negative (n * 10 ^ (a + m)) (10 ^ m) (n * 10 ^ a) 1 (ten_pos m) (omega arith)
     (mul-one (n * 10 ^ (a + m)) ∙ ap (λ k. n * k) (pow-add 10 a m) ∙ sym (mul_assoc n (10 ^ a) (10 ^ m)))
 
-across_told : (f : Format) (negative : Bool) (n a m : ℕ) → round f negative (n * 10 ^ a) (10 ^ (m + a)) ≡ round f negative n (10 ^ m)
+across_told : (f : Format) (negative : Bool) (n a m : ℕ) → round f negative (n * 10 ^ a) (10 ^ (m + a))
+    ≡ round f negative n (10 ^ m)
 across_told f negative n a m =
     round_same f negative (n * 10 ^ a) (10 ^ (m + a)) n (10 ^ m) (ten_pos (m + a)) (ten_pos m)
     (mul_assoc n (10 ^ a) (10 ^ m) ∙ ap (λ k. n * k) (mul_comm (10 ^ a) (10 ^ m) ∙ sym (pow-add 10 m a)))
 
 -- with an exponent
-scientific_told : (f : Format) (negative : Bool) (ds : List ℕ) (n : ℕ) (e : ℤ) → digits_value 10 ds ≡ n → 0 < length ds →
+scientific_told : (f : Format) (negative : Bool) (ds : List ℕ) (n : ℕ) (e : ℤ) → digits_value 10 ds ≡ n →
+    0 < length ds →
     told f negative (take 1 ds) (drop 1 ds) (leading_power ds e) ≡ nearest_to_decimal f negative n e
 scientific_told f negative ds n (pos e) value some =
     let m = length ds - 1 in
@@ -56,33 +61,45 @@ scientific_told f negative ds n (negsuc e) value some = at (ltb m (suc e)) refl
     long : length (drop 1 ds) ≡ m
     long = length-drop 1 ds
 
-    at : (b : Bool) → ltb m (suc e) ≡ b → told f negative (take 1 ds) (drop 1 ds) (cond b (negsuc (suc e - suc m)) (pos (m - suc e))) ≡ round f negative n (10 ^ suc e)
+    at : (b : Bool) → ltb m (suc e) ≡ b →
+        told f negative (take 1 ds) (drop 1 ds) (cond b (negsuc (suc e - suc m)) (pos (m - suc e)))
+        ≡ round f negative n (10 ^ suc e)
     at true is =
         let whole : length (drop 1 ds) + suc (suc e - suc m) ≡ suc e = omega (arith, long, ltb-true m (suc e) is) in
         λ i. round f negative (same i) (10 ^ whole i)
     at false is =
         let whole : length (drop 1 ds) ≡ suc e + (m - suc e) = omega (arith, long, ltb-false m (suc e) is) in
-        (λ i. round f negative (same i * 10 ^ (m - suc e)) (10 ^ whole i)) ∙ across_told f negative n (m - suc e) (suc e)
+        (λ i. round f negative (same i * 10 ^ (m - suc e)) (10 ^ whole i))
+        ∙ across_told f negative n (m - suc e) (suc e)
 
 -- without one
 mul_ten : (k : ℕ) → k * 10 + digit_value 48 ≡ k * 10
 mul_ten k = omega arith
 
-pointed_told : (f : Format) (negative : Bool) (ds : List ℕ) (n : ℕ) (e : ℤ) → AllDigits 10 ds → digits_value 10 ds ≡ n → 0 < length ds →
+pointed_told : (f : Format) (negative : Bool) (ds : List ℕ) (n : ℕ) (e : ℤ) → AllDigits 10 ds →
+    digits_value 10 ds ≡ n → 0 < length ds →
     told f negative (whole_of ds e) (some_fraction_of ds e) (pos 0) ≡ nearest_to_decimal f negative n e
 pointed_told f negative ds n (pos e) is value some =
     let front = ds ++ replicate e 48 in
-    let number : digits_value 10 front ≡ n * 10 ^ e = after_append 0 ds (replicate e 48) ∙ ap (λ k. digits_value_after 10 k (replicate e 48)) value ∙ zeros_after n e in
-    let longer : digits_value 10 (front ++ 48 ∷ []) ≡ n * 10 ^ e * 10 = after_append 0 front (48 ∷ []) ∙ ap (λ k. k * 10 + digit_value 48) number ∙ mul_ten (n * 10 ^ e) in
-    round_same f negative (digits_value 10 (front ++ 48 ∷ []) * 10 ^ 0) (10 ^ 1) (n * 10 ^ e) 1 (omega arith) (omega arith) (omega (arith, longer))
-pointed_told f negative ds n (negsuc e) is value some = plain_told f negative n (negsuc e) (whole_of ds (negsuc e)) (fraction_of ds (negsuc e)) (split ds n (negsuc e) is some value)
+    let number : digits_value 10 front ≡ n * 10 ^ e = after_append 0 ds (replicate e 48)
+    ∙ ap (λ k. digits_value_after 10 k (replicate e 48)) value ∙ zeros_after n e in
+    let longer : digits_value 10 (front ++ 48 ∷ []) ≡ n * 10 ^ e * 10 = after_append 0 front (48 ∷ [])
+    ∙ ap (λ k. k * 10 + digit_value 48) number ∙ mul_ten (n * 10 ^ e) in
+    round_same f negative (digits_value 10 (front ++ 48 ∷ []) * 10 ^ 0) (10 ^ 1) (n * 10 ^ e) 1 (omega arith)
+    (omega arith) (omega (arith, longer))
+pointed_told f negative ds n (negsuc e) is value some =
+    plain_told f negative n (negsuc e) (whole_of ds (negsuc e)) (fraction_of ds (negsuc e))
+    (split ds n (negsuc e) is some value)
 
-either_told : (f : Format) (negative : Bool) (ds : List ℕ) (n : ℕ) (e : ℤ) (b : Bool) → AllDigits 10 ds → digits_value 10 ds ≡ n → 0 < length ds →
-    told f negative (cond b (whole_of ds e) (take 1 ds)) (cond b (some_fraction_of ds e) (drop 1 ds)) (cond b (pos 0) (leading_power ds e)) ≡ nearest_to_decimal f negative n e
+either_told : (f : Format) (negative : Bool) (ds : List ℕ) (n : ℕ) (e : ℤ) (b : Bool) → AllDigits 10 ds →
+    digits_value 10 ds ≡ n → 0 < length ds →
+    told f negative (cond b (whole_of ds e) (take 1 ds)) (cond b (some_fraction_of ds e) (drop 1 ds))
+    (cond b (pos 0) (leading_power ds e)) ≡ nearest_to_decimal f negative n e
 either_told f negative ds n e true is value some = pointed_told f negative ds n e is value some
 either_told f negative ds n e false is value some = scientific_told f negative ds n e value some
 
-pub double_told : (f : Format) (d : Decimal) → d.digits < 2 ^ 64 → told f d.negative (double_whole d) (double_fraction d) (double_exponent d) ≡ denoted f d
+pub double_told : (f : Format) (d : Decimal) → d.digits < 2 ^ 64 →
+    told f d.negative (double_whole d) (double_fraction d) (double_exponent d) ≡ denoted f d
 double_told f d fits =
     let own = decimal_is_IsNumeral d.digits fits in
     let ds = decimal d.digits in
@@ -113,8 +130,10 @@ pointed_written ds n (negsuc e) is value some =
     let s = split ds n (negsuc e) is some value in
     record { some = s.some; whole_digits = s.whole_digits; fraction_digits = s.fraction_digits; small = omega arith }
 
-either_written : (ds : List ℕ) (n : ℕ) (e : ℤ) (b : Bool) → AllDigits 10 ds → digits_value 10 ds ≡ n → 0 < length ds → nat_abs e ≤ 2 ^ 63 → length ds ≤ 20 →
-    IsWritten (cond b (whole_of ds e) (take 1 ds)) (cond b (some_fraction_of ds e) (drop 1 ds)) (cond b (pos 0) (leading_power ds e))
+either_written : (ds : List ℕ) (n : ℕ) (e : ℤ) (b : Bool) → AllDigits 10 ds → digits_value 10 ds ≡ n →
+    0 < length ds → nat_abs e ≤ 2 ^ 63 → length ds ≤ 20 →
+    IsWritten (cond b (whole_of ds e) (take 1 ds)) (cond b (some_fraction_of ds e) (drop 1 ds))
+    (cond b (pos 0) (leading_power ds e))
 either_written ds n e true is value some small few = pointed_written ds n e is value some
 either_written ds n e false is value some small few = record {
   some = omega (arith, some, length-take-le 1 ds some);
@@ -123,15 +142,18 @@ either_written ds n e false is value some small few = record {
   small = leading_small e (length ds - 1) small (omega (arith, few));
 }
 
-pub double_written : (d : Decimal) → d.digits < 2 ^ 64 → nat_abs d.exponent ≤ 2 ^ 63 → IsWritten (double_whole d) (double_fraction d) (double_exponent d)
+pub double_written : (d : Decimal) → d.digits < 2 ^ 64 → nat_abs d.exponent ≤ 2 ^ 63 →
+    IsWritten (double_whole d) (double_fraction d) (double_exponent d)
 double_written d fits small =
     let own = decimal_is_IsNumeral d.digits fits in
     let ds = decimal d.digits in
     let few : length ds ≤ 20 = length-decimal-le 20 d.digits (omega arith) (omega (arith, fits)) fits in
     either_written ds d.digits d.exponent (has_plain_form (leading_power ds d.exponent)) own.0.1 own.1 own.0.0 small few
 
-pub double_read : (f : Format) (d : Decimal) → d.digits < 2 ^ 64 → nat_abs d.exponent ≤ 2 ^ 63 → parse_float f (double_numeral_text d) ≡ Some (denoted f d)
+pub double_read : (f : Format) (d : Decimal) → d.digits < 2 ^ 64 → nat_abs d.exponent ≤ 2 ^ 63 →
+    parse_float f (double_numeral_text d) ≡ Some (denoted f d)
 double_read f d fits small =
     let w = double_written d fits small in
-    text_read f d.negative (double_whole d) (double_fraction d) (double_exponent d) w.small w.whole_digits w.fraction_digits w.some
+    text_read f d.negative (double_whole d) (double_fraction d) (double_exponent d) w.small w.whole_digits
+    w.fraction_digits w.some
     ∙ ap Some (double_told f d fits)

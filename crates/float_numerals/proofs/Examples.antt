@@ -63,11 +63,13 @@ single_least : IsSingle (plus 1 (negsuc 44)) 0x0000_0001 (codes "0.0000000000000
 unfolding round to_bits digits
 single_least = (refl, refl)
 
-single_subnormal : IsSingle (plus 11754942 (negsuc 44)) 0x007f_ffff (codes "0.000000000000000000000000000000000000011754942f")
+single_subnormal : IsSingle (plus 11754942 (negsuc 44)) 0x007f_ffff
+    (codes "0.000000000000000000000000000000000000011754942f")
 unfolding round to_bits digits
 single_subnormal = (refl, refl)
 
-single_normal : IsSingle (plus 11754944 (negsuc 44)) 0x0080_0000 (codes "0.000000000000000000000000000000000000011754944f")
+single_normal : IsSingle (plus 11754944 (negsuc 44)) 0x0080_0000
+    (codes "0.000000000000000000000000000000000000011754944f")
 unfolding round to_bits digits
 single_normal = (refl, refl)
 
@@ -154,7 +156,8 @@ double_least : IsDouble (plus 5 (negsuc 323)) 1 (codes "5e-324lf")
 unfolding round to_bits digits
 double_least = (refl, refl)
 
-double_subnormal : IsDouble (plus 2225073858507201 (negsuc 322)) 0x000f_ffff_ffff_ffff (codes "2.225073858507201e-308lf")
+double_subnormal : IsDouble (plus 2225073858507201 (negsuc 322)) 0x000f_ffff_ffff_ffff
+    (codes "2.225073858507201e-308lf")
 unfolding round to_bits digits
 double_subnormal = (refl, refl)
 

@@ -29,10 +29,10 @@ fn answer_known<W: Write>(
     alloc: Global,
     name: &str,
     known: &Known,
-    place: ListingPosition,
+    position: ListingPosition,
     out: &mut W,
 ) -> io::Result<()> {
-    let listing = explain(alloc, &known.module, &known.info, &place, "here")?;
+    let listing = explain(alloc, &known.module, &known.info, &position, "here")?;
     write!(out, "== {name}\n{listing}")
 }
 

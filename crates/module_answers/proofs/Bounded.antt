@@ -26,14 +26,16 @@ depth_unwritten flags limits m info unwritten.TooLong tells = absurd tells
 depth_unwritten flags limits m info (unwritten.Memory error) tells = (refl, refl)
 
 -- so it is with the answer of a call that ends with this reason
-pub as_unwritten : {T : Type 0} (flags : WriterFlags) (limits : Limits) (m : Module) (info : ModuleInfo) (r : Result T Unwritten) (reason : Unwritten) →
+pub as_unwritten : {T : Type 0} (flags : WriterFlags) (limits : Limits) (m : Module) (info : ModuleInfo)
+    (r : Result T Unwritten) (reason : Unwritten) →
     IsErrAnd r (λ e. e ≡ reason) → TellsDepth limits.nesting m reason → IfErr r (IsUnwritten flags limits m m info info)
 as_unwritten flags limits m info (Ok x) reason reported tells = tt
 as_unwritten flags limits m info (Err e) reason reported tells =
     subst (IsUnwritten flags limits m m info info) (sym reported) (depth_unwritten flags limits m info reason tells)
 
 -- a sink that began empty tells that the text of one is too long
-pub is_too_long : (flags : WriterFlags) (limits : Limits) (given m : Module) (old new : ModuleInfo) (answer : Result Unit Error) (told : Option Refusal) (beginning : List ℕ) (failures : ℕ) →
+pub is_too_long : (flags : WriterFlags) (limits : Limits) (given m : Module) (old new : ModuleInfo)
+    (answer : Result Unit Error) (told : Option Refusal) (beginning : List ℕ) (failures : ℕ) →
     nested_past limits.nesting given ≡ None → IsTrue (is_accepted given old) → IsCounted m old new →
     AnswersWriting flags m new answer told [] beginning 0 failures →
     limits.text < length beginning → IsTooLong flags limits given m old new
@@ -47,11 +49,13 @@ is_too_long flags limits given m old new answer told beginning failures flat acc
   failures = failures;
   written = written;
   passed = passed;
-  longer = whole_is_longer flags m new limits.text answer [] beginning refl written.text (leaves_beginning flags m new answer [] beginning 0 failures written.leaves) passed;
+  longer = whole_is_longer flags m new limits.text answer [] beginning refl written.text
+      (leaves_beginning flags m new answer [] beginning 0 failures written.leaves) passed;
 }
 
 -- what is so of what was written is so of what is kept of it
-pub as_kept : (flags : WriterFlags) (m : Module) (info : ModuleInfo) (answer kept_answer : Result Unit Error) (told kept_told : Option Refusal) (text kept_text : List ℕ) (failures : ℕ) →
+pub as_kept : (flags : WriterFlags) (m : Module) (info : ModuleInfo) (answer kept_answer : Result Unit Error)
+    (told kept_told : Option Refusal) (text kept_text : List ℕ) (failures : ℕ) →
     kept_answer ≡ answer → kept_told ≡ told → kept_text ≡ text →
     AnswersWriting flags m info answer told [] text 0 failures →
     AnswersWriting flags m info kept_answer kept_told [] kept_text 0 failures

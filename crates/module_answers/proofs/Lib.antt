@@ -1,4 +1,4 @@
 pub mod Bounded
 mod Wants
 mod OperandRoles
-mod PlaceExamples
+mod PositionExamples

@@ -24,11 +24,12 @@ use Rattle.module_answers.specs.Written.{AnswersWriting, TellsBeside}
 
 -- ---- what is told beside an answer
 -- what is found is told beside an error that tells of the module, of which something is the reason
-pub found_beside : (explicit : Bool) (m : Module) (info : ModuleInfo) (answer : Result Unit Error) (found : Option Refusal) →
+pub found_beside : (explicit : Bool) (m : Module) (info : ModuleInfo) (answer : Result Unit Error)
+    (found : Option Refusal) →
     IsErrAnd answer TellsOfModule →
     (before after : ℕ) × RefusesOnlyFor answer explicit m info before after →
     MatchOption found (NothingIsRefused explicit m info) (StandsIn explicit m info) →
-    IfSome found (λ refusal. IsFirst explicit m info refusal.place) →
+    IfSome found (λ refusal. IsFirst explicit m info refusal.position) →
     TellsBeside explicit m info answer found
 found_beside explicit m info (Ok x) found tells reason stands first = absurd tells
 found_beside explicit m info (Err e) None tells reason nothing first =
@@ -76,7 +77,8 @@ module _ (flags : WriterFlags) (m : Module) (info : ModuleInfo) (content now : L
       let back = sym same in
       record {
         faithful = subst (λ r. FaithfulWriting flags m info r content now before after) back faithful;
-        matches = subst (λ r. OnOk r (EachReading content now (MatchesModule (annotates_types flags) m info))) back matches;
+        matches = subst (λ r. OnOk r (EachReading content now (MatchesModule (annotates_types flags) m info)))
+            back matches;
         text = subst (λ r. AppendsItsText m info flags r content now) back text;
         leaves = subst (λ r. Leaves flags m info r content now before after) back leaves;
         refusal = beside;
@@ -85,7 +87,8 @@ module _ (flags : WriterFlags) (m : Module) (info : ModuleInfo) (content now : L
       let back = sym wanted.1 in
       let following = in_place answer wanted.0 leaves in
       record {
-        faithful = subst (λ r. FaithfulWriting flags m info r content now before after) back (refused flags m info (Memory alloc_error) content now before after tt);
+        faithful = subst (λ r. FaithfulWriting flags m info r content now before after) back
+            (refused flags m info (Memory alloc_error) content now before after tt);
         matches = subst (λ r. OnOk r (EachReading content now (MatchesModule (annotates_types flags) m info))) back tt;
         text = subst (λ r. AppendsItsText m info flags r content now) back tt;
         leaves = subst (λ r. Leaves flags m info r content now before after) back (want_leaves alloc_error following);

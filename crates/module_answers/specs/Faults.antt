@@ -10,7 +10,7 @@ use Rattle.fault_details.specs.Reasons.{fault_reason}
 use Rattle.fault_details.specs.Texts.{wanted_text}
 use Rattle.fault_details.specs.Told.{TellsOf}
 use Rattle.fault_details.specs.declared.expected.Expected.{Expected}
-use Rattle.module_answers.specs.Places.{json_place}
+use Rattle.module_answers.specs.Positions.{json_position}
 
 -- what was wanted, after the kind of fault, if more can be told than that
 abbrev pub wanted_after : Option Expected → List ℕ
@@ -27,4 +27,4 @@ TellsFault m info u text =
 abbrev pub TellsFaultAt : Module → ModuleInfo → Unaccepted → (line : List ℕ) → Type 0
 TellsFaultAt m info u line =
     (text : List ℕ) × TellsFault m info u text
-    × (line ≡ json_place u.item ++ (codes ": " ++ text))
+    × (line ≡ json_position u.item ++ (codes ": " ++ text))

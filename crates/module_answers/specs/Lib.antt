@@ -2,6 +2,6 @@ pub mod Wants
 pub mod Written
 pub mod Faults
 pub mod Roles
-pub mod Places
+pub mod Positions
 pub mod Labels
 pub mod Within

@@ -101,7 +101,7 @@ abbrev pub role_in : Module → RefusalPosition → Option Role
 role_in m (refused.Function h part) = option_and_then (part_role part) (slice_get m.functions h)
 role_in m (refused.EntryPoint i part) =
     option_and_then (λ e. part_role part e.function) (slice_get m.entry_points.items i)
-role_in m place = None
+role_in m at = None
 
 -- ---- what is promised
 -- each operand has a role, of an expression and of a statement by itself

@@ -21,7 +21,7 @@ pub record TellsRefusal (explicit : Bool) (m : Module) (info : ModuleInfo)
     (answer : Result Unit Error) (refusal : Refusal) : Type 0 where
   pub tells : IsErrAnd answer TellsOfModule
   pub stands : StandsIn explicit m info refusal
-  pub first : IsFirst explicit m info refusal.place
+  pub first : IsFirst explicit m info refusal.position
 
 -- a refusal is told beside the answer just where that is an error that tells of the module
 abbrev pub TellsBeside : (explicit : Bool) → Module → ModuleInfo → (answer : Result Unit Error) →

@@ -3,7 +3,7 @@
 ghost use Rattle.std.specs.Prelude.{IfOk, string_bytes};
 ghost use Rattle.module_answers.specs.Faults.{TellsFault, TellsFaultAt};
 
-use crate::places::JsonPosition;
+use crate::positions::JsonPosition;
 use naga_info::ModuleInfo;
 use naga_wgsl_out::info::{Unaccepted, explain};
 use naga_wgsl_out::ir::Module;
@@ -22,7 +22,7 @@ pub fn fault_line(
     ensures { IfOk result (λ line. TellsFaultAt «module».now info.now unaccepted
         (string_bytes line)) }
 {
-    let place = JsonPosition(unaccepted.item);
+    let position = JsonPosition(unaccepted.item);
     let fault = fault_text(alloc, module, info, unaccepted)?;
     format!(in alloc; "{place}: {fault}")
 }

@@ -5,7 +5,7 @@
 mod faults;
 mod layouts;
 mod listed_positions;
-mod places;
+mod positions;
 mod roles;
 mod within;
 mod writing;
@@ -13,7 +13,7 @@ mod writing;
 pub use faults::{fault_line, fault_text};
 pub use layouts::layout_table;
 pub use listed_positions::{listed_position, refused_position};
-pub use places::{JsonPosition, JsonRefusal, JsonRefusalPosition, label_at};
+pub use positions::{JsonPosition, JsonRefusal, JsonRefusalPosition, label_at};
 pub use roles::{Role, operands_have_roles, role_at};
-pub use within::{Unwritten, look_into, write_told_within, write_within};
+pub use within::{Unwritten, check_nesting, write_told_within, write_within};
 pub use writing::{Written, flags_for, write, write_told};

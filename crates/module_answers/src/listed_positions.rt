@@ -29,10 +29,10 @@ pub fn listed_position(item: Item) -> ListingPosition {
 /// The place of a construct for which a module is refused in a listing of what it is in: of what is
 /// out of scope the expression, with the statement that uses or gives it beside; of an expression
 /// without a form, or whose `let` tells a type without one, the expression with its line beside.
-pub fn refused_position(place: RefusalPosition) -> ListingPosition {
-    match place {
+pub fn refused_position(position: RefusalPosition) -> ListingPosition {
+    match position {
         RefusalPosition::Labels => declared(Spot::Whole),
-        RefusalPosition::Declaration(place) => declaration_position(place),
+        RefusalPosition::Declaration(position) => declaration_position(position),
         RefusalPosition::Function(handle, part) => refused_in(Listed::Function(handle), part),
         RefusalPosition::EntryPoint(index, part) => refused_in(Listed::EntryPoint(index), part),
     }
@@ -51,8 +51,8 @@ fn part_spot(part: FunctionPosition) -> Spot {
     }
 }
 
-fn declaration_position(place: DeclarationPosition) -> ListingPosition {
-    match place {
+fn declaration_position(position: DeclarationPosition) -> ListingPosition {
+    match position {
         DeclarationPosition::Struct(handle) => declared(Spot::Type_(handle)),
         DeclarationPosition::Constant(handle) => declared(Spot::Constant(handle)),
         DeclarationPosition::Override(handle) => declared(Spot::Override(handle)),

@@ -3,7 +3,7 @@
 
 ghost use Rattle.std.specs.Prelude.{◌≡◌, Some, slice_get};
 ghost use Rattle.std.specs.Option.{option_and_then, option_map};
-ghost use Rattle.module_answers.specs.Places.{role_text};
+ghost use Rattle.module_answers.specs.Positions.{role_text};
 ghost use Rattle.module_answers.specs.Roles.{OperandsHaveRoles, expression_role, fault_role};
 ghost use Rattle.module_answers.specs.Roles.{field_role, first_role, level_fields, list_role};
 ghost use Rattle.module_answers.specs.Roles.{role_in, seen, statement_role};
@@ -41,10 +41,10 @@ pub fn operands_have_roles()
 
 /// The role of the operand that is out of scope at this place of the module: in the statement that
 /// uses it, or in the expression that an `Emit` binds. There is none where something else is wrong.
-pub fn role_at<'a>(module: &'a Module, place: &RefusalPosition) -> Option<Role<'a>>
-    ensures { option_map seen result ≡ role_in «module».now place.now }
+pub fn role_at<'a>(module: &'a Module, at: &RefusalPosition) -> Option<Role<'a>>
+    ensures { option_map seen result ≡ role_in «module».now at.now }
 {
-    match *place {
+    match *at {
         RefusalPosition::Function(handle, FunctionPart::Scope(fault)) => {
             match item_at(&module.functions, handle) {
                 Some(function) => fault_role(function, fault),

@@ -56,7 +56,7 @@ pub fn write_within(
         info.new) }
 {
     let empty = BoundedText::new(alloc, limits.text);
-    look_into(alloc, module, limits.nesting)?;
+    check_nesting(alloc, module, limits.nesting)?;
     match write(alloc, module, info, flags, empty) {
         Ok(written) => match kept(written, limits.text) {
             Some(whole) => Ok(whole),
@@ -88,7 +88,7 @@ pub fn write_told_within(
         IsToldModule «module».old «module».new) }
 {
     let empty = BoundedText::new(alloc, limits.text);
-    look_into(alloc, module, limits.nesting)?;
+    check_nesting(alloc, module, limits.nesting)?;
     match write_told(alloc, module, info, flags, empty) {
         Ok(written) => match kept(written, limits.text) {
             Some(whole) => Ok(whole),
@@ -99,7 +99,7 @@ pub fn write_told_within(
 }
 
 /// Says what of the module is nested too deep, if anything is.
-pub fn look_into(alloc: Global, module: &Module, levels: usize) -> Result<(), Unwritten>
+pub fn check_nesting(alloc: Global, module: &Module, levels: usize) -> Result<(), Unwritten>
     ensures flat { OnOk result (nested_past levels «module».now ≡ None) }
     ensures deep { IfErr result (TellsDepth levels «module».now) }
 {

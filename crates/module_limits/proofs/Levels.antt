@@ -15,10 +15,15 @@ greatest_append [] ys = omega arith
 greatest_append (x ∷ xs) ys = omega (arith, greatest_append xs ys)
 
 -- the depths only grow as items come
-pub deeper : {X : Type 0} (parts : X → List ℕ) (depths : List ℕ) (xs : List X) → greatest depths ≤ greatest (fold (with_depth parts) depths xs)
+pub deeper : {X : Type 0} (parts : X → List ℕ) (depths : List ℕ) (xs : List X) → greatest depths
+    ≤ greatest (fold (with_depth parts) depths xs)
 deeper parts depths [] = omega arith
 deeper parts depths (x ∷ xs) =
-    omega (arith, deeper parts (with_depth parts depths x) xs, greatest_append depths (suc (greatest (map (λ h. get_or depths h 0) (parts x))) ∷ []))
+    omega (
+      arith,
+      deeper parts (with_depth parts depths x) xs,
+      greatest_append depths (suc (greatest (map (λ h. get_or depths h 0) (parts x))) ∷ []),
+    )
 
 -- items with their numbers, without these
 pub items_of_pairs : {X : Type 0} (n : ℕ) (xs : List X) → map (λ p. p.1) (enumerate_from n xs) ≡ xs

@@ -90,10 +90,12 @@ unfolding handle_key
 unsupported_widths_apart = refl
 
 -- letters count as many as are written
-letters_after : is_same (expression.Swizzle vector.Bi 0 (X ∷ Y ∷ X ∷ X ∷ [])) (expression.Swizzle vector.Bi 0 (X ∷ Y ∷ Z ∷ Z ∷ [])) ≡ true
+letters_after : is_same (expression.Swizzle vector.Bi 0 (X ∷ Y ∷ X ∷ X ∷ []))
+    (expression.Swizzle vector.Bi 0 (X ∷ Y ∷ Z ∷ Z ∷ [])) ≡ true
 letters_after = refl
 
-letters_apart : is_same (expression.Swizzle vector.Tri 0 (X ∷ Y ∷ X ∷ X ∷ [])) (expression.Swizzle vector.Tri 0 (X ∷ Y ∷ Z ∷ X ∷ [])) ≡ false
+letters_apart : is_same (expression.Swizzle vector.Tri 0 (X ∷ Y ∷ X ∷ X ∷ []))
+    (expression.Swizzle vector.Tri 0 (X ∷ Y ∷ Z ∷ X ∷ [])) ≡ false
 letters_apart = refl
 
 -- a load asks for an event

@@ -64,11 +64,13 @@ unfolding handle_key
 elements_apart = refl
 
 -- what a pointer points to may be of the module or by itself
-value_pointer_alike : are_alike types (pointer_to 1 space.Function) (Value (inner.ValuePointer (Some Quad) float space.Function)) ≡ true
+value_pointer_alike : are_alike types (pointer_to 1 space.Function)
+    (Value (inner.ValuePointer (Some Quad) float space.Function)) ≡ true
 unfolding handle_key
 value_pointer_alike = refl
 
-component_pointer_apart : are_alike types (pointer_to 1 space.Function) (Value (inner.ValuePointer None float space.Function)) ≡ false
+component_pointer_apart : are_alike types (pointer_to 1 space.Function)
+    (Value (inner.ValuePointer None float space.Function)) ≡ false
 unfolding handle_key
 component_pointer_apart = refl
 

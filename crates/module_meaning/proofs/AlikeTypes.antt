@@ -31,23 +31,28 @@ abbrev pub begins_plain : Option (List ℕ) → Bool
 begins_plain o = option_map_or is_plain o true
 
 -- what holds of both, holds of each
-pub if_either : {X : Type 0} (test : X → Bool) (b : Bool) (x y : X) → test x ≡ true → test y ≡ true → test (if b then x else y) ≡ true
+pub if_either : {X : Type 0} (test : X → Bool) (b : Bool) (x y : X) → test x ≡ true → test y ≡ true →
+    test (if b then x else y) ≡ true
 if_either test true x y p q = p
 if_either test false x y p q = q
 
-after_plain : (tag first second : ℕ) (o : Option (List ℕ)) → not (nat_eq tag 32) ≡ true → begins_plain (option_map (λ it. level tag first second 0 0 0 ++ it) o) ≡ true
+after_plain : (tag first second : ℕ) (o : Option (List ℕ)) → not (nat_eq tag 32) ≡ true →
+    begins_plain (option_map (λ it. level tag first second 0 0 0 ++ it) o) ≡ true
 after_plain tag first second None p = refl
 after_plain tag first second (Some it) p = p
 
 image_plain : (dim : ImageDimension) (arrayed : Bool) (c : ImageClass) → begins_plain (image_key dim arrayed c) ≡ true
 image_plain dim arrayed (class.Sampled kind multi) =
     if_either begins_plain (is_some (scalar_word (record { kind = kind; width = 4 })))
-    (Some (level 9 (dimension_number dim) (truth_number arrayed) 0 (kind_number kind) (truth_number multi))) None refl refl
+    (Some (level 9 (dimension_number dim) (truth_number arrayed) 0 (kind_number kind) (truth_number multi)))
+    None refl refl
 image_plain dim arrayed _ = refl
 
 module _ (f : ℕ → Option (List ℕ)) where
-  scalar_plain : (tag : ℕ) (s : Scalar) (third fourth fifth : ℕ) → not (nat_eq tag 32) ≡ true → begins_plain (over_scalar tag s third fourth fifth) ≡ true
-  scalar_plain tag s third fourth fifth p = if_either begins_plain (is_some (scalar_word s)) (Some (level tag (kind_number s.kind) s.width third fourth fifth)) None p refl
+  scalar_plain : (tag : ℕ) (s : Scalar) (third fourth fifth : ℕ) → not (nat_eq tag 32) ≡ true →
+      begins_plain (over_scalar tag s third fourth fifth) ≡ true
+  scalar_plain tag s third fourth fifth p = if_either begins_plain (is_some (scalar_word s))
+      (Some (level tag (kind_number s.kind) s.width third fourth fifth)) None p refl
 
   inner_plain : (it : TypeInner) → begins_plain (inner_key_by f it) ≡ true
   inner_plain (inner.Scalar s) = scalar_plain _ s _ _ _ refl
@@ -56,7 +61,8 @@ module _ (f : ℕ → Option (List ℕ)) where
   inner_plain (inner.CooperativeMatrix columns rows s role) = scalar_plain _ s _ _ _ refl
   inner_plain (inner.Atomic s) = scalar_plain _ s _ _ _ refl
   inner_plain (inner.Pointer base space) = after_plain _ _ _ (f base) refl
-  inner_plain (inner.ValuePointer n s space) = if_either begins_plain (is_none (space_word space)) None (pointer_key space (value_key n s)) refl (after_plain _ _ _ (value_key n s) refl)
+  inner_plain (inner.ValuePointer n s space) = if_either begins_plain (is_none (space_word space)) None
+      (pointer_key space (value_key n s)) refl (after_plain _ _ _ (value_key n s) refl)
   inner_plain (inner.Array base n stride) = after_plain _ _ _ (f base) refl
   inner_plain (inner.BindingArray base n) = after_plain _ _ _ (f base) refl
   inner_plain (inner.Struct members span) = refl
@@ -67,7 +73,8 @@ module _ (f : ℕ → Option (List ℕ)) where
 
   found_plain : (h : ℕ) (o : Option Type_) → begins_plain (found_key_by f h o) ≡ true
   found_plain h None = refl
-  found_plain h (Some t) = if_either begins_plain (is_struct t.inner) (Some (level 8 h 0 0 0 0)) (inner_key_by f t.inner) refl (inner_plain t.inner)
+  found_plain h (Some t) = if_either begins_plain (is_struct t.inner) (Some (level 8 h 0 0 0 0))
+      (inner_key_by f t.inner) refl (inner_plain t.inner)
 
 handle_plain : (types : List Type_) (h : ℕ) → begins_plain (handle_key types h) ≡ true
 unfolding handle_key
@@ -78,7 +85,8 @@ key_plain types (Handle h) = handle_plain types h
 key_plain types (Value it) = inner_plain (handle_key types) it
 
 -- a struct at a handle has a form
-pub unsupported_at : (types : List Type_) (h : ℕ) (t : Type_) → slice_get types h ≡ Some t → handle_key types h ≡ None → is_struct t.inner ≡ false
+pub unsupported_at : (types : List Type_) (h : ℕ) (t : Type_) → slice_get types h ≡ Some t → handle_key types h
+    ≡ None → is_struct t.inner ≡ false
 unfolding handle_key
 unsupported_at types h t is none = by _ (is_struct t.inner) (sym (ap (found_key_by (key_within h types) h) is) ∙ none)
   where
@@ -87,10 +95,12 @@ unsupported_at types h t is none = by _ (is_struct t.inner) (sym (ap (found_key_
     by rest false e = refl
 
 -- what tells a type is something
-by_form : (o : Option (List ℕ)) (code : List ℕ) → begins_plain o ≡ true → (bytes_eq [] (unwrap_or o (32 ∷ code)) ≡ false) × (bytes_eq (unwrap_or o (32 ∷ code)) [] ≡ false)
+by_form : (o : Option (List ℕ)) (code : List ℕ) → begins_plain o ≡ true →
+    (bytes_eq [] (unwrap_or o (32 ∷ code)) ≡ false) × (bytes_eq (unwrap_or o (32 ∷ code)) [] ≡ false)
 by_form None code plain = (refl, refl)
 by_form (Some []) code plain = absurd (true≢false (sym plain))
 by_form (Some (n ∷ w)) code plain = (refl, refl)
 
-pub identity_some : (types : List Type_) (r : TypeResolution) → (bytes_eq [] (type_identity types r) ≡ false) × (bytes_eq (type_identity types r) [] ≡ false)
+pub identity_some : (types : List Type_) (r : TypeResolution) → (bytes_eq [] (type_identity types r) ≡ false)
+    × (bytes_eq (type_identity types r) [] ≡ false)
 identity_some types r = by_form (type_key types r) (identity_code (identity types r)) (key_plain types r)

@@ -72,7 +72,8 @@ of_structs : identifiers (of_two (codes "array") (worked.named_type "S") (worked
 of_structs = refl
 
 -- a pointer to an array: its space and its access are no identifiers
-pointer : identifiers (worked.template "ptr" (worked.named_type "storage" ∷ worked.template_of "array" ("A" ∷ []) ∷ worked.named_type "read_write" ∷ [])) ≡
+pointer : identifiers (worked.template "ptr"
+    (worked.named_type "storage" ∷ worked.template_of "array" ("A" ∷ []) ∷ worked.named_type "read_write" ∷ [])) ≡
     Some (StructItem 1) ∷ []
 pointer = refl
 

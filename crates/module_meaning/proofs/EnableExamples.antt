@@ -168,7 +168,8 @@ module _ (m : Module) (members : Vec StructMember Global) (v : GlobalVariable) (
   an_array = refl
 
   -- whatever its scalars
-  a_cooperative_matrix : needed_enables (of_type (inner.CooperativeMatrix cooperative.Eight cooperative.Eight half role.A)) ≡
+  a_cooperative_matrix : needed_enables
+      (of_type (inner.CooperativeMatrix cooperative.Eight cooperative.Eight half role.A)) ≡
       codes "wgpu_cooperative_matrix" ∷ []
   a_cooperative_matrix = refl
 
@@ -204,16 +205,19 @@ module _ (m : Module) (members : Vec StructMember Global) (v : GlobalVariable) (
   per_primitive : Needs (Location 0 None None None true) (codes "wgpu_mesh_shader" ∷ [])
   per_primitive = record { member = refl; argument = refl; answer = refl }
 
-  per_primitive-blended : Needs (Location 0 None None (Some 1) true) (codes "dual_source_blending" ∷ codes "wgpu_mesh_shader" ∷ [])
+  per_primitive-blended : Needs (Location 0 None None (Some 1) true)
+      (codes "dual_source_blending" ∷ codes "wgpu_mesh_shader" ∷ [])
   per_primitive-blended = record { member = refl; argument = refl; answer = refl }
 
   per_vertex : Needs (Location 0 (Some interpolation.PerVertex) None None false) (codes "wgpu_per_vertex" ∷ [])
   per_vertex = record { member = refl; argument = refl; answer = refl }
 
-  per_vertex-blended : Needs (Location 0 (Some interpolation.PerVertex) None (Some 0) false) (codes "dual_source_blending" ∷ [])
+  per_vertex-blended : Needs (Location 0 (Some interpolation.PerVertex) None (Some 0) false)
+      (codes "dual_source_blending" ∷ [])
   per_vertex-blended = record { member = refl; argument = refl; answer = refl }
 
-  per_vertex-per_primitive : Needs (Location 0 (Some interpolation.PerVertex) None None true) (codes "wgpu_mesh_shader" ∷ [])
+  per_vertex-per_primitive : Needs (Location 0 (Some interpolation.PerVertex) None None true)
+      (codes "wgpu_mesh_shader" ∷ [])
   per_vertex-per_primitive = record { member = refl; argument = refl; answer = refl }
 
   flat : Needs (Location 0 (Some interpolation.Flat) None None false) []
@@ -422,7 +426,8 @@ module _ (m : Module) (members : Vec StructMember Global) (v : GlobalVariable) (
   which_invocation : AskedFor (BuiltIn builtin.SubgroupInvocationId)
   which_invocation = refl
 
-  another_builtin : asked (of_entry_point (resting (started stage.Compute (Some (BuiltIn builtin.LocalInvocationIndex)) None))) ≡ []
+  another_builtin : asked
+      (of_entry_point (resting (started stage.Compute (Some (BuiltIn builtin.LocalInvocationIndex)) None))) ≡ []
   another_builtin = refl
 
   -- any other text enables nothing for them
@@ -501,7 +506,9 @@ module _ (m : Module) (members : Vec StructMember Global) (v : GlobalVariable) (
   in_a_branch : doing (branch 0 no_statements (statement ballot no_statements)) ≡ subgroups_alone
   in_a_branch = refl
 
-  in_a_case : doing (switch 0 (case switch_value.Default no_statements true (case switch_value.Default (statement ballot no_statements) false no_cases))) ≡
+  in_a_case : doing
+      (switch 0 (case switch_value.Default no_statements true
+      (case switch_value.Default (statement ballot no_statements) false no_cases))) ≡
       subgroups_alone
   in_a_case = refl
 

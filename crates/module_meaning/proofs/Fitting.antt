@@ -6,12 +6,14 @@ use Rattle.std.specs.List.{list_all, enumerate_from}
 use Rattle.std.proofs.lemmas.Option.{slice_get-get_or}
 
 -- an arena's items with their handles, tested by the items alone
-pub list_all-pairs : {X : Type 0} (test : X → Bool) (n : ℕ) (xs : List X) → list_all (λ p. test p.1) (enumerate_from n xs) ≡ list_all test xs
+pub list_all-pairs : {X : Type 0} (test : X → Bool) (n : ℕ) (xs : List X) →
+    list_all (λ p. test p.1) (enumerate_from n xs) ≡ list_all test xs
 list_all-pairs test n [] = refl
 list_all-pairs test n (x ∷ xs) = ap (λ b. test x && b) (list_all-pairs test (n + 1) xs)
 
 -- the item at a place that a list has
-pub item_at : {X : Type 0} (xs : List X) (i : ℕ) (x : X) → i < length xs → slice_get xs i ≡ Some x → slice_index_or xs i x ≡ x
+pub item_at : {X : Type 0} (xs : List X) (i : ℕ) (x : X) → i < length xs → slice_get xs i ≡ Some x →
+    slice_index_or xs i x ≡ x
 item_at xs i x h here =
     let got = slice_get-get_or xs i x h
     in cc

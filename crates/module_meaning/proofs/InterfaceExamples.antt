@@ -118,7 +118,8 @@ module _ (e : ir_entry_point.EntryPoint) where
   compute_stage = refl
 
   mesh_stage : Tell
-      (worked.worded_attribute attributes.Mesh "out" ∷ WorkgroupSize 8 1 1 ∷ worked.worded_attribute attributes.Payload "load" ∷ [])
+      (worked.worded_attribute attributes.Mesh "out" ∷ WorkgroupSize 8 1 1
+      ∷ worked.worded_attribute attributes.Payload "load" ∷ [])
       (of_stage stages.Mesh)
   mesh_stage = refl
 
@@ -126,7 +127,8 @@ module _ (e : ir_entry_point.EntryPoint) where
       (record (of_stage stages.Mesh) { task_payload = None })
   mesh_stage-without_payload = refl
 
-  task_stage : Tell (Plain attributes.Task ∷ worked.worded_attribute attributes.Payload "load" ∷ WorkgroupSize 8 1 1 ∷ [])
+  task_stage : Tell (Plain attributes.Task ∷ worked.worded_attribute attributes.Payload "load"
+      ∷ WorkgroupSize 8 1 1 ∷ [])
       (of_stage stages.Task)
   task_stage = refl
 
@@ -151,11 +153,13 @@ module _ (e : ir_entry_point.EntryPoint) where
   puts_out w (MeshStage output payload size) = option_map_or (bytes_eq w) output false
   puts_out w _ = false
 
-  payload_left_out : Tell (worked.worded_attribute attributes.Mesh "out" ∷ WorkgroupSize 8 1 1 ∷ []) (of_stage stages.Mesh) → ⊥
+  payload_left_out : Tell (worked.worded_attribute attributes.Mesh "out" ∷ WorkgroupSize 8 1 1 ∷ [])
+      (of_stage stages.Mesh) → ⊥
   payload_left_out told = differ has_payload _ _ refl refl (sym told)
 
   other_output : Tell
-      (worked.worded_attribute attributes.Mesh "load" ∷ WorkgroupSize 8 1 1 ∷ worked.worded_attribute attributes.Payload "load" ∷ [])
+      (worked.worded_attribute attributes.Mesh "load" ∷ WorkgroupSize 8 1 1
+      ∷ worked.worded_attribute attributes.Payload "load" ∷ [])
       (of_stage stages.Mesh) → ⊥
   other_output = differ (puts_out (codes "load")) _ _ refl refl
 
@@ -405,7 +409,8 @@ module _ (other : ir_module.Module) (info : ModuleInfo) (label : String Global)
 
     -- ---- other texts of the same interface
     -- an initialiser counts by its value, however it is written
-    named_initialiser : read (record text { globals = buf (bound 1 coherent) read_write ∷ count (Some (worked.name "N")) ∷ [] }) ≡ declared
+    named_initialiser : read
+        (record text { globals = buf (bound 1 coherent) read_write ∷ count (Some (worked.name "N")) ∷ [] }) ≡ declared
     unfolding type_segments layout_at
     named_initialiser = refl
 
@@ -429,7 +434,8 @@ module _ (other : ir_module.Module) (info : ModuleInfo) (label : String Global)
     unfolding type_segments layout_at
     other_member_type = differ (first_member (λ st. bytes_eq st.type (codes "u32"))) _ _ refl refl
 
-    sized_member : another (record text { structs = with_first_member (worked.member (Numbered attributes.Size 16 ∷ []) "fract" i32) })
+    sized_member : another
+        (record text { structs = with_first_member (worked.member (Numbered attributes.Size 16 ∷ []) "fract" i32) })
     unfolding type_segments layout_at
     sized_member = differ (first_member (λ st. is_some st.size)) _ _ refl refl
 
@@ -440,13 +446,19 @@ module _ (other : ir_module.Module) (info : ModuleInfo) (label : String Global)
 
     position_left_out : another (record text { structs = s two_numbers ∷ output [] ∷ [] })
     unfolding type_segments layout_at
-    position_left_out e = differ (λ i. passes (λ st. passes (λ member. is_builtin member.binding) 0 st.members) 1 i.structs) _ _ refl refl (sym e)
+    position_left_out e =
+        differ (λ i. passes (λ st. passes (λ member. is_builtin member.binding) 0 st.members) 1 i.structs) _ _
+        refl refl (sym e)
 
     struct_left_out : another (record text { structs = output position ∷ [] })
     unfolding type_segments layout_at
     struct_left_out = differ (λ i. length i.structs == 1) _ _ refl refl
 
-    external_struct_declared : another (record text { structs = s two_numbers ∷ output position ∷ worked.struct "Params" (worked.member [] "pos" u32 ∷ []) ∷ [] })
+    external_struct_declared : another
+        (record text {
+          structs = s two_numbers ∷ output position ∷ worked.struct "Params"
+              (worked.member [] "pos" u32 ∷ []) ∷ [];
+        })
     unfolding type_segments layout_at
     external_struct_declared = differ (λ i. length i.structs == 3) _ _ refl refl
 
@@ -458,7 +470,11 @@ module _ (other : ir_module.Module) (info : ModuleInfo) (label : String Global)
     unfolding type_segments layout_at
     other_value = differ (first_value (λ v. same_integer_as 8 v)) _ _ refl refl
 
-    constant_added : another (record text { constants = worked.constant "const_i32" i32 (worked.integer 7) ∷ worked.constant "N" i32 (worked.integer 7) ∷ [] })
+    constant_added : another
+        (record text {
+          constants = worked.constant "const_i32" i32 (worked.integer 7) ∷ worked.constant "N" i32
+              (worked.integer 7) ∷ [];
+        })
     unfolding type_segments layout_at
     constant_added = differ (λ i. length i.constants == 2) _ _ refl refl
 
@@ -477,14 +493,21 @@ module _ (other : ir_module.Module) (info : ModuleInfo) (label : String Global)
     unfolding type_segments layout_at
     id_left_out = differ (first_override (λ o. is_none o.id)) _ _ refl refl
 
-    initialiser_added : another (with_first_override (worked.override (id 3 ∷ []) "override_type" u32 (Some (worked.unsigned 0))))
+    initialiser_added : another (with_first_override
+        (worked.override (id 3 ∷ []) "override_type" u32 (Some (worked.unsigned 0))))
     unfolding type_segments layout_at
     initialiser_added = differ (first_override (λ o. is_some o.initialiser)) _ _ refl refl
 
     -- its initialiser counts by its value under the values of overrides
-    override_named : another (record text { overrides = worked.override (id 3 ∷ []) "override_type" u32 None ∷ worked.override [] "depth" i32 (Some (worked.name "override_type")) ∷ [] })
+    override_named : another
+        (record text {
+          overrides = worked.override (id 3 ∷ []) "override_type" u32 None
+              ∷ worked.override [] "depth" i32 (Some (worked.name "override_type")) ∷ [];
+        })
     unfolding type_segments layout_at
-    override_named = differ (λ i. passes (λ o. option_map_or (λ value. option_map_or (same_integer_as 2) value false) o.initialiser false) 1 i.overrides) _ _ refl refl
+    override_named =
+        differ (λ i. passes (λ o. option_map_or (λ value. option_map_or (same_integer_as 2) value false)
+        o.initialiser false) 1 i.overrides) _ _ refl refl
 
     -- a variable that is bound elsewhere, in another space, with another access, without its
     -- decoration, and of another first value
@@ -514,7 +537,8 @@ module _ (other : ir_module.Module) (info : ModuleInfo) (label : String Global)
     unfolding type_segments layout_at
     decoration_left_out e = differ (first_global (λ g. g.coherent)) _ _ refl refl (sym e)
 
-    decoration_added : another (with_buf (buf (bound 1 (Plain attributes.Coherent ∷ Plain attributes.Volatile ∷ [])) read_write))
+    decoration_added : another
+        (with_buf (buf (bound 1 (Plain attributes.Coherent ∷ Plain attributes.Volatile ∷ [])) read_write))
     unfolding type_segments layout_at
     decoration_added = differ (first_global (λ g. g.volatile)) _ _ refl refl
 
@@ -523,14 +547,20 @@ module _ (other : ir_module.Module) (info : ModuleInfo) (label : String Global)
 
     other_first_value : another (with_count (Some (worked.integer 8)))
     unfolding type_segments layout_at
-    other_first_value = differ (λ i. passes (λ g. option_map_or (λ value. option_map_or (same_integer_as 8) value false) g.initialiser false) 1 i.globals) _ _ refl refl
+    other_first_value =
+        differ (λ i. passes (λ g. option_map_or (λ value. option_map_or (same_integer_as 8) value false)
+        g.initialiser false) 1 i.globals) _ _ refl refl
 
     first_value_left_out : another (with_count None)
     unfolding type_segments layout_at
     first_value_left_out = differ (λ i. passes (λ g. is_none g.initialiser) 1 i.globals) _ _ refl refl
 
     -- a function with a local of another type
-    other_local : another (record text { functions = worked.function "f" (worked.parameter "x" i32 ∷ []) (worked.gives "i32") (worked.local "a" i32 None ∷ []) (Switch (worked.name "x") (all_cases 2 after) ∷ []) ∷ [] })
+    other_local : another
+        (record text {
+          functions = worked.function "f" (worked.parameter "x" i32 ∷ []) (worked.gives "i32")
+              (worked.local "a" i32 None ∷ []) (Switch (worked.name "x") (all_cases 2 after) ∷ []) ∷ [];
+        })
     unfolding type_segments layout_at
     other_local = differ (λ i. passes (λ g. passes (bytes_eq (codes "i32")) 0 g.locals) 0 i.functions) _ _ refl refl
 
@@ -548,11 +578,19 @@ module _ (other : ir_module.Module) (info : ModuleInfo) (label : String Global)
     unfolding type_segments layout_at
     other_case_value = differ (case_values_pass (passes (is_signed (negsuc 2)) 1) 0) _ _ refl refl
 
-    other_case_value_type : another (record text { functions = selecting (Case (MoreCaseValues (UnsignedCase 1) (LastCaseValue (SignedCase true 2))) within after) ∷ [] })
+    other_case_value_type : another
+        (record text {
+          functions = selecting
+              (Case (MoreCaseValues (UnsignedCase 1) (LastCaseValue (SignedCase true 2))) within after) ∷ [];
+        })
     unfolding type_segments layout_at
     other_case_value_type e = differ (case_values_pass (passes (is_signed (pos 1)) 0) 0) _ _ refl refl (sym e)
 
-    inner_left_out : another (record text { functions = selecting (Case (MoreCaseValues (SignedCase false 1) (LastCaseValue (SignedCase true 2))) NoStatements after) ∷ [] })
+    inner_left_out : another
+        (record text {
+          functions = selecting
+              (Case (MoreCaseValues (SignedCase false 1) (LastCaseValue (SignedCase true 2))) NoStatements after) ∷ [];
+        })
     unfolding type_segments layout_at
     inner_left_out = differ (λ i. passes (λ g. length g.switches == 1) 0 i.functions) _ _ refl refl
 
@@ -560,7 +598,9 @@ module _ (other : ir_module.Module) (info : ModuleInfo) (label : String Global)
     -- left out
     argument_unbound : another (record text { entry_points = vertex ∷ compute (sized 64) [] ∷ [] })
     unfolding type_segments layout_at
-    argument_unbound e = differ (λ i. passes (λ p. passes (λ a. is_builtin a.binding) 0 p.function.arguments) 1 i.entry_points) _ _ refl refl (sym e)
+    argument_unbound e =
+        differ (λ i. passes (λ p. passes (λ a. is_builtin a.binding) 0 p.function.arguments) 1 i.entry_points) _
+        _ refl refl (sym e)
 
     other_size : another (record text { entry_points = vertex ∷ compute (sized 32) index ∷ [] })
     unfolding type_segments layout_at

@@ -106,7 +106,8 @@ module _ (other : Module) (members : Vec StructMember Global) where
 
   -- no scalar, no struct with two members at the start, with a bound member, with an array of unknown
   -- length before its end, with a type that has no layout, and none that no text declares
-  no_others : map (λ h. is_none (concerned_members m h)) (0 ∷ 12 ∷ 13 ∷ 15 ∷ 18 ∷ 19 ∷ 99 ∷ []) ≡ true ∷ true ∷ true ∷ true ∷ true ∷ true ∷ true ∷ []
+  no_others : map (λ h. is_none (concerned_members m h)) (0 ∷ 12 ∷ 13 ∷ 15 ∷ 18 ∷ 19 ∷ 99 ∷ [])
+      ≡ true ∷ true ∷ true ∷ true ∷ true ∷ true ∷ true ∷ []
   unfolding layout_at
   no_others = refl
 
@@ -142,15 +143,18 @@ module _ (other : Module) (members : Vec StructMember Global) where
   abbrev is_faulty : (List Placed → Bool) → (h : ℕ) → Bool
   is_faulty fault h = option_map_or fault (concerned_members m h) false
 
-  off_alignment : map (is_faulty is_off_alignment) (2 ∷ 3 ∷ 9 ∷ 10 ∷ 11 ∷ 12 ∷ 13 ∷ []) ≡ false ∷ false ∷ true ∷ true ∷ false ∷ false ∷ false ∷ []
+  off_alignment : map (is_faulty is_off_alignment) (2 ∷ 3 ∷ 9 ∷ 10 ∷ 11 ∷ 12 ∷ 13 ∷ []) ≡ false ∷ false ∷ true
+      ∷ true ∷ false ∷ false ∷ false ∷ []
   unfolding layout_at
   off_alignment = refl
 
-  overlapping : map (is_faulty overlaps) (2 ∷ 3 ∷ 9 ∷ 10 ∷ 11 ∷ 12 ∷ 13 ∷ []) ≡ false ∷ false ∷ false ∷ false ∷ true ∷ false ∷ false ∷ []
+  overlapping : map (is_faulty overlaps) (2 ∷ 3 ∷ 9 ∷ 10 ∷ 11 ∷ 12 ∷ 13 ∷ []) ≡ false ∷ false ∷ false ∷ false
+      ∷ true ∷ false ∷ false ∷ []
   unfolding layout_at
   overlapping = refl
 
-  other_strides : map (arrays_are_kept (module_rule m) types) (0 ∷ 5 ∷ 6 ∷ 14 ∷ 20 ∷ 7 ∷ 8 ∷ []) ≡ true ∷ true ∷ false ∷ true ∷ false ∷ true ∷ true ∷ []
+  other_strides : map (arrays_are_kept (module_rule m) types) (0 ∷ 5 ∷ 6 ∷ 14 ∷ 20 ∷ 7 ∷ 8 ∷ [])
+      ≡ true ∷ true ∷ false ∷ true ∷ false ∷ true ∷ true ∷ []
   unfolding layout_at arrays_are_kept
   other_strides = refl
 
@@ -187,7 +191,8 @@ module _ (other : Module) (members : Vec StructMember Global) where
   abbrev outer_text : List Struct
   outer_text =
       worked.struct "O"
-      (worked.member [] "v" (Template (codes "array") (TypeArgument (worked.named_type "I") (SizeArgument 2 NoTemplateArguments))) ∷ []) ∷ []
+      (worked.member [] "v" (Template (codes "array")
+      (TypeArgument (worked.named_type "I") (SizeArgument 2 NoTemplateArguments))) ∷ []) ∷ []
 
   abbrev joined : (a b : List Struct) → List Struct
   joined [] b = b

@@ -6,12 +6,14 @@ use Rattle.std.specs.Option.{is_some}
 use Rattle.std.proofs.lemmas.Bool.{and_from, and_parts}
 
 -- the item at an index passes
-pub list_all_at : {X : Type 0} (test : X → Bool) (xs : List X) (i : ℕ) (x : X) → list_all test xs ≡ true → slice_get xs i ≡ Some x → test x ≡ true
+pub list_all_at : {X : Type 0} (test : X → Bool) (xs : List X) (i : ℕ) (x : X) → list_all test xs ≡ true →
+    slice_get xs i ≡ Some x → test x ≡ true
 list_all_at test [] i x all here = absurd cc
 list_all_at test (y ∷ ys) zero x all here =
     let same : y ≡ x = cc
     in ap test (sym same) ∙ (and_parts (test y) (list_all test ys) all).0
-list_all_at test (y ∷ ys) (suc i) x all here = list_all_at test ys i x (and_parts (test y) (list_all test ys) all).1 here
+list_all_at test (y ∷ ys) (suc i) x all here =
+    list_all_at test ys i x (and_parts (test y) (list_all test ys) all).1 here
 
 -- all pass where each does
 pub all_pass : {X : Type 0} (test : X → Bool) (xs : List X) →
@@ -22,15 +24,18 @@ all_pass test (x ∷ xs) at =
     (all_pass test xs (λ i y is. at (suc i) y is))
 
 -- the item at a handle passes, where each passes with its handle
-pub placed_at : {X : Type 0} (test : ℕ → X → Bool) (n : ℕ) (xs : List X) (h : ℕ) (x : X) → list_all (λ p. test p.0 p.1) (enumerate_from n xs) ≡ true → slice_get xs h ≡ Some x → test (n + h) x ≡ true
+pub placed_at : {X : Type 0} (test : ℕ → X → Bool) (n : ℕ) (xs : List X) (h : ℕ) (x : X) →
+    list_all (λ p. test p.0 p.1) (enumerate_from n xs) ≡ true → slice_get xs h ≡ Some x → test (n + h) x ≡ true
 placed_at test n [] h x all here = absurd cc
 placed_at test n (y ∷ xs) zero x all here =
     let same : x ≡ y = cc
     in let at : n + 0 ≡ n = omega arith
-    in (λ i. test (at i) (same i)) ∙ (and_parts (test n y) (list_all (λ p. test p.0 p.1) (enumerate_from (n + 1) xs)) all).0
+    in (λ i. test (at i) (same i))
+    ∙ (and_parts (test n y) (list_all (λ p. test p.0 p.1) (enumerate_from (n + 1) xs)) all).0
 placed_at test n (y ∷ xs) (suc h) x all here =
     let at : n + suc h ≡ (n + 1) + h = omega arith
-    in ap (λ k. test k x) at ∙ placed_at test (n + 1) xs h x (and_parts (test n y) (list_all (λ p. test p.0 p.1) (enumerate_from (n + 1) xs)) all).1 here
+    in ap (λ k. test k x) at ∙ placed_at test (n + 1) xs h x
+    (and_parts (test n y) (list_all (λ p. test p.0 p.1) (enumerate_from (n + 1) xs)) all).1 here
 
 -- there is an item
 pub some_word : (o : Option (List ℕ)) → is_some o ≡ true → (w : List ℕ) × (o ≡ Some w)

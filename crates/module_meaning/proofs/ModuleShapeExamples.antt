@@ -87,7 +87,8 @@ module _ (other : ir_module.Module) (info : ModuleInfo) (label : String Global)
           entry_points = one other.entry_points p;
         }
 
-    constant_types : (module_shape m info).constant_types ≡ IntegerType (codes "i32") ∷ OtherType (codes "vec3<f32>") ∷ IntegerType (codes "i32") ∷ []
+    constant_types : (module_shape m info).constant_types ≡ IntegerType (codes "i32")
+        ∷ OtherType (codes "vec3<f32>") ∷ IntegerType (codes "i32") ∷ []
     unfolding type_segments
     constant_types = refl
 
@@ -100,14 +101,17 @@ module _ (other : ir_module.Module) (info : ModuleInfo) (label : String Global)
     numbered = refl
 
     -- the space says what is held, also where the type is a pointer of another space
-    globals : (module_shape m info).globals ≡ AtPlace (codes "ptr<private, array<vec3<f32>>>") ∷ Held (OtherType (codes "sampler")) ∷ Held (PointerType (codes "ptr<private, i32>")) ∷ []
+    globals : (module_shape m info).globals ≡ AtPlace (codes "ptr<private, array<vec3<f32>>>")
+        ∷ Held (OtherType (codes "sampler")) ∷ Held (PointerType (codes "ptr<private, i32>")) ∷ []
     unfolding type_segments
     globals = refl
 
-    placed_shape : shape_of (contexts.declared m info (λ h. None)) [] 0 (expression.GlobalVariable 0) ≡ shapes.Global false 0
+    placed_shape : shape_of (contexts.declared m info (λ h. None)) [] 0 (expression.GlobalVariable 0)
+        ≡ shapes.Global false 0
     placed_shape = refl
 
-    held_shape : shape_of (contexts.declared m info (λ h. None)) [] 0 (expression.GlobalVariable 2) ≡ shapes.Global true 2
+    held_shape : shape_of (contexts.declared m info (λ h. None)) [] 0 (expression.GlobalVariable 2)
+        ≡ shapes.Global true 2
     held_shape = refl
 
     -- the function takes an element of an array, and the entry point a component of a vector
@@ -156,8 +160,10 @@ module _ (other : ir_module.Module) (info : ModuleInfo) (label : String Global)
           entry_points = one info.entry_points to_vector;
         }
 
-    first_function : function_numbered (module_shape taking known).functions 0 ≡ Some (function_shape taking known element_taken to_array)
+    first_function : function_numbered (module_shape taking known).functions 0
+        ≡ Some (function_shape taking known element_taken to_array)
     first_function = refl
 
-    then_entry_point : function_numbered (module_shape taking known).functions 1 ≡ Some (function_shape taking known component_taken.function to_vector)
+    then_entry_point : function_numbered (module_shape taking known).functions 1
+        ≡ Some (function_shape taking known component_taken.function to_vector)
     then_entry_point = refl

@@ -36,10 +36,12 @@ module _ (m : Module) where
   index-of_33_bits : names_in_range m 0 0 (expression.AccessIndex 0 (2 ^ 32)) ≡ false
   index-of_33_bits = refl
 
-  pattern : names_in_range m 0 0 (expression.Swizzle vector.Bi 0 (component.Y ∷ component.X ∷ component.X ∷ component.X ∷ [])) ≡ true
+  pattern : names_in_range m 0 0 (expression.Swizzle vector.Bi 0
+      (component.Y ∷ component.X ∷ component.X ∷ component.X ∷ [])) ≡ true
   pattern = refl
 
-  pattern-of_three_letters : names_in_range m 0 0 (expression.Swizzle vector.Bi 0 (component.Y ∷ component.X ∷ component.X ∷ [])) ≡ false
+  pattern-of_three_letters : names_in_range m 0 0
+      (expression.Swizzle vector.Bi 0 (component.Y ∷ component.X ∷ component.X ∷ [])) ≡ false
   pattern-of_three_letters = refl
 
 -- ---- statements
@@ -86,10 +88,13 @@ binding_length = refl
 binding_length-of_33_bits : resolution_in_range 0 1 (Value (inner.BindingArray 0 too_great)) ≡ false
 binding_length-of_33_bits = refl
 
-declared_length : types_in_range 0 (record { name = None; inner = inner.Sampler false } ∷ record { name = None; inner = inner.Array 0 greatest 4 } ∷ []) ≡ true
+declared_length : types_in_range 0 (record { name = None; inner = inner.Sampler false }
+    ∷ record { name = None; inner = inner.Array 0 greatest 4 } ∷ []) ≡ true
 declared_length = refl
 
-declared_length-of_33_bits : types_in_range 0 (record { name = None; inner = inner.Sampler false } ∷ record { name = None; inner = inner.Array 0 too_great 4 } ∷ []) ≡ false
+declared_length-of_33_bits : types_in_range 0
+    (record { name = None; inner = inner.Sampler false }
+    ∷ record { name = None; inner = inner.Array 0 too_great 4 } ∷ []) ≡ false
 declared_length-of_33_bits = refl
 
 -- ---- bindings
@@ -119,7 +124,11 @@ member-at_33_bits = refl
 
 module _ (variable : GlobalVariable) (o : Override) where
   abbrev resource : (group binding : ℕ) → GlobalVariable
-  resource group binding = record variable { ty = 0; init = None; binding = Some (record { group = group; binding = binding }) }
+  resource group binding = record variable {
+    ty = 0;
+    init = None;
+    binding = Some (record { group = group; binding = binding });
+  }
 
   a_resource : global_in_range 1 0 (resource 0 (2 ^ 32 - 1)) ≡ true
   a_resource = refl

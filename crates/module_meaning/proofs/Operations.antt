@@ -20,11 +20,13 @@ agrees_answer a b agree o os =
     let alike : (bytes_eq a.operator b.operator && are_same_words a.operands b.operands) ≡ true =
     λ i. (bytes_eq-Decides a.operator b.operator).1 o i &&
     (ap (are_same_words a.operands) (sym os) ∙ alike_itself a.operands) i
-    in (bytes_eq-Decides a.answer b.answer).0 (sym (ap (λ c. if c then bytes_eq a.answer b.answer else true) alike) ∙ agree)
+    in (bytes_eq-Decides a.answer b.answer).0
+    (sym (ap (λ c. if c then bytes_eq a.answer b.answer else true) alike) ∙ agree)
 
 -- of operations any two of which agree, two with one word and operands of types alike have types
 -- alike
-pub all_agree_at : (os : List Operation) → all_agree os ≡ true → (i j : ℕ) (a b : Operation) → slice_get os i ≡ Some a → slice_get os j ≡ Some b
+pub all_agree_at : (os : List Operation) → all_agree os ≡ true → (i j : ℕ) (a b : Operation) → slice_get os i
+    ≡ Some a → slice_get os j ≡ Some b
     → a.operator ≡ b.operator → a.operands ≡ b.operands → a.answer ≡ b.answer
 all_agree_at [] all i j a b at_i at_j o same = absurd cc
 all_agree_at (x ∷ os) all zero zero a b at_i at_j o same =

@@ -99,7 +99,8 @@ module _ (other : ir_module.Module) (info : ModuleInfo) (members : Vec StructMem
     element = Part (Rooted (LocalRoot (local_pointer m 1) 1 0)) (At (pos 2))
 
     -- the function may start with a pointer to it
-    starts : has_types (module_shape m known).parts (function_shape m known taking []).argument_types (Pointer element ∷ []) ≡ true
+    starts : has_types (module_shape m known).parts (function_shape m known taking []).argument_types
+        (Pointer element ∷ []) ≡ true
     unfolding type_segments digits
     starts = refl
 
@@ -144,7 +145,8 @@ module _ (other : ir_module.Module) (info : ModuleInfo) (members : Vec StructMem
 
     -- a struct has members, by their words alone
     struct : (whole : List ℕ) → pointee_parts m known whole (inner.Pointer 7 space.Function) ≡
-        Members ((member_word m 7 0, codes "ptr<function, i32>") ∷ (member_word m 7 1, codes "ptr<function, vec3<f32>>") ∷ [])
+        Members ((member_word m 7 0, codes "ptr<function, i32>")
+        ∷ (member_word m 7 1, codes "ptr<function, vec3<f32>>") ∷ [])
     unfolding type_segments handle_key
     struct whole = refl
 

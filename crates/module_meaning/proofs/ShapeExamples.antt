@@ -125,7 +125,8 @@ module _ (members : Vec StructMember Global) where
   no_part : shape_of declared [] 20 (expression.AccessIndex 0 7) ≡ Operator (32 ∷ 1 ∷ 7 ∷ []) (0 ∷ [])
   no_part = refl
 
-  letters : shape_of declared [] 20 (expression.Swizzle vector.Bi 1 (component.Z ∷ component.X ∷ component.Y ∷ component.Y ∷ [])) ≡ Swizzle (codes "zx") 1
+  letters : shape_of declared [] 20 (expression.Swizzle vector.Bi 1
+      (component.Z ∷ component.X ∷ component.Y ∷ component.Y ∷ [])) ≡ Swizzle (codes "zx") 1
   letters = refl
 
   -- ---- memory
@@ -135,7 +136,8 @@ module _ (members : Vec StructMember Global) where
   atomic_load : shape_of declared [] 20 (expression.Load 4) ≡ Request (codes "atomicLoad") (4 ∷ []) no_constant
   atomic_load = refl
 
-  matrix_load : word (expression.CooperativeLoad cooperative.Eight cooperative.Eight role.A (record { pointer = 5; stride = 0; row_major = true })) ≡ codes "coopLoadT<coop_mat8x8<f32,A>>"
+  matrix_load : word (expression.CooperativeLoad cooperative.Eight cooperative.Eight role.A
+      (record { pointer = 5; stride = 0; row_major = true })) ≡ codes "coopLoadT<coop_mat8x8<f32,A>>"
   matrix_load = refl
 
   -- ---- images
@@ -157,30 +159,37 @@ module _ (members : Vec StructMember Global) where
       (codes "textureSampleCompareLevel") (6 ∷ 8 ∷ 1 ∷ 0 ∷ 3 ∷ []) no_constant
   compared_at_zero = refl
 
-  gathered : word (expression.ImageSample 7 8 (Some component.Y) 1 None None level.Zero None false) ≡ codes "textureGather 1"
+  gathered : word (expression.ImageSample 7 8 (Some component.Y) 1 None None level.Zero None false)
+      ≡ codes "textureGather 1"
   gathered = refl
 
-  depths_gathered : word (expression.ImageSample 6 8 (Some component.Y) 1 None None level.Zero (Some 0) false) ≡ codes "textureGatherCompare"
+  depths_gathered : word (expression.ImageSample 6 8 (Some component.Y) 1 None None level.Zero (Some 0) false)
+      ≡ codes "textureGatherCompare"
   depths_gathered = refl
 
-  layers : shape_of declared [] 20 (expression.ImageQuery 7 query.NumLayers) ≡ Request (codes "textureNumLayers") (7 ∷ []) no_constant
+  layers : shape_of declared [] 20 (expression.ImageQuery 7 query.NumLayers)
+      ≡ Request (codes "textureNumLayers") (7 ∷ []) no_constant
   layers = refl
 
   -- ---- statements
-  exchanged : simple_shape context (atomic 4 (function.Exchange (Some 0)) 1 (Some 12)) ≡ Act (Asked (codes "atomicCompareExchangeWeak")) (4 ∷ 0 ∷ 1 ∷ []) (Some 12)
+  exchanged : simple_shape context (atomic 4 (function.Exchange (Some 0)) 1 (Some 12))
+      ≡ Act (Asked (codes "atomicCompareExchangeWeak")) (4 ∷ 0 ∷ 1 ∷ []) (Some 12)
   exchanged = refl
 
   atomic_stored : simple_shape context (store 4 0) ≡ Act (Asked (codes "atomicStore")) (4 ∷ 0 ∷ []) None
   atomic_stored = refl
 
-  texel_changed : simple_shape context (image_atomic 7 1 (Some 0) function.ExclusiveOr 2) ≡ Act (Asked (codes "textureAtomicXor")) (7 ∷ 1 ∷ 0 ∷ 2 ∷ []) None
+  texel_changed : simple_shape context (image_atomic 7 1 (Some 0) function.ExclusiveOr 2)
+      ≡ Act (Asked (codes "textureAtomicXor")) (7 ∷ 1 ∷ 0 ∷ 2 ∷ []) None
   texel_changed = refl
 
-  shuffled : simple_shape context (subgroup_gather (mode.ShuffleUp 3) 1 12) ≡ Act (Asked (codes "subgroupShuffleUp")) (1 ∷ 3 ∷ []) (Some 12)
+  shuffled : simple_shape context (subgroup_gather (mode.ShuffleUp 3) 1 12)
+      ≡ Act (Asked (codes "subgroupShuffleUp")) (1 ∷ 3 ∷ []) (Some 12)
   shuffled = refl
 
   called : simple_shape context (call 5 (1 ∷ 2 ∷ []) None) ≡ Act (Called 5) (1 ∷ 2 ∷ []) None
   called = refl
 
-  kept : simple_shape context (control_barrier (record { 0 = 10 })) ≡ Barrier (record { storage = false; work_group = true; sub_group = false; texture = true })
+  kept : simple_shape context (control_barrier (record { 0 = 10 }))
+      ≡ Barrier (record { storage = false; work_group = true; sub_group = false; texture = true })
   kept = refl

@@ -1,6 +1,7 @@
 -- Examples of how values pass in and out of stages, computed: attributes of a text beside the binding
 -- of a module that they tell, and attributes that tell another.
-use Rattle.std.proofs.Common.{◌≡◌, ◌≢◌, ℕ, Bool, true, false, List, [], ◌∷◌, ◌==◌, Option, Some, None, refl, ap, sym, ◌∙◌}
+use Rattle.std.proofs.Common.{◌≡◌, ◌≢◌, ℕ, Bool, true, false, List, [], ◌∷◌, ◌==◌, Option, Some}
+use Rattle.std.proofs.Common.{None, refl, ap, sym, ◌∙◌}
 use Rattle.naga_ir.specs.declared.binding.Binding.{Binding}
 use Rattle.naga_ir.specs.declared.binding.Binding.TheVariants as binding
 use Rattle.naga_ir.specs.declared.binding.BuiltIn.TheVariants as builtin
@@ -60,11 +61,13 @@ other_builtin : TellAnother (worded_attribute Builtin "frag_depth" ∷ []) (posi
 other_builtin = differ (is_of_word (codes "frag_depth")) _ _ refl refl
 
 -- without perspective a barycentric coordinate is another value
-barycentric : Tell (worded_attribute Builtin "barycentric_no_perspective" ∷ []) (Some (binding.BuiltIn (builtin.Barycentric false)))
+barycentric : Tell (worded_attribute Builtin "barycentric_no_perspective" ∷ [])
+    (Some (binding.BuiltIn (builtin.Barycentric false)))
 barycentric = refl
 
 -- what WGSL has no word for no text tells
-point_size : (attributes : List Attribute) → stage_binding (Some (binding.BuiltIn builtin.PointSize)) ≡ BuiltinValue None false
+point_size : (attributes : List Attribute) → stage_binding (Some (binding.BuiltIn builtin.PointSize))
+    ≡ BuiltinValue None false
 point_size attributes = refl
 
 -- ---- locations
@@ -101,30 +104,36 @@ flat_left_out : TellAnother (at_location []) (located (Some interpolation.Flat) 
 flat_left_out = differ (passes (λ l. bytes_eq l.interpolation (codes "perspective"))) _ _ refl refl
 
 -- a sampling alone is written after the interpolation that is meant
-centroid : Tell (at_location (interpolated_attribute "perspective" "centroid" ∷ [])) (located None (Some sampling.Centroid) None false)
+centroid : Tell (at_location (interpolated_attribute "perspective" "centroid" ∷ []))
+    (located None (Some sampling.Centroid) None false)
 centroid = refl
 
 centroid_left_out : TellAnother (at_location []) (located None (Some sampling.Centroid) None false)
 centroid_left_out = differ (passes (λ l. bytes_eq l.sampling (codes "center"))) _ _ refl refl
 
-flat_first : Tell (at_location (interpolated_attribute "flat" "first" ∷ [])) (located (Some interpolation.Flat) (Some sampling.First) None false)
+flat_first : Tell (at_location (interpolated_attribute "flat" "first" ∷ []))
+    (located (Some interpolation.Flat) (Some sampling.First) None false)
 flat_first = refl
 
-first_left_out : TellAnother (at_location (worded_attribute Interpolate "flat" ∷ [])) (located (Some interpolation.Flat) (Some sampling.First) None false)
+first_left_out : TellAnother (at_location (worded_attribute Interpolate "flat" ∷ []))
+    (located (Some interpolation.Flat) (Some sampling.First) None false)
 first_left_out = differ (passes (λ l. bytes_eq l.sampling (codes "center"))) _ _ refl refl
 
 -- everything that a location may tell
-all_told : Tell (at_location (Numbered BlendSource 1 ∷ interpolated_attribute "linear" "sample" ∷ Plain PerPrimitive ∷ []))
+all_told : Tell
+    (at_location (Numbered BlendSource 1 ∷ interpolated_attribute "linear" "sample" ∷ Plain PerPrimitive ∷ []))
     (located (Some interpolation.Linear) (Some sampling.Sample) (Some 1) true)
 all_told = refl
 
-source_and_primitive : Tell (at_location (Numbered BlendSource 1 ∷ Plain PerPrimitive ∷ [])) (located None None (Some 1) true)
+source_and_primitive : Tell (at_location (Numbered BlendSource 1 ∷ Plain PerPrimitive ∷ []))
+    (located None None (Some 1) true)
 source_and_primitive = refl
 
 source_left_out : TellAnother (at_location (Plain PerPrimitive ∷ [])) (located None None (Some 1) true)
 source_left_out = differ (passes (λ l. is_none l.blend_source)) _ _ refl refl
 
-other_source : TellAnother (at_location (Numbered BlendSource 0 ∷ Plain PerPrimitive ∷ [])) (located None None (Some 1) true)
+other_source : TellAnother (at_location (Numbered BlendSource 0 ∷ Plain PerPrimitive ∷ []))
+    (located None None (Some 1) true)
 other_source = differ (passes (λ l. option_map_or (λ n. n == 0) l.blend_source false)) _ _ refl refl
 
 primitive_left_out : TellAnother (at_location (Numbered BlendSource 1 ∷ [])) (located None None (Some 1) true)

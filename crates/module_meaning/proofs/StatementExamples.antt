@@ -99,7 +99,8 @@ selection-without_default = refl
 selection-without_cases : is_selection types known 0 no_cases ≡ false
 selection-without_cases = refl
 
-selection-last_falls_through : is_selection types known 0 (one (case switch_value.Default no_statements true no_cases)) ≡ false
+selection-last_falls_through : is_selection types known 0
+    (one (case switch_value.Default no_statements true no_cases)) ≡ false
 selection-last_falls_through = refl
 
 stored : is_stored types known 3 0 ≡ true
@@ -230,19 +231,23 @@ module _ (m : Module) (g : Function) where
   break-outside : statement_is_sound m g known false false (block (only (simple break))) ≡ false
   break-outside = refl
 
-  break-out_of_continuing : statement_is_sound m g known true true (loop no_statements (only (simple break)) None) ≡ false
+  break-out_of_continuing : statement_is_sound m g known true true
+      (loop no_statements (only (simple break)) None) ≡ false
   break-out_of_continuing = refl
 
-  break-in_a_loop_in_continuing : statement_is_sound m g known false false (loop no_statements (only (loop (only (simple break)) no_statements None)) None) ≡ true
+  break-in_a_loop_in_continuing : statement_is_sound m g known false false
+      (loop no_statements (only (loop (only (simple break)) no_statements None)) None) ≡ true
   break-in_a_loop_in_continuing = refl
 
-  continue-in_a_loop : statement_is_sound m g known false false (loop (only (simple continue)) no_statements None) ≡ true
+  continue-in_a_loop : statement_is_sound m g known false false
+      (loop (only (simple continue)) no_statements None) ≡ true
   continue-in_a_loop = refl
 
   continue-outside : statement_is_sound m g known false false (simple continue) ≡ false
   continue-outside = refl
 
-  continue-out_of_continuing : statement_is_sound m g known true true (loop no_statements (only (simple continue)) None) ≡ false
+  continue-out_of_continuing : statement_is_sound m g known true true
+      (loop no_statements (only (simple continue)) None) ≡ false
   continue-out_of_continuing = refl
 
   abbrev typed : Module
@@ -257,10 +262,12 @@ module _ (m : Module) (g : Function) where
   continue-in_a_case : statement_is_sound typed g known false false (otherwise_does (simple continue)) ≡ false
   continue-in_a_case = refl
 
-  continue-in_a_case_in_a_loop : statement_is_sound typed g known false false (loop (only (otherwise_does (simple continue))) no_statements None) ≡ true
+  continue-in_a_case_in_a_loop : statement_is_sound typed g known false false
+      (loop (only (otherwise_does (simple continue))) no_statements None) ≡ true
   continue-in_a_case_in_a_loop = refl
 
-  break_if-of_another_type : statement_is_sound typed g known false false (loop no_statements no_statements (Some 0)) ≡ false
+  break_if-of_another_type : statement_is_sound typed g known false false
+      (loop no_statements no_statements (Some 0)) ≡ false
   break_if-of_another_type = refl
 
   break_if-bool : statement_is_sound typed g known false false (loop no_statements no_statements (Some 2)) ≡ true

@@ -11,7 +11,9 @@ module _ (callees expressions : ℕ) (s : SimpleStatement) (within : simple_in_r
   handles_below = (and_parts (named_in_range callees expressions s) _ within).1
 
   pub operands_below : all_below expressions (simple_operands s) ≡ true
-  operands_below = (and_parts (all_below expressions (simple_operands s)) (is_below expressions (simple_result s)) handles_below).0
+  operands_below =
+      (and_parts (all_below expressions (simple_operands s)) (is_below expressions (simple_result s)) handles_below).0
 
   pub result_below : is_below expressions (simple_result s) ≡ true
-  result_below = (and_parts (all_below expressions (simple_operands s)) (is_below expressions (simple_result s)) handles_below).1
+  result_below =
+      (and_parts (all_below expressions (simple_operands s)) (is_below expressions (simple_result s)) handles_below).1

@@ -139,13 +139,15 @@ module _ (other : ir_module.Module) (known : ModuleInfo) (other_function : ir_fu
   text_is_stuck : (w : Bytes) → run_of w stray ≡ Halts Stuck entered
   unfolding is_request is_built_in
   text_is_stuck w =
-      ap (λ b. cond b (following_entry (codes "frobnicate") MeansNothing (same_bytes (codes "frobnicate") w)) (uncalled w stray)) (same_bytes_self w)
+      ap (λ b. cond b (following_entry (codes "frobnicate") MeansNothing (same_bytes (codes "frobnicate") w))
+      (uncalled w stray)) (same_bytes_self w)
       ∙ stuck_after (codes "frobnicate") (same_bytes (codes "frobnicate") w)
 
   operating_is_stuck : (w : Bytes) → run_of w operating ≡ Halts Stuck entered
   unfolding is_request is_built_in
   operating_is_stuck w =
-      ap (λ b. cond b (following_entry (codes "sampler") Operates (same_bytes (codes "sampler") w)) (uncalled w operating)) (same_bytes_self w)
+      ap (λ b. cond b (following_entry (codes "sampler") Operates (same_bytes (codes "sampler") w))
+      (uncalled w operating)) (same_bytes_self w)
       ∙ stuck_operating (codes "sampler") (same_bytes (codes "sampler") w)
 
   -- without the line it goes on as the module does
@@ -169,7 +171,8 @@ module _ (other : ir_module.Module) (known : ModuleInfo) (other_function : ir_fu
   own_name = function_name m (module_names m) 0
 
   -- so the module does not run as a text with such a line, under this name
-  stuck_is_refused : (body : Statements) → run_of own_name body ≡ Halts Stuck entered → RunsAs m info (text_of own_name body) → ⊥
+  stuck_is_refused : (body : Statements) → run_of own_name body ≡ Halts Stuck entered →
+      RunsAs m info (text_of own_name body) → ⊥
   stuck_is_refused body stuck runs =
       let same =
       runs 0 settings settings_fit meaning typed (function_shape m info f []) refl [] refl world 0 []

@@ -34,7 +34,7 @@ use Rattle.naga_ir.specs.declared.types.TypeInner.{TypeInner}
 use Rattle.naga_ir.specs.declared.types.TypeInner.TheVariants as inner
 use Rattle.naga_words.specs.Spelling.{is_struct}
 use Rattle.module_meaning.specs.TypeIdentity.{Identity, Nothing, StructAt, Itself, truth_number}
-use Rattle.module_meaning.specs.TypeIdentity.{kind_number, vector_number, components_number}
+use Rattle.module_meaning.specs.TypeIdentity.{kind_number, component_count, components_number}
 use Rattle.module_meaning.specs.TypeIdentity.{cooperative_number, role_number, space_number}
 use Rattle.module_meaning.specs.TypeIdentity.{space_bits, dimension_number, length_kind}
 use Rattle.module_meaning.specs.TypeIdentity.{length_number}
@@ -50,7 +50,8 @@ truth_distinguished true = refl
 truth_distinguished false = refl
 
 abbrev pub kind_of : ℕ → ScalarKind
-kind_of n = get_or (kind.Sint ∷ kind.Uint ∷ kind.Float ∷ kind.Bool ∷ kind.AbstractInt ∷ kind.AbstractFloat ∷ []) n kind.Sint
+kind_of n = get_or (kind.Sint ∷ kind.Uint ∷ kind.Float ∷ kind.Bool ∷ kind.AbstractInt ∷ kind.AbstractFloat
+    ∷ []) n kind.Sint
 
 abbrev scalar_of : List ℕ → Scalar
 scalar_of code = record { kind = kind_of (get_or code 1 0); width = get_or code 2 0 }
@@ -66,7 +67,7 @@ scalar_distinguished s = λ i. record { kind = kind_distinguished s.kind i; widt
 abbrev pub vector_of : ℕ → VectorSize
 vector_of n = get_or (vector.Bi ∷ vector.Bi ∷ vector.Bi ∷ vector.Tri ∷ vector.Quad ∷ []) n vector.Bi
 
-pub vector_distinguished : (n : VectorSize) → vector_of (vector_number n) ≡ n
+pub vector_distinguished : (n : VectorSize) → vector_of (component_count n) ≡ n
 vector_distinguished vector.Bi = refl
 vector_distinguished _ = refl
 
@@ -95,7 +96,8 @@ role_distinguished _ = refl
 
 abbrev space_of : (number bits : ℕ) → AddressSpace
 space_of n bits =
-    get_or (space.Function ∷ space.Private ∷ space.WorkGroup ∷ space.Uniform ∷ space.Storage (record { 0 = bits }) ∷ space.Handle ∷
+    get_or (space.Function ∷ space.Private ∷ space.WorkGroup ∷ space.Uniform ∷ space.Storage
+    (record { 0 = bits }) ∷ space.Handle ∷
     space.Immediate ∷ space.TaskPayload ∷ space.RayPayload ∷ space.IncomingRayPayload ∷ []) n space.Function
 
 space_distinguished : (s : AddressSpace) → space_of (space_number s) (space_bits s) ≡ s
@@ -130,11 +132,16 @@ length_distinguished _ = refl
 
 abbrev pub formats : List StorageFormat
 formats =
-    format.R8Unorm ∷ format.R8Snorm ∷ format.R8Uint ∷ format.R8Sint ∷ format.Rg8Unorm ∷ format.Rg8Snorm ∷ format.Rg8Uint ∷ format.Rg8Sint ∷
-    format.Rgba8Unorm ∷ format.Rgba8Snorm ∷ format.Rgba8Uint ∷ format.Rgba8Sint ∷ format.R16Unorm ∷ format.R16Snorm ∷ format.R16Uint ∷ format.R16Sint ∷
-    format.R16Float ∷ format.Rg16Unorm ∷ format.Rg16Snorm ∷ format.Rg16Uint ∷ format.Rg16Sint ∷ format.Rg16Float ∷ format.Rgba16Unorm ∷ format.Rgba16Snorm ∷
-    format.Rgba16Uint ∷ format.Rgba16Sint ∷ format.Rgba16Float ∷ format.R32Uint ∷ format.R32Sint ∷ format.R32Float ∷ format.Rg32Uint ∷ format.Rg32Sint ∷
-    format.Rg32Float ∷ format.Rgba32Uint ∷ format.Rgba32Sint ∷ format.Rgba32Float ∷ format.Bgra8Unorm ∷ format.Rgb10a2Uint ∷ format.Rgb10a2Unorm ∷ format.Rg11b10Ufloat ∷
+    format.R8Unorm ∷ format.R8Snorm ∷ format.R8Uint ∷ format.R8Sint ∷ format.Rg8Unorm ∷ format.Rg8Snorm
+    ∷ format.Rg8Uint ∷ format.Rg8Sint ∷
+    format.Rgba8Unorm ∷ format.Rgba8Snorm ∷ format.Rgba8Uint ∷ format.Rgba8Sint ∷ format.R16Unorm
+    ∷ format.R16Snorm ∷ format.R16Uint ∷ format.R16Sint ∷
+    format.R16Float ∷ format.Rg16Unorm ∷ format.Rg16Snorm ∷ format.Rg16Uint ∷ format.Rg16Sint ∷ format.Rg16Float
+    ∷ format.Rgba16Unorm ∷ format.Rgba16Snorm ∷
+    format.Rgba16Uint ∷ format.Rgba16Sint ∷ format.Rgba16Float ∷ format.R32Uint ∷ format.R32Sint
+    ∷ format.R32Float ∷ format.Rg32Uint ∷ format.Rg32Sint ∷
+    format.Rg32Float ∷ format.Rgba32Uint ∷ format.Rgba32Sint ∷ format.Rgba32Float ∷ format.Bgra8Unorm
+    ∷ format.Rgb10a2Uint ∷ format.Rgb10a2Unorm ∷ format.Rg11b10Ufloat ∷
     format.R64Uint ∷ []
 
 pub format_distinguished : (f : StorageFormat) →
@@ -171,13 +178,15 @@ pub inner_distinguished : (it : TypeInner) → is_struct it ≡ false → inner_
 inner_distinguished (inner.Scalar s) e = ap inner.Scalar (scalar_distinguished s)
 inner_distinguished (inner.Vector n s) e =
     λ i. inner.Vector (vector_distinguished n i) (scalar_distinguished s i)
-inner_distinguished (inner.Matrix c r s) e = λ i. inner.Matrix (vector_distinguished c i) (vector_distinguished r i) (scalar_distinguished s i)
+inner_distinguished (inner.Matrix c r s) e = λ i. inner.Matrix (vector_distinguished c i)
+    (vector_distinguished r i) (scalar_distinguished s i)
 inner_distinguished (inner.CooperativeMatrix c r s role) e =
     λ i. inner.CooperativeMatrix (cooperative_distinguished c i) (cooperative_distinguished r i)
     (scalar_distinguished s i) (role_distinguished role i)
 inner_distinguished (inner.Atomic s) e = ap inner.Atomic (scalar_distinguished s)
 inner_distinguished (inner.Pointer base s) e = ap (inner.Pointer base) (space_distinguished s)
-inner_distinguished (inner.ValuePointer n s p) e = λ i. inner.ValuePointer (components_distinguished n i) (scalar_distinguished s i) (space_distinguished p i)
+inner_distinguished (inner.ValuePointer n s p) e = λ i. inner.ValuePointer (components_distinguished n i)
+    (scalar_distinguished s i) (space_distinguished p i)
 inner_distinguished (inner.Array base n stride) e =
     λ i. inner.Array base (length_distinguished n i) stride
 inner_distinguished (inner.BindingArray base n) e =
@@ -185,9 +194,13 @@ inner_distinguished (inner.BindingArray base n) e =
 inner_distinguished (inner.Image d a (class.Sampled k multi)) e =
     λ i. inner.Image (dimension_distinguished d i) (truth_distinguished a i)
     (class.Sampled (kind_distinguished k i) (truth_distinguished multi i))
-inner_distinguished (inner.Image d a (class.Depth multi)) e = λ i. inner.Image (dimension_distinguished d i) (truth_distinguished a i) (class.Depth (truth_distinguished multi i))
-inner_distinguished (inner.Image d a (class.Storage f access)) e = λ i. inner.Image (dimension_distinguished d i) (truth_distinguished a i) (class.Storage (format_distinguished f i) access)
-inner_distinguished (inner.Image d a class.External) e = λ i. inner.Image (dimension_distinguished d i) (truth_distinguished a i) class.External
+inner_distinguished (inner.Image d a (class.Depth multi)) e = λ i. inner.Image (dimension_distinguished d i)
+    (truth_distinguished a i) (class.Depth (truth_distinguished multi i))
+inner_distinguished (inner.Image d a (class.Storage f access)) e =
+    λ i. inner.Image (dimension_distinguished d i) (truth_distinguished a i)
+    (class.Storage (format_distinguished f i) access)
+inner_distinguished (inner.Image d a class.External) e = λ i. inner.Image (dimension_distinguished d i)
+    (truth_distinguished a i) class.External
 inner_distinguished (inner.Sampler c) e = ap inner.Sampler (truth_distinguished c)
 inner_distinguished (inner.AccelerationStructure v) e =
     ap inner.AccelerationStructure (truth_distinguished v)
@@ -214,13 +227,16 @@ identity_plain types (Handle h) = found (option_map (λ t. t.inner) (slice_get t
 identity_plain types (Value it) = by_itself it Nothing tt (is_struct it) refl
 
 abbrev pub identity_of : List ℕ → Identity
-identity_of code = get_or (Nothing ∷ StructAt (get_or code 1 0) ∷ []) (get_or code 0 0) (Itself (inner_of (drop 1 code)))
+identity_of code = get_or (Nothing ∷ StructAt (get_or code 1 0) ∷ []) (get_or code 0 0)
+    (Itself (inner_of (drop 1 code)))
 
 pub identity_distinguished : (i : Identity) → IsPlain i → identity_of (identity_code i) ≡ i
 identity_distinguished Nothing p = refl
 identity_distinguished (StructAt h) p = refl
 identity_distinguished (Itself it) p = ap Itself (inner_distinguished it p)
 
-pub word_tells : (types : List Type_) (a b : TypeResolution) → word_of_unspelled_type (identity types a) ≡ word_of_unspelled_type (identity types b) → identity types a ≡ identity types b
+pub word_tells : (types : List Type_) (a b : TypeResolution) → word_of_unspelled_type (identity types a)
+    ≡ word_of_unspelled_type (identity types b) → identity types a ≡ identity types b
 word_tells types a b e =
-    sym (identity_distinguished (identity types a) (identity_plain types a)) ∙ (ap (λ w. identity_of (drop 1 w)) e ∙ identity_distinguished (identity types b) (identity_plain types b))
+    sym (identity_distinguished (identity types a) (identity_plain types a))
+    ∙ (ap (λ w. identity_of (drop 1 w)) e ∙ identity_distinguished (identity types b) (identity_plain types b))

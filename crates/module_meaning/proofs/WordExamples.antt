@@ -181,12 +181,14 @@ module _ (members : Vec StructMember Global) (handles : Vec ℕ Global) where
   told_as_meant = refl
 
   -- the whole part of `modf` for the fraction
-  other_member : told (text place chosen built (worked.member_of (worked.call "modf" (worked.names ("b" ∷ []))) "whole")) ≢ meant
+  other_member : told (text place chosen built
+      (worked.member_of (worked.call "modf" (worked.names ("b" ∷ []))) "whole")) ≢ meant
   unfolding type_segments
   other_member = differ (stands 11 (is_member (codes "whole"))) _ _ refl refl
 
   -- another struct with members of like types
-  other_struct : told (text place chosen (worked.call "S" (operands (worked.integer 1 ∷ worked.name "a" ∷ []))) part) ≢ meant
+  other_struct : told
+      (text place chosen (worked.call "S" (operands (worked.integer 1 ∷ worked.name "a" ∷ []))) part) ≢ meant
   unfolding type_segments
   other_struct = differ (stands 7 (is_word (codes "S"))) _ _ refl refl
 
@@ -196,12 +198,14 @@ module _ (members : Vec StructMember Global) (handles : Vec ℕ Global) where
   element_for_member e = differ (stands 0 (is_member (codes "y"))) _ _ refl refl (sym e)
 
   -- another operator
-  other_operator : told (text place (worked.call "max" (operands (worked.name "a" ∷ worked.integer 1 ∷ []))) built part) ≢ meant
+  other_operator : told
+      (text place (worked.call "max" (operands (worked.name "a" ∷ worked.integer 1 ∷ []))) built part) ≢ meant
   unfolding type_segments
   other_operator = differ (stands 2 (is_word (codes "max"))) _ _ refl refl
 
   -- another literal
-  other_literal : told (text place (worked.call "min" (operands (worked.name "a" ∷ worked.integer 2 ∷ []))) built part) ≢ meant
+  other_literal : told
+      (text place (worked.call "min" (operands (worked.name "a" ∷ worked.integer 2 ∷ []))) built part) ≢ meant
   unfolding type_segments
   other_literal = differ (stands 4 (is_number 2)) _ _ refl refl
 
@@ -224,7 +228,8 @@ is_let (LetTarget number) = true
 is_let _ = false
 
 -- it stands before the other
-let_elsewhere : told (requests (worked.let_statement "t" asked) alone) ≢ told (requests alone (worked.let_statement "t" asked))
+let_elsewhere : told (requests (worked.let_statement "t" asked) alone) ≢ told
+    (requests alone (worked.let_statement "t" asked))
 let_elsewhere = differ (stands 1 is_let) _ _ refl refl
 
 -- operands in two groupings, with the same words in the same order
@@ -240,6 +245,9 @@ abbrev is_end : Target → Bool
 is_end OperandsEnd = true
 is_end _ = false
 
-grouped_otherwise : told (grouped (worked.call "max" (operands (worked.call "min" (worked.names ("a" ∷ [])) ∷ worked.name "b" ∷ worked.integer 1 ∷ []))))
-    ≢ told (grouped (worked.call "max" (operands (worked.call "min" (worked.names ("a" ∷ "b" ∷ [])) ∷ worked.integer 1 ∷ []))))
+grouped_otherwise : told
+    (grouped (worked.call "max"
+    (operands (worked.call "min" (worked.names ("a" ∷ [])) ∷ worked.name "b" ∷ worked.integer 1 ∷ []))))
+    ≢ told (grouped
+    (worked.call "max" (operands (worked.call "min" (worked.names ("a" ∷ "b" ∷ [])) ∷ worked.integer 1 ∷ []))))
 grouped_otherwise = differ (stands 5 is_end) _ _ refl refl

@@ -15,12 +15,14 @@ use Rattle.naga_ir.specs.declared.types.TypeInner.{TypeInner}
 use Rattle.naga_ir.specs.declared.types.TypeInner.TheVariants as inner
 use Rattle.naga_layout.proofs.Left.{all_aligned, members_aligned}
 use Rattle.naga_layout.proofs.Levels.{layout_is}
-use Rattle.naga_layout.specs.Types.{StandInOrder, kept_members, kept_struct, named_layout_by, placed_member, placed_members}
+use Rattle.naga_layout.specs.Types.{StandInOrder, kept_members, kept_struct, named_layout_by}
+use Rattle.naga_layout.specs.Types.{placed_member, placed_members}
 use Rattle.naga_names.specs.Reset.{members_of}
 use Rattle.wgsl_layout.proofs.Concerned.{kept_concerned}
 use Rattle.wgsl_layout.proofs.Faults.{all_kept}
 use Rattle.wgsl_layout.proofs.Kept.{struct_kept}
-use Rattle.wgsl_layout.specs.Members.{are_kept, ended, gap_size, greatest_placed, is_concerned, is_off_alignment, last_of}
+use Rattle.wgsl_layout.specs.Members.{are_kept, ended, gap_size, greatest_placed, is_concerned}
+use Rattle.wgsl_layout.specs.Members.{is_off_alignment, last_of}
 use Rattle.wgsl_layout.specs.Members.{overlaps, sized, sized_members, written_members}
 use Rattle.wgsl_layout.specs.Rules.{struct_layout}
 use Rattle.wgsl_layout.specs.declared.layouts.Layout.{Layout}
@@ -217,9 +219,11 @@ module _ (m : Module) (h : ℕ) (t : Type_) (at : slice_get m.types h ≡ Some t
         ap (option_and_then (size_among (span_at m h) i)) is.concerned
         ∙ (ap (λ span. size_among span i ks) span_is
         ∙ (ap (option_and_then (λ k. k.given)) (sized_at whole span ks i)
-        ∙ (ap (λ o. option_and_then (λ k. k.given) (option_map (λ k. sized k (begins_at span ks (suc i)) (aligned_at whole ks (suc i))) o)) p.2
+        ∙ (ap (λ o. option_and_then (λ k. k.given)
+        (option_map (λ k. sized k (begins_at span ks (suc i)) (aligned_at whole ks (suc i))) o)) p.2
         ∙ (ap (λ l. gap_size k.offset l.size (begins_at span ks (suc i)) (aligned_at whole ks (suc i))) same
-        ∙ ap (λ a. gap_size k.offset own.size (begins_at span ks (suc i)) (aligned_at a ks (suc i))) (sym is.alignment)))))
+        ∙ ap (λ a. gap_size k.offset own.size (begins_at span ks (suc i)) (aligned_at a ks (suc i)))
+        (sym is.alignment)))))
 
     -- where no fault stands, one that isn't laid out isn't concerned
     pub unlaid : DeclarationsHaveForms m → layout_in m h ≡ None → (i : ℕ) → written_size m h i ≡ None
@@ -236,11 +240,13 @@ module _ (m : Module) (h : ℕ) (t : Type_) (at : slice_get m.types h ≡ Some t
               where
                 off : (b : Bool) → is_off_alignment ks ≡ b → b ≡ false
                 off false at = refl
-                off true at = absurd (forms.offsets h OffAlignment (record { members = ks; concerned = is; stands = at }))
+                off true at =
+                    absurd (forms.offsets h OffAlignment (record { members = ks; concerned = is; stands = at }))
 
                 over : (b : Bool) → overlaps ks ≡ b → b ≡ false
                 over false at = refl
-                over true at = absurd (forms.offsets h Overlapping (record { members = ks; concerned = is; stands = at }))
+                over true at =
+                    absurd (forms.offsets h Overlapping (record { members = ks; concerned = is; stands = at }))
 
             so : (ks : List Placed) → concerned_members m h ≡ Some ks → Concerned ks → ⊥
             so [] is c = absurd (false≢true c.concerned)

@@ -36,7 +36,7 @@ use Rattle.wgsl_words.specs.Words.{has, atomic_bit, load_bit, store_bit, scalar_
 use Rattle.module_meaning.specs.TypeIdentity.{level, length_kind, length_number}
 use Rattle.module_meaning.specs.TypeIdentity.{identity, word_of_unspelled_type, truth_number}
 use Rattle.module_meaning.specs.TypeIdentity.{kind_number}
-use Rattle.module_meaning.specs.TypeIdentity.{vector_number, cooperative_number, role_number}
+use Rattle.module_meaning.specs.TypeIdentity.{component_count, cooperative_number, role_number}
 use Rattle.module_meaning.specs.TypeIdentity.{space_number, dimension_number}
 
 -- a type over a scalar, where WGSL has a word for this
@@ -50,7 +50,7 @@ abbrev pub scalar_key : Scalar → Option (List ℕ)
 scalar_key s = over_scalar 0 s 0 0 0
 
 abbrev pub vector_key : VectorSize → Scalar → Option (List ℕ)
-vector_key n s = over_scalar 1 s (vector_number n) 0 0
+vector_key n s = over_scalar 1 s (component_count n) 0 0
 
 -- a vector, or a scalar by itself
 abbrev pub value_key : Option VectorSize → Scalar → Option (List ℕ)
@@ -107,7 +107,7 @@ abbrev pub inner_key_by : (ℕ → Option (List ℕ)) → TypeInner → Option (
 inner_key_by f (inner.Scalar s) = scalar_key s
 inner_key_by f (inner.Vector n s) = vector_key n s
 inner_key_by f (inner.Matrix columns rows s) =
-    over_scalar 2 s (vector_number columns) (vector_number rows) 0
+    over_scalar 2 s (component_count columns) (component_count rows) 0
 inner_key_by f (inner.CooperativeMatrix columns rows s role) =
     over_scalar 3 s (cooperative_number columns) (cooperative_number rows) (role_number role)
 inner_key_by f (inner.Atomic s) = over_scalar 4 s 0 0 0

@@ -28,7 +28,7 @@ use Rattle.module_meaning.specs.OperatorTable.{Operator as TableOperator, Splat}
 use Rattle.module_meaning.specs.OperatorTable.{WithoutForm, PartAt, asks}
 use Rattle.module_meaning.specs.OperatorTable.{run_word, is_zero_by_name, zero_is_written}
 use Rattle.module_meaning.specs.Shapes.{operator_shape}
-use Rattle.module_meaning.specs.TypeIdentity.{vector_number}
+use Rattle.module_meaning.specs.TypeIdentity.{component_count}
 use Rattle.shader_runs.specs.Value.{Selector, MemberNamed, ElementAt, ValueType, PointerType}
 use Rattle.shader_runs.specs.Value.{Truth, Opaque, ShortCircuit, ShortCircuitAnd, ShortCircuitOr}
 use Rattle.shader_runs.specs.Program.{ConstantTree, Fixed, Constructed, ConstantTrees, no_constant}
@@ -127,7 +127,7 @@ letter component.W = codes "w"
 
 -- those that a swizzle chooses: as many of the first ones as its vector has components
 abbrev pub swizzle_letters : VectorSize → List SwizzleComponent → List ℕ
-swizzle_letters size pattern = flat_map letter (take (vector_number size) pattern)
+swizzle_letters size pattern = flat_map letter (take (component_count size) pattern)
 
 -- The part at an index of a type's values: a component by its letter, a member by its name, a
 -- column or an element by its number. `whole` is the type's handle, if it has one. Others have no

@@ -33,19 +33,19 @@ over (inner.BindingArray base size) = Some base
 over _ = None
 
 -- what a type lacks that is over none
-abbrev pub own_lacks : TypeInner → Option Scalar
-own_lacks (inner.Scalar s) = wordless s
-own_lacks (inner.Vector size s) = wordless s
-own_lacks (inner.Matrix columns rows s) = wordless s
-own_lacks (inner.CooperativeMatrix columns rows s role) = wordless s
-own_lacks (inner.Atomic s) = wordless s
-own_lacks (inner.ValuePointer size s space) = wordless s
-own_lacks (inner.Image dim arrayed class) = image_lacks class
-own_lacks _ = None
+abbrev pub own_unwritable_scalar : TypeInner → Option Scalar
+own_unwritable_scalar (inner.Scalar s) = wordless s
+own_unwritable_scalar (inner.Vector size s) = wordless s
+own_unwritable_scalar (inner.Matrix columns rows s) = wordless s
+own_unwritable_scalar (inner.CooperativeMatrix columns rows s role) = wordless s
+own_unwritable_scalar (inner.Atomic s) = wordless s
+own_unwritable_scalar (inner.ValuePointer size s space) = wordless s
+own_unwritable_scalar (inner.Image dim arrayed class) = image_lacks class
+own_unwritable_scalar _ = None
 
 -- what a type by itself lacks, with what the types that it is over lack
 abbrev pub inner_lacks_by : (ℕ → Option Scalar) → TypeInner → Option Scalar
-inner_lacks_by f it = option_map_or f (over it) (own_lacks it)
+inner_lacks_by f it = option_map_or f (over it) (own_unwritable_scalar it)
 
 -- the type at a handle, at most so many levels deep
 abbrev pub lacks_within : (levels : ℕ) → List Type_ → (handle : ℕ) → Option Scalar

@@ -18,7 +18,7 @@ use Rattle.naga_ir.specs.declared.types.StructMember.{StructMember}
 use Rattle.naga_ir.specs.declared.types.Type_.{Type_}
 use Rattle.naga_ir.specs.declared.types.TypeInner.{TypeInner}
 use Rattle.naga_ir.specs.declared.types.TypeInner.TheVariants as inner
-use Rattle.naga_layout.specs.Types.{Rule, arrays_are_kept, layout_at, placed_members, told_rule}
+use Rattle.naga_layout.specs.Types.{Rule, arrays_are_kept, layout_at, placed_members, user_rule}
 use Rattle.naga_names.specs.Reset.{members_of}
 use Rattle.naga_names.specs.declared.key.NameKey.TheVariants as key
 use Rattle.wgsl_layout.specs.Faults.{StandsAmong}
@@ -111,5 +111,5 @@ KeepsLayouts m program =
 abbrev pub TellsLayouts : Module → Program → Type 0
 TellsLayouts m program =
     (h : ℕ) (ks : List Placed) (l : Layout) → concerned_members m h ≡ Some ks →
-    layout_at told_rule m.types h ≡ Some l →
+    layout_at user_rule m.types h ≡ Some l →
     struct_layout_read program.structs (name_in (module_names m) (key.Type_ h)) ≡ Some l

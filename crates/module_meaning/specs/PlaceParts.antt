@@ -28,7 +28,7 @@ use Rattle.module_meaning.specs.AlikeTypes.{is_spelled}
 use Rattle.module_meaning.specs.ExpressionContexts.{declared}
 use Rattle.module_meaning.specs.ExpressionShapes.{Declared, part_selector}
 use Rattle.module_meaning.specs.Names.{module_names, name_in}
-use Rattle.module_meaning.specs.TypeIdentity.{vector_number}
+use Rattle.module_meaning.specs.TypeIdentity.{component_count}
 use Rattle.module_meaning.specs.TypeParts.{element_count, inner_at}
 use Rattle.module_meaning.specs.Types.{type_of_values, word_of_values}
 use Rattle.wgsl_words.specs.Words.{load_bit, store_bit, atomic_bit}
@@ -139,9 +139,9 @@ member_part m info whole at base index ty =
 abbrev pub parts_at :
     Module → ModuleInfo → (whole : List ℕ) → AddressSpace → (base : ℕ) → TypeInner → Parts
 parts_at m info whole at base (inner.Vector n s) =
-    Components (vector_number n) (word_of_values m (Value (inner.ValuePointer None s at)))
+    Components (component_count n) (word_of_values m (Value (inner.ValuePointer None s at)))
 parts_at m info whole at base (inner.Matrix columns rows s) =
-    Elements (Some (vector_number columns))
+    Elements (Some (component_count columns))
     (word_of_values m (Value (inner.ValuePointer (Some rows) s at)))
 parts_at m info whole at base (inner.Array item count stride) =
     Elements (element_count count) (word_of_values m (Value (inner.Pointer item at)))
@@ -157,7 +157,7 @@ abbrev pub pointee_parts : Module → ModuleInfo → (whole : List ℕ) → Type
 pointee_parts m info whole (inner.Pointer base at) =
     option_map_or (parts_at m info whole at base) (inner_at m.types base) NoParts
 pointee_parts m info whole (inner.ValuePointer (Some n) s at) =
-    Components (vector_number n) (word_of_values m (Value (inner.ValuePointer None s at)))
+    Components (component_count n) (word_of_values m (Value (inner.ValuePointer None s at)))
 pointee_parts m info whole _ = NoParts
 
 -- The parts of what a pointer spelled so points to: those of the first such pointer of the module.

@@ -57,15 +57,15 @@ kind_number kind.Bool = 3
 kind_number kind.AbstractInt = 4
 kind_number kind.AbstractFloat = 5
 
-abbrev pub vector_number : VectorSize → ℕ
-vector_number vector.Bi = 2
-vector_number vector.Tri = 3
-vector_number vector.Quad = 4
+abbrev pub component_count : VectorSize → ℕ
+component_count vector.Bi = 2
+component_count vector.Tri = 3
+component_count vector.Quad = 4
 
 -- one component stands by itself
 abbrev pub components_number : Option VectorSize → ℕ
 components_number None = 1
-components_number (Some size) = vector_number size
+components_number (Some size) = component_count size
 
 abbrev pub cooperative_number : CooperativeSize → ℕ
 cooperative_number cooperative.Eight = 8
@@ -130,9 +130,9 @@ image_code dim arrayed class.External =
 -- of. A struct has a handle.
 abbrev pub inner_code : TypeInner → List ℕ
 inner_code (inner.Scalar s) = level 0 (kind_number s.kind) s.width 0 0 0
-inner_code (inner.Vector n s) = level 1 (kind_number s.kind) s.width (vector_number n) 0 0
+inner_code (inner.Vector n s) = level 1 (kind_number s.kind) s.width (component_count n) 0 0
 inner_code (inner.Matrix columns rows s) =
-    level 2 (kind_number s.kind) s.width (vector_number columns) (vector_number rows) 0
+    level 2 (kind_number s.kind) s.width (component_count columns) (component_count rows) 0
 inner_code (inner.CooperativeMatrix columns rows s role) =
     level 3 (kind_number s.kind) s.width (cooperative_number columns) (cooperative_number rows)
     (role_number role)

@@ -23,7 +23,7 @@ use Rattle.naga_ir.specs.declared.types.VectorSize.{VectorSize}
 use Rattle.naga_info.specs.declared.info.TypeResolution.{TypeResolution}
 use Rattle.naga_info.specs.declared.info.TypeResolution.TheVariants.{Handle, Value}
 use Rattle.naga_info.specs.Resolution.{inner_of}
-use Rattle.module_meaning.specs.TypeIdentity.{vector_number}
+use Rattle.module_meaning.specs.TypeIdentity.{component_count}
 
 -- the type of the module with this handle, by itself
 abbrev pub inner_at : List Type_ → (handle : ℕ) → Option TypeInner
@@ -85,8 +85,8 @@ element_count size.Dynamic = None
 
 -- how many parts a value has, where it has parts and the module says how many
 abbrev pub value_part_count : TypeInner → Option ℕ
-value_part_count (inner.Vector n s) = Some (vector_number n)
-value_part_count (inner.Matrix columns rows s) = Some (vector_number columns)
+value_part_count (inner.Vector n s) = Some (component_count n)
+value_part_count (inner.Matrix columns rows s) = Some (component_count columns)
 value_part_count (inner.Array base count stride) = element_count count
 value_part_count (inner.BindingArray base count) = element_count count
 value_part_count (inner.Struct members span) = Some (length members.items)
@@ -96,7 +96,7 @@ value_part_count _ = None
 abbrev pub part_count : List Type_ → TypeInner → Option ℕ
 part_count types (inner.Pointer base space) =
     option_and_then value_part_count (inner_at types base)
-part_count types (inner.ValuePointer n s space) = option_map vector_number n
+part_count types (inner.ValuePointer n s space) = option_map component_count n
 part_count types it = value_part_count it
 
 -- Does a known index stay below the number of parts, where there is one?

@@ -68,7 +68,8 @@ module _ {X : Type 0} (xs : List X) where
   IsAt h x = slice_get xs h ≡ Some x
 
 -- the item at this place fails the test
-pub unfit_at : {X : Type 0} (test : X → Bool) (xs : List X) (h : ℕ) (x : X) → slice_get xs h ≡ Some x → test x ≡ false → Unfit test xs h
+pub unfit_at : {X : Type 0} (test : X → Bool) (xs : List X) (h : ℕ) (x : X) → slice_get xs h ≡ Some x →
+    test x ≡ false → Unfit test xs h
 unfit_at test xs h x here fails = ap (option_map test) here ∙ ap Some fails
 
 -- the items from n on of a longer list
@@ -87,26 +88,42 @@ module _ {X : Type 0} (xs : List X) where
       in ap (slice_get xs) (sym same) ∙ sym (stands 0)
 
   unfit_from : (test : ℕ → X → Bool) (n : ℕ) (ys : List X) → StandsFrom n ys →
-      Finds (first_unfit test (enumerate_from n ys)) (list_all (λ p. test p.0 p.1) (enumerate_from n ys)) (λ h. Unfit (test h) xs h)
+      Finds (first_unfit test (enumerate_from n ys)) (list_all (λ p. test p.0 p.1) (enumerate_from n ys))
+      (λ h. Unfit (test h) xs h)
   unfit_from test n [] stands = finds_nothing
   unfit_from test n (y ∷ ys) stands =
-      finds_unless (test n y) n (λ fails. unfit_at (test n) xs n y (stands_here n y ys stands) fails) (λ fits. unfit_from test (n + 1) ys (stands_next n y ys stands))
+      finds_unless (test n y) n (λ fails. unfit_at (test n) xs n y (stands_here n y ys stands) fails)
+      (λ fits. unfit_from test (n + 1) ys (stands_next n y ys stands))
 
   module _ {F : Type 0} (P : ℕ → X → F → Type 0) where
     abbrev pub AtItem : ℕ × F → Type 0
     AtItem found = (x : X) × (slice_get xs found.0 ≡ Some x) × P found.0 x found.1
 
-    faulty_from : (test : ℕ → X → Bool) (fault : ℕ → X → Option F) → ((h : ℕ) (x : X) → slice_get xs h ≡ Some x → Finds (fault h x) (test h x) (P h x)) →
+    faulty_from : (test : ℕ → X → Bool) (fault : ℕ → X → Option F) →
+        ((h : ℕ) (x : X) → slice_get xs h ≡ Some x → Finds (fault h x) (test h x) (P h x)) →
         (n : ℕ) (ys : List X) → StandsFrom n ys →
         Finds (first_faulty fault (enumerate_from n ys)) (list_all (λ p. test p.0 p.1) (enumerate_from n ys)) AtItem
     faulty_from test fault finds n [] stands = finds_nothing
     faulty_from test fault finds n (y ∷ ys) stands =
-        by (fault n y) (test n y) (finds n y (stands_here n y ys stands)) (faulty_from test fault finds (n + 1) ys (stands_next n y ys stands))
+        by (fault n y) (test n y) (finds n y (stands_here n y ys stands))
+        (faulty_from test fault finds (n + 1) ys (stands_next n y ys stands))
       where
-        by : (found : Option F) (fits : Bool) → Finds found fits (P n y) → Finds (first_faulty fault (enumerate_from (n + 1) ys)) (list_all (λ p. test p.0 p.1) (enumerate_from (n + 1) ys)) AtItem →
-            Finds (or_further found n (first_faulty fault (enumerate_from (n + 1) ys))) (fits && list_all (λ p. test p.0 p.1) (enumerate_from (n + 1) ys)) AtItem
-        by None fits first next = record { fits = next.fits ∙ ap (λ b. b && list_all (λ p. test p.0 p.1) (enumerate_from (n + 1) ys)) first.fits; fails = next.fails }
-        by (Some found) fits first next = record { fits = ap (λ b. b && list_all (λ p. test p.0 p.1) (enumerate_from (n + 1) ys)) first.fits; fails = (y, stands_here n y ys stands, first.fails) }
+        by : (found : Option F) (fits : Bool) → Finds found fits (P n y) →
+            Finds (first_faulty fault (enumerate_from (n + 1) ys))
+            (list_all (λ p. test p.0 p.1) (enumerate_from (n + 1) ys)) AtItem →
+            Finds (or_further found n (first_faulty fault (enumerate_from (n + 1) ys)))
+            (fits && list_all (λ p. test p.0 p.1) (enumerate_from (n + 1) ys)) AtItem
+        by None fits first next =
+            record {
+              fits = next.fits
+                  ∙ ap (λ b. b && list_all (λ p. test p.0 p.1) (enumerate_from (n + 1) ys)) first.fits;
+              fails = next.fails;
+            }
+        by (Some found) fits first next =
+            record {
+              fits = ap (λ b. b && list_all (λ p. test p.0 p.1) (enumerate_from (n + 1) ys)) first.fits;
+              fails = (y, stands_here n y ys stands, first.fails);
+            }
 
 stands_whole : {X : Type 0} (xs : List X) (i : ℕ) → slice_get xs i ≡ slice_get xs (0 + i)
 stands_whole xs i =
@@ -115,7 +132,8 @@ stands_whole xs i =
 
 -- the first item that fails, by tests that know its place
 pub finds_unfit : {X : Type 0} (test : ℕ → X → Bool) (xs : List X) →
-    Finds (first_unfit test (enumerate_from 0 xs)) (list_all (λ p. test p.0 p.1) (enumerate_from 0 xs)) (λ h. Unfit (test h) xs h)
+    Finds (first_unfit test (enumerate_from 0 xs)) (list_all (λ p. test p.0 p.1) (enumerate_from 0 xs))
+    (λ h. Unfit (test h) xs h)
 finds_unfit test xs = unfit_from xs test 0 xs (stands_whole xs)
 
 -- the same by tests that don't
@@ -124,15 +142,18 @@ pub finds_plain : {X : Type 0} (test : X → Bool) (xs : List X) →
 finds_plain test xs = finds_same (list_all-pairs test 0 xs) (finds_unfit (λ _. test) xs)
 
 -- the first item that has a fault
-pub finds_faulty : {X F : Type 0} (P : ℕ → X → F → Type 0) (test : ℕ → X → Bool) (fault : ℕ → X → Option F) (xs : List X) →
+pub finds_faulty : {X F : Type 0} (P : ℕ → X → F → Type 0) (test : ℕ → X → Bool) (fault : ℕ → X → Option F)
+    (xs : List X) →
     ((h : ℕ) (x : X) → slice_get xs h ≡ Some x → Finds (fault h x) (test h x) (P h x)) →
     Finds (first_faulty fault (enumerate_from 0 xs)) (list_all (λ p. test p.0 p.1) (enumerate_from 0 xs)) (AtItem xs P)
 finds_faulty P test fault xs finds = faulty_from xs P test fault finds 0 xs (stands_whole xs)
 
-pub finds_plain_faulty : {X F : Type 0} (P : ℕ → X → F → Type 0) (test : X → Bool) (fault : ℕ → X → Option F) (xs : List X) →
+pub finds_plain_faulty : {X F : Type 0} (P : ℕ → X → F → Type 0) (test : X → Bool) (fault : ℕ → X → Option F)
+    (xs : List X) →
     ((h : ℕ) (x : X) → slice_get xs h ≡ Some x → Finds (fault h x) (test x) (P h x)) →
     Finds (first_faulty fault (enumerate_from 0 xs)) (list_all test xs) (AtItem xs P)
-finds_plain_faulty P test fault xs finds = finds_same (list_all-pairs test 0 xs) (finds_faulty P (λ _. test) fault xs finds)
+finds_plain_faulty P test fault xs finds =
+    finds_same (list_all-pairs test 0 xs) (finds_faulty P (λ _. test) fault xs finds)
 
 -- ---- statements
 
@@ -151,8 +172,10 @@ finds_numbered test n [] small = finds_nothing
 finds_numbered {X} test n (x ∷ xs) small =
     by (test x) refl (finds_numbered test (wrapping_add n 1) xs (sym (mod-mod (n + 1) (2 ^ 64))))
   where
-    by : (fits : Bool) → test x ≡ fits → Finds (result_err (numbered test (wrapping_add n 1) xs)) (list_all test xs) (Numbered test xs (wrapping_add n 1)) →
-        Finds (result_err (if fits then numbered test (wrapping_add n 1) xs else Err n)) (fits && list_all test xs) (Numbered test (x ∷ xs) n)
+    by : (fits : Bool) → test x ≡ fits → Finds (result_err (numbered test (wrapping_add n 1) xs))
+        (list_all test xs) (Numbered test xs (wrapping_add n 1)) →
+        Finds (result_err (if fits then numbered test (wrapping_add n 1) xs else Err n))
+        (fits && list_all test xs) (Numbered test (x ∷ xs) n)
     by true fits next = finds_weaker (result_err (numbered test (wrapping_add n 1) xs))
         (λ found at. (suc at.0, at.1 ∙ wrapped n at.0, at.2)) next
     by false fails next =
@@ -174,10 +197,12 @@ finds_statement test xs = finds_weaker (result_err (numbered test 0 xs)) from (f
 
 -- ---- items of lists
 
-item_of : {X : Type 0} (test : X → Bool) (o : Option X) → option_map test o ≡ Some false → (x : X) × (o ≡ Some x) × (test x ≡ false)
+item_of : {X : Type 0} (test : X → Bool) (o : Option X) → option_map test o ≡ Some false →
+    (x : X) × (o ≡ Some x) × (test x ≡ false)
 item_of test None e = absurd (true≢false (sym (ap is_some e)))
 item_of test (Some x) e = (x, refl, ap (λ o. unwrap_or o true) e)
 
 -- the item that fails a test
-pub unfit_item : {X : Type 0} (test : X → Bool) (xs : List X) (h : ℕ) → Unfit test xs h → (x : X) × (slice_get xs h ≡ Some x) × (test x ≡ false)
+pub unfit_item : {X : Type 0} (test : X → Bool) (xs : List X) (h : ℕ) → Unfit test xs h →
+    (x : X) × (slice_get xs h ≡ Some x) × (test x ≡ false)
 unfit_item test xs h fails = item_of test (slice_get xs h) fails

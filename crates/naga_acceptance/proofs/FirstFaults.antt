@@ -94,7 +94,8 @@ swap true false false d = refl
 swap false b c d = refl
 
 all_both : {X : Type 0} (a : ℕ → X → Bool) (b : X → Bool) (n : ℕ) (xs : List X) →
-    list_all (λ p. a p.0 p.1 && b p.1) (enumerate_from n xs) ≡ list_all (λ p. a p.0 p.1) (enumerate_from n xs) && list_all b xs
+    list_all (λ p. a p.0 p.1 && b p.1) (enumerate_from n xs) ≡ list_all (λ p. a p.0 p.1) (enumerate_from n xs)
+    && list_all b xs
 all_both a b n [] = refl
 all_both a b n (x ∷ xs) =
     ap (λ t. (a n x && b x) && t) (all_both a b (n + 1) xs)
@@ -103,7 +104,8 @@ all_both a b n (x ∷ xs) =
 -- ---- what is named: parts of functions
 
 expression_range : (m : Module) (arguments locals h : ℕ) (e : Expression) (P : Fault → Type 0) →
-    (all_below h (expression_operands e) ≡ false → P fault.Operands) → (names_in_range m arguments locals e ≡ false → P (names_fault e)) →
+    (all_below h (expression_operands e) ≡ false → P fault.Operands) →
+    (names_in_range m arguments locals e ≡ false → P (names_fault e)) →
     Finds (expression_range_fault m arguments locals h e) (expression_in_range m arguments locals h e) P
 expression_range m arguments locals h e P operands names =
     finds_unless (all_below h (expression_operands e)) fault.Operands operands
@@ -122,23 +124,29 @@ module _ (m : Module) (callees : ℕ) (f : Function) (known : List TypeResolutio
   abbrev RangePosition : FunctionPosition × Fault → Type 0
   RangePosition found = FunctionPositionFails m callees f known found.0 found.1
 
-  locals_found : Finds (first_unfit (λ _. local_in_range (length m.types) (length f.expressions)) (enumerate_from 0 f.local_variables))
+  locals_found : Finds (first_unfit (λ _. local_in_range (length m.types) (length f.expressions))
+      (enumerate_from 0 f.local_variables))
       (list_all (local_in_range (length m.types) (length f.expressions)) f.local_variables)
       (λ h. RangePosition (part.Local h, fault.Names))
   locals_found = finds_plain (local_in_range (length m.types) (length f.expressions)) f.local_variables
 
-  expressions_found : Finds (first_faulty (expression_range_fault m (length f.arguments.items) (length f.local_variables)) (enumerate_from 0 f.expressions))
+  expressions_found : Finds
+      (first_faulty (expression_range_fault m (length f.arguments.items) (length f.local_variables))
+      (enumerate_from 0 f.expressions))
       (expressions_in_range m f)
       (λ found. RangePosition (at_expression found))
   expressions_found =
-      finds_weaker (first_faulty (expression_range_fault m (length f.arguments.items) (length f.local_variables)) (enumerate_from 0 f.expressions))
+      finds_weaker (first_faulty (expression_range_fault m (length f.arguments.items)
+      (length f.local_variables)) (enumerate_from 0 f.expressions))
       (λ found at. at.2)
       (finds_faulty (λ h x kind. ExpressionFails m f known h kind)
       (expression_in_range m (length f.arguments.items) (length f.local_variables))
       (expression_range_fault m (length f.arguments.items) (length f.local_variables)) f.expressions
-      (λ h e here. expression_range m (length f.arguments.items) (length f.local_variables) h e (λ kind. ExpressionFails m f known h kind)
+      (λ h e here. expression_range m (length f.arguments.items) (length f.local_variables) h e
+      (λ kind. ExpressionFails m f known h kind)
       (λ fails. unfit_at (λ x. all_below h (expression_operands x)) f.expressions h e here fails)
-      (λ fails. names_fail m (length f.arguments.items) (length f.local_variables) h f.expressions e (λ kind. ExpressionFails m f known h kind) (λ unfit. unfit) (λ unfit. unfit) here fails)))
+      (λ fails. names_fail m (length f.arguments.items) (length f.local_variables) h f.expressions e
+      (λ kind. ExpressionFails m f known h kind) (λ unfit. unfit) (λ unfit. unfit) here fails)))
 
   statements_found : Finds (result_err (numbered (is_in_range callees (length f.expressions)) 0 (text_order f.body)))
       (block_in_range callees (length f.expressions) f.body)
@@ -158,7 +166,8 @@ module _ (m : Module) (callees : ℕ) (f : Function) (known : List TypeResolutio
   -- ---- what is wanted: parts of functions
 
   expressions_sound : Finds (expressions_sound_fault m (Some f) known f.expressions)
-      (list_all (λ p. has_its_type m (Some f) known p.0 p.1 && operands_fit m.types known p.1) (enumerate_from 0 f.expressions))
+      (list_all (λ p. has_its_type m (Some f) known p.0 p.1 && operands_fit m.types known p.1)
+      (enumerate_from 0 f.expressions))
       (λ found. RangePosition (at_expression found))
   expressions_sound =
       finds_weaker (expressions_sound_fault m (Some f) known f.expressions)
@@ -185,7 +194,8 @@ module _ (m : Module) (callees : ℕ) (f : Function) (known : List TypeResolutio
 
   pub function_sound : Finds (function_sound_fault m f known) (typed_function_is_sound m f known) RangePosition
   function_sound =
-      finds_or _ _ (finds_same (all_both (has_its_type m (Some f) known) (operands_fit m.types known) 0 f.expressions) (finds_map at_expression _ expressions_sound))
+      finds_or _ _ (finds_same (all_both (has_its_type m (Some f) known) (operands_fit m.types known) 0
+      f.expressions) (finds_map at_expression _ expressions_sound))
       (λ _. finds_or _ _ (finds_map (λ h. (part.Local h, fault.InitialiserType)) _ locals_sound_found)
       (λ _. finds_map (λ n. (part.Statement n, fault.Unsatisfied)) _ statements_sound_found))
 
@@ -193,16 +203,22 @@ module _ (m : Module) (callees : ℕ) (f : Function) (known : List TypeResolutio
 
 module _ (m : Module) (info : ModuleInfo) where
   -- a fault of an item, in terms of what fails
-  constants_found : Finds (first_unfit (λ _. constant_in_range (length m.types) (length m.global_expressions)) (enumerate_from 0 m.constants))
-      (list_all (constant_in_range (length m.types) (length m.global_expressions)) m.constants) (λ h. Fails m info (at (item.Constant h) fault.Names))
+  constants_found : Finds (first_unfit (λ _. constant_in_range (length m.types) (length m.global_expressions))
+      (enumerate_from 0 m.constants))
+      (list_all (constant_in_range (length m.types) (length m.global_expressions)) m.constants)
+      (λ h. Fails m info (at (item.Constant h) fault.Names))
   constants_found = finds_plain (constant_in_range (length m.types) (length m.global_expressions)) m.constants
 
-  overrides_found : Finds (first_unfit (λ _. override_in_range (length m.types) (length m.global_expressions)) (enumerate_from 0 m.overrides))
-      (list_all (override_in_range (length m.types) (length m.global_expressions)) m.overrides) (λ h. Fails m info (at (item.Override h) fault.Names))
+  overrides_found : Finds (first_unfit (λ _. override_in_range (length m.types) (length m.global_expressions))
+      (enumerate_from 0 m.overrides))
+      (list_all (override_in_range (length m.types) (length m.global_expressions)) m.overrides)
+      (λ h. Fails m info (at (item.Override h) fault.Names))
   overrides_found = finds_plain (override_in_range (length m.types) (length m.global_expressions)) m.overrides
 
-  globals_found : Finds (first_unfit (λ _. global_in_range (length m.types) (length m.global_expressions)) (enumerate_from 0 m.global_variables))
-      (list_all (global_in_range (length m.types) (length m.global_expressions)) m.global_variables) (λ h. Fails m info (at (item.GlobalVariable h) fault.Names))
+  globals_found : Finds (first_unfit (λ _. global_in_range (length m.types) (length m.global_expressions))
+      (enumerate_from 0 m.global_variables))
+      (list_all (global_in_range (length m.types) (length m.global_expressions)) m.global_variables)
+      (λ h. Fails m info (at (item.GlobalVariable h) fault.Names))
   globals_found = finds_plain (global_in_range (length m.types) (length m.global_expressions)) m.global_variables
 
   -- faults of global expressions, each of one of them
@@ -215,15 +231,19 @@ module _ (m : Module) (info : ModuleInfo) where
       finds_or _ _
       (expression_range m 0 0 h e (λ kind. GlobalAt (h, kind))
       (λ fails. unfit_at (λ x. all_below h (expression_operands x)) m.global_expressions h e here fails)
-      (λ fails. names_fail m 0 0 h m.global_expressions e (λ kind. GlobalAt (h, kind)) (λ unfit. unfit) (λ unfit. unfit) here fails))
+      (λ fails. names_fail m 0 0 h m.global_expressions e (λ kind. GlobalAt (h, kind)) (λ unfit. unfit)
+      (λ unfit. unfit) here fails))
       (λ _. finds_test (initialiser_before m h e) fault.LaterInitialiser
       (λ fails. unfit_at (initialiser_before m h) m.global_expressions h e here fails))
 
-  global_expressions_found : Finds (first_faulty (global_expression_range_fault m) (enumerate_from 0 m.global_expressions))
+  global_expressions_found : Finds (first_faulty (global_expression_range_fault m)
+      (enumerate_from 0 m.global_expressions))
       (list_all (λ p. global_expression_in_range m p.0 p.1) (enumerate_from 0 m.global_expressions)) GlobalAt
   global_expressions_found =
-      finds_weaker (first_faulty (global_expression_range_fault m) (enumerate_from 0 m.global_expressions)) (λ found at. at.2)
-      (finds_faulty (λ h x kind. GlobalAt (h, kind)) (global_expression_in_range m) (global_expression_range_fault m) m.global_expressions global_range)
+      finds_weaker (first_faulty (global_expression_range_fault m) (enumerate_from 0 m.global_expressions))
+      (λ found at. at.2)
+      (finds_faulty (λ h x kind. GlobalAt (h, kind)) (global_expression_in_range m)
+      (global_expression_range_fault m) m.global_expressions global_range)
 
   items_range : Finds (items_range_fault m)
       (list_all (constant_in_range (length m.types) (length m.global_expressions)) m.constants &&
@@ -237,11 +257,13 @@ module _ (m : Module) (info : ModuleInfo) where
       (λ _. finds_map (λ found. at (item.GlobalExpression found.0) found.1) _ global_expressions_found)))
 
   parts_found : Finds (first_unfit (λ h t. parts_before h t.inner) (enumerate_from 0 m.types))
-      (list_all (λ p. parts_before p.0 p.1.inner) (enumerate_from 0 m.types)) (λ h. Fails m info (at (item.Type h) fault.TypeParts))
+      (list_all (λ p. parts_before p.0 p.1.inner) (enumerate_from 0 m.types))
+      (λ h. Fails m info (at (item.Type h) fault.TypeParts))
   parts_found = finds_unfit (λ h t. parts_before h t.inner) m.types
 
   lengths_found : Finds (first_unfit (λ _ t. numbers_in_range (length m.overrides) t.inner) (enumerate_from 0 m.types))
-      (list_all (λ t. numbers_in_range (length m.overrides) t.inner) m.types) (λ h. Fails m info (at (item.Type h) fault.TypeLength))
+      (list_all (λ t. numbers_in_range (length m.overrides) t.inner) m.types)
+      (λ h. Fails m info (at (item.Type h) fault.TypeLength))
   lengths_found = finds_plain (λ t. numbers_in_range (length m.overrides) t.inner) m.types
 
   types_range : Finds (types_range_fault m) (types_in_range (length m.overrides) m.types) (Fails m info)
@@ -252,7 +274,8 @@ module _ (m : Module) (info : ModuleInfo) where
   declarations_range : Finds (declarations_range_fault m) (declarations_in_range m) (Fails m info)
   declarations_range =
       finds_or _ _ types_range
-      (λ _. finds_unless (special_types_fit (length m.types) m.special_types) (at item.Module fault.SpecialTypes) (λ fails. fails)
+      (λ _. finds_unless (special_types_fit (length m.types) m.special_types)
+      (at item.Module fault.SpecialTypes) (λ fails. fails)
       (λ _. items_range))
 
   part_placed : (h : ℕ) (f : Function) → slice_get m.functions h ≡ Some f → (kind : Fault) (p : FunctionPosition) →
@@ -263,7 +286,8 @@ module _ (m : Module) (info : ModuleInfo) where
   part_placed h f here fault.Disagreement (part.Statement n) fails = absurd fails
   part_placed h f here _ p fails = (f, here, fails)
 
-  entry_placed : (h : ℕ) (p : EntryPoint) → slice_get m.entry_points.items h ≡ Some p → (kind : Fault) (q : FunctionPosition) →
+  entry_placed : (h : ℕ) (p : EntryPoint) → slice_get m.entry_points.items h ≡ Some p →
+      (kind : Fault) (q : FunctionPosition) →
       EntryPositionFails m p (known_of info.entry_points.items h) q kind → Fails m info (at (item.EntryPoint h q) kind)
   entry_placed h p here fault.Disagreement part.Whole fails = absurd fails
   entry_placed h p here fault.Disagreement (part.Local l) fails = absurd fails
@@ -277,7 +301,8 @@ module _ (m : Module) (info : ModuleInfo) where
   entry_part p known part.Whole fault.Names fails = absurd fails
   entry_part p known _ _ fails = fails
 
-  functions_range : Finds (functions_range_fault m) (list_all (λ p. function_in_range m p.0 p.1) (enumerate_from 0 m.functions)) (Fails m info)
+  functions_range : Finds (functions_range_fault m)
+      (list_all (λ p. function_in_range m p.0 p.1) (enumerate_from 0 m.functions)) (Fails m info)
   functions_range =
       finds_map (λ found. at_function found.0 found.1) _
       (finds_weaker (first_faulty (function_range_fault m) (enumerate_from 0 m.functions))
@@ -294,17 +319,20 @@ module _ (m : Module) (info : ModuleInfo) where
   entry_regroup false b c d e = refl
 
   entry_range : (p : EntryPoint) (known : List TypeResolution) →
-      Finds (entry_point_range_fault m p) (entry_point_in_range m p) (λ found. EntryPositionFails m p known found.0 found.1)
+      Finds (entry_point_range_fault m p) (entry_point_in_range m p)
+      (λ found. EntryPositionFails m p known found.0 found.1)
   entry_range p known =
       finds_same (entry_regroup (is_below (length m.global_variables) (option_map (λ k. k.output_variable) p.mesh_info))
-      (is_below (length m.global_variables) p.task_payload) (is_below (length m.global_variables) p.incoming_ray_payload)
+      (is_below (length m.global_variables) p.task_payload)
+      (is_below (length m.global_variables) p.incoming_ray_payload)
       (workgroup_fits_32_bits p.workgroup_size) (function_in_range m (length m.functions) p.function))
       (finds_unless (entry_names_fit m p) (part.Whole, fault.Names) (λ fails. fails)
       (λ _. finds_weaker (function_range_fault m (length m.functions) p.function)
       (λ found fails. entry_part p known found.0 found.1 fails)
       (function_range m (length m.functions) p.function known)))
 
-  entry_points_range : Finds (entry_points_range_fault m) (list_all (entry_point_in_range m) m.entry_points.items) (Fails m info)
+  entry_points_range : Finds (entry_points_range_fault m)
+      (list_all (entry_point_in_range m) m.entry_points.items) (Fails m info)
   entry_points_range =
       finds_map (λ found. at_entry_point found.0 found.1) _
       (finds_weaker (first_faulty (λ _. entry_point_range_fault m) (enumerate_from 0 m.entry_points.items))
@@ -318,89 +346,115 @@ module _ (m : Module) (info : ModuleInfo) where
 
   -- ---- what is known
 
-  known_is : (kss : List (List ExpressionInfo)) (h : ℕ) (ks : List ExpressionInfo) → slice_get kss h ≡ Some ks → known_of kss h ≡ map (λ k. k.ty) ks
+  known_is : (kss : List (List ExpressionInfo)) (h : ℕ) (ks : List ExpressionInfo) → slice_get kss h ≡ Some ks →
+      known_of kss h ≡ map (λ k. k.ty) ks
   known_is kss h ks here = ap (λ o. option_map_or (map (λ k. k.ty)) o []) here
 
-  size_of_known : (f : Function) (kss : List (List ExpressionInfo)) (h : ℕ) (ks : List ExpressionInfo) → slice_get kss h ≡ Some ks → function_size_fits f ks ≡ false →
+  size_of_known : (f : Function) (kss : List (List ExpressionInfo)) (h : ℕ) (ks : List ExpressionInfo) →
+      slice_get kss h ≡ Some ks → function_size_fits f ks ≡ false →
       (length f.expressions == length (known_of kss h)) ≡ false
   size_of_known f kss h ks here fails =
       ap (λ known. length f.expressions == length known) (known_is kss h ks here)
       ∙ ap (λ n. length f.expressions == n) (length-map ks (λ k. k.ty)) ∙ fails
 
-  function_sizes : Finds (function_sizes_fault m.functions info.functions.items) (all_paired function_size_fits m.functions info.functions.items) (Fails m info)
+  function_sizes : Finds (function_sizes_fault m.functions info.functions.items)
+      (all_paired function_size_fits m.functions info.functions.items) (Fails m info)
   function_sizes =
-      finds_unless (length m.functions == length info.functions.items) (at item.Module fault.InfoSize) (λ fails. and_left _ _ fails)
+      finds_unless (length m.functions == length info.functions.items) (at item.Module fault.InfoSize)
+      (λ fails. and_left _ _ fails)
       (λ _. finds_map (λ h. at (item.Function h part.Whole) fault.InfoSize) _
-      (finds_weaker (first_unfit (λ _ p. function_size_fits p.0 p.1) (enumerate_from 0 (zip m.functions info.functions.items))) placed
+      (finds_weaker (first_unfit (λ _ p. function_size_fits p.0 p.1)
+      (enumerate_from 0 (zip m.functions info.functions.items))) placed
       (finds_plain (λ p. function_size_fits p.0 p.1) (zip m.functions info.functions.items))))
     where
-      placed : (h : ℕ) → Unfit (λ p. function_size_fits p.0 p.1) (zip m.functions info.functions.items) h → Fails m info (at (item.Function h part.Whole) fault.InfoSize)
+      placed : (h : ℕ) → Unfit (λ p. function_size_fits p.0 p.1) (zip m.functions info.functions.items) h →
+          Fails m info (at (item.Function h part.Whole) fault.InfoSize)
       placed h fails =
           let found = unfit_item (λ p. function_size_fits p.0 p.1) (zip m.functions info.functions.items) h fails
           in let both = zip_parts m.functions info.functions.items h found.0 found.1
           in (found.0.0, both.0, size_of_known found.0.0 info.functions.items h found.0.1 both.1 found.2)
 
-  entry_point_sizes : Finds (entry_point_sizes_fault m.entry_points.items info.entry_points.items) (all_paired entry_point_size_fits m.entry_points.items info.entry_points.items) (Fails m info)
+  entry_point_sizes : Finds (entry_point_sizes_fault m.entry_points.items info.entry_points.items)
+      (all_paired entry_point_size_fits m.entry_points.items info.entry_points.items) (Fails m info)
   entry_point_sizes =
       finds_unless (length m.entry_points.items == length info.entry_points.items) (at item.Module fault.InfoSize)
       (λ fails. and_right (length m.functions == length info.functions.items) _ (and_left _ _ fails))
       (λ _. finds_map (λ h. at (item.EntryPoint h part.Whole) fault.InfoSize) _
-      (finds_weaker (first_unfit (λ _ p. entry_point_size_fits p.0 p.1) (enumerate_from 0 (zip m.entry_points.items info.entry_points.items))) placed
+      (finds_weaker (first_unfit (λ _ p. entry_point_size_fits p.0 p.1)
+      (enumerate_from 0 (zip m.entry_points.items info.entry_points.items))) placed
       (finds_plain (λ p. entry_point_size_fits p.0 p.1) (zip m.entry_points.items info.entry_points.items))))
     where
-      placed : (h : ℕ) → Unfit (λ p. entry_point_size_fits p.0 p.1) (zip m.entry_points.items info.entry_points.items) h → Fails m info (at (item.EntryPoint h part.Whole) fault.InfoSize)
+      placed : (h : ℕ) → Unfit (λ p. entry_point_size_fits p.0 p.1)
+          (zip m.entry_points.items info.entry_points.items) h →
+          Fails m info (at (item.EntryPoint h part.Whole) fault.InfoSize)
       placed h fails =
-          let found = unfit_item (λ p. entry_point_size_fits p.0 p.1) (zip m.entry_points.items info.entry_points.items) h fails
+          let found = unfit_item (λ p. entry_point_size_fits p.0 p.1)
+          (zip m.entry_points.items info.entry_points.items) h fails
           in let both = zip_parts m.entry_points.items info.entry_points.items h found.0 found.1
           in (found.0.0, both.0, size_of_known found.0.0.function info.entry_points.items h found.0.1 both.1 found.2)
 
   sizes : Finds (sizes_fault m info) (sizes_fit m info) (Fails m info)
   sizes =
       finds_or _ _ function_sizes (λ _. finds_or _ _ entry_point_sizes
-      (λ _. finds_test (length m.global_expressions == length info.const_expression_types.items) (at item.Module fault.InfoSize)
+      (λ _. finds_test (length m.global_expressions == length info.const_expression_types.items)
+      (at item.Module fault.InfoSize)
       (λ fails. and_right (length m.functions == length info.functions.items) _
       (and_right (length m.entry_points.items == length info.entry_points.items) _ fails))))
 
-  known_unfit : (test : TypeResolution → Bool) (ks : List ExpressionInfo) (e : ℕ) → Unfit (λ k. test k.ty) ks e → Unfit test (map (λ k. k.ty) ks) e
-  known_unfit test ks e fails = ap (option_map test) (slice_get-map (λ k. k.ty) ks e) ∙ (composed (slice_get ks e) ∙ fails)
+  known_unfit : (test : TypeResolution → Bool) (ks : List ExpressionInfo) (e : ℕ) →
+      Unfit (λ k. test k.ty) ks e → Unfit test (map (λ k. k.ty) ks) e
+  known_unfit test ks e fails = ap (option_map test) (slice_get-map (λ k. k.ty) ks e)
+      ∙ (composed (slice_get ks e) ∙ fails)
     where
-      composed : (o : Option ExpressionInfo) → option_map test (option_map (λ k. k.ty) o) ≡ option_map (λ k. test k.ty) o
+      composed : (o : Option ExpressionInfo) → option_map test (option_map (λ k. k.ty) o)
+          ≡ option_map (λ k. test k.ty) o
       composed None = refl
       composed (Some k) = refl
 
   abbrev UnknownAt : List (List ExpressionInfo) → ℕ × (FunctionPosition × Fault) → Type 0
   UnknownAt kss found = (ks : List ExpressionInfo) × (slice_get kss found.0 ≡ Some ks)
-      × ((e : ℕ) × (found.1 ≡ (part.Expression e, fault.KnownType)) × Unfit (resolution_fits (length m.overrides) (length m.types)) (known_of kss found.0) e)
+      × ((e : ℕ) × (found.1 ≡ (part.Expression e, fault.KnownType))
+      × Unfit (resolution_fits (length m.overrides) (length m.types)) (known_of kss found.0) e)
 
   known_found : (kss : List (List ExpressionInfo)) →
-      Finds (first_known_fault (length m.overrides) (length m.types) kss) (list_all (list_all (λ k. resolution_fits (length m.overrides) (length m.types) k.ty)) kss) (UnknownAt kss)
+      Finds (first_known_fault (length m.overrides) (length m.types) kss)
+      (list_all (list_all (λ k. resolution_fits (length m.overrides) (length m.types) k.ty)) kss) (UnknownAt kss)
   known_found kss =
-      finds_plain_faulty (λ h ks found. (e : ℕ) × (found ≡ (part.Expression e, fault.KnownType)) × Unfit (resolution_fits (length m.overrides) (length m.types)) (known_of kss h) e)
-      (list_all (λ k. resolution_fits (length m.overrides) (length m.types) k.ty)) (known_fault (length m.overrides) (length m.types)) kss
+      finds_plain_faulty (λ h ks found. (e : ℕ) × (found ≡ (part.Expression e, fault.KnownType))
+      × Unfit (resolution_fits (length m.overrides) (length m.types)) (known_of kss h) e)
+      (list_all (λ k. resolution_fits (length m.overrides) (length m.types) k.ty))
+      (known_fault (length m.overrides) (length m.types)) kss
       (λ h ks here. finds_map (λ e. (part.Expression e, fault.KnownType)) _
       (finds_weaker (first_unknown (length m.overrides) (length m.types) ks)
       (λ e fails. (
         e,
         refl,
-        subst (λ known. Unfit (resolution_fits (length m.overrides) (length m.types)) known e) (sym (known_is kss h ks here))
+        subst (λ known. Unfit (resolution_fits (length m.overrides) (length m.types)) known e)
+            (sym (known_is kss h ks here))
             (known_unfit (resolution_fits (length m.overrides) (length m.types)) ks e fails),
       ))
       (finds_plain (λ k. resolution_fits (length m.overrides) (length m.types) k.ty) ks)))
 
-  globals_known : Finds (first_unfit (λ _. resolution_fits (length m.overrides) (length m.types)) (enumerate_from 0 info.const_expression_types.items))
-      (list_all (resolution_fits (length m.overrides) (length m.types)) info.const_expression_types.items) (λ h. Fails m info (at (item.GlobalExpression h) fault.KnownType))
+  globals_known : Finds (first_unfit (λ _. resolution_fits (length m.overrides) (length m.types))
+      (enumerate_from 0 info.const_expression_types.items))
+      (list_all (resolution_fits (length m.overrides) (length m.types)) info.const_expression_types.items)
+      (λ h. Fails m info (at (item.GlobalExpression h) fault.KnownType))
   globals_known = finds_plain (resolution_fits (length m.overrides) (length m.types)) info.const_expression_types.items
 
-  info_found : length m.functions ≡ length info.functions.items → length m.entry_points.items ≡ length info.entry_points.items →
+  info_found : length m.functions ≡ length info.functions.items → length m.entry_points.items
+      ≡ length info.entry_points.items →
       Finds (info_fault m info) (all_known (resolution_fits (length m.overrides) (length m.types)) info) (Fails m info)
   info_found functions entry_points =
       finds_or _ _ (finds_map (λ found. at_function found.0 found.1) _
-      (finds_weaker (first_known_fault (length m.overrides) (length m.types) info.functions.items) in_function (known_found info.functions.items)))
+      (finds_weaker (first_known_fault (length m.overrides) (length m.types) info.functions.items) in_function
+      (known_found info.functions.items)))
       (λ _. finds_or _ _ (finds_map (λ found. at_entry_point found.0 found.1) _
-      (finds_weaker (first_known_fault (length m.overrides) (length m.types) info.entry_points.items) in_entry_point (known_found info.entry_points.items)))
+      (finds_weaker (first_known_fault (length m.overrides) (length m.types) info.entry_points.items)
+      in_entry_point (known_found info.entry_points.items)))
       (λ _. finds_map (λ h. at (item.GlobalExpression h) fault.KnownType) _ globals_known))
     where
-      in_function : (found : ℕ × (FunctionPosition × Fault)) → UnknownAt info.functions.items found → Fails m info (at_function found.0 found.1)
+      in_function : (found : ℕ × (FunctionPosition × Fault)) → UnknownAt info.functions.items found →
+          Fails m info (at_function found.0 found.1)
       in_function found at =
           let f = item_beside m.functions info.functions.items found.0 at.0 functions at.1
           in subst (λ reported. Fails m info (at_function found.0 reported)) (sym at.2.1) (
@@ -409,12 +463,14 @@ module _ (m : Module) (info : ModuleInfo) where
             at.2.2,
           )
 
-      in_entry_point : (found : ℕ × (FunctionPosition × Fault)) → UnknownAt info.entry_points.items found → Fails m info (at_entry_point found.0 found.1)
+      in_entry_point : (found : ℕ × (FunctionPosition × Fault)) → UnknownAt info.entry_points.items found →
+          Fails m info (at_entry_point found.0 found.1)
       in_entry_point found at =
           let p = item_beside m.entry_points.items info.entry_points.items found.0 at.0 entry_points at.1
           in subst (λ reported. Fails m info (at_entry_point found.0 reported)) (sym at.2.1) (p.0, p.1, at.2.2)
 
-  forms_found : Finds (first_unfit (λ _. type_is_fit) (enumerate_from 0 m.types)) (list_all type_is_fit m.types) (λ h. Fails m info (at (item.Type h) fault.TypeForm))
+  forms_found : Finds (first_unfit (λ _. type_is_fit) (enumerate_from 0 m.types)) (list_all type_is_fit m.types)
+      (λ h. Fails m info (at (item.Type h) fault.TypeForm))
   forms_found = finds_plain type_is_fit m.types
 
   pub ranges_found : Finds (ranges_fault m info) (module_ranges_fit m info) (Fails m info)
@@ -428,66 +484,90 @@ module _ (m : Module) (info : ModuleInfo) where
   -- ---- what is wanted
 
   globals_sound : Finds (expressions_sound_fault m None info.const_expression_types.items m.global_expressions)
-      (list_all (λ p. has_its_type m None info.const_expression_types.items p.0 p.1 && operands_fit m.types info.const_expression_types.items p.1) (enumerate_from 0 m.global_expressions)) GlobalAt
+      (list_all (λ p. has_its_type m None info.const_expression_types.items p.0 p.1
+      && operands_fit m.types info.const_expression_types.items p.1)
+      (enumerate_from 0 m.global_expressions)) GlobalAt
   globals_sound =
-      finds_weaker (expressions_sound_fault m None info.const_expression_types.items m.global_expressions) (λ found at. at.2)
+      finds_weaker (expressions_sound_fault m None info.const_expression_types.items m.global_expressions)
+      (λ found at. at.2)
       (finds_faulty (λ h x kind. GlobalAt (h, kind))
-      (λ h e. has_its_type m None info.const_expression_types.items h e && operands_fit m.types info.const_expression_types.items e)
+      (λ h e. has_its_type m None info.const_expression_types.items h e
+      && operands_fit m.types info.const_expression_types.items e)
       (expression_sound_fault m None info.const_expression_types.items) m.global_expressions
       (λ h e here. finds_unless (has_its_type m None info.const_expression_types.items h e) fault.OtherType
       (λ fails. unfit_at (has_its_type m None info.const_expression_types.items h) m.global_expressions h e here fails)
       (λ _. finds_test (operands_fit m.types info.const_expression_types.items e) fault.OperandTypes
-      (λ fails. unfit_at (operands_fit m.types info.const_expression_types.items) m.global_expressions h e here fails))))
+      (λ fails. unfit_at (operands_fit m.types info.const_expression_types.items) m.global_expressions h e here
+      fails))))
 
-  constants_sound : Finds (first_unfit (λ _. constant_is_sound m.types info.const_expression_types.items) (enumerate_from 0 m.constants))
-      (list_all (constant_is_sound m.types info.const_expression_types.items) m.constants) (λ h. Fails m info (at (item.Constant h) fault.InitialiserType))
+  constants_sound : Finds (first_unfit (λ _. constant_is_sound m.types info.const_expression_types.items)
+      (enumerate_from 0 m.constants))
+      (list_all (constant_is_sound m.types info.const_expression_types.items) m.constants)
+      (λ h. Fails m info (at (item.Constant h) fault.InitialiserType))
   constants_sound = finds_plain (constant_is_sound m.types info.const_expression_types.items) m.constants
 
-  overrides_sound : Finds (first_unfit (λ _. override_is_sound m.types info.const_expression_types.items) (enumerate_from 0 m.overrides))
-      (list_all (override_is_sound m.types info.const_expression_types.items) m.overrides) (λ h. Fails m info (at (item.Override h) fault.InitialiserType))
+  overrides_sound : Finds (first_unfit (λ _. override_is_sound m.types info.const_expression_types.items)
+      (enumerate_from 0 m.overrides))
+      (list_all (override_is_sound m.types info.const_expression_types.items) m.overrides)
+      (λ h. Fails m info (at (item.Override h) fault.InitialiserType))
   overrides_sound = finds_plain (override_is_sound m.types info.const_expression_types.items) m.overrides
 
-  variables_sound : Finds (first_unfit (λ _. global_is_sound m.types info.const_expression_types.items) (enumerate_from 0 m.global_variables))
-      (list_all (global_is_sound m.types info.const_expression_types.items) m.global_variables) (λ h. Fails m info (at (item.GlobalVariable h) fault.InitialiserType))
+  variables_sound : Finds (first_unfit (λ _. global_is_sound m.types info.const_expression_types.items)
+      (enumerate_from 0 m.global_variables))
+      (list_all (global_is_sound m.types info.const_expression_types.items) m.global_variables)
+      (λ h. Fails m info (at (item.GlobalVariable h) fault.InitialiserType))
   variables_sound = finds_plain (global_is_sound m.types info.const_expression_types.items) m.global_variables
 
-  initialisers_found : Finds (initialisers_fault m info.const_expression_types.items) (initialisers_fit m info.const_expression_types.items) (Fails m info)
+  initialisers_found : Finds (initialisers_fault m info.const_expression_types.items)
+      (initialisers_fit m info.const_expression_types.items) (Fails m info)
   initialisers_found =
       finds_or _ _ (finds_map (λ h. at (item.Constant h) fault.InitialiserType) _ constants_sound)
       (λ _. finds_or _ _ (finds_map (λ h. at (item.Override h) fault.InitialiserType) _ overrides_sound)
       (λ _. finds_map (λ h. at (item.GlobalVariable h) fault.InitialiserType) _ variables_sound))
 
-  declarations_sound : Finds (declarations_sound_fault m info.const_expression_types.items) (declarations_are_sound m info.const_expression_types.items) (Fails m info)
+  declarations_sound : Finds (declarations_sound_fault m info.const_expression_types.items)
+      (declarations_are_sound m info.const_expression_types.items) (Fails m info)
   declarations_sound =
-      finds_or _ _ (finds_same (all_both (has_its_type m None info.const_expression_types.items) (operands_fit m.types info.const_expression_types.items) 0 m.global_expressions)
+      finds_or _ _ (finds_same (all_both (has_its_type m None info.const_expression_types.items)
+      (operands_fit m.types info.const_expression_types.items) 0 m.global_expressions)
       (finds_map (λ found. at (item.GlobalExpression found.0) found.1) _ globals_sound))
       (λ _. initialisers_found)
 
-  functions_sound : Finds (functions_sound_fault m m.functions info.functions.items) (all_paired (function_is_sound m) m.functions info.functions.items) (Fails m info)
+  functions_sound : Finds (functions_sound_fault m m.functions info.functions.items)
+      (all_paired (function_is_sound m) m.functions info.functions.items) (Fails m info)
   functions_sound =
-      finds_unless (length m.functions == length info.functions.items) (at item.Module fault.InfoSize) (λ fails. and_left _ _ fails)
+      finds_unless (length m.functions == length info.functions.items) (at item.Module fault.InfoSize)
+      (λ fails. and_left _ _ fails)
       (λ _. finds_map (λ found. at_function found.0 found.1) _
-      (finds_weaker (first_faulty (λ _ p. function_sound_fault m p.0 (map (λ k. k.ty) p.1)) (enumerate_from 0 (zip m.functions info.functions.items))) placed
+      (finds_weaker (first_faulty (λ _ p. function_sound_fault m p.0 (map (λ k. k.ty) p.1))
+      (enumerate_from 0 (zip m.functions info.functions.items))) placed
       (finds_plain_faulty
       (λ h p found. FunctionPositionFails m h p.0 (map (λ k. k.ty) p.1) found.0 found.1)
-      (λ p. function_is_sound m p.0 p.1) (λ _ p. function_sound_fault m p.0 (map (λ k. k.ty) p.1)) (zip m.functions info.functions.items)
+      (λ p. function_is_sound m p.0 p.1) (λ _ p. function_sound_fault m p.0 (map (λ k. k.ty) p.1))
+      (zip m.functions info.functions.items)
       (λ h p here. function_sound m h p.0 (map (λ k. k.ty) p.1)))))
     where
-      placed : (found : ℕ × (FunctionPosition × Fault)) → AtItem (zip m.functions info.functions.items) (λ h p reported. FunctionPositionFails m h p.0 (map (λ k. k.ty) p.1) reported.0 reported.1) found →
+      placed : (found : ℕ × (FunctionPosition × Fault)) → AtItem (zip m.functions info.functions.items)
+          (λ h p reported. FunctionPositionFails m h p.0 (map (λ k. k.ty) p.1) reported.0 reported.1) found →
           Fails m info (at_function found.0 found.1)
       placed found at =
           let both = zip_parts m.functions info.functions.items found.0 at.0 at.1
           in part_placed found.0 at.0.0 both.0 found.1.1 found.1.0
-          (subst (λ known. FunctionPositionFails m found.0 at.0.0 known found.1.0 found.1.1) (sym (known_is info.functions.items found.0 at.0.1 both.1)) at.2)
+          (subst (λ known. FunctionPositionFails m found.0 at.0.0 known found.1.0 found.1.1)
+          (sym (known_is info.functions.items found.0 at.0.1 both.1)) at.2)
 
-  entry_points_sound : Finds (entry_points_sound_fault m m.entry_points.items info.entry_points.items) (all_paired (entry_point_is_sound m) m.entry_points.items info.entry_points.items) (Fails m info)
+  entry_points_sound : Finds (entry_points_sound_fault m m.entry_points.items info.entry_points.items)
+      (all_paired (entry_point_is_sound m) m.entry_points.items info.entry_points.items) (Fails m info)
   entry_points_sound =
       finds_unless (length m.entry_points.items == length info.entry_points.items) (at item.Module fault.InfoSize)
       (λ fails. and_right (length m.functions == length info.functions.items) _ (and_left _ _ fails))
       (λ _. finds_map (λ found. at_entry_point found.0 found.1) _
-      (finds_weaker (first_faulty (λ _ p. function_sound_fault m p.0.function (map (λ k. k.ty) p.1)) (enumerate_from 0 (zip m.entry_points.items info.entry_points.items))) placed
-      (finds_plain_faulty (λ h p found. FunctionPositionFails m (length m.functions) p.0.function (map (λ k. k.ty) p.1) found.0 found.1)
-      (λ p. entry_point_is_sound m p.0 p.1) (λ _ p. function_sound_fault m p.0.function (map (λ k. k.ty) p.1)) (zip m.entry_points.items info.entry_points.items)
+      (finds_weaker (first_faulty (λ _ p. function_sound_fault m p.0.function (map (λ k. k.ty) p.1))
+      (enumerate_from 0 (zip m.entry_points.items info.entry_points.items))) placed
+      (finds_plain_faulty (λ h p found. FunctionPositionFails m (length m.functions) p.0.function
+      (map (λ k. k.ty) p.1) found.0 found.1)
+      (λ p. entry_point_is_sound m p.0 p.1) (λ _ p. function_sound_fault m p.0.function (map (λ k. k.ty) p.1))
+      (zip m.entry_points.items info.entry_points.items)
       (λ h p here. function_sound m (length m.functions) p.0.function (map (λ k. k.ty) p.1)))))
     where
       placed : (found : ℕ × (FunctionPosition × Fault)) →
@@ -499,7 +579,8 @@ module _ (m : Module) (info : ModuleInfo) where
           let both = zip_parts m.entry_points.items info.entry_points.items found.0 at.0 at.1
           in entry_placed found.0 at.0.0 both.0 found.1.1 found.1.0
           (entry_part at.0.0 (known_of info.entry_points.items found.0) found.1.0 found.1.1
-          (subst (λ known. FunctionPositionFails m (length m.functions) at.0.0.function known found.1.0 found.1.1) (sym (known_is info.entry_points.items found.0 at.0.1 both.1)) at.2))
+          (subst (λ known. FunctionPositionFails m (length m.functions) at.0.0.function known found.1.0
+          found.1.1) (sym (known_is info.entry_points.items found.0 at.0.1 both.1)) at.2))
 
   pub sound_found : Finds (sound_fault m info) (module_is_sound m info) (Fails m info)
   unfolding module_is_sound
@@ -507,15 +588,18 @@ module _ (m : Module) (info : ModuleInfo) where
 
   -- ---- the three in turn
 
-  stops : {F : Type 0} {P : F → Type 0} (found : Option F) (test rest : Bool) → Finds found test P → is_some found ≡ true → is_none found ≡ test && rest
+  stops : {F : Type 0} {P : F → Type 0} (found : Option F) (test rest : Bool) → Finds found test P →
+      is_some found ≡ true → is_none found ≡ test && rest
   stops None test rest first some = absurd (true≢false (sym some))
   stops (Some fault) test rest first some = ap (λ b. b && rest) first.fits
 
-  passes : {F : Type 0} {P : F → Type 0} (found : Option F) (test : Bool) → Finds found test P → is_some found ≡ false → test ≡ true
+  passes : {F : Type 0} {P : F → Type 0} (found : Option F) (test : Bool) → Finds found test P →
+      is_some found ≡ false → test ≡ true
   passes None test first none = sym first.fits
   passes (Some fault) test first none = absurd (true≢false none)
 
-  pub accepted_named : (named : Option Unaccepted) → named ≡ ranges_fault m info → is_some named ≡ true → is_none named ≡ is_accepted m info
+  pub accepted_named : (named : Option Unaccepted) → named ≡ ranges_fault m info → is_some named ≡ true →
+      is_none named ≡ is_accepted m info
   unfolding is_accepted
   accepted_named named is some =
       stops named (module_ranges_fit m info) (module_is_sound m info && module_operators_agree m info)
@@ -524,9 +608,11 @@ module _ (m : Module) (info : ModuleInfo) where
   pub fails_named : (named : Option Unaccepted) → named ≡ ranges_fault m info → IfSome named (Fails m info)
   fails_named named is = subst (λ found. IfSome found (Fails m info)) (sym is) ranges_found.fails
 
-  fits_named : (named : Option Unaccepted) → named ≡ ranges_fault m info → is_some named ≡ false → module_ranges_fit m info ≡ true
+  fits_named : (named : Option Unaccepted) → named ≡ ranges_fault m info → is_some named ≡ false →
+      module_ranges_fit m info ≡ true
   fits_named named is none =
-      passes named (module_ranges_fit m info) (subst (λ found. Finds found (module_ranges_fit m info) (Fails m info)) (sym is) ranges_found) none
+      passes named (module_ranges_fit m info)
+      (subst (λ found. Finds found (module_ranges_fit m info) (Fails m info)) (sym is) ranges_found) none
 
   pub accepted_wanted : (named wanted : Option Unaccepted) → named ≡ ranges_fault m info → is_some named ≡ false →
       wanted ≡ sound_fault m info → is_some wanted ≡ true → is_none wanted ≡ is_accepted m info
@@ -539,8 +625,10 @@ module _ (m : Module) (info : ModuleInfo) where
   pub fails_wanted : (wanted : Option Unaccepted) → wanted ≡ sound_fault m info → IfSome wanted (Fails m info)
   fails_wanted wanted is = subst (λ found. IfSome found (Fails m info)) (sym is) sound_found.fails
 
-  pub accepted_operators : (named wanted found : Option Unaccepted) → named ≡ ranges_fault m info → is_some named ≡ false →
-      wanted ≡ sound_fault m info → is_some wanted ≡ false → is_none found ≡ module_operators_agree m info → is_none found ≡ is_accepted m info
+  pub accepted_operators : (named wanted found : Option Unaccepted) → named ≡ ranges_fault m info →
+      is_some named ≡ false →
+      wanted ≡ sound_fault m info → is_some wanted ≡ false → is_none found ≡ module_operators_agree m info →
+      is_none found ≡ is_accepted m info
   unfolding is_accepted
   accepted_operators named wanted found is none next nothing agree =
       agree

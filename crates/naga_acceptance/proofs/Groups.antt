@@ -238,7 +238,8 @@ module _ (m : Module) (info : ModuleInfo) where
 -- ---- how many groups there are
 
 -- at most one for each function and entry point, and the module's own
-pub groups_within : (m : Module) (info : ModuleInfo) → length (groups_of m info) ≤ length m.functions + length m.entry_points.items + 1
+pub groups_within : (m : Module) (info : ModuleInfo) → length (groups_of m info) ≤ length m.functions
+    + length m.entry_points.items + 1
 groups_within m info =
     omega (
       arith,

@@ -11,12 +11,16 @@ use Rattle.naga_acceptance.specs.declared.alike.Top.{Top}
 use Rattle.naga_acceptance.specs.declared.type_numbers.Level.{Level}
 
 -- the numbers after a level are mixed into what is mixed of the level
-pub level_then : (h : ℕ) (l : Level) (o : Option (List ℕ)) → is_some o ≡ true → all_mixed h (unwrap_or (following l o) []) ≡ all_mixed (all_mixed h (numbers l)) (unwrap_or o [])
+pub level_then : (h : ℕ) (l : Level) (o : Option (List ℕ)) → is_some o ≡ true →
+    all_mixed h (unwrap_or (following l o) []) ≡ all_mixed (all_mixed h (numbers l)) (unwrap_or o [])
 level_then h l None some = absurd (true≢false (sym some))
 level_then h l (Some xs) some = refl
 
 -- a type that goes on is mixed by its level and what is after it
-pub over_then : (types : List Type_) (h : ℕ) (o : Over) (x : Top) → suc (rank x.over) ≤ rank o → next_key o (top_key types (Some x)) ≡ over_key types o → is_some (over_key types x.over) ≡ true →
-    all_mixed h (unwrap_or (over_key types o) []) ≡ all_mixed (all_mixed h (numbers x.level)) (unwrap_or (over_key types x.over) [])
+pub over_then : (types : List Type_) (h : ℕ) (o : Over) (x : Top) → suc (rank x.over) ≤ rank o →
+    next_key o (top_key types (Some x)) ≡ over_key types o → is_some (over_key types x.over) ≡ true →
+    all_mixed h (unwrap_or (over_key types o) []) ≡ all_mixed (all_mixed h (numbers x.level))
+    (unwrap_or (over_key types x.over) [])
 over_then types h o x less e some =
-    ap (λ w. all_mixed h (unwrap_or w [])) (over_is types o x less e) ∙ level_then h x.level (over_key types x.over) some
+    ap (λ w. all_mixed h (unwrap_or w [])) (over_is types o x less e)
+    ∙ level_then h x.level (over_key types x.over) some

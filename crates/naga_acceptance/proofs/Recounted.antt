@@ -25,7 +25,8 @@ use Rattle.naga_acceptance.specs.Counts.{with_counts, with_counts_from}
 use Rattle.naga_acceptance.proofs.Counting.{length-all_with_counts}
 
 -- the counts don't change the types, nor how many there are
-same_types : (c : ℕ → ℕ) (n : ℕ) (es : List ExpressionInfo) → map (λ e. e.ty) (with_counts_from c n es) ≡ map (λ e. e.ty) es
+same_types : (c : ℕ → ℕ) (n : ℕ) (es : List ExpressionInfo) → map (λ e. e.ty) (with_counts_from c n es)
+    ≡ map (λ e. e.ty) es
 same_types c n [] = refl
 same_types c n (e ∷ es) = ap (λ tys. e.ty ∷ tys) (same_types c (n + 1) es)
 
@@ -34,7 +35,8 @@ same_length c n [] = refl
 same_length c n (e ∷ es) = ap suc (same_length c (n + 1) es)
 
 -- ---- tests of what is known
-same_known : (test : TypeResolution → Bool) (c : ℕ → ℕ) (n : ℕ) (es : List ExpressionInfo) → list_all (λ k. test k.ty) (with_counts_from c n es) ≡ list_all (λ k. test k.ty) es
+same_known : (test : TypeResolution → Bool) (c : ℕ → ℕ) (n : ℕ) (es : List ExpressionInfo) →
+    list_all (λ k. test k.ty) (with_counts_from c n es) ≡ list_all (λ k. test k.ty) es
 same_known test c n [] = refl
 same_known test c n (e ∷ es) = ap (λ b. test e.ty && b) (same_known test c (n + 1) es)
 
@@ -44,29 +46,38 @@ all_same_known : (test : TypeResolution → Bool) (fs : List Function)
     (list_all (λ k. test k.ty)) ess
 all_same_known test [] ess = refl
 all_same_known test (f ∷ fs) [] = refl
-all_same_known test (f ∷ fs) (es ∷ ess) = λ i. same_known test (use_count (operand_positions f)) 0 es i && all_same_known test fs ess i
+all_same_known test (f ∷ fs) (es ∷ ess) = λ i. same_known test (use_count (operand_positions f)) 0 es i
+    && all_same_known test fs ess i
 
 -- items side by side with what is known of functions, by a test that doesn't look at the counts
-module _ {X : Type 0} (test : X → List ExpressionInfo → Bool) (same : (x : X) (f : Function) (es : List ExpressionInfo) → test x (with_counts f es) ≡ test x es) where
-  same_zipped : (xs : List X) (fs : List Function) (ess : List (List ExpressionInfo)) → list_all (λ p. test p.0 p.1) (zip xs (all_with_counts fs ess)) ≡ list_all (λ p. test p.0 p.1) (zip xs ess)
+module _ {X : Type 0} (test : X → List ExpressionInfo → Bool)
+    (same : (x : X) (f : Function) (es : List ExpressionInfo) → test x (with_counts f es) ≡ test x es) where
+  same_zipped : (xs : List X) (fs : List Function) (ess : List (List ExpressionInfo)) →
+      list_all (λ p. test p.0 p.1) (zip xs (all_with_counts fs ess)) ≡ list_all (λ p. test p.0 p.1) (zip xs ess)
   same_zipped xs [] ess = refl
   same_zipped xs (f ∷ fs) [] = refl
   same_zipped [] (f ∷ fs) (es ∷ ess) = refl
   same_zipped (x ∷ xs) (f ∷ fs) (es ∷ ess) = λ i. same x f es i && same_zipped xs fs ess i
 
-  same_paired : (xs : List X) (fs : List Function) (ess : List (List ExpressionInfo)) → all_paired test xs (all_with_counts fs ess) ≡ all_paired test xs ess
+  same_paired : (xs : List X) (fs : List Function) (ess : List (List ExpressionInfo)) →
+      all_paired test xs (all_with_counts fs ess) ≡ all_paired test xs ess
   same_paired xs fs ess = λ i. (length xs == length-all_with_counts fs ess i) && same_zipped xs fs ess i
 
 -- ---- operators
-same_groups : (fs gs : List Function) (ess : List (List ExpressionInfo)) → function_groups fs (all_with_counts gs ess) ≡ function_groups fs ess
+same_groups : (fs gs : List Function) (ess : List (List ExpressionInfo)) →
+    function_groups fs (all_with_counts gs ess) ≡ function_groups fs ess
 same_groups fs [] ess = refl
 same_groups fs (g ∷ gs) [] = refl
 same_groups [] (g ∷ gs) (es ∷ ess) = refl
 same_groups (f ∷ fs) (g ∷ gs) (es ∷ ess) =
-    λ i. record { expressions = f.expressions; known = same_types (use_count (operand_positions g)) 0 es i } ∷ same_groups fs gs ess i
+    λ i. record { expressions = f.expressions; known = same_types (use_count (operand_positions g)) 0 es i }
+    ∷ same_groups fs gs ess i
 
-module _ (m : Module) (old new : ModuleInfo) (functions : new.functions.items ≡ all_with_counts m.functions old.functions.items)
-    (entries : new.entry_points.items ≡ all_with_counts (functions_of m.entry_points.items) old.entry_points.items) (types : new.const_expression_types ≡ old.const_expression_types) where
+module _ (m : Module) (old new : ModuleInfo)
+    (functions : new.functions.items ≡ all_with_counts m.functions old.functions.items)
+    (entries : new.entry_points.items
+    ≡ all_with_counts (functions_of m.entry_points.items) old.entry_points.items)
+    (types : new.const_expression_types ≡ old.const_expression_types) where
   abbrev points : List Function
   points = functions_of m.entry_points.items
 
@@ -90,7 +101,8 @@ module _ (m : Module) (old new : ModuleInfo) (functions : new.functions.items �
 
   same_ranges : module_ranges_fit m new ≡ module_ranges_fit m old
   unfolding module_ranges_fit
-  same_ranges = λ i. same_sizes i && (list_all type_is_fit m.types && (module_in_range m && same_all_known (resolution_fits (length m.overrides) (length m.types)) i))
+  same_ranges = λ i. same_sizes i && (list_all type_is_fit m.types
+      && (module_in_range m && same_all_known (resolution_fits (length m.overrides) (length m.types)) i))
 
   same_soundness : module_is_sound m new ≡ module_is_sound m old
   unfolding module_is_sound

@@ -26,7 +26,8 @@ use Rattle.naga_acceptance.specs.Views.{unsupported_code}
 use Rattle.naga_acceptance.specs.Views.{is_whole, identity_numbers}
 
 -- ---- levels
-six : (a b c d e f r : Bool) → (a && (b && (c && (d && (e && (f && r)))))) ≡ (a && (b && (c && (d && (e && (f && true)))))) && r
+six : (a b c d e f r : Bool) → (a && (b && (c && (d && (e && (f && r))))))
+    ≡ (a && (b && (c && (d && (e && (f && true)))))) && r
 six false b c d e f r = refl
 six true false c d e f r = refl
 six true true false d e f r = refl
@@ -35,16 +36,19 @@ six true true true true false f r = refl
 six true true true true true false r = refl
 six true true true true true true r = refl
 
-levels_then : (l m : Level) (xs ys : List ℕ) → bytes_eq (numbers l ++ xs) (numbers m ++ ys) ≡ bytes_eq (numbers l) (numbers m) && bytes_eq xs ys
+levels_then : (l m : Level) (xs ys : List ℕ) → bytes_eq (numbers l ++ xs) (numbers m ++ ys)
+    ≡ bytes_eq (numbers l) (numbers m) && bytes_eq xs ys
 levels_then l m xs ys =
-    six (nat_eq l.tag m.tag) (nat_eq l.first m.first) (nat_eq l.second m.second) (nat_eq l.third m.third) (nat_eq l.fourth m.fourth) (nat_eq l.fifth m.fifth) (bytes_eq xs ys)
+    six (nat_eq l.tag m.tag) (nat_eq l.first m.first) (nat_eq l.second m.second) (nat_eq l.third m.third)
+    (nat_eq l.fourth m.fourth) (nat_eq l.fifth m.fifth) (bytes_eq xs ys)
 
 -- the numbers after a level, where there are some
 abbrev pub following : Level → Option (List ℕ) → Option (List ℕ)
 following l o = option_map (λ rest. numbers l ++ rest) o
 
 rests : (l m : Level) (p q : Option (List ℕ)) → is_some p ≡ true → is_some q ≡ true →
-    bytes_eq (unwrap_or (following l p) []) (unwrap_or (following m q) []) ≡ bytes_eq (numbers l) (numbers m) && bytes_eq (unwrap_or p []) (unwrap_or q [])
+    bytes_eq (unwrap_or (following l p) []) (unwrap_or (following m q) []) ≡ bytes_eq (numbers l) (numbers m)
+    && bytes_eq (unwrap_or p []) (unwrap_or q [])
 rests l m None q x y = absurd (true≢false (sym x))
 rests l m (Some xs) None x y = absurd (true≢false (sym y))
 rests l m (Some xs) (Some ys) x y = levels_then l m xs ys
@@ -55,12 +59,14 @@ following_some l (Some xs) e = refl
 
 -- ---- what a type is over
 module _ (types : List Type_) where
-  pub over_is : (o : Over) (x : Top) → suc (rank x.over) ≤ rank o → next_key o (top_key types (Some x)) ≡ over_key types o → over_key types o ≡ following x.level (over_key types x.over)
+  pub over_is : (o : Over) (x : Top) → suc (rank x.over) ≤ rank o → next_key o (top_key types (Some x))
+      ≡ over_key types o → over_key types o ≡ following x.level (over_key types x.over)
   over_is Nothing x less e = absurd (omega (arith, less))
   over_is (TypeAt h d) x less e = sym e
   over_is (ValueOver n s) x less e = sym e
 
-  pub over_ends : (o : Over) → next_key o None ≡ over_key types o → is_some (over_key types o) ≡ true → over_key types o ≡ Some []
+  pub over_ends : (o : Over) → next_key o None ≡ over_key types o → is_some (over_key types o) ≡ true →
+      over_key types o ≡ Some []
   over_ends Nothing e some = refl
   over_ends (TypeAt h d) e some = absurd (true≢false (sym some ∙ ap is_some (sym e)))
   over_ends (ValueOver n s) e some = absurd (true≢false (sym some ∙ ap is_some (sym e)))
@@ -68,21 +74,27 @@ module _ (types : List Type_) where
   pub over_goes_on : (o : Over) (x : Top) → suc (rank x.over) ≤ rank o →
       next_key o (top_key types (Some x)) ≡ over_key types o → is_some (over_key types o) ≡ true →
       is_some (over_key types x.over) ≡ true
-  over_goes_on o x less e some = following_some x.level (over_key types x.over) (ap is_some (sym (over_is o x less e)) ∙ some)
+  over_goes_on o x less e some = following_some x.level (over_key types x.over)
+      (ap is_some (sym (over_is o x less e)) ∙ some)
 
   -- two that go on are the same where their levels are and what is after
-  pub both_go_on : (o p : Over) (x y : Top) → suc (rank x.over) ≤ rank o → next_key o (top_key types (Some x)) ≡ over_key types o →
+  pub both_go_on : (o p : Over) (x y : Top) → suc (rank x.over) ≤ rank o → next_key o (top_key types (Some x))
+      ≡ over_key types o →
       suc (rank y.over) ≤ rank p → next_key p (top_key types (Some y)) ≡ over_key types p →
       is_some (over_key types o) ≡ true → is_some (over_key types p) ≡ true →
       bytes_eq (unwrap_or (over_key types o) []) (unwrap_or (over_key types p) [])
-      ≡ bytes_eq (numbers x.level) (numbers y.level) && bytes_eq (unwrap_or (over_key types x.over) []) (unwrap_or (over_key types y.over) [])
+      ≡ bytes_eq (numbers x.level) (numbers y.level) && bytes_eq (unwrap_or (over_key types x.over) [])
+      (unwrap_or (over_key types y.over) [])
   both_go_on o p x y lx ex ly ey so sp =
       ap (λ w. bytes_eq (unwrap_or w []) (unwrap_or (over_key types p) [])) (over_is o x lx ex)
-      ∙ (ap (λ w. bytes_eq (unwrap_or (following x.level (over_key types x.over)) []) (unwrap_or w [])) (over_is p y ly ey)
-      ∙ rests x.level y.level (over_key types x.over) (over_key types y.over) (over_goes_on o x lx ex so) (over_goes_on p y ly ey sp))
+      ∙ (ap (λ w. bytes_eq (unwrap_or (following x.level (over_key types x.over)) []) (unwrap_or w []))
+      (over_is p y ly ey)
+      ∙ rests x.level y.level (over_key types x.over) (over_key types y.over) (over_goes_on o x lx ex so)
+      (over_goes_on p y ly ey sp))
 
   -- one that goes on is not the same as one that ends
-  goes_on_apart : (l : Level) (o : Option (List ℕ)) → is_some o ≡ true → bytes_eq (unwrap_or (following l o) []) [] ≡ false
+  goes_on_apart : (l : Level) (o : Option (List ℕ)) → is_some o ≡ true →
+      bytes_eq (unwrap_or (following l o) []) [] ≡ false
   goes_on_apart l None e = absurd (true≢false (sym e))
   goes_on_apart l (Some xs) e = refl
 
@@ -96,33 +108,40 @@ module _ (types : List Type_) where
       bytes_eq (unwrap_or (over_key types o) []) (unwrap_or (over_key types p) []) ≡ false
   first_ends o p y eo ly ey so sp =
       ap (λ w. bytes_eq (unwrap_or w []) (unwrap_or (over_key types p) [])) (over_ends o eo so)
-      ∙ (ap (λ w. bytes_eq [] (unwrap_or w [])) (over_is p y ly ey) ∙ ends_apart y.level (over_key types y.over) (over_goes_on p y ly ey sp))
+      ∙ (ap (λ w. bytes_eq [] (unwrap_or w [])) (over_is p y ly ey) ∙ ends_apart y.level (over_key types y.over)
+      (over_goes_on p y ly ey sp))
 
-  pub second_ends : (o p : Over) (x : Top) → suc (rank x.over) ≤ rank o → next_key o (top_key types (Some x)) ≡ over_key types o →
+  pub second_ends : (o p : Over) (x : Top) → suc (rank x.over) ≤ rank o → next_key o (top_key types (Some x))
+      ≡ over_key types o →
       next_key p None ≡ over_key types p →
       is_some (over_key types o) ≡ true → is_some (over_key types p) ≡ true →
       bytes_eq (unwrap_or (over_key types o) []) (unwrap_or (over_key types p) []) ≡ false
   second_ends o p x lx ex ep so sp =
       ap (λ w. bytes_eq (unwrap_or (over_key types o) []) (unwrap_or w [])) (over_ends p ep sp)
-      ∙ (ap (λ w. bytes_eq (unwrap_or w []) []) (over_is o x lx ex) ∙ goes_on_apart x.level (over_key types x.over) (over_goes_on o x lx ex so))
+      ∙ (ap (λ w. bytes_eq (unwrap_or w []) []) (over_is o x lx ex)
+      ∙ goes_on_apart x.level (over_key types x.over) (over_goes_on o x lx ex so))
 
   pub both_end : (o p : Over) → next_key o None ≡ over_key types o → next_key p None ≡ over_key types p →
       is_some (over_key types o) ≡ true → is_some (over_key types p) ≡ true →
       bytes_eq (unwrap_or (over_key types o) []) (unwrap_or (over_key types p) []) ≡ true
   both_end o p eo ep so sp =
-      ap (λ w. bytes_eq (unwrap_or w []) (unwrap_or (over_key types p) [])) (over_ends o eo so) ∙ ap (λ w. bytes_eq [] (unwrap_or w [])) (over_ends p ep sp)
+      ap (λ w. bytes_eq (unwrap_or w []) (unwrap_or (over_key types p) [])) (over_ends o eo so)
+      ∙ ap (λ w. bytes_eq [] (unwrap_or w [])) (over_ends p ep sp)
 
   -- ---- whole types
 
   -- what tells a type with a form, and one without
-  pub formed_identity : (r : TypeResolution) (x : Top) → top_key types (Some x) ≡ type_key types r → is_some (over_key types x.over) ≡ true → identity_numbers types (Formed x) ≡ type_identity types r
+  pub formed_identity : (r : TypeResolution) (x : Top) → top_key types (Some x) ≡ type_key types r →
+      is_some (over_key types x.over) ≡ true → identity_numbers types (Formed x) ≡ type_identity types r
   formed_identity r x e some = by (type_key types r) (over_key types x.over) (sym e) some _
     where
-      by : (s p : Option (List ℕ)) → s ≡ following x.level p → is_some p ≡ true → (u : List ℕ) → unwrap_or (following x.level p) [] ≡ unwrap_or s u
+      by : (s p : Option (List ℕ)) → s ≡ following x.level p → is_some p ≡ true → (u : List ℕ) →
+          unwrap_or (following x.level p) [] ≡ unwrap_or s u
       by s None es sp u = absurd (true≢false (sym sp))
       by s (Some xs) es sp u = sym (ap (λ o. unwrap_or o u) es)
 
-  pub distinguished_by : (r : TypeResolution) → type_key types r ≡ None → type_identity types r ≡ 32 ∷ identity_code (identity types r)
+  pub distinguished_by : (r : TypeResolution) → type_key types r ≡ None → type_identity types r
+      ≡ 32 ∷ identity_code (identity types r)
   distinguished_by r none = ap (λ o. unwrap_or o (32 ∷ identity_code (identity types r))) none
 
   pub unsupported_is : (r : TypeResolution) (l : Option Level) → type_key types r ≡ None →
@@ -131,10 +150,12 @@ module _ (types : List Type_) where
   unsupported_is r l none same = ap (λ w. 32 ∷ w) same ∙ sym (distinguished_by r none)
 
   -- a type with a form is told apart from those without
-  pub formed_whole : (r : TypeResolution) (x : Top) → top_key types (Some x) ≡ type_key types r → is_some (over_key types x.over) ≡ true → is_whole types (Formed x) ≡ true
+  pub formed_whole : (r : TypeResolution) (x : Top) → top_key types (Some x) ≡ type_key types r →
+      is_some (over_key types x.over) ≡ true → is_whole types (Formed x) ≡ true
   formed_whole r x e some = by (over_key types x.over) some (ap begins_plain e ∙ key_plain types r)
     where
-      by : (p : Option (List ℕ)) → is_some p ≡ true → begins_plain (following x.level p) ≡ true → is_some p && not (nat_eq x.level.tag 32) ≡ true
+      by : (p : Option (List ℕ)) → is_some p ≡ true → begins_plain (following x.level p) ≡ true →
+          is_some p && not (nat_eq x.level.tag 32) ≡ true
       by None sp plain = absurd (true≢false (sym sp))
       by (Some xs) sp plain = plain
 
@@ -144,19 +165,26 @@ module _ (types : List Type_) where
       (unwrap_or (over_key types y.over) [])
   both_formed x y sx sy = rests x.level y.level (over_key types x.over) (over_key types y.over) sx sy
 
-  blank_apart : (l : Level) (p : Option (List ℕ)) (v : List ℕ) → is_some p && not (nat_eq l.tag 32) ≡ true → bytes_eq (unwrap_or (following l p) []) (32 ∷ v) ≡ false
+  blank_apart : (l : Level) (p : Option (List ℕ)) (v : List ℕ) → is_some p && not (nat_eq l.tag 32) ≡ true →
+      bytes_eq (unwrap_or (following l p) []) (32 ∷ v) ≡ false
   blank_apart l None v whole = absurd (true≢false (sym whole))
   blank_apart l (Some xs) v whole = and_left (nat_eq l.tag 32) _ (not-true (nat_eq l.tag 32) whole)
 
-  apart_blank : (l : Level) (p : Option (List ℕ)) (v : List ℕ) → is_some p && not (nat_eq l.tag 32) ≡ true → bytes_eq (32 ∷ v) (unwrap_or (following l p) []) ≡ false
+  apart_blank : (l : Level) (p : Option (List ℕ)) (v : List ℕ) → is_some p && not (nat_eq l.tag 32) ≡ true →
+      bytes_eq (32 ∷ v) (unwrap_or (following l p) []) ≡ false
   apart_blank l None v whole = absurd (true≢false (sym whole))
-  apart_blank l (Some xs) v whole = and_left (nat_eq 32 l.tag) _ (ne_eqb 32 l.tag (λ e. eqb-false l.tag 32 (not-true (nat_eq l.tag 32) whole) (sym e)))
+  apart_blank l (Some xs) v whole =
+      and_left (nat_eq 32 l.tag) _
+      (ne_eqb 32 l.tag (λ e. eqb-false l.tag 32 (not-true (nat_eq l.tag 32) whole) (sym e)))
 
-  pub formed_apart : (x : Top) (l : Option Level) → is_whole types (Formed x) ≡ true → bytes_eq (identity_numbers types (Formed x)) (identity_numbers types (Unsupported l)) ≡ false
+  pub formed_apart : (x : Top) (l : Option Level) → is_whole types (Formed x) ≡ true →
+      bytes_eq (identity_numbers types (Formed x)) (identity_numbers types (Unsupported l)) ≡ false
   formed_apart x l whole = blank_apart x.level (over_key types x.over) (unsupported_code (option_map numbers l)) whole
 
-  pub unsupported_apart : (l : Option Level) (x : Top) → is_whole types (Formed x) ≡ true → bytes_eq (identity_numbers types (Unsupported l)) (identity_numbers types (Formed x)) ≡ false
-  unsupported_apart l x whole = apart_blank x.level (over_key types x.over) (unsupported_code (option_map numbers l)) whole
+  pub unsupported_apart : (l : Option Level) (x : Top) → is_whole types (Formed x) ≡ true →
+      bytes_eq (identity_numbers types (Unsupported l)) (identity_numbers types (Formed x)) ≡ false
+  unsupported_apart l x whole = apart_blank x.level (over_key types x.over)
+      (unsupported_code (option_map numbers l)) whole
 
   -- ---- what tells a type without a form
   pub unsupported_identity : (h : ℕ) (t : Type_) (l : Level) → slice_get types h ≡ Some t →
@@ -167,6 +195,7 @@ module _ (types : List Type_) where
       ∙ (ap (λ b. identity_code (if b then StructAt h else Itself t.inner)) (sym (unsupported_at types h t is none))
       ∙ ap (λ o. identity_code (identity_at h (option_map (λ t. t.inner) o))) (sym is))
 
-  pub nothing_reported : (h : ℕ) → slice_get types h ≡ None → unsupported_code None ≡ identity_code (identity types (Handle h))
+  pub nothing_reported : (h : ℕ) → slice_get types h ≡ None → unsupported_code None
+      ≡ identity_code (identity types (Handle h))
   nothing_reported h is = ap (λ o. identity_code (identity_at h (option_map (λ t. t.inner) o)))
       (sym is)

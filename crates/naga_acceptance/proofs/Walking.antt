@@ -41,8 +41,10 @@ module _ {X : Type 0} (test : X → Bool) where
   numbered_append n [] ys = refl
   numbered_append n (x ∷ xs) ys = by (test x) (numbered_append (wrapping_add n 1) xs ys)
     where
-      by : (fits : Bool) → numbered test (wrapping_add n 1) (xs ++ ys) ≡ onward test (numbered test (wrapping_add n 1) xs) ys
-          → (if fits then numbered test (wrapping_add n 1) (xs ++ ys) else Err n) ≡ onward test (if fits then numbered test (wrapping_add n 1) xs else Err n) ys
+      by : (fits : Bool) → numbered test (wrapping_add n 1) (xs ++ ys)
+          ≡ onward test (numbered test (wrapping_add n 1) xs) ys
+          → (if fits then numbered test (wrapping_add n 1) (xs ++ ys) else Err n)
+          ≡ onward test (if fits then numbered test (wrapping_add n 1) xs else Err n) ys
       by true same = same
       by false same = refl
 
@@ -51,7 +53,8 @@ module _ {X : Type 0} (test : X → Bool) where
   numbered_fits n (x ∷ xs) = by (test x) (numbered_fits (wrapping_add n 1) xs)
     where
       by : (fits : Bool) → is_none (result_err (numbered test (wrapping_add n 1) xs)) ≡ list_all test xs
-          → is_none (result_err (if fits then numbered test (wrapping_add n 1) xs else Err n)) ≡ fits && list_all test xs
+          → is_none (result_err (if fits then numbered test (wrapping_add n 1) xs else Err n))
+          ≡ fits && list_all test xs
       by true same = same
       by false same = refl
 
@@ -60,11 +63,16 @@ module _ {X : Type 0} (test : X → Bool) where
 module _ (test : PlacedStatement → Bool) (breaks continues : Bool) where
   pub block_next : (n : ℕ) (ss : List Statement) (i : ℕ) (d : Statement) → i < length ss
       → numbered test n (statements_in breaks continues (block_of (drop i ss)))
-      ≡ onward test (numbered test n (record { breaks = breaks; continues = continues; tree = tree_of (slice_index_or ss i d) } ∷ statements_inside breaks continues (tree_of (slice_index_or ss i d))))
+      ≡ onward test
+      (numbered test n
+      (record { breaks = breaks; continues = continues; tree = tree_of (slice_index_or ss i d) }
+      ∷ statements_inside breaks continues (tree_of (slice_index_or ss i d))))
       (statements_in breaks continues (block_of (drop (i + 1) ss)))
   block_next n ss i d h =
       ap (λ ts. numbered test n (statements_in breaks continues (block_of ts))) (drop_more ss i d h)
-      ∙ numbered_append test n (record { breaks = breaks; continues = continues; tree = tree_of (slice_index_or ss i d) } ∷ statements_inside breaks continues (tree_of (slice_index_or ss i d)))
+      ∙ numbered_append test n
+      (record { breaks = breaks; continues = continues; tree = tree_of (slice_index_or ss i d) }
+      ∷ statements_inside breaks continues (tree_of (slice_index_or ss i d)))
       (statements_in breaks continues (block_of (drop (i + 1) ss)))
 
   pub cases_next : (n : ℕ) (cs : List SwitchCase) (i : ℕ) (d : SwitchCase) → i < length cs
@@ -99,7 +107,8 @@ case_values_first false b c d = refl
 both : {a b c d : Bool} → a ≡ b → c ≡ d → a && c ≡ b && d
 both p q i = p i && q i
 
-joined : {X : Type 0} (test : X → Bool) (xs ys : List X) {a b : Bool} → a ≡ list_all test xs → b ≡ list_all test ys → a && b ≡ list_all test (xs ++ ys)
+joined : {X : Type 0} (test : X → Bool) (xs ys : List X) {a b : Bool} → a ≡ list_all test xs →
+    b ≡ list_all test ys → a && b ≡ list_all test (xs ++ ys)
 joined test xs ys p q = both p q ∙ sym (list_all-append test xs ys)
 
 module _ (callees expressions : ℕ) where
@@ -119,19 +128,24 @@ module _ (callees expressions : ℕ) where
         (block_range breaks continues reject))
     statement_range breaks continues (switch selector cs) =
         both refl (cases_range true continues cs)
-        ∙ sym (regroup (nat_lt selector expressions) (case_values_fit_32_bits cs) (list_all (is_in_range callees expressions) (case_statements true continues cs)))
+        ∙ sym (regroup (nat_lt selector expressions) (case_values_fit_32_bits cs)
+        (list_all (is_in_range callees expressions) (case_statements true continues cs)))
     statement_range breaks continues (loop body continuing break_if) =
-        last_first (block_in_range callees expressions body) (block_in_range callees expressions continuing) (is_below expressions break_if)
-        ∙ both refl (joined (is_in_range callees expressions) (statements_in true true body) (statements_in false false continuing) (block_range true true body) (block_range false false continuing))
+        last_first (block_in_range callees expressions body) (block_in_range callees expressions continuing)
+        (is_below expressions break_if)
+        ∙ both refl (joined (is_in_range callees expressions) (statements_in true true body)
+        (statements_in false false continuing) (block_range true true body) (block_range false false continuing))
 
-    pub block_range : (breaks continues : Bool) (b : BlockTree) → block_in_range callees expressions b ≡ list_all (is_in_range callees expressions) (statements_in breaks continues b)
+    pub block_range : (breaks continues : Bool) (b : BlockTree) → block_in_range callees expressions b
+        ≡ list_all (is_in_range callees expressions) (statements_in breaks continues b)
     block_range breaks continues no_statements = refl
     block_range breaks continues (statement s b) =
         both (statement_range breaks continues s) (block_range breaks continues b)
         ∙ (regroup (own_in_range callees expressions s)
         (list_all (is_in_range callees expressions) (statements_inside breaks continues s))
         (list_all (is_in_range callees expressions) (statements_in breaks continues b))
-        ∙ both refl (sym (list_all-append (is_in_range callees expressions) (statements_inside breaks continues s) (statements_in breaks continues b))))
+        ∙ both refl (sym (list_all-append (is_in_range callees expressions)
+        (statements_inside breaks continues s) (statements_in breaks continues b))))
 
     -- the values of all cases, and then the statements of all
     cases_range : (breaks continues : Bool) (cs : CaseTrees) →
@@ -144,7 +158,8 @@ module _ (callees expressions : ℕ) where
         (list_all (is_in_range callees expressions) (statements_in breaks continues b))
         (case_values_fit_32_bits cs)
         (list_all (is_in_range callees expressions) (case_statements breaks continues cs))
-        ∙ both refl (sym (list_all-append (is_in_range callees expressions) (statements_in breaks continues b) (case_statements breaks continues cs))))
+        ∙ both refl (sym (list_all-append (is_in_range callees expressions) (statements_in breaks continues b)
+        (case_statements breaks continues cs))))
 
 module _ (m : Module) (f : Function) (known : List TypeResolution) where
   mutual
@@ -163,26 +178,38 @@ module _ (m : Module) (f : Function) (known : List TypeResolution) where
         (block_sound breaks continues reject))
     statement_sound breaks continues (switch selector cs) = both refl (cases_sound true continues cs)
     statement_sound breaks continues (loop body continuing break_if) =
-        last_first (block_is_sound m f known true true body) (block_is_sound m f known false false continuing) (option_map_or (is_condition m.types known) break_if true)
-        ∙ both refl (joined (is_sound m f known) (statements_in true true body) (statements_in false false continuing) (block_sound true true body) (block_sound false false continuing))
+        last_first (block_is_sound m f known true true body) (block_is_sound m f known false false continuing)
+        (option_map_or (is_condition m.types known) break_if true)
+        ∙ both refl (joined (is_sound m f known) (statements_in true true body)
+        (statements_in false false continuing) (block_sound true true body) (block_sound false false continuing))
 
-    pub block_sound : (breaks continues : Bool) (b : BlockTree) → block_is_sound m f known breaks continues b ≡ list_all (is_sound m f known) (statements_in breaks continues b)
+    pub block_sound : (breaks continues : Bool) (b : BlockTree) → block_is_sound m f known breaks continues b
+        ≡ list_all (is_sound m f known) (statements_in breaks continues b)
     block_sound breaks continues no_statements = refl
     block_sound breaks continues (statement s b) =
         both (statement_sound breaks continues s) (block_sound breaks continues b)
-        ∙ (regroup (own_is_sound m f known breaks continues s) (list_all (is_sound m f known) (statements_inside breaks continues s)) (list_all (is_sound m f known) (statements_in breaks continues b))
-        ∙ both refl (sym (list_all-append (is_sound m f known) (statements_inside breaks continues s) (statements_in breaks continues b))))
+        ∙ (regroup (own_is_sound m f known breaks continues s)
+        (list_all (is_sound m f known) (statements_inside breaks continues s))
+        (list_all (is_sound m f known) (statements_in breaks continues b))
+        ∙ both refl (sym (list_all-append (is_sound m f known) (statements_inside breaks continues s)
+        (statements_in breaks continues b))))
 
-    cases_sound : (breaks continues : Bool) (cs : CaseTrees) → cases_are_sound m f known breaks continues cs ≡ list_all (is_sound m f known) (case_statements breaks continues cs)
+    cases_sound : (breaks continues : Bool) (cs : CaseTrees) → cases_are_sound m f known breaks continues cs
+        ≡ list_all (is_sound m f known) (case_statements breaks continues cs)
     cases_sound breaks continues no_cases = refl
     cases_sound breaks continues (case v b falls cs) =
-        joined (is_sound m f known) (statements_in breaks continues b) (case_statements breaks continues cs) (block_sound breaks continues b) (cases_sound breaks continues cs)
+        joined (is_sound m f known) (statements_in breaks continues b) (case_statements breaks continues cs)
+        (block_sound breaks continues b) (cases_sound breaks continues cs)
 
 -- no statement is found where the body fits
-pub range_fits : (callees expressions : ℕ) (b : BlockTree) → is_none (result_err (numbered (is_in_range callees expressions) 0 (text_order b))) ≡ block_in_range callees expressions b
+pub range_fits : (callees expressions : ℕ) (b : BlockTree) →
+    is_none (result_err (numbered (is_in_range callees expressions) 0 (text_order b)))
+    ≡ block_in_range callees expressions b
 range_fits callees expressions b =
-    numbered_fits (is_in_range callees expressions) 0 (text_order b) ∙ sym (block_range callees expressions false false b)
+    numbered_fits (is_in_range callees expressions) 0 (text_order b)
+    ∙ sym (block_range callees expressions false false b)
 
-pub sound_fits : (m : Module) (f : Function) (known : List TypeResolution) → is_none (result_err (numbered (is_sound m f known) 0 (text_order f.body))) ≡ body_is_sound m f known
+pub sound_fits : (m : Module) (f : Function) (known : List TypeResolution) →
+    is_none (result_err (numbered (is_sound m f known) 0 (text_order f.body))) ≡ body_is_sound m f known
 sound_fits m f known =
     numbered_fits (is_sound m f known) 0 (text_order f.body) ∙ sym (block_sound m f known false false f.body)

@@ -11,18 +11,22 @@ pub record IsWritten {X : Type 0} (target initial xs : List X) (i : ℕ) : Type 
   pub same_length : length target ≡ length initial
   pub kept_length : length xs ≡ length initial
 
-pub IsWritten-start : {X : Type 0} (target initial : List X) → length target ≡ length initial → IsWritten target initial initial 0
+pub IsWritten-start : {X : Type 0} (target initial : List X) → length target ≡ length initial →
+    IsWritten target initial initial 0
 IsWritten-start target initial same = record { done = refl; left = refl; same_length = same; kept_length = refl }
 
-pub IsWritten-read : {X : Type 0} (target initial xs : List X) (i : ℕ) (d : X) → IsWritten target initial xs i → slice_index_or xs i d ≡ slice_index_or initial i d
+pub IsWritten-read : {X : Type 0} (target initial xs : List X) (i : ℕ) (d : X) → IsWritten target initial xs i →
+    slice_index_or xs i d ≡ slice_index_or initial i d
 IsWritten-read target initial xs i d w =
     let here : i + 0 ≡ i = omega arith
     in ap (λ k. slice_index_or xs k d) (sym here) ∙ sym (get_or-drop i xs 0 d)
     ∙ ap (λ ys. slice_index_or ys 0 d) w.left
     ∙ get_or-drop i initial 0 d ∙ ap (λ k. slice_index_or initial k d) here
 
-same_left : {X : Type 0} (i : ℕ) (initial xs : List X) (d : X) → i < length initial → i < length xs → drop i xs ≡ drop i initial → drop (i + 1) xs ≡ drop (i + 1) initial
-same_left i initial xs d h k same = sym (ap (λ ys. drop 1 ys) (drop_more xs i d k)) ∙ ap (λ ys. drop 1 ys) same ∙ ap (λ ys. drop 1 ys) (drop_more initial i d h)
+same_left : {X : Type 0} (i : ℕ) (initial xs : List X) (d : X) → i < length initial → i < length xs →
+    drop i xs ≡ drop i initial → drop (i + 1) xs ≡ drop (i + 1) initial
+same_left i initial xs d h k same = sym (ap (λ ys. drop 1 ys) (drop_more xs i d k)) ∙ ap (λ ys. drop 1 ys) same
+    ∙ ap (λ ys. drop 1 ys) (drop_more initial i d h)
 
 pub IsWritten-more : {X : Type 0} (target initial xs : List X) (i : ℕ) (y : X) →
     i < length initial → IsWritten target initial xs i → y ≡ slice_index_or target i y →
@@ -32,7 +36,8 @@ IsWritten-more target initial xs i y h w is =
     in let in_target : i < length target = omega (arith, h, w.same_length)
     in let one_less : i < i + 1 = omega arith
     in record {
-      done = take_more_set xs i y in_xs ∙ ap (λ ys. ys ++ y ∷ []) w.done ∙ ap (λ z. take i target ++ z ∷ []) is ∙ sym (take_more target i y in_target);
+      done = take_more_set xs i y in_xs ∙ ap (λ ys. ys ++ y ∷ []) w.done ∙ ap (λ z. take i target ++ z ∷ []) is
+          ∙ sym (take_more target i y in_target);
       left = drop-set-lt (i + 1) xs i y one_less ∙ same_left i initial xs y h in_xs w.left;
       same_length = w.same_length;
       kept_length = length-set xs i y ∙ w.kept_length;
@@ -53,14 +58,16 @@ IsWritten-kept target initial xs i d h w is =
     in let in_target : i < length target = omega (arith, h, w.same_length)
     in record {
       done = take_more xs i d in_xs ∙ ap (λ ys. ys ++ slice_index_or xs i d ∷ []) w.done
-          ∙ ap (λ z. take i target ++ z ∷ []) (IsWritten-read target initial xs i d w ∙ is) ∙ sym (take_more target i d in_target);
+          ∙ ap (λ z. take i target ++ z ∷ []) (IsWritten-read target initial xs i d w ∙ is)
+          ∙ sym (take_more target i d in_target);
       left = same_left i initial xs d h in_xs w.left;
       same_length = w.same_length;
       kept_length = w.kept_length;
     }
 
 -- what a slice of a whole vector leaves after it
-pub take_written_back : {X : Type 0} (n : ℕ) (xs ys : List X) → length xs ≡ length ys → length xs ≤ n → take n (xs ++ drop (length xs) ys) ≡ xs
+pub take_written_back : {X : Type 0} (n : ℕ) (xs ys : List X) → length xs ≡ length ys → length xs ≤ n →
+    take n (xs ++ drop (length xs) ys) ≡ xs
 take_written_back n xs ys same h =
     let past : length ys ≤ length xs = omega (arith, same)
     in rw (drop_all (length xs) ys past, append-nil xs) (take_all n xs h)

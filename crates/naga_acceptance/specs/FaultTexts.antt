@@ -46,8 +46,8 @@ item_text (item.Constant h) = codes "constant " ++ decimal h
 item_text (item.Override h) = codes "override " ++ decimal h
 item_text (item.GlobalVariable h) = codes "global variable " ++ decimal h
 item_text (item.GlobalExpression h) = codes "global expression " ++ decimal h
-item_text (item.Function h place) = codes "function " ++ decimal h ++ part_text place
-item_text (item.EntryPoint h place) = codes "entry point " ++ decimal h ++ part_text place
+item_text (item.Function h position) = codes "function " ++ decimal h ++ part_text position
+item_text (item.EntryPoint h position) = codes "entry point " ++ decimal h ++ part_text position
 
 -- the place, and after a colon the fault
 abbrev pub unaccepted_text : Unaccepted → List ℕ

@@ -52,7 +52,7 @@ use Rattle.module_meaning.specs.acceptance.Ranges.{special_types_fit}
 use Rattle.module_meaning.specs.acceptance.Soundness.{module_is_sound}
 
 abbrev pub at : Item → Fault → Unaccepted
-at place kind = record { item = place; fault = kind }
+at position kind = record { item = position; fault = kind }
 
 -- a fault of a part of the function, or of the entry point, with this handle
 abbrev pub at_function : (h : ℕ) → FunctionPosition × Fault → Unaccepted

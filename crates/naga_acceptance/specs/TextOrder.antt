@@ -6,7 +6,7 @@
 -- module, f the function, known are the types of its expressions by handle, callees is how many
 -- functions may be called, expressions how many there are, and n counts statements.
 use Rattle.std.specs.Prelude.{ℕ, Bool, true, false, ◌&&◌, List, [], ◌∷◌, ◌++◌, nat_lt}
-use Rattle.std.specs.Prelude.{Result, Ok, Err, if◌then◌else◌}
+use Rattle.std.specs.Prelude.{Option, None, Result, Ok, Err, if◌then◌else◌}
 use Rattle.std.specs.Hash.DefaultHasher.{wrapping_add}
 use Rattle.std.specs.Option.{option_map_or}
 use Rattle.naga_ir.specs.StatementTree.{StatementTree, simple, block, branch, switch, loop}
@@ -20,7 +20,8 @@ use Rattle.naga_acceptance.specs.declared.walk.Demand.{Demand}
 use Rattle.naga_acceptance.specs.declared.walk.Demand.TheVariants as demand
 use Rattle.module_meaning.specs.acceptance.Numbers.{case_value_fits_32_bits}
 use Rattle.module_meaning.specs.acceptance.Ranges.{is_below, simple_in_range}
-use Rattle.module_meaning.specs.acceptance.StatementsFit.{is_condition, is_selection}
+use Rattle.module_meaning.specs.acceptance.StatementsFit.{components_pointer, is_condition}
+use Rattle.module_meaning.specs.acceptance.StatementsFit.{is_selection}
 use Rattle.module_meaning.specs.acceptance.StatementsFit.{simple_is_sound}
 
 -- a statement where it stands
@@ -71,6 +72,11 @@ own_in_range callees expressions (branch condition accept reject) = nat_lt condi
 own_in_range callees expressions (switch selector cs) =
     nat_lt selector expressions && case_values_fit_32_bits cs
 own_in_range callees expressions (loop body continuing break_if) = is_below expressions break_if
+
+-- the pointer to a scalar or a vector that it wants, if it wants that alone
+abbrev pub own_components_pointer : StatementTree → Option ℕ
+own_components_pointer (simple s) = components_pointer s
+own_components_pointer _ = None
 
 -- it gets what it wants
 abbrev pub own_is_sound :

@@ -21,7 +21,7 @@ ghost use Rattle.naga_info.specs.declared.info.TypeResolution.TheVariants.{Handl
 ghost use Rattle.naga_ir.specs.declared.types.Type_ as ir_type;
 ghost use Rattle.wgsl_words.specs.Words.{scalar_word};
 
-use crate::parts::{InferredType, vector_number};
+use crate::parts::{InferredType, component_count};
 use crate::type_numbers::{
     Level, access_number, components_number, cooperative_number, dimension_number,
     image_access_number, is_same_level, kind_number, length_kind, length_number, level_of,
@@ -101,7 +101,7 @@ fn value_top(size: Option<VectorSize>, scalar: Scalar) -> Option<Top>
     ensures over { IfSome result (λ top. top.over ≡ Nothing) }
 {
     match size {
-        Some(size) => over_scalar(1, scalar, vector_number(size), 0, 0),
+        Some(size) => over_scalar(1, scalar, component_count(size), 0, 0),
         None => over_scalar(0, scalar, 0, 0, 0),
     }
 }
@@ -218,7 +218,15 @@ fn inner_top(inner: &TypeInner, within: Option<usize>) -> Option<Top>
             columns,
             rows,
             scalar,
-        } => { over_scalar(2, *scalar, vector_number(*columns), vector_number(*rows), 0) }
+        } => {
+            over_scalar(
+                2,
+                *scalar,
+                component_count(*columns),
+                component_count(*rows),
+                0,
+            )
+        }
         TypeInner::CooperativeMatrix {
             columns,
             rows,
@@ -302,7 +310,13 @@ fn inferred_top(types: &UniqueArena<Type_>, ty: &InferredType) -> Option<Top>
             columns,
             rows,
             scalar,
-        } => over_scalar(2, scalar, vector_number(columns), vector_number(rows), 0),
+        } => over_scalar(
+            2,
+            scalar,
+            component_count(columns),
+            component_count(rows),
+            0,
+        ),
         InferredType::Pointer { base, space } => {
             level_over(pointer_level(space), over_base(base, None))
         }
@@ -415,13 +429,21 @@ fn own_level(inner: &TypeInner) -> Level
     match inner {
         TypeInner::Scalar(scalar) => level_of_scalar(0, *scalar, 0, 0, 0),
         TypeInner::Vector { size, scalar } => {
-            level_of_scalar(1, *scalar, vector_number(*size), 0, 0)
+            level_of_scalar(1, *scalar, component_count(*size), 0, 0)
         }
         TypeInner::Matrix {
             columns,
             rows,
             scalar,
-        } => { level_of_scalar(2, *scalar, vector_number(*columns), vector_number(*rows), 0) }
+        } => {
+            level_of_scalar(
+                2,
+                *scalar,
+                component_count(*columns),
+                component_count(*rows),
+                0,
+            )
+        }
         TypeInner::CooperativeMatrix {
             columns,
             rows,
@@ -555,13 +577,19 @@ fn inferred_unsupported_level(types: &UniqueArena<Type_>, ty: &InferredType) -> 
         InferredType::Handle(handle) => unsupported_level_at(types, handle),
         InferredType::Scalar(scalar) => Some(level_of_scalar(0, scalar, 0, 0, 0)),
         InferredType::Vector { size, scalar } => {
-            Some(level_of_scalar(1, scalar, vector_number(size), 0, 0))
+            Some(level_of_scalar(1, scalar, component_count(size), 0, 0))
         }
         InferredType::Matrix {
             columns,
             rows,
             scalar,
-        } => Some(level_of_scalar(2, scalar, vector_number(columns), vector_number(rows), 0)),
+        } => Some(level_of_scalar(
+            2,
+            scalar,
+            component_count(columns),
+            component_count(rows),
+            0,
+        )),
         InferredType::Pointer { base, space } => {
             Some(level_of(
                 5,

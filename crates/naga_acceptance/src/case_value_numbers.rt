@@ -19,10 +19,10 @@ const SORTED_CASE_VALUES: usize = 4096;
 const PLACES: usize = 32_768;
 
 /// A number of its own for each case value.
-fn number_of(label: SwitchValue) -> u64
-    ensures { result ≡ number_of label }
+fn number_of(case_value: SwitchValue) -> u64
+    ensures { result ≡ number_of case_value }
 {
-    match label {
+    match case_value {
         SwitchValue::I32(value) => {
             let sign = if value < 0 { 2 } else { 1 };
             3 * u64::from(value.unsigned_abs()) + sign

@@ -11,7 +11,7 @@ ghost use Rattle.module_meaning.specs.acceptance.OperandDemands.{points_to_compo
 ghost use Rattle.module_meaning.specs.TypeParts.{has_computed_parts, is_part_number};
 
 use crate::parts::{
-    Known, has_computed_parts, is_part_number, known_inner, pointee_type, vector_number,
+    Known, component_count, has_computed_parts, is_part_number, known_inner, pointee_type,
 };
 use module_meaning::type_parts::inner_at;
 use naga_ir::{
@@ -60,7 +60,7 @@ pub fn points_to_components(types: &UniqueArena<Type_>, inner: &TypeInner) -> bo
 fn letters_fit(chosen: VectorSize, letters: &[SwizzleComponent; 4], size: VectorSize) -> bool
     ensures { result ≡ letters_fit chosen letters.now size }
 {
-    let bound = vector_number(size);
+    let bound = component_count(size);
     let first = (letters[0] as usize) < bound && (letters[1] as usize) < bound;
     match chosen {
         VectorSize::Bi => first,

@@ -123,7 +123,7 @@ impl fmt::Display for Unaccepted {
 }
 
 impl fmt::Display for Item {
-    ghost output = { λ place. Some (item_text place) };
+    ghost output = { λ position. Some (item_text position) };
 
     fn fmt<W: fmt::Write>(&self, f: &mut fmt::Formatter<W>) -> fmt::Result {
         match self {
@@ -140,7 +140,7 @@ impl fmt::Display for Item {
 }
 
 impl fmt::Display for FunctionPosition {
-    ghost output = { λ place. Some (part_text place) };
+    ghost output = { λ position. Some (part_text position) };
 
     fn fmt<W: fmt::Write>(&self, f: &mut fmt::Formatter<W>) -> fmt::Result {
         match self {

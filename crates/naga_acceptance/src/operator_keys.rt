@@ -19,7 +19,7 @@ ghost use Rattle.module_meaning.specs.acceptance.AgreeingOperators.{word_key};
 ghost use Rattle.module_meaning.specs.Conversions.{conversion_target, keeps_bits};
 
 use crate::alike::{are_alike, inferred_identity, inferred_is_spelled};
-use crate::parts::{InferredType, Known, known_inner, vector_number};
+use crate::parts::{InferredType, Known, component_count, known_inner};
 use crate::type_numbers::{Level, is_same_level, kind_number, level_of, truth_number};
 use module_meaning::called_str;
 use module_meaning::type_parts::converted_scalar;
@@ -166,7 +166,7 @@ fn letter_number(size: VectorSize, pattern: &[SwizzleComponent; 4], place: usize
     requires { place < 4 }
     ensures { result ≡ letter_number size pattern.now place }
 {
-    if place < vector_number(size) {
+    if place < component_count(size) {
         pattern[place] as usize
     } else {
         0
@@ -178,7 +178,7 @@ fn swizzle_key(size: VectorSize, pattern: &[SwizzleComponent; 4]) -> Key
 {
     Key::Word(level_of(
         5,
-        vector_number(size),
+        component_count(size),
         letter_number(size, pattern, 0),
         letter_number(size, pattern, 1),
         letter_number(size, pattern, 2),

@@ -3,7 +3,7 @@
 ghost use Rattle.std.specs.Prelude.{◌≡◌, slice_get};
 ghost use Rattle.std.specs.Option.{is_some, option_copied, option_map};
 ghost use Rattle.naga_acceptance.specs.KnownTypes.{inferred, known_types};
-ghost use Rattle.module_meaning.specs.TypeIdentity.{vector_number};
+ghost use Rattle.module_meaning.specs.TypeIdentity.{component_count};
 ghost use Rattle.module_meaning.specs.TypeParts.{component_pointer, component_scalar};
 ghost use Rattle.module_meaning.specs.TypeParts.{element_count};
 ghost use Rattle.module_meaning.specs.TypeParts.{has_computed_parts, is_part_number};
@@ -201,8 +201,8 @@ pub fn has_computed_parts(types: &UniqueArena<Type_>, inner: &TypeInner) -> bool
 }
 
 /// How many components a vector has, or columns or rows a matrix.
-pub fn vector_number(size: VectorSize) -> usize
-    ensures { result ≡ vector_number size }
+pub fn component_count(size: VectorSize) -> usize
+    ensures { result ≡ component_count size }
 {
     match size {
         VectorSize::Bi => 2,
@@ -225,8 +225,8 @@ fn value_part_count(inner: &TypeInner) -> Option<usize>
     ensures { result ≡ value_part_count inner.now }
 {
     match inner {
-        TypeInner::Vector { size, .. } => Some(vector_number(*size)),
-        TypeInner::Matrix { columns, .. } => Some(vector_number(*columns)),
+        TypeInner::Vector { size, .. } => Some(component_count(*size)),
+        TypeInner::Matrix { columns, .. } => Some(component_count(*columns)),
         TypeInner::Array { size, .. } | TypeInner::BindingArray { size, .. } => {
             element_count(*size)
         }
@@ -245,7 +245,7 @@ pub fn part_count(types: &UniqueArena<Type_>, inner: &TypeInner) -> Option<usize
             None => None,
         },
         TypeInner::ValuePointer { size, .. } => match size {
-            Some(size) => Some(vector_number(*size)),
+            Some(size) => Some(component_count(*size)),
             None => None,
         },
         _ => value_part_count(inner),

@@ -6,7 +6,8 @@ ghost use Rattle.std.specs.Result.{result_err};
 ghost use Rattle.naga_acceptance.specs.KnownTypes.{inferred, known_types};
 ghost use Rattle.naga_ir.specs.StatementViews.{cases_of, tree_of};
 ghost use Rattle.module_meaning.specs.acceptance.OperandDemands.{operand_is, points_to_components};
-ghost use Rattle.naga_acceptance.specs.TextOrder.{is_sound, numbered, own_is_sound, text_order};
+ghost use Rattle.naga_acceptance.specs.TextOrder.{is_sound, numbered, own_components_pointer};
+ghost use Rattle.naga_acceptance.specs.TextOrder.{own_is_sound, text_order};
 ghost use Rattle.module_meaning.specs.acceptance.StatementsFit.{are_passed, body_is_sound};
 ghost use Rattle.module_meaning.specs.acceptance.StatementsFit.{has_case_value, is_answered};
 ghost use Rattle.module_meaning.specs.acceptance.StatementsFit.{is_atomic_result};
@@ -138,10 +139,10 @@ pub fn selects(scalar: Scalar) -> bool
 }
 
 /// Whether the case value is of the selector's type.
-pub(crate) fn case_value_is_of(scalar: Scalar, label: SwitchValue) -> bool
-    ensures { result ≡ case_value_is_of scalar label }
+pub(crate) fn case_value_is_of(scalar: Scalar, case_value: SwitchValue) -> bool
+    ensures { result ≡ case_value_is_of scalar case_value }
 {
-    match (label, scalar.kind) {
+    match (case_value, scalar.kind) {
         (SwitchValue::I32(_), ScalarKind::Sint) => true,
         (SwitchValue::U32(_), ScalarKind::Uint) => true,
         (SwitchValue::Default, _) => true,
@@ -173,11 +174,11 @@ fn is_same_case_value(a: SwitchValue, b: SwitchValue) -> bool
 }
 
 /// Whether one of the cases has the value.
-pub fn has_case_value(label: SwitchValue, cases: &[SwitchCase]) -> bool
-    ensures { result ≡ has_case_value label (cases_of cases.now) }
+pub fn has_case_value(case_value: SwitchValue, cases: &[SwitchCase]) -> bool
+    ensures { result ≡ has_case_value case_value (cases_of cases.now) }
 {
     for case in cases {
-        if is_same_case_value(label, case.value) {
+        if is_same_case_value(case_value, case.value) {
             return true;
         }
     }
@@ -197,11 +198,11 @@ fn is_before(a: SwitchValue, b: SwitchValue) -> bool
     }
 }
 
-fn is_after(last: Option<SwitchValue>, label: SwitchValue) -> bool
-    ensures { result ≡ is_after last label }
+fn is_after(last: Option<SwitchValue>, case_value: SwitchValue) -> bool
+    ensures { result ≡ is_after last case_value }
 {
     match last {
-        Some(last) => is_before(last, label),
+        Some(last) => is_before(last, case_value),
         None => true,
     }
 }
@@ -474,6 +475,16 @@ pub(crate) fn is_call(
 
 // ---- statements
 
+/// The pointer to a scalar or a vector that a statement by itself wants, if it wants that alone.
+pub fn components_pointer(statement: &Statement) -> Option<Handle<Expression>>
+    ensures { result ≡ own_components_pointer (tree_of statement.now) }
+{
+    match statement {
+        Statement::CooperativeStore { data_, .. } => Some(data_.pointer),
+        _ => None,
+    }
+}
+
 /// Whether a statement by itself, its blocks left out, gets what it wants. It may leave the nearest
 /// loop or switch where it `breaks`, and go on with the nearest loop's `continuing` where it
 /// `continues`.
@@ -526,12 +537,10 @@ pub(crate) fn own_is_sound(
             result: outcome,
             ..
         } => is_subgroup_result(function, *outcome),
-        Statement::CooperativeStore { data_, .. } => is_components_pointer(
-            types,
-            known,
-            data_.pointer,
-        ),
-        _ => true,
+        _ => match components_pointer(statement) {
+            Some(pointer) => is_components_pointer(types, known, pointer),
+            None => true,
+        },
     }
 }
 

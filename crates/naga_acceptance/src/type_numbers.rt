@@ -10,7 +10,7 @@ ghost use Rattle.module_meaning.specs.TypeIdentity.{length_number, level, role_n
 ghost use Rattle.module_meaning.specs.TypeIdentity.{space_number, truth_number};
 ghost use Rattle.naga_acceptance.specs.Views.{numbers};
 
-use crate::parts::vector_number;
+use crate::parts::component_count;
 use bitflags::Flags;
 use naga_ir::{
     AddressSpace, ArraySize, CooperativeRole, CooperativeSize, ImageDimension, Scalar, ScalarKind,
@@ -179,7 +179,7 @@ pub(crate) fn components_number(size: Option<VectorSize>) -> usize
     ensures { result ≡ components_number size }
 {
     match size {
-        Some(size) => vector_number(size),
+        Some(size) => component_count(size),
         None => 1,
     }
 }

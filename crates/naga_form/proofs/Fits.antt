@@ -31,13 +31,15 @@ use Rattle.module_meaning.specs.ExpressionContexts.{declared, types_known}
 use Rattle.indexmap.specs.IndexMap.{get, keys}
 
 -- what stands at an index of a list made from other things
-pub mapped_at : {X Y : Type 0} (t : X → Y) (d : Y) (xs : List X) (i : ℕ) (x : X) → slice_get xs i ≡ Some x → get_or (map t xs) i d ≡ t x
+pub mapped_at : {X Y : Type 0} (t : X → Y) (d : Y) (xs : List X) (i : ℕ) (x : X) → slice_get xs i ≡ Some x →
+    get_or (map t xs) i d ≡ t x
 mapped_at t d [] i x found = absurd (cc)
 mapped_at t d (y ∷ xs) zero x found = ap t (ap (λ o. unwrap_or o y) found)
 mapped_at t d (y ∷ xs) (suc i) x found = mapped_at t d xs i x found
 
 -- the type at an index of a list of types made from other things
-pub type_at_mapped : {X : Type 0} (t : X → ValueType) (xs : List X) (i : ℕ) (x : X) → slice_get xs i ≡ Some x → type_at (map t xs) i ≡ t x
+pub type_at_mapped : {X : Type 0} (t : X → ValueType) (xs : List X) (i : ℕ) (x : X) → slice_get xs i ≡ Some x →
+    type_at (map t xs) i ≡ t x
 type_at_mapped t xs i x found = mapped_at t BooleanType xs i x found
 
 pub mapped_length : {X Y : Type 0} (f : X → Y) (xs : List X) → length (map f xs) ≡ length xs
@@ -88,10 +90,13 @@ module _ (m : Module) (info : ModuleInfo) (f : ir_function.Function) (es : List 
       ∙ (ap (λ j. nat_lt h (length f.expressions) && list_any (nat_eq j) (keys f.named_expressions)) (zero-add h)
       ∙ by (nat_lt h (length f.expressions)))
     where
-      found : is_some (option_map string_bytes (get nat_eq f.named_expressions h)) ≡ list_any (nat_eq h) (keys f.named_expressions)
-      found = some_mapped string_bytes (get nat_eq f.named_expressions h) ∙ is_some-lookup (nat_eq h) f.named_expressions.entries
+      found : is_some (option_map string_bytes (get nat_eq f.named_expressions h))
+          ≡ list_any (nat_eq h) (keys f.named_expressions)
+      found = some_mapped string_bytes (get nat_eq f.named_expressions h)
+          ∙ is_some-lookup (nat_eq h) f.named_expressions.entries
 
-      by : (b : Bool) → (b && list_any (nat_eq h) (keys f.named_expressions)) ≡ is_some (if b then option_map string_bytes (get nat_eq f.named_expressions h) else None)
+      by : (b : Bool) → (b && list_any (nat_eq h) (keys f.named_expressions))
+          ≡ is_some (if b then option_map string_bytes (get nat_eq f.named_expressions h) else None)
       by true = sym found
       by false = refl
 
@@ -110,7 +115,8 @@ module _ (m : Module) (info : ModuleInfo) (f : ir_function.Function) (es : List 
       ∙ joined k (option_to_list (label_of f h)) (labels_of_each f hs))
 
   mutual
-    pub named_by_is : (st : StatementTree) (k : ℕ) → named_by own_shape (statement_shape context st) k ≡ k + length (labels_in f st)
+    pub named_by_is : (st : StatementTree) (k : ℕ) → named_by own_shape (statement_shape context st) k
+        ≡ k + length (labels_in f st)
     named_by_is (simple (emit first last)) k = named_some (from first (last - first)) k
     named_by_is (simple (store pointer value)) k = stored (is_atomic_pointer context pointer)
       where
@@ -129,14 +135,16 @@ module _ (m : Module) (info : ModuleInfo) (f : ir_function.Function) (es : List 
         ∙ (ap (λ n. n + length (block_labels f continuing)) (named_by_all_is body k)
         ∙ joined k (block_labels f body) (block_labels f continuing))
 
-    pub named_by_all_is : (b : BlockTree) (k : ℕ) → named_by_all own_shape (statements_shape context b) k ≡ k + length (block_labels f b)
+    pub named_by_all_is : (b : BlockTree) (k : ℕ) → named_by_all own_shape (statements_shape context b) k
+        ≡ k + length (block_labels f b)
     named_by_all_is no_statements k = sym (add-zero k)
     named_by_all_is (statement st b) k =
         named_by_all_is b (named_by own_shape (statement_shape context st) k)
         ∙ (ap (λ n. n + length (block_labels f b)) (named_by_is st k)
         ∙ joined k (labels_in f st) (block_labels f b))
 
-    named_by_cases_is : (cs : CaseTrees) (k : ℕ) → named_by_cases own_shape (cases_shape context cs) k ≡ k + length (cases_labels f cs)
+    named_by_cases_is : (cs : CaseTrees) (k : ℕ) → named_by_cases own_shape (cases_shape context cs) k
+        ≡ k + length (cases_labels f cs)
     named_by_cases_is no_cases k = sym (add-zero k)
     named_by_cases_is (case value body falls cs) k =
         named_by_cases_is cs (named_by_all own_shape (statements_shape context body) k)

@@ -78,12 +78,14 @@ pub record IsShapeOf (m : ir_module.Module) (info : ModuleInfo) (f : Function) :
   pub sound : IsSoundGroup m info (Some function) (function_group function known)
   pub same : f ≡ function_shape m info function known
 
-module _ (m : ir_module.Module) (info : ModuleInfo) (accepted : IsTrue (is_accepted m info)) (distinguished : TypesAreDistinguished m) where
+module _ (m : ir_module.Module) (info : ModuleInfo) (accepted : IsTrue (is_accepted m info))
+    (distinguished : TypesAreDistinguished m) where
   abbrev shape : ir_function.Function × List ExpressionInfo → Function
   shape p = function_shape m info p.0 p.1
 
   -- each function of the program is the shape of one of the module's, or of an entry point's
-  pub function_at : (place : ℕ) (f : Function) → slice_get (module_shape m info).functions place ≡ Some f → IsShapeOf m info f
+  pub function_at : (place : ℕ) (f : Function) → slice_get (module_shape m info).functions place ≡ Some f →
+      IsShapeOf m info f
   function_at place f there =
       let found = in_reversed (map shape (functions_known m info)) place f there in
       let image = in_image shape (functions_known m info) found.0 f found.1 in

@@ -108,7 +108,8 @@ module _ (m : Module) (info : ModuleInfo) (g : ℕ) (f : ir_function.Function)
   formed = plain_is flags m info g f found es callees ranges W closed written types fits demands named constants
 
   unnamed_formed : (s : Handles) → NamesAre s → (h : ℕ) → W h → IsPlainForm (unnamed_form own source s h)
-  unnamed_formed = unnamed_is flags m info g f found es callees ranges W closed written types fits demands named constants
+  unnamed_formed = unnamed_is flags m info g f found es callees ranges W closed written types fits demands named
+      constants
 
   starts : NamesAre (at_start own.function)
   starts = start_is flags m info g f es named identifiers few
@@ -122,12 +123,15 @@ module _ (m : Module) (info : ModuleInfo) (g : ℕ) (f : ir_function.Function)
       let lt : l < length f.local_variables = omega (arith, size) in
       let next : (l + 1) + length vs ≡ length f.local_variables = omega (arith, size) in
       let here = element f.local_variables l lt in
-      let both = and_parts (local_in_range (length m.types) (length f.expressions) v) (list_all (local_in_range (length m.types) (length f.expressions)) vs) fit in
+      let both = and_parts (local_in_range (length m.types) (length f.expressions) v)
+      (list_all (local_in_range (length m.types) (length f.expressions)) vs) fit in
       let parts = and_parts (nat_lt v.ty (length m.types)) (is_below (length f.expressions) v.init) both.0 in (
         record {
           name = item_is_identifier m (local_item m g l here.0) (local_there m g f l here.0 found here.1);
-          type = is_type_at m types v.ty (spelled_of_spellable m (Handle v.ty) (spelled (Handle v.ty) (OfLocal l v (ap (slice_get f.local_variables) (sym (zero-add l)) ∙ sym (at 0)))));
-          value = first_is v.init (closed.firsts l v (ap (slice_get f.local_variables) (sym (zero-add l)) ∙ sym (at 0)));
+          type = is_type_at m types v.ty (spelled_of_spellable m (Handle v.ty)
+              (spelled (Handle v.ty) (OfLocal l v (ap (slice_get f.local_variables) (sym (zero-add l)) ∙ sym (at 0)))));
+          value = first_is v.init
+              (closed.firsts l v (ap (slice_get f.local_variables) (sym (zero-add l)) ∙ sym (at 0)));
         },
         locals_are (l + 1) vs next later both.1,
       )
@@ -137,14 +141,17 @@ module _ (m : Module) (info : ModuleInfo) (g : ℕ) (f : ir_function.Function)
           let same : suc k + l ≡ k + (l + 1) = omega arith in
           at (suc k) ∙ ap (slice_get f.local_variables) same
 
-      first_is : (o : Option ℕ) → AllByRecursion W (option_to_list o) → IsValue (option_map (value_form own source (at_start own.function)) o)
+      first_is : (o : Option ℕ) → AllByRecursion W (option_to_list o) →
+          IsValue (option_map (value_form own source (at_start own.function)) o)
       first_is None w = tt
-      first_is (Some h) w = value_is_one (plain_form own source (at_start own.function) h) (formed (at_start own.function) starts h w.0)
+      first_is (Some h) w = value_is_one (plain_form own source (at_start own.function) h)
+          (formed (at_start own.function) starts h w.0)
 
   -- the numbers of what parameters and result are bound to
   bindings : (list_all (λ a. option_map_or binding_fits_32_bits a.binding true) f.arguments.items ≡ true) ×
       (option_map_or (λ r. option_map_or binding_fits_32_bits r.binding true) f.result true ≡ true)
-  bindings = and_parts (list_all (λ a. option_map_or binding_fits_32_bits a.binding true) f.arguments.items) _ (bindings_are_in_range m callees f ranges)
+  bindings = and_parts (list_all (λ a. option_map_or binding_fits_32_bits a.binding true) f.arguments.items) _
+      (bindings_are_in_range m callees f ranges)
 
   parameters_are : (n : ℕ) (args : List FunctionArgument) →
       n + length args ≡ length f.arguments.items →
@@ -153,9 +160,12 @@ module _ (m : Module) (info : ModuleInfo) (g : ℕ) (f : ir_function.Function)
   parameters_are n [] size at = tt
   parameters_are n (a ∷ args) size at =
       let next : (n + 1) + length args ≡ length f.arguments.items = omega (arith, size) in
-      let here : slice_get f.arguments.items n ≡ Some a = ap (slice_get f.arguments.items) (sym (zero-add n)) ∙ sym (at 0) in (
+      let here : slice_get f.arguments.items n ≡ Some a = ap (slice_get f.arguments.items) (sym (zero-add n))
+      ∙ sym (at 0) in (
         record {
-          attributes = passing_is a.binding (list_all_at (λ a. option_map_or binding_fits_32_bits a.binding true) f.arguments.items n a bindings.0 here);
+          attributes = passing_is a.binding
+              (list_all_at (λ a. option_map_or binding_fits_32_bits a.binding true) f.arguments.items n a
+              bindings.0 here);
           binding = passing_io a.binding;
           name =
               item_is_identifier m (argument_item m g n a) (argument_there m g f n a found here);
@@ -173,7 +183,8 @@ module _ (m : Module) (info : ModuleInfo) (g : ℕ) (f : ir_function.Function)
   result_is : (r : Option FunctionResult) → f.result ≡ r → IsResult (result_form (type_names m) r)
   result_is None at = tt
   result_is (Some r) at = (
-    passing_is r.binding (sym (ap (λ o. option_map_or (λ r. option_map_or binding_fits_32_bits r.binding true) o true) at) ∙ bindings.1),
+    passing_is r.binding
+        (sym (ap (λ o. option_map_or (λ r. option_map_or binding_fits_32_bits r.binding true) o true) at) ∙ bindings.1),
     passing_io r.binding,
     is_type_at m types r.ty (spelled_of_spellable m (Handle r.ty) (spelled (Handle r.ty) (OfResult r at))),
   )
@@ -200,9 +211,11 @@ module _ (m : Module) (info : ModuleInfo) (g : ℕ) (f : ir_function.Function)
         name = item_is_identifier m (function_item m g f) (function_there m g f found);
         parameters = parameters_are 0 f.arguments.items all (λ k. ap (slice_get f.arguments.items) (sym (add-zero k)));
         result = result_is f.result refl;
-        locals = locals_are 0 f.local_variables all_locals (λ k. ap (slice_get f.local_variables) (sym (add-zero k))) (locals_are_in_range m callees f ranges);
+        locals = locals_are 0 f.local_variables all_locals
+            (λ k. ap (slice_get f.local_variables) (sym (add-zero k))) (locals_are_in_range m callees f ranges);
         body = lines_are flags m info g f es named identifiers few W formed unnamed_formed
-            (annotated_type (annotates_types flags) m (type_names m) es) (distinguished_is m types (annotates_types flags) es fits) 0
+            (annotated_type (annotates_types flags) m (type_names m) es)
+            (distinguished_is m types (annotates_types flags) es fits) 0
             f.body statements (at_start own.function) starts all_labels closed.body;
       }
 
@@ -219,7 +232,9 @@ module _ (flags : WriterFlags) (m : Module) (info : ModuleInfo) (accepted : IsTr
       let is = of_number m info accepted g f es found here in
       let sound = soundness_is m f es is.sound in
       let known = map (λ e. e.ty) es in
-      let demands = (and_parts (have_their_types m (Some f) known f.expressions) (are_operands_fit m.types known f.expressions) sound.0).1 in
+      let demands =
+      (and_parts (have_their_types m (Some f) known f.expressions)
+      (are_operands_fit m.types known f.expressions) sound.0).1 in
       function_is m info g f found es is.callees is.there is.ranges sound.1 (IsWrittenIn m info f es)
       (written_are_closed m info f es) have.expressions (types_are_fit m info accepted)
       (known_fits m info accepted g es here) demands flags have.types few named named_are

@@ -9,3 +9,4 @@ pub mod Arenas
 pub mod Literals
 pub mod Ranges
 pub mod Fields
+pub mod VariantNames

@@ -4,6 +4,7 @@ ghost use Rattle.std.specs.Prelude.{◌≡◌, map, slice_get};
 ghost use Rattle.std.specs.Option.{option_map};
 ghost use Rattle.naga_ir.specs.Fields.{expression_fields, ray_fields, seen, statement_fields};
 ghost use Rattle.naga_ir.specs.StatementViews.{tree_of};
+ghost use Rattle.naga_ir.specs.VariantNames.{expression_name, statement_name};
 
 use crate::arena::Handle;
 use crate::expression::Expression;
@@ -44,7 +45,9 @@ fn ray_field(fun: RayPipelineFunction, number: usize) -> Option<Field>
 
 impl Expression {
     /// The name of the variant.
-    pub fn name(&self) -> &'static str {
+    pub fn name(&self) -> &'static str
+        ensures { result.now ≡ expression_name self.now }
+    {
         match self {
             Expression::Literal(_) => "Literal",
             Expression::Constant(_) => "Constant",
@@ -84,7 +87,8 @@ impl Expression {
     }
 
     /// The field of this number, counted from zero in the order of naga's source, among those that
-    /// hold an operand or may hold one: without those of a level of detail, and without a list.
+    /// hold an operand or may hold one: without those of a [`SampleLevel`](crate::SampleLevel), and
+    /// without a list.
     pub fn field(&self, number: usize) -> Option<Field>
         ensures { option_map seen result ≡ slice_get (expression_fields self.now) number }
     {
@@ -195,8 +199,11 @@ impl Expression {
 }
 
 impl Statement {
-    /// The name of the variant, and what of its kind it is, where a word or two say it.
-    pub fn name(&self) -> &'static str {
+    /// The name of the variant. A store of a cooperative matrix also says how that lies in memory,
+    /// and what is done with a ray which of the functions of a pipeline it is.
+    pub fn name(&self) -> &'static str
+        ensures { result.now ≡ statement_name (tree_of self.now) }
+    {
         match self {
             Statement::Emit(_) => "Emit",
             Statement::Block(_) => "Block",

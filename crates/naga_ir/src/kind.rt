@@ -71,7 +71,8 @@ impl Expression {
 }
 
 impl Statement {
-    /// Whether nothing that stands after the statement in its block is reached.
+    /// Whether it is a `Break`, a `Continue`, a `Return` or a `Kill`, after which nothing of its block
+    /// is reached.
     pub fn ends_block(&self) -> bool
         ensures { result ≡ ends_block self.now }
     {

@@ -5,7 +5,8 @@ use Rattle.std.specs.Option.{option_map_or}
 use Rattle.std.specs.Float.{binary64, float_is_finite}
 use Rattle.std.specs.Float.Parse.{parse_float}
 use Rattle.json.specs.Lex.{tokens}
-use Rattle.json.specs.Json.{Json, null, boolean, number, string, array, object, Items, no_items, item, Members, no_members, member, value, if_last}
+use Rattle.json.specs.Json.{Json, null, boolean, number, string, array, object, Items, no_items}
+use Rattle.json.specs.Json.{item, Members, no_members, member, value, if_last}
 use Rattle.naga_json.specs.declared.error.ReadError.{ReadError}
 use Rattle.naga_json.specs.declared.error.ReadError.TheVariants.{OutOfMemory, NoJson, Misfit}
 

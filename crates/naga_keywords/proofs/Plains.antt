@@ -18,8 +18,15 @@ refused (c ∷ front) digits h =
 pub plain_is : (word : List ℕ) → (is_identifier word && has_plain_end word) ≡ true → IsPlain word
 plain_is word h =
     let parts = and_parts (is_identifier word) (has_plain_end word) h in
-    record { identifier = parts.0; no_end = λ front digits all is. true≢false (sym parts.1 ∙ ap has_plain_end is ∙ refused front digits all) }
+    record {
+      identifier = parts.0;
+      no_end = λ front digits all is. true≢false
+          (sym parts.1 ∙ ap has_plain_end is ∙ refused front digits all);
+    }
 
 -- a table that passes the tests has the rule at each entry
-pub words_are : (words : List (List ℕ)) → list_all (λ w. is_identifier w && has_plain_end w) words ≡ true → All IsPlain words
-words_are words h i d lt = plain_is (get_or words i d) (AllPass-from_list_all (λ (w : List ℕ). is_identifier w && has_plain_end w) words h i d lt)
+pub words_are : (words : List (List ℕ)) → list_all (λ w. is_identifier w && has_plain_end w) words ≡ true →
+    All IsPlain words
+words_are words h i d lt =
+    plain_is (get_or words i d) (AllPass-from_list_all (λ (w : List ℕ). is_identifier w && has_plain_end w)
+    words h i d lt)

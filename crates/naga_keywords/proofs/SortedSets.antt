@@ -215,7 +215,8 @@ module _ (case : Case) (t : Words) where
       let here : (eq_by_cmp word_cmp key key || list_any (eq_by_cmp word_cmp key) (keys_of case members)) ≡ true =
       ap (λ b. b || list_any (eq_by_cmp word_cmp key) (keys_of case members)) (is_itself key) in
       ap (λ b. b && list_all is_of members) (each key here)
-      ∙ each_of members (λ q one. each q (ap (λ b. eq_by_cmp word_cmp q key || b) one ∙ or_true_right (eq_by_cmp word_cmp q key)))
+      ∙ each_of members
+      (λ q one. each q (ap (λ b. eq_by_cmp word_cmp q key || b) one ∙ or_true_right (eq_by_cmp word_cmp q key)))
 
   pub is_subset_by_members : (members : List (Bor (List ℕ))) →
       list_all is_of members ≡ set.is_subset (set_of (keys_of case members)) t

@@ -2,7 +2,8 @@
 --
 -- Throughout, f tells layouts of types, ms are the members of a struct, ks are they as they are placed,
 -- b is the one before the others, and span how many bytes the module gives to the struct.
-use Rattle.std.proofs.Common.{◌≡◌, ◌∙◌, ◌+◌, ℕ, Bool, true, false, List, [], ◌∷◌, Option, Some, None, ap, ap₂, refl, sym}
+use Rattle.std.proofs.Common.{◌≡◌, ◌∙◌, ◌+◌, ℕ, Bool, true, false, List, [], ◌∷◌, Option, Some}
+use Rattle.std.proofs.Common.{None, ap, ap₂, refl, sym}
 use Rattle.std.specs.Prelude.{◌&&◌, ◌||◌, ◌==◌, if◌then◌else◌, nat_le, nat_lt, not}
 use Rattle.std.specs.List.{list_any}
 use Rattle.std.specs.Option.{is_some, option_and_then, option_map_or}
@@ -12,7 +13,8 @@ use Rattle.wgsl_layout.proofs.Concerned.{kept_concerned}
 use Rattle.wgsl_layout.proofs.FirstFaults.{none_kept}
 use Rattle.wgsl_layout.proofs.Kept.{struct_kept}
 use Rattle.wgsl_layout.specs.Faults.{StandsAmong, first_fault}
-use Rattle.wgsl_layout.specs.Members.{are_kept, is_aligned, is_concerned, is_off_alignment, overlaps, stands_after, written_members}
+use Rattle.wgsl_layout.specs.Members.{are_kept, is_aligned, is_concerned, is_off_alignment}
+use Rattle.wgsl_layout.specs.Members.{overlaps, stands_after, written_members}
 use Rattle.wgsl_layout.specs.Rules.{struct_layout}
 use Rattle.wgsl_layout.specs.declared.layouts.Layout.{Layout}
 use Rattle.wgsl_layout.specs.declared.layouts.Placed.{Placed}
@@ -49,7 +51,8 @@ laid_concerned f ms span there = by (placed_members f ms) refl there
         }
 
 -- and one with such members, of which none is misplaced, has a layout
-pub concerned_laid : (f : ℕ → Option Layout) (aligns : AlignsAll f) (ms : List StructMember) (span : ℕ) (ks : List Placed) →
+pub concerned_laid : (f : ℕ → Option Layout) (aligns : AlignsAll f) (ms : List StructMember) (span : ℕ)
+    (ks : List Placed) →
     placed_members f ms ≡ Some ks → is_concerned ks ≡ true → first_fault None None ks ≡ None →
     is_some (kept_struct f ms span) ≡ true
 concerned_laid f aligns ms span [] are concerned none = absurd (false≢true concerned)

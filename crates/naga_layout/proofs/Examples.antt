@@ -1,7 +1,8 @@
 -- Types of a module and how they are laid out, worked by hand from WGSL's rules.
 --
 -- Throughout, it is a type by itself, h its handle, and v any vector of members.
-use Rattle.std.proofs.Common.{◌≡◌, ℕ, refl, arith, Bool, true, false, List, [], ◌∷◌, map, Option, Some, None, Global, Vec}
+use Rattle.std.proofs.Common.{◌≡◌, ℕ, refl, arith, Bool, true, false, List, [], ◌∷◌, map, Option}
+use Rattle.std.proofs.Common.{Some, None, Global, Vec}
 use Rattle.std.specs.Prelude.{◌==◌, not, suc}
 use Rattle.naga_ir.specs.declared.binding.Binding.TheVariants.{BuiltIn}
 use Rattle.naga_ir.specs.declared.binding.BuiltIn.TheVariants.{VertexIndex}
@@ -16,7 +17,7 @@ use Rattle.naga_ir.specs.declared.types.TypeInner.TheVariants as inner
 use Rattle.naga_ir.specs.declared.types.VectorSize.TheVariants as vector
 use Rattle.wgsl_layout.specs.declared.layouts.Layout.{Layout}
 use Rattle.naga_layout.specs.Types.{told}
-use Rattle.naga_layout.specs.Types.{Rule, arrays_are_kept, inner_layout_by, layout_at, told_rule}
+use Rattle.naga_layout.specs.Types.{Rule, arrays_are_kept, inner_layout_by, layout_at, user_rule}
 
 abbrev bytes : (a s : ℕ) → Option Layout
 bytes a s = Some (record { alignment = a; size = Some s })
@@ -120,7 +121,7 @@ module _ (v : Vec StructMember Global) where
       array 8 1 32 ∷ [])
 
   abbrev told_at : (h : ℕ) → Option Layout
-  told_at h = layout_at told_rule types h
+  told_at h = layout_at user_rule types h
 
   -- a number, a vector of three and a number right after it
   natural : told_at 3 ≡ bytes 16 32
@@ -211,7 +212,7 @@ module _ (v : Vec StructMember Global) where
   of_undeclared = refl
 
   -- the strides of an array and of its elements
-  kept_strides : arrays_are_kept told_rule types 6 ≡ true
+  kept_strides : arrays_are_kept user_rule types 6 ≡ true
   unfolding arrays_are_kept layout_at
   kept_strides = refl
 

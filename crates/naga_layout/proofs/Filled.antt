@@ -2,7 +2,8 @@
 --
 -- Throughout, marks say which structs no text declares, i is how many cells are filled, and xs are they.
 use Rattle.std.proofs.Common.{◌≡◌, ◌∙◌, ◌<◌, ◌≤◌, ◌+◌, ◌++◌, ℕ, Bool, true, false, List, [], ◌∷◌, Option, Some, None}
-use Rattle.std.proofs.Common.{zero, suc, replicate, ap, arith, get_or, inl, inr, length, length-append, refl, slice_get, subst, sym}
+use Rattle.std.proofs.Common.{zero, suc, replicate, ap, arith, get_or, inl, inr, length}
+use Rattle.std.proofs.Common.{length-append, refl, slice_get, subst, sym}
 use Rattle.std.specs.Prelude.{◌⊎◌, nat_lt}
 use Rattle.std.specs.List.{list_all}
 use Rattle.std.specs.Option.{option_and_then, option_map}
@@ -53,7 +54,8 @@ all_told marks types xs size told h = by (cases_lt h (length types))
         ∙ sym (ap (option_map capped) (no_layout_past (written_rule marks) types h past))
 
 -- those of the members' types tell how these are
-pub members_told : (marks : List Bool) (types : List Type_) (here : ℕ) (ks : List StructMember) (xs : List (Option Layout)) →
+pub members_told : (marks : List Bool) (types : List Type_) (here : ℕ) (ks : List StructMember)
+    (xs : List (Option Layout)) →
     TellBefore marks types here xs → list_all (λ k. nat_lt k.ty here) ks ≡ true → TellMembers marks types ks xs
 members_told marks types here [] xs told before i k at = absurd cc
 members_told marks types here (k ∷ ks) xs told before zero q at =

@@ -14,7 +14,8 @@ use Rattle.naga_ir.specs.declared.types.TypeInner.TheVariants as inner
 use Rattle.wgsl_layout.proofs.Kept.{AllAligned, greatest_is, struct_kept}
 use Rattle.wgsl_layout.proofs.Rounding.{first_greatest, greater}
 use Rattle.wgsl_layout.specs.Capped.{IsAlignment, IsGreatest, capped, capped_member}
-use Rattle.wgsl_layout.specs.Members.{are_kept, ended, greatest_placed, is_aligned, last_of, stands_after, written_members}
+use Rattle.wgsl_layout.specs.Members.{are_kept, ended, greatest_placed, is_aligned, last_of}
+use Rattle.wgsl_layout.specs.Members.{stands_after, written_members}
 use Rattle.wgsl_layout.specs.Faults.{first_fault, goes_on, own_fault}
 use Rattle.wgsl_layout.specs.declared.members.Misplaced.{Misplaced}
 use Rattle.wgsl_layout.specs.Rules.{array_layout, matrix_layout, scalar_layout, stride_of, struct_layout, vector_layout}
@@ -22,7 +23,10 @@ use Rattle.wgsl_layout.specs.declared.layouts.Layout.{Layout}
 use Rattle.wgsl_layout.specs.declared.layouts.Placed.{Placed}
 use Rattle.naga_layout.proofs.Widths.{atomic_width_is, vector_aligns, width_aligns, width_is}
 use Rattle.naga_layout.specs.Capped.{left_from}
-use Rattle.naga_layout.specs.Types.{Rule, component_number, has_atomic_size, has_row, has_size, inner_layout_by, kept_members, kept_struct, laid_array, layout_at, layout_within, named_layout_by, placed_member, placed_members, told_length}
+use Rattle.naga_layout.specs.Types.{Rule, component_number, has_atomic_size, has_row, has_size}
+use Rattle.naga_layout.specs.Types.{inner_layout_by, kept_members, kept_struct, laid_array}
+use Rattle.naga_layout.specs.Types.{layout_at, layout_within, named_layout_by, placed_member}
+use Rattle.naga_layout.specs.Types.{placed_members, told_length}
 
 -- the last member, if there is one
 abbrev pub last_after : (before : Option Placed) → List Placed → Option Placed
@@ -50,22 +54,26 @@ module _ (f : ℕ → Option Layout) (span : ℕ) where
       by : (o : Option Placed) →
           ((p : Placed) → left_from f span (Some p) (max a p.layout.alignment) more ≡
           option_and_then (laid span (Some p) (max a p.layout.alignment)) (placed_members f more)) →
-          option_and_then (λ p. if is_aligned p && stands_after before p then left_from f span (Some p) (max a p.layout.alignment) more else None) o ≡
-          option_and_then (laid span before a) (option_and_then (λ p. option_map (λ ps. p ∷ ps) (placed_members f more)) o)
+          option_and_then (λ p. if is_aligned p && stands_after before p then left_from f span (Some p)
+          (max a p.layout.alignment) more else None) o ≡
+          option_and_then (laid span before a)
+          (option_and_then (λ p. option_map (λ ps. p ∷ ps) (placed_members f more)) o)
       by None each = refl
       by (Some p) each =
           ap (λ o. if is_aligned p && stands_after before p then o else None) (each p)
           ∙ after (placed_members f more)
         where
           after : (ms : Option (List Placed)) →
-              (if is_aligned p && stands_after before p then option_and_then (laid span (Some p) (max a p.layout.alignment)) ms else None) ≡
+              (if is_aligned p && stands_after before p then option_and_then
+              (laid span (Some p) (max a p.layout.alignment)) ms else None) ≡
               option_and_then (laid span before a) (option_map (λ ps. p ∷ ps) ms)
           after None = by_test (is_aligned p && stands_after before p)
             where
               by_test : (b : Bool) → ◌≡◌ {A = Option Layout} (if b then None else None) None
               by_test true = refl
               by_test false = refl
-          after (Some ps) = one (is_aligned p) (stands_after before p) (are_kept (Some p) ps) (option_map (ended span (greatest_placed (max a p.layout.alignment) ps)) (last_after (Some p) ps))
+          after (Some ps) = one (is_aligned p) (stands_after before p) (are_kept (Some p) ps)
+              (option_map (ended span (greatest_placed (max a p.layout.alignment) ps)) (last_after (Some p) ps))
 
 last_is : (p : Placed) (ps : List Placed) → last_after (Some p) ps ≡ Some (last_of p ps)
 last_is p [] = refl
@@ -83,7 +91,8 @@ module _ (f : ℕ → Option Layout) (aligns : AlignsAll f) where
   member_fits k = by (is_none k.binding) (f k.ty) (aligns k.ty)
     where
       by : (b : Bool) (o : Option Layout) → IsAlignedIf o →
-          IfSome {T = Placed} (if b then option_map (λ l. record { layout = l; offset = k.offset }) o else None) (λ p. IsAlignment p.layout.alignment)
+          IfSome {T = Placed} (if b then option_map (λ l. record { layout = l; offset = k.offset }) o else None)
+          (λ p. IsAlignment p.layout.alignment)
       by false o is = tt
       by true None is = tt
       by true (Some l) is = is
@@ -92,7 +101,8 @@ module _ (f : ℕ → Option Layout) (aligns : AlignsAll f) where
   members_fit [] = tt
   members_fit (k ∷ more) = by (placed_member f k) (placed_members f more) (member_fits k) (members_fit more)
     where
-      by : (o : Option Placed) (ms : Option (List Placed)) → IfSome o (λ p. IsAlignment p.layout.alignment) → IfSome ms AllAligned →
+      by : (o : Option Placed) (ms : Option (List Placed)) → IfSome o (λ p. IsAlignment p.layout.alignment) →
+          IfSome ms AllAligned →
           IfSome (option_and_then (λ p. option_map (λ ps. p ∷ ps) ms) o) AllAligned
       by None ms is all = tt
       by (Some p) None is all = tt
@@ -138,7 +148,11 @@ module _ (f : ℕ → Option Layout) (aligns : AlignsAll f) where
   length_aligned length l is = at l.size
     where
       at : (size : Option ℕ) →
-          IsAlignedIf (option_map (λ s. record { alignment = l.alignment; size = option_map (λ n. n * stride_of l.alignment s) length }) size)
+          IsAlignedIf (option_map
+          (λ s. record {
+            alignment = l.alignment;
+            size = option_map (λ n. n * stride_of l.alignment s) length;
+          }) size)
       at None = tt
       at (Some s) = is
 
@@ -151,7 +165,8 @@ module _ (f : ℕ → Option Layout) (aligns : AlignsAll f) where
       at false = tt
       at true = length_aligned length l is
 
-  array_aligned : (strict : Bool) (stride : ℕ) (length : Option (Option ℕ)) (element : Option Layout) → IsAlignedIf element →
+  array_aligned : (strict : Bool) (stride : ℕ) (length : Option (Option ℕ)) (element : Option Layout) →
+      IsAlignedIf element →
       IsAlignedIf (option_and_then (λ length. option_and_then (laid_array strict stride length) element) length)
   array_aligned strict stride None element is = tt
   array_aligned strict stride (Some length) None is = tt
@@ -170,12 +185,14 @@ module _ (f : ℕ → Option Layout) (aligns : AlignsAll f) where
       by true has = width_aligns s.width (atomic_width_is s has)
   inner_aligned strict (inner.Vector n s) = by (has_size s) refl
     where
-      by : (b : Bool) → has_size s ≡ b → IsAlignedIf (if b then Some (vector_layout (component_number n) s.width) else None)
+      by : (b : Bool) → has_size s ≡ b →
+          IsAlignedIf (if b then Some (vector_layout (component_number n) s.width) else None)
       by false has = tt
       by true has = vector_aligns n s.width (width_is s has)
   inner_aligned strict (inner.Matrix columns rows s) = by (has_size s) refl
     where
-      by : (b : Bool) → has_size s ≡ b → IsAlignedIf (if b then matrix_layout (component_number columns) (component_number rows) s.width else None)
+      by : (b : Bool) → has_size s ≡ b → IsAlignedIf (if b then matrix_layout (component_number columns)
+          (component_number rows) s.width else None)
       by false has = tt
       by true has = vector_aligns rows s.width (width_is s has)
   inner_aligned strict (inner.Array base n stride) = array_aligned strict stride (told_length n) (f base) (aligns base)
@@ -183,7 +200,8 @@ module _ (f : ℕ → Option Layout) (aligns : AlignsAll f) where
   inner_aligned strict _ = tt
 
   named_aligned : (rule : Rule) (h : ℕ) (it : TypeInner) → IsAlignedIf (named_layout_by rule f h it)
-  named_aligned rule h it = by (has_row rule.declared h it) (inner_layout_by rule.strict f it) (inner_aligned rule.strict it)
+  named_aligned rule h it = by (has_row rule.declared h it) (inner_layout_by rule.strict f it)
+      (inner_aligned rule.strict it)
     where
       by : (b : Bool) (o : Option Layout) → IsAlignedIf o → IsAlignedIf (if b then o else None)
       by false o is = tt
@@ -191,9 +209,12 @@ module _ (f : ℕ → Option Layout) (aligns : AlignsAll f) where
 
 within_aligned : (levels : ℕ) (rule : Rule) (types : List Type_) → AlignsAll (layout_within levels rule types)
 within_aligned zero rule types h = tt
-within_aligned (suc levels) rule types h = by (slice_get types h) (λ it. named_aligned (layout_within levels rule types) (within_aligned levels rule types) rule h it)
+within_aligned (suc levels) rule types h =
+    by (slice_get types h) (λ it. named_aligned (layout_within levels rule types)
+    (within_aligned levels rule types) rule h it)
   where
-    by : (o : Option Type_) → ((it : TypeInner) → IsAlignedIf (named_layout_by rule (layout_within levels rule types) h it)) →
+    by : (o : Option Type_) →
+        ((it : TypeInner) → IsAlignedIf (named_layout_by rule (layout_within levels rule types) h it)) →
         IsAlignedIf (option_and_then (λ t. named_layout_by rule (layout_within levels rule types) h t.inner) o)
     by None each = tt
     by (Some t) each = each t.inner
@@ -241,8 +262,10 @@ one_more f span ms i k b a q before whole left held greatest is placed aligned s
       is ∙ (ap (left_from f span b a) left
           ∙ (ap (option_and_then (λ p. if is_aligned p && stands_after b p
           then left_from f span (Some p) (max a p.layout.alignment) (drop (i + 1) ms) else None)) found.1
-          ∙ (ap (λ t. if t then left_from f span (Some p) (max a p.layout.alignment) (drop (i + 1) ms) else None) (sym (stands b p held found.2))
-          ∙ ap (λ w. left_from f span (Some p) (max a w) (drop (i + 1) ms)) (sym (ap (λ q. q.layout.alignment) found.2))))),
+          ∙ (ap (λ t. if t then left_from f span (Some p) (max a p.layout.alignment)
+          (drop (i + 1) ms) else None) (sym (stands b p held found.2))
+          ∙ ap (λ w. left_from f span (Some p) (max a w) (drop (i + 1) ms))
+          (sym (ap (λ q. q.layout.alignment) found.2))))),
     )
 
 -- ---- tables
@@ -256,21 +279,26 @@ cell_aligned rule types h o is = subst IsAlignedIf (sym is) (by (layout_at rule 
 
 -- ---- faults
 -- the first fault from a member on
-abbrev pub faults_from : (f : ℕ → Option Layout) → (before : Option Placed) → (found : Option Misplaced) → List StructMember → Option Misplaced
+abbrev pub faults_from : (f : ℕ → Option Layout) → (before : Option Placed) → (found : Option Misplaced) →
+    List StructMember → Option Misplaced
 faults_from f before found ks = option_and_then (first_fault before found) (placed_members f ks)
 
 fault_more : (b : Option Placed) (found : Option Misplaced) (p : Placed) (ps : List Placed) →
-    first_fault b found (p ∷ ps) ≡ (if goes_on b p then first_fault (Some p) (option_or found (own_fault b p)) ps else None)
+    first_fault b found (p ∷ ps) ≡ (if goes_on b p then first_fault (Some p) (option_or found (own_fault b p))
+    ps else None)
 fault_more None found p ps = refl
 fault_more (Some b) found p ps = refl
 
 pub one_fault_more : (f : ℕ → Option Layout) (ms : List StructMember) (i : ℕ) (k : StructMember)
-    (b : Option Placed) (found : Option Misplaced) (q : Placed) (before : Option Placed) (own whole : Option Misplaced) →
+    (b : Option Placed) (found : Option Misplaced) (q : Placed) (before : Option Placed)
+    (own whole : Option Misplaced) →
     drop i ms ≡ k ∷ drop (i + 1) ms →
     before ≡ option_map capped_member b → whole ≡ faults_from f b found (drop i ms) →
     Some q ≡ option_map capped_member (placed_member f k) →
-    ((b : Option Placed) (p : Placed) → before ≡ option_map capped_member b → q ≡ capped_member p → true ≡ goes_on b p) →
-    ((b : Option Placed) (p : Placed) → before ≡ option_map capped_member b → q ≡ capped_member p → own ≡ own_fault b p) →
+    ((b : Option Placed) (p : Placed) → before ≡ option_map capped_member b → q ≡ capped_member p →
+    true ≡ goes_on b p) →
+    ((b : Option Placed) (p : Placed) → before ≡ option_map capped_member b → q ≡ capped_member p →
+    own ≡ own_fault b p) →
     (x : Option Placed) × (Some q ≡ option_map capped_member x) ×
     (whole ≡ faults_from f x (option_or found own) (drop (i + 1) ms))
 one_fault_more f ms i k b found q before own whole left held is placed goes owns =
@@ -279,7 +307,8 @@ one_fault_more f ms i k b found q before own whole left held is placed goes owns
       Some p,
       ap (λ q. Some q) some.2,
       is ∙ (ap (faults_from f b found) left
-          ∙ (ap (λ o. option_and_then (first_fault b found) (option_and_then (λ p. option_map (λ ps. p ∷ ps) (placed_members f (drop (i + 1) ms))) o)) some.1
+          ∙ (ap (λ o. option_and_then (first_fault b found)
+          (option_and_then (λ p. option_map (λ ps. p ∷ ps) (placed_members f (drop (i + 1) ms))) o)) some.1
           ∙ (by p (placed_members f (drop (i + 1) ms)) (sym (goes b p held some.2))
           ∙ ap (λ w. faults_from f (Some p) (option_or found w) (drop (i + 1) ms)) (sym (owns b p held some.2))))),
     )
@@ -298,13 +327,15 @@ pub no_fault_more : (f : ℕ → Option Layout) (ms : List StructMember) (i : �
     drop i ms ≡ k ∷ drop (i + 1) ms →
     before ≡ option_map capped_member b → whole ≡ faults_from f b found (drop i ms) →
     Some q ≡ option_map capped_member (placed_member f k) →
-    ((b : Option Placed) (p : Placed) → before ≡ option_map capped_member b → q ≡ capped_member p → false ≡ goes_on b p) →
+    ((b : Option Placed) (p : Placed) → before ≡ option_map capped_member b → q ≡ capped_member p →
+    false ≡ goes_on b p) →
     whole ≡ None
 no_fault_more f ms i k b found q before whole left held is placed goes =
     let some = found_member (placed_member f k) q placed in
     let p = some.0 in
     is ∙ (ap (faults_from f b found) left
-    ∙ (ap (λ o. option_and_then (first_fault b found) (option_and_then (λ p. option_map (λ ps. p ∷ ps) (placed_members f (drop (i + 1) ms))) o)) some.1
+    ∙ (ap (λ o. option_and_then (first_fault b found)
+    (option_and_then (λ p. option_map (λ ps. p ∷ ps) (placed_members f (drop (i + 1) ms))) o)) some.1
     ∙ by p (placed_members f (drop (i + 1) ms)) (sym (goes b p held some.2))))
   where
     by : (p : Placed) (ms : Option (List Placed)) → goes_on b p ≡ false →
@@ -324,4 +355,6 @@ pub no_row_more : (f : ℕ → Option Layout) (ms : List StructMember) (i : ℕ)
     None ≡ option_map capped_member (placed_member f k) → whole ≡ None
 no_row_more f ms i k b found whole left is placed =
     is ∙ (ap (faults_from f b found) left
-    ∙ ap (λ o. option_and_then (first_fault b found) (option_and_then (λ p. option_map (λ ps. p ∷ ps) (placed_members f (drop (i + 1) ms))) o)) (no_member (placed_member f k) placed))
+    ∙ ap (λ o. option_and_then (first_fault b found)
+    (option_and_then (λ p. option_map (λ ps. p ∷ ps) (placed_members f (drop (i + 1) ms))) o))
+    (no_member (placed_member f k) placed))

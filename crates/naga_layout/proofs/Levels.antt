@@ -2,7 +2,8 @@
 --
 -- Throughout, types are a module's types, h is the handle of one, t a type of the module, it a type by
 -- itself, k a member, f and g tell layouts of types, and l is a layout.
-use Rattle.std.proofs.Common.{◌≡◌, ◌<◌, ◌≤◌, ◌∙◌, ◌*◌, ℕ, zero, suc, Bool, true, false, List, [], ◌∷◌, Option, Some, None}
+use Rattle.std.proofs.Common.{◌≡◌, ◌<◌, ◌≤◌, ◌∙◌, ◌*◌, ℕ, zero, suc, Bool, true, false, List, []}
+use Rattle.std.proofs.Common.{◌∷◌, Option, Some, None}
 use Rattle.std.proofs.Common.{ap, arith, refl, slice_get, subst, sym}
 use Rattle.std.specs.Prelude.{◌&&◌, IsTrue, if◌then◌else◌, nat_lt}
 use Rattle.std.specs.List.{list_all}
@@ -15,7 +16,10 @@ use Rattle.naga_ir.specs.declared.types.TypeInner.TheVariants as inner
 use Rattle.wgsl_layout.specs.Rules.{kept_array}
 use Rattle.wgsl_layout.specs.declared.layouts.Layout.{Layout}
 use Rattle.wgsl_layout.specs.declared.layouts.Placed.{Placed}
-use Rattle.naga_layout.specs.Types.{Rule, StandInOrder, has_row, inner_layout_by, kept_members, laid_array, layout_at, layout_within, named_layout_by, parts_before, placed_member, placed_members, told_length, told_rule}
+use Rattle.naga_layout.specs.Types.{Rule, StandInOrder, has_row, inner_layout_by, kept_members}
+use Rattle.naga_layout.specs.Types.{laid_array, layout_at, layout_within, named_layout_by}
+use Rattle.naga_layout.specs.Types.{parts_before, placed_member, placed_members, told_length}
+use Rattle.naga_layout.specs.Types.{user_rule}
 
 -- layouts that agree on the types before h agree on what is over these alone
 module _ (f g : ℕ → Option Layout) (n : ℕ) (same : (h : ℕ) → h < n → f h ≡ g h) where
@@ -32,7 +36,8 @@ module _ (f g : ℕ → Option Layout) (n : ℕ) (same : (h : ℕ) → h < n →
       ap (λ o. option_and_then (λ p. option_map (λ ps. p ∷ ps) (placed_members f more)) o) (same_member k parts.0)
       ∙ ap (λ ms. option_and_then (λ p. option_map (λ ps. p ∷ ps) ms) (placed_member g k)) (same_members more parts.1)
 
-  pub same_inner : (strict : Bool) (it : TypeInner) → IsTrue (parts_before n it) → inner_layout_by strict f it ≡ inner_layout_by strict g it
+  pub same_inner : (strict : Bool) (it : TypeInner) → IsTrue (parts_before n it) → inner_layout_by strict f it
+      ≡ inner_layout_by strict g it
   same_inner strict (inner.Array base length stride) before =
       ap (λ o. option_and_then (λ length. option_and_then (laid_array strict stride length) o) (told_length length))
       (same base (ltb-true base n before))
@@ -51,7 +56,8 @@ module _ (rule : Rule) (types : List Type_) (order : StandInOrder types) where
       option_and_then (λ t. named_layout_by rule (layout_within n rule types) h t.inner) o ≡
       option_and_then (λ t. named_layout_by rule (layout_within m rule types) h t.inner) o
   found n m h None is same = refl
-  found n m h (Some t) is same = same_named (layout_within n rule types) (layout_within m rule types) h same rule h t.inner (order h t is)
+  found n m h (Some t) is same = same_named (layout_within n rule types) (layout_within m rule types) h same
+      rule h t.inner (order h t is)
 
   -- enough levels give the same
   stable : (n m h : ℕ) → h < n → h < m → layout_within n rule types h ≡ layout_within m rule types h
@@ -70,6 +76,6 @@ module _ (rule : Rule) (types : List Type_) (order : StandInOrder types) where
 
 -- what is told to users counts each struct as declared
 pub told_is : (f : ℕ → Option Layout) (h : ℕ) (it : TypeInner) →
-    named_layout_by told_rule f h it ≡ inner_layout_by true f it
+    named_layout_by user_rule f h it ≡ inner_layout_by true f it
 told_is f h (inner.Struct members span) = refl
 told_is f h _ = refl

@@ -4,7 +4,8 @@
 -- Throughout, rule says which types are laid out, types are a module's types, h is the handle of one, it
 -- a type by itself, f tells layouts of types, g whether arrays have WGSL's stride, marks say which
 -- structs no text declares, i is how many cells are filled, and xs are they.
-use Rattle.std.proofs.Common.{◌≡◌, ◌∙◌, ◌<◌, ◌≤◌, ◌+◌, ◌++◌, ℕ, zero, suc, Bool, true, false, List, [], ◌∷◌, Option, Some, None}
+use Rattle.std.proofs.Common.{◌≡◌, ◌∙◌, ◌<◌, ◌≤◌, ◌+◌, ◌++◌, ℕ, zero, suc, Bool, true, false, List}
+use Rattle.std.proofs.Common.{[], ◌∷◌, Option, Some, None}
 use Rattle.std.proofs.Common.{ap, arith, get_or, inl, inr, length, length-append, refl, slice_get, sym}
 use Rattle.std.specs.Prelude.{◌&&◌, ◌⊎◌, IsTrue, nat_lt}
 use Rattle.std.specs.Option.{option_map, option_map_or}
@@ -16,7 +17,8 @@ use Rattle.naga_ir.specs.declared.types.TypeInner.{TypeInner}
 use Rattle.naga_ir.specs.declared.types.TypeInner.TheVariants as inner
 use Rattle.wgsl_layout.specs.declared.layouts.Layout.{Layout}
 use Rattle.naga_layout.specs.Tables.{TellStrides, TellStridesBefore, mark_at, written_rule}
-use Rattle.naga_layout.specs.Types.{Rule, StandInOrder, arrays_are_kept, arrays_are_kept_by, arrays_are_kept_within, layout_at, parts_before, stride_is_kept}
+use Rattle.naga_layout.specs.Types.{Rule, StandInOrder, arrays_are_kept, arrays_are_kept_by}
+use Rattle.naga_layout.specs.Types.{arrays_are_kept_within, layout_at, parts_before, stride_is_kept}
 
 -- answers that agree on the types before n agree on what is over these alone
 same_arrays : (f : ℕ → Option Layout) (g k : ℕ → Bool) (n : ℕ) → ((h : ℕ) → h < n → g h ≡ k h) →
@@ -28,11 +30,14 @@ same_arrays f g k n same _ before = refl
 module _ (rule : Rule) (types : List Type_) (order : StandInOrder types) where
   found : (n m h : ℕ) (o : Option Type_) → slice_get types h ≡ o →
       ((k : ℕ) → k < h → arrays_are_kept_within n rule types k ≡ arrays_are_kept_within m rule types k) →
-      option_map_or (λ t. arrays_are_kept_by (layout_at rule types) (arrays_are_kept_within n rule types) t.inner) o true ≡
-      option_map_or (λ t. arrays_are_kept_by (layout_at rule types) (arrays_are_kept_within m rule types) t.inner) o true
+      option_map_or (λ t. arrays_are_kept_by (layout_at rule types) (arrays_are_kept_within n rule types)
+      t.inner) o true ≡
+      option_map_or (λ t. arrays_are_kept_by (layout_at rule types) (arrays_are_kept_within m rule types)
+      t.inner) o true
   found n m h None is same = refl
   found n m h (Some t) is same =
-      same_arrays (layout_at rule types) (arrays_are_kept_within n rule types) (arrays_are_kept_within m rule types) h same t.inner (order h t is)
+      same_arrays (layout_at rule types) (arrays_are_kept_within n rule types)
+      (arrays_are_kept_within m rule types) h same t.inner (order h t is)
 
   -- enough levels give the same
   stable : (n m h : ℕ) → h < n → h < m → arrays_are_kept_within n rule types h ≡ arrays_are_kept_within m rule types h
@@ -45,15 +50,18 @@ module _ (rule : Rule) (types : List Type_) (order : StandInOrder types) where
       arrays_are_kept rule types h ≡ arrays_are_kept_by (layout_at rule types) (arrays_are_kept rule types) t.inner
   unfolding arrays_are_kept
   kept_is h t is =
-      ap (λ o. option_map_or (λ t. arrays_are_kept_by (layout_at rule types) (arrays_are_kept_within h rule types) t.inner) o true) is
-      ∙ same_arrays (layout_at rule types) (arrays_are_kept_within h rule types) (λ k. arrays_are_kept_within (suc k) rule types k) h
+      ap (λ o. option_map_or (λ t. arrays_are_kept_by (layout_at rule types)
+      (arrays_are_kept_within h rule types) t.inner) o true) is
+      ∙ same_arrays (layout_at rule types) (arrays_are_kept_within h rule types)
+      (λ k. arrays_are_kept_within (suc k) rule types k) h
       (λ k lt. stable h (suc k) k lt (omega arith)) t.inner (order h t is)
 
 -- nothing is wrong with what is not there
 no_array_past : (rule : Rule) (types : List Type_) (h : ℕ) → length types ≤ h → arrays_are_kept rule types h ≡ true
 unfolding arrays_are_kept
 no_array_past rule types h le =
-    ap (λ o. option_map_or (λ t. arrays_are_kept_by (layout_at rule types) (arrays_are_kept_within h rule types) t.inner) o true)
+    ap (λ o. option_map_or (λ t. arrays_are_kept_by (layout_at rule types) (arrays_are_kept_within h rule types)
+    t.inner) o true)
     (slice_get_past types h le)
 
 -- ---- a table of them

@@ -3,7 +3,8 @@
 -- Throughout, types are a module's types, h is the handle of one, it a type by itself, k a member, f tells
 -- the layouts that users are told, g those by another rule, x what one of the first is, and y what one of
 -- the others is.
-use Rattle.std.proofs.Common.{◌≡◌, ◌∙◌, ℕ, zero, suc, Bool, true, false, List, [], ◌∷◌, Option, Some, None}
+use Rattle.std.proofs.Common.{◌≡◌, ◌∙◌, ℕ, zero, suc, Bool, true, false, List, [], ◌∷◌, Option}
+use Rattle.std.proofs.Common.{Some, None}
 use Rattle.std.proofs.Common.{ap, refl, slice_get, sym}
 use Rattle.std.specs.Prelude.{◌==◌, if◌then◌else◌}
 use Rattle.std.specs.Option.{is_none, option_and_then, option_map, option_map_or}
@@ -15,7 +16,9 @@ use Rattle.naga_ir.specs.declared.types.TypeInner.TheVariants as inner
 use Rattle.wgsl_layout.specs.Rules.{array_layout, kept_array, stride_of}
 use Rattle.wgsl_layout.specs.declared.layouts.Layout.{Layout}
 use Rattle.wgsl_layout.specs.declared.layouts.Placed.{Placed}
-use Rattle.naga_layout.specs.Types.{Rule, has_row, inner_layout_by, kept_members, laid_array, layout_at, layout_within, named_layout_by, placed_member, placed_members, told_length, told_rule}
+use Rattle.naga_layout.specs.Types.{Rule, has_row, inner_layout_by, kept_members, laid_array}
+use Rattle.naga_layout.specs.Types.{layout_at, layout_within, named_layout_by, placed_member}
+use Rattle.naga_layout.specs.Types.{placed_members, told_length, user_rule}
 use Rattle.naga_layout.proofs.Levels.{told_is}
 
 -- what there is under a condition is there without it
@@ -66,7 +69,8 @@ module _ (f g : ℕ → Option Layout)
       same_Some x y (sym (free is) ∙ by strict also)
     where
       free : {z : Layout} → kept_array stride n l ≡ Some z → array_layout n l ≡ Some z
-      free {z = z} kept = there (option_map_or (λ s. stride == stride_of l.alignment s) l.size false) (array_layout n l) z kept
+      free {z = z} kept = there (option_map_or (λ s. stride == stride_of l.alignment s) l.size false)
+          (array_layout n l) z kept
 
       by : (strict : Bool) → laid_array strict stride n l ≡ Some y → array_layout n l ≡ Some y
       by true laid = free laid
@@ -95,26 +99,28 @@ module _ (f g : ℕ → Option Layout)
       by None p u v is also = absurd cc
   same_inner strict _ x y is also = same_Some x y (sym is ∙ also)
 
-  same_named : (rule : Rule) (h : ℕ) (it : TypeInner) (x y : Layout) → named_layout_by told_rule f h it ≡ Some x →
+  same_named : (rule : Rule) (h : ℕ) (it : TypeInner) (x y : Layout) → named_layout_by user_rule f h it ≡ Some x →
       named_layout_by rule g h it ≡ Some y → x ≡ y
   same_named rule h it x y is also =
       same_inner rule.strict it x y (sym (told_is f h it) ∙ is)
       (there (has_row rule.declared h it) (inner_layout_by rule.strict g it) y also)
 
 module _ (rule : Rule) (types : List Type_) where
-  same_within : (n h : ℕ) (x y : Layout) → layout_within n told_rule types h ≡ Some x →
+  same_within : (n h : ℕ) (x y : Layout) → layout_within n user_rule types h ≡ Some x →
       layout_within n rule types h ≡ Some y → x ≡ y
   same_within zero h x y is also = absurd cc
   same_within (suc n) h x y is also = by (slice_get types h) (same_within n) is also
     where
       by : (o : Option Type_) →
-          ((h : ℕ) (x y : Layout) → layout_within n told_rule types h ≡ Some x → layout_within n rule types h ≡ Some y → x ≡ y) →
-          option_and_then (λ t. named_layout_by told_rule (layout_within n told_rule types) h t.inner) o ≡ Some x →
+          ((h : ℕ) (x y : Layout) → layout_within n user_rule types h ≡ Some x → layout_within n rule types h
+          ≡ Some y → x ≡ y) →
+          option_and_then (λ t. named_layout_by user_rule (layout_within n user_rule types) h t.inner) o ≡ Some x →
           option_and_then (λ t. named_layout_by rule (layout_within n rule types) h t.inner) o ≡ Some y → x ≡ y
       by None left is also = absurd cc
       by (Some t) left is also =
-          same_named (layout_within n told_rule types) (layout_within n rule types) left rule h t.inner x y is also
+          same_named (layout_within n user_rule types) (layout_within n rule types) left rule h t.inner x y is also
 
-  pub told_alike : (h : ℕ) (x y : Layout) → layout_at told_rule types h ≡ Some x → layout_at rule types h ≡ Some y → x ≡ y
+  pub told_alike : (h : ℕ) (x y : Layout) → layout_at user_rule types h ≡ Some x → layout_at rule types h
+      ≡ Some y → x ≡ y
   unfolding layout_at
   told_alike h x y is also = same_within (suc h) h x y is also

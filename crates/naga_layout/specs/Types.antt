@@ -97,8 +97,8 @@ pub record Rule : Type 0 where
   pub declared : ℕ → Bool
 
 -- the rule for what users are told: strict, and each struct counts as declared
-abbrev pub told_rule : Rule
-told_rule = record { strict = true; declared = λ h. true }
+abbrev pub user_rule : Rule
+user_rule = record { strict = true; declared = λ h. true }
 
 -- an array of these elements
 abbrev pub laid_array :
@@ -148,12 +148,12 @@ layout_at rule types h = layout_within (suc h) rule types h
 
 -- ---- what is told to users
 -- a size as users are told it: none, if it has more than 32 bits
-abbrev pub told_size : Option ℕ → Option ℕ
-told_size size = option_and_then (λ s. if nat_lt s past then Some s else None) size
+abbrev pub user_size : Option ℕ → Option ℕ
+user_size size = option_and_then (λ s. if nat_lt s past then Some s else None) size
 
 -- a layout as users are told it
 abbrev pub told : Layout → TypeLayout
-told l = record { align = l.alignment; size = told_size l.size }
+told l = record { align = l.alignment; size = user_size l.size }
 
 -- ---- strides
 -- The elements of an array begin as far apart in the module as WGSL has them begin, if they are

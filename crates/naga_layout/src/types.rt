@@ -9,10 +9,10 @@ ghost use Rattle.wgsl_layout.specs.Rules.{kept_array, matrix_layout, scalar_layo
 ghost use Rattle.naga_layout.specs.Capped.{IsWidth};
 ghost use Rattle.naga_layout.specs.Seen.{TellSeen};
 ghost use Rattle.naga_layout.specs.Types.{StandInOrder, component_number, has_atomic_size};
-ghost use Rattle.naga_layout.specs.Types.{told, told_size};
+ghost use Rattle.naga_layout.specs.Types.{told, user_size};
 ghost use Rattle.naga_layout.specs.Types.{has_size, inner_layout_by, is_number, kept_struct};
 ghost use Rattle.naga_layout.specs.Types.{layout_at, parts_before, placed_member, told_length};
-ghost use Rattle.naga_layout.specs.Types.{told_rule};
+ghost use Rattle.naga_layout.specs.Types.{user_rule};
 
 use naga_ir::{
     ArraySize, Handle, Scalar, ScalarKind, StructMember, Type_, TypeInner, UniqueArena, VectorSize,
@@ -60,12 +60,12 @@ pub struct TypeLayout {
 pub fn type_layout(types: &UniqueArena<Type_>, handle: Handle<Type_>) -> Option<TypeLayout>
     requires ordered { StandInOrder types.now }
     requires there { handle < length types.now }
-    ensures { result ≡ option_map told (layout_at told_rule types.now handle) }
+    ensures { result ≡ option_map told (layout_at user_rule types.now handle) }
 {
     match kept_afresh(types, handle) {
         Some(layout) => Some(TypeLayout {
             align: layout.alignment,
-            size: told_size(layout.size),
+            size: user_size(layout.size),
         }),
         None => None,
     }
@@ -91,7 +91,7 @@ fn look_up(
     seen: &[Option<Known>],
 ) -> Option<Option<Layout>>
     requires told { TellSeen types.now seen.now }
-    ensures { IfSome result (λ l. l ≡ option_map capped (layout_at told_rule types.now handle)) }
+    ensures { IfSome result (λ l. l ≡ option_map capped (layout_at user_rule types.now handle)) }
 {
     if seen.is_empty() {
         return None;
@@ -117,7 +117,7 @@ fn remember(
 )
     requires there { handle < length types.now }
     requires told { TellSeen types.now seen.old }
-    requires layout { layout ≡ option_map capped (layout_at told_rule types.now handle) }
+    requires layout { layout ≡ option_map capped (layout_at user_rule types.now handle) }
     ensures { TellSeen types.now seen.new }
 {
     if seen.is_empty() || !is_struct(&types[handle].inner) {
@@ -134,15 +134,15 @@ fn remember(
 fn kept_afresh(types: &UniqueArena<Type_>, handle: Handle<Type_>) -> Option<Layout>
     requires ordered { StandInOrder types.now }
     requires there { handle < length types.now }
-    ensures { result ≡ option_map capped (layout_at told_rule types.now handle) }
+    ensures { result ≡ option_map capped (layout_at user_rule types.now handle) }
 {
     let mut seen: [Option<Known>; 256] = [None; 256];
     kept_layout(types, handle, seen.as_mut_slice())
 }
 
 /// The size as users are told it: none that has more than 32 bits.
-fn told_size(size: Option<u64>) -> Option<u32>
-    ensures { (s : Option ℕ) → size ≡ option_map (min past) s → result ≡ told_size s }
+fn user_size(size: Option<u64>) -> Option<u32>
+    ensures { (s : Option ℕ) → size ≡ option_map (min past) s → result ≡ user_size s }
 {
     match size {
         Some(size) if size < 0x1_0000_0000 => Some(size as u32),
@@ -262,7 +262,7 @@ fn kept_layout(
     requires there { handle < length types.now }
     requires told { TellSeen types.now seen.old }
     ensures told { TellSeen types.now seen.new }
-    ensures layout { result ≡ option_map capped (layout_at told_rule types.now handle) }
+    ensures layout { result ≡ option_map capped (layout_at user_rule types.now handle) }
     ensures aligned { IfSome result (λ l. IsAlignment l.alignment) }
 {
     if is_struct(&types[handle].inner) {
@@ -284,7 +284,7 @@ fn kept_new(
     requires there { handle < length types.now }
     requires told { TellSeen types.now seen.old }
     ensures told { TellSeen types.now seen.new }
-    ensures layout { result ≡ option_map capped (layout_at told_rule types.now handle) }
+    ensures layout { result ≡ option_map capped (layout_at user_rule types.now handle) }
     ensures aligned { IfSome result (λ l. IsAlignment l.alignment) }
 {
     let layout = kept_inner(types, handle, &types[handle].inner, seen);
@@ -306,7 +306,7 @@ fn kept_inner(
     requires before { IsTrue (parts_before here inner.now) }
     ensures told { TellSeen types.now seen.new }
     ensures layout { result ≡ option_map capped
-        (inner_layout_by true (layout_at told_rule types.now) inner.now) }
+        (inner_layout_by true (layout_at user_rule types.now) inner.now) }
     ensures aligned { IfSome result (λ l. IsAlignment l.alignment) }
 {
     match inner {
@@ -342,7 +342,7 @@ fn kept_array(
     requires before { base < here }
     ensures told { TellSeen types.now seen.new }
     ensures layout { result ≡ option_map capped (option_and_then
-        (λ length. option_and_then (kept_array stride length) (layout_at told_rule types.now base))
+        (λ length. option_and_then (kept_array stride length) (layout_at user_rule types.now base))
         (told_length size)) }
     ensures aligned { IfSome result (λ l. IsAlignment l.alignment) }
 {
@@ -370,7 +370,7 @@ fn kept_struct(
     requires before { IsTrue (list_all (λ k. nat_lt k.ty here) members.now) }
     ensures told { TellSeen types.now seen.new }
     ensures layout { result ≡ option_map capped
-        (kept_struct (layout_at told_rule types.now) members.now span) }
+        (kept_struct (layout_at user_rule types.now) members.now span) }
     ensures aligned { IfSome result (λ l. IsAlignment l.alignment) }
 {
     let mut before: Option<Placed> = None;
@@ -406,7 +406,7 @@ fn kept_member(
     requires before { member.now.ty < here }
     ensures told { TellSeen types.now seen.new }
     ensures placed { result ≡ option_map capped_member
-        (placed_member (layout_at told_rule types.now) member.now) }
+        (placed_member (layout_at user_rule types.now) member.now) }
     ensures aligned { IfSome result (λ k. IsAlignment k.layout.alignment) }
 {
     if member.binding.is_some() {

@@ -104,5 +104,5 @@ shown_lines s spots lines = (kept_from (marked_line s lines) spots 0 lines).line
 
 -- The lines of a place: those near its own, which is marked, those that enclose it, and those that
 -- it names. In the place of others stands a gap.
-abbrev pub place_lines : Module → ListingPosition → List Line
-place_lines m p = shown_lines p.spot (named_spots m p) (all_lines m p.listed)
+abbrev pub position_lines : Module → ListingPosition → List Line
+position_lines m p = shown_lines p.spot (named_spots m p) (all_lines m p.listed)

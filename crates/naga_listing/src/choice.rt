@@ -4,7 +4,7 @@ ghost use Rattle.std.specs.Prelude.{◌≡◌, ◌||◌, false, if◌then◌else
 ghost use Rattle.naga_listing.specs.Choice.{after_gap, begins_with_gap, is_about, is_gap};
 ghost use Rattle.naga_listing.specs.Choice.{is_named, is_near};
 ghost use Rattle.naga_listing.specs.Choice.{is_shown, is_title, kept_from, marked_line};
-ghost use Rattle.naga_listing.specs.Choice.{place_lines, shown_lines, with_any, with_line};
+ghost use Rattle.naga_listing.specs.Choice.{position_lines, shown_lines, with_any, with_line};
 ghost use Rattle.naga_listing.specs.Choice.{with_marked};
 
 use crate::lines::all_lines;
@@ -30,13 +30,13 @@ const RADIUS: usize = 5;
 pub fn listing(
     alloc: Global,
     module: &Module,
-    place: &ListingPosition,
+    position: &ListingPosition,
 ) -> Result<Vec<Line>, AllocError>
-    ensures { IfOk result (λ lines. lines.items ≡ place_lines «module».now place.now) }
+    ensures { IfOk result (λ lines. lines.items ≡ position_lines «module».now position.now) }
 {
-    let lines = all_lines(alloc, module, &place.listed)?;
-    let spots = named_spots(alloc, module, place)?;
-    shown_lines(alloc, &place.spot, &spots, &lines)
+    let lines = all_lines(alloc, module, &position.listed)?;
+    let spots = named_spots(alloc, module, position)?;
+    shown_lines(alloc, &position.spot, &spots, &lines)
 }
 
 fn shown_lines(

@@ -25,12 +25,12 @@ const MOST_NAMED: usize = 6;
 pub(crate) fn named_spots(
     alloc: Global,
     module: &Module,
-    place: &ListingPosition,
+    position: &ListingPosition,
 ) -> Result<Vec<Spot>, AllocError>
-    ensures { IfOk result (λ spots. spots.items ≡ named_spots «module».now place.now) }
+    ensures { IfOk result (λ spots. spots.items ≡ named_spots «module».now position.now) }
 {
-    let mut spots = listed_spots(alloc, module, &place.listed, &place.spot)?;
-    if let Some(beside) = &place.beside {
+    let mut spots = listed_spots(alloc, module, &position.listed, &position.spot)?;
+    if let Some(beside) = &position.beside {
         spots.push(*beside)?;
     }
     Ok(spots)

@@ -30,11 +30,11 @@ pub fn explain(
     alloc: Global,
     module: &Module,
     info: &ModuleInfo,
-    place: &ListingPosition,
+    position: &ListingPosition,
     message: &str,
 ) -> Result<String, AllocError> {
-    let lines = listing(alloc, module, place)?;
-    let lister = Lister::new(alloc, module, info, &place.listed);
+    let lines = listing(alloc, module, position)?;
+    let lister = Lister::new(alloc, module, info, &position.listed);
     let mut text = String::new(alloc);
     for line in &lines {
         push_line(&lister, line, message, &mut text)?;

@@ -10,10 +10,11 @@ use Rattle.naga_names.specs.Label.{ends_separated}
 use Rattle.naga_names.specs.Naming.{Names, uses_of, label_base, labels_with_base, name_of}
 use Rattle.naga_names.specs.Naming.{name_of_base, HasNamed}
 use Rattle.naga_names.specs.Laws.{WasAssigned, FollowsFromUses}
-use Rattle.naga_names.proofs.Label.{base_ends}
+use Rattle.naga_names.proofs.Bases.{base_ends}
 use Rattle.naga_names.proofs.NameShapes.{counted_more, same_base_and_number}
 
-split_at : (labels : List (List ℕ)) (i : ℕ) (label : List ℕ) → slice_get labels i ≡ Some label → (rest : List (List ℕ)) × (labels ≡ take i labels ++ label ∷ rest)
+split_at : (labels : List (List ℕ)) (i : ℕ) (label : List ℕ) → slice_get labels i ≡ Some label →
+    (rest : List (List ℕ)) × (labels ≡ take i labels ++ label ∷ rest)
 split_at [] i label e = absurd (none-some label e)
 split_at (x ∷ labels) zero label e = (labels, ap (λ o. unwrap_or o x ∷ labels) e)
 split_at (x ∷ labels) (suc i) label e = let rest = split_at labels i label e in (rest.0, ap (λ t. x ∷ t) rest.1)
@@ -27,11 +28,19 @@ record Counted (names : Names) (labels : List (List ℕ)) (base : List ℕ) (num
   before : labels_with_base names (take place labels) base ≡ number
 
 module _ (names : Names) (base : List ℕ) where
-  counted_first : (label : List ℕ) (labels : List (List ℕ)) → labels_with_base names (label ∷ labels) base ≡ cond (bytes_eq (label_base names label) base) 1 0 + labels_with_base names labels base
+  counted_first : (label : List ℕ) (labels : List (List ℕ)) → labels_with_base names (label ∷ labels) base
+      ≡ cond (bytes_eq (label_base names label) base) 1 0 + labels_with_base names labels base
   counted_first label labels = sum_by-cons (λ l. cond (bytes_eq (label_base names l) base) 1 0) label labels
 
-  here : (label : List ℕ) (labels : List (List ℕ)) → bytes_eq (label_base names label) base ≡ true → Counted names (label ∷ labels) base 0
-  here label labels is = record { place = 0; label = label; there = refl; own = (bytes_decides (label_base names label) base).0 is; before = refl }
+  here : (label : List ℕ) (labels : List (List ℕ)) → bytes_eq (label_base names label) base ≡ true →
+      Counted names (label ∷ labels) base 0
+  here label labels is = record {
+    place = 0;
+    label = label;
+    there = refl;
+    own = (bytes_decides (label_base names label) base).0 is;
+    before = refl;
+  }
 
   following : (x : List ℕ) (labels : List (List ℕ)) (k number : ℕ) (b : Bool) →
       bytes_eq (label_base names x) base ≡ b → cond b 1 0 + k ≡ number →
@@ -42,13 +51,16 @@ module _ (names : Names) (base : List ℕ) where
     there = inner.there;
     own = inner.own;
     before =
-        counted_first x (take inner.place labels) ∙ ap (λ t. cond t 1 0 + labels_with_base names (take inner.place labels) base) is
+        counted_first x (take inner.place labels)
+        ∙ ap (λ t. cond t 1 0 + labels_with_base names (take inner.place labels) base) is
         ∙ ap (λ n. cond b 1 0 + n) inner.before ∙ total;
   }
 
-  counted : (labels : List (List ℕ)) (number : ℕ) → number < labels_with_base names labels base → Counted names labels base number
+  counted : (labels : List (List ℕ)) (number : ℕ) → number < labels_with_base names labels base →
+      Counted names labels base number
   counted [] number lt = absurd (omega (arith, lt))
-  counted (x ∷ labels) number lt = either (λ k less. counted labels k less) number (bytes_eq (label_base names x) base) refl (subst (λ n. number < n) (counted_first x labels) lt)
+  counted (x ∷ labels) number lt = either (λ k less. counted labels k less) number
+      (bytes_eq (label_base names x) base) refl (subst (λ n. number < n) (counted_first x labels) lt)
     where
       either : ((k : ℕ) → k < labels_with_base names labels base → Counted names labels base k) →
           (number : ℕ) (b : Bool) → bytes_eq (label_base names x) base ≡ b →
@@ -56,11 +68,13 @@ module _ (names : Names) (base : List ℕ) where
           base → Counted names (x ∷ labels) base number
       either inner zero true is lt = here x labels is
       either inner (suc n) true is lt =
-          let less : suc n < 1 + labels_with_base names labels base = subst (λ t. suc n < cond t 1 0 + labels_with_base names labels base) is lt in
+          let less : suc n < 1 + labels_with_base names labels base =
+          subst (λ t. suc n < cond t 1 0 + labels_with_base names labels base) is lt in
           let one_more : 1 + n ≡ suc n = omega arith in
           following x labels n (suc n) true is one_more (inner n (omega (arith, less)))
       either inner number false is lt =
-          let less : number < 0 + labels_with_base names labels base = subst (λ t. number < cond t 1 0 + labels_with_base names labels base) is lt in
+          let less : number < 0 + labels_with_base names labels base =
+          subst (λ t. number < cond t 1 0 + labels_with_base names labels base) is lt in
           let same : 0 + number ≡ number = omega arith in
           following x labels number number false is same (inner number (omega (arith, less)))
 
@@ -69,28 +83,38 @@ module _ (names : Names) (labels : List (List ℕ)) (has : HasNamed names labels
   assigned_follow word assigned =
       let base : List ℕ = label_base names assigned.label in
       let parts = split_at labels assigned.place assigned.label assigned.there in
-      let more : labels_with_base names labels base ≡ labels_with_base names (take assigned.place labels) base + (1 + labels_with_base names parts.0 base) =
-      ap (λ all. labels_with_base names all base) parts.1 ∙ counted_more names (take assigned.place labels) assigned.label parts.0 base refl in
+      let more : labels_with_base names labels base ≡ labels_with_base names (take assigned.place labels) base
+      + (1 + labels_with_base names parts.0 base) =
+      ap (λ all. labels_with_base names all base) parts.1
+      ∙ counted_more names (take assigned.place labels) assigned.label parts.0 base refl in
       let used : uses_of names.uses base ≡ labels_with_base names labels base = has.uses_are base in
-      record { base = base; number = labels_with_base names (take assigned.place labels) base; used = omega (arith, more, used); is = assigned.is }
+      record {
+        base = base;
+        number = labels_with_base names (take assigned.place labels) base;
+        used = omega (arith, more, used);
+        is = assigned.is;
+      }
 
   pub follow_assigned : (word : List ℕ) → FollowsFromUses names word → WasAssigned names labels word
   follow_assigned word follows =
-      let used : uses_of names.uses follows.base ≡ labels_with_base names labels follows.base = has.uses_are follows.base in
+      let used : uses_of names.uses follows.base ≡ labels_with_base names labels follows.base =
+      has.uses_are follows.base in
       let less : follows.number < uses_of names.uses follows.base = follows.used in
       let one = counted names follows.base labels follows.number (omega (arith, used, less)) in
       record {
         place = one.place;
         label = one.label;
         there = one.there;
-        is = follows.is ∙ ap (name_of_base names follows.base) (sym one.before) ∙ ap (λ b. name_of_base names b (labels_with_base names (take one.place labels) b)) (sym one.own);
+        is = follows.is ∙ ap (name_of_base names follows.base) (sym one.before)
+            ∙ ap (λ b. name_of_base names b (labels_with_base names (take one.place labels) b)) (sym one.own);
       }
 
   pub next_is_new : (label : List ℕ) → FollowsFromUses names (name_of names label) → ⊥
   unfolding name_of
   next_is_new label follows =
       let base : List ℕ = label_base names label in
-      let used : uses_of names.uses follows.base ≡ labels_with_base names labels follows.base = has.uses_are follows.base in
+      let used : uses_of names.uses follows.base ≡ labels_with_base names labels follows.base =
+      has.uses_are follows.base in
       let own_used : uses_of names.uses base ≡ labels_with_base names labels base = has.uses_are base in
       let less : follows.number < uses_of names.uses follows.base = follows.used in
       let one = counted names follows.base labels follows.number (omega (arith, used, less)) in

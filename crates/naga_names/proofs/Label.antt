@@ -1,6 +1,6 @@
 -- How a spelling grows at its end, one character after another, and what every base looks like: a
 -- word that ends in no `_`.
-use Rattle.std.proofs.Common.{◌≡◌, ℕ, ◌<◌, ◌≤◌, suc, Bool, true, false, cond, not, ◌&&◌, List, []}
+use Rattle.std.proofs.Common.{◌≡◌, ℕ, ◌<◌, suc, Bool, true, false, cond, not, ◌&&◌, List, []}
 use Rattle.std.proofs.Common.{◌∷◌, ◌++◌, length, take, drop, refl, sym, ap, subst, ◌∙◌}
 use Rattle.std.proofs.Common.{append_assoc, arith, ◌||◌, inl, inr, zero, codes, ◌+◌, map, add-one}
 use Rattle.std.proofs.Common.{◌-◌, ◌^◌, ◌/◌, ◌%◌, ◌==◌, get_or, replicate, ◌⊎◌, length-append}
@@ -21,10 +21,10 @@ use Rattle.std.specs.Char.{is_ascii_digit, is_ascii_lowercase, is_ascii_alphanum
 use Rattle.std.proofs.lemmas.Grind.{flat_map-append}
 use Rattle.std.proofs.lemmas.List.Folds.{list_all-append}
 use Rattle.std.proofs.lemmas.Bool.Decides.{nat_tests}
-use Rattle.std.proofs.lemmas.Bool.{and_parts, not-true, and_from, or_parts}
+use Rattle.std.proofs.lemmas.Bool.{and_parts, not-true, or_parts}
 use Rattle.std.proofs.Math.Bool.{and-false}
 use borrow.Author.Tests.{eqb-true}
-use Rattle.naga_keywords.specs.Plain.{is_identifier_char, is_word}
+use Rattle.naga_keywords.specs.Plain.{is_identifier_char}
 use Rattle.naga_names.specs.Label.{is_numeric, after_numerics, is_mark, is_foreign, hexadecimal}
 use Rattle.naga_names.specs.Label.{by_number, character_spelling, begins_separated}
 use Rattle.naga_names.specs.Label.{without_repeated_underscores, begins_foreign}
@@ -32,7 +32,6 @@ use Rattle.naga_names.specs.Label.{spelling, ends_separated, with_separator, kep
 use Rattle.naga_names.specs.Label.{without_last_separators, or_unnamed, kept_off, base_of, IsPlain}
 use Rattle.naga_names.specs.Label.{IsSpelledAlike}
 use Rattle.naga_names.specs.Naming.{numeral}
-use Rattle.ucd_category.proofs.Computing.{ucd_category}
 
 -- ---- numeric characters at the front
 pub after_numerics-drop : (cs : List ℕ) → after_numerics cs ≡ drop (prefix_len is_numeric cs) cs
@@ -43,7 +42,8 @@ after_numerics-drop (c ∷ cs) =
     (c ∷ cs)) [ true ↦ after_numerics-drop cs ∙ rw one-add refl | false ↦ refl ]
 
 -- ---- `_` at the end
-pub get_or-last : (c d : ℕ) (text : List ℕ) → get_or (c ∷ d ∷ text) (length (c ∷ d ∷ text) - 1) 0 ≡ get_or (d ∷ text) (length (d ∷ text) - 1) 0
+pub get_or-last : (c d : ℕ) (text : List ℕ) → get_or (c ∷ d ∷ text) (length (c ∷ d ∷ text) - 1) 0
+    ≡ get_or (d ∷ text) (length (d ∷ text) - 1) 0
 get_or-last c d text = grind (arith)
 
 pub ends_separated-last : (text : List ℕ) → (get_or text (length text - 1) 0 == 95) ≡ ends_separated text
@@ -73,7 +73,8 @@ without_last-done (c ∷ d ∷ text) e = ap (kept_before c) (without_last-done (
 
 -- ---- squeezing
 squeezed_cons : (c : ℕ) (cs : List ℕ) → (d : ℕ) × (ds : List ℕ) × (without_repeated_underscores (c ∷ cs) ≡ d ∷ ds)
-squeezed_cons c [] = elim (c == 95) as (λ b. (d : ℕ) × (ds : List ℕ) × (cond (b && false) [] (c ∷ []) ≡ d ∷ ds)) [ true ↦ (c, [], refl) | false ↦ (c, [], refl) ]
+squeezed_cons c [] = elim (c == 95) as (λ b. (d : ℕ) × (ds : List ℕ)
+    × (cond (b && false) [] (c ∷ []) ≡ d ∷ ds)) [ true ↦ (c, [], refl) | false ↦ (c, [], refl) ]
 squeezed_cons c (e ∷ es) = elim (c == 95 && e == 95) as (λ b. (d : ℕ) × (ds : List ℕ) ×
     (cond b (without_repeated_underscores (e ∷ es)) (c ∷ without_repeated_underscores (e ∷ es)) ≡
     d ∷ ds)) [
@@ -85,14 +86,17 @@ squeezed_cons c (e ∷ es) = elim (c == 95 && e == 95) as (λ b. (d : ℕ) × (d
       )
     ]
 
-pub without_repeated_underscores-push_separator : (cs : List ℕ) → without_repeated_underscores (cs ++ 95 ∷ []) ≡ with_separator (without_repeated_underscores cs)
+pub without_repeated_underscores-push_separator : (cs : List ℕ) → without_repeated_underscores (cs ++ 95 ∷ [])
+    ≡ with_separator (without_repeated_underscores cs)
 without_repeated_underscores-push_separator [] = refl
 without_repeated_underscores-push_separator (c ∷ []) = one (c == 95) refl
   where
-    one : (b : Bool) → (c == 95) ≡ b → cond (b && true) (95 ∷ []) (c ∷ 95 ∷ []) ≡ with_separator (cond (b && false) [] (c ∷ []))
+    one : (b : Bool) → (c == 95) ≡ b → cond (b && true) (95 ∷ []) (c ∷ 95 ∷ [])
+        ≡ with_separator (cond (b && false) [] (c ∷ []))
     one true e = ap (λ x. x ∷ []) (sym (eqb-true c 95 e)) ∙ sym (with_separator-yes (c ∷ []) e)
     one false e = sym (with_separator-not (c ∷ []) e)
-without_repeated_underscores-push_separator (c ∷ d ∷ cs) = more (without_repeated_underscores-push_separator (d ∷ cs)) (squeezed_cons d cs) (c == 95 && d == 95)
+without_repeated_underscores-push_separator (c ∷ d ∷ cs) =
+    more (without_repeated_underscores-push_separator (d ∷ cs)) (squeezed_cons d cs) (c == 95 && d == 95)
   where
     more : without_repeated_underscores (d ∷ cs ++ 95 ∷ []) ≡ with_separator
         (without_repeated_underscores (d ∷ cs)) → (e : ℕ) × (es : List ℕ) ×
@@ -101,16 +105,19 @@ without_repeated_underscores-push_separator (c ∷ d ∷ cs) = more (without_rep
         (c ∷ without_repeated_underscores (d ∷ cs ++ 95 ∷ [])) ≡ with_separator
         (cond b (without_repeated_underscores (d ∷ cs)) (c ∷ without_repeated_underscores (d ∷ cs)))
     more so_far some true = so_far
-    more so_far some false = ap (λ t. c ∷ t) so_far ∙ ap (λ t. c ∷ with_separator t) some.2 ∙ sym (with_separator-cons c some.0 some.1) ∙ sym (ap (λ t. with_separator (c ∷ t)) some.2)
+    more so_far some false = ap (λ t. c ∷ t) so_far ∙ ap (λ t. c ∷ with_separator t) some.2
+        ∙ sym (with_separator-cons c some.0 some.1) ∙ sym (ap (λ t. with_separator (c ∷ t)) some.2)
 
 pub without_repeated_underscores-append : (cs : List ℕ) (d : ℕ) (ds : List ℕ) →
     (d == 95) ≡ false → without_repeated_underscores (cs ++ d ∷ ds) ≡ without_repeated_underscores
     cs ++ without_repeated_underscores (d ∷ ds)
 without_repeated_underscores-append [] d ds e = refl
 without_repeated_underscores-append (c ∷ []) d ds e =
-    ap (λ b. cond b (without_repeated_underscores (d ∷ ds)) (c ∷ without_repeated_underscores (d ∷ ds))) (ap (λ b. c == 95 && b) e ∙ and-false (c == 95))
+    ap (λ b. cond b (without_repeated_underscores (d ∷ ds)) (c ∷ without_repeated_underscores (d ∷ ds)))
+    (ap (λ b. c == 95 && b) e ∙ and-false (c == 95))
     ∙ sym (ap (λ b. cond b [] (c ∷ []) ++ without_repeated_underscores (d ∷ ds)) (and-false (c == 95)))
-without_repeated_underscores-append (c ∷ x ∷ cs) d ds e = more (c == 95 && x == 95) (without_repeated_underscores-append (x ∷ cs) d ds e)
+without_repeated_underscores-append (c ∷ x ∷ cs) d ds e =
+    more (c == 95 && x == 95) (without_repeated_underscores-append (x ∷ cs) d ds e)
   where
     more : (b : Bool) → without_repeated_underscores (x ∷ cs ++ d ∷ ds) ≡
         without_repeated_underscores (x ∷ cs) ++ without_repeated_underscores (d ∷ ds) →
@@ -145,10 +152,12 @@ unseparated-zeros (suc n) = unseparated-zeros n
 no_separator_glyph : (d : ℕ) → d < 16 → not (digit_glyph false d == 95) ≡ true
 no_separator_glyph d lt = grind (arith, nat_tests)
 
-unseparated-digits : (k n : ℕ) (following : List ℕ) → unseparated following ≡ true → unseparated (digits_onto k 16 false n following) ≡ true
+unseparated-digits : (k n : ℕ) (following : List ℕ) → unseparated following ≡ true →
+    unseparated (digits_onto k 16 false n following) ≡ true
 unseparated-digits zero n following e = e
 unseparated-digits (suc k) n following e =
-    more (n / 16 == 0) (ap (λ b. b && unseparated following) (no_separator_glyph (n % 16) (omega arith)) ∙ e) (unseparated-digits k (n / 16) (digit_glyph false (n % 16) ∷ following))
+    more (n / 16 == 0) (ap (λ b. b && unseparated following) (no_separator_glyph (n % 16) (omega arith)) ∙ e)
+    (unseparated-digits k (n / 16) (digit_glyph false (n % 16) ∷ following))
   where
     more : (b : Bool) → unseparated (digit_glyph false (n % 16) ∷ following) ≡ true →
         (unseparated (digit_glyph false (n % 16) ∷ following) ≡ true →
@@ -162,8 +171,10 @@ unseparated-digits (suc k) n following e =
 unseparated-hexadecimal : (c : ℕ) → unseparated (hexadecimal c) ≡ true
 unfolding hexadecimal digits
 unseparated-hexadecimal c =
-    list_all-append (λ d. not (d == 95)) (replicate (4 - length (digits_onto 64 16 false c [])) 48) (digits_onto 64 16 false c [])
-    ∙ ap (λ b. b && unseparated (digits_onto 64 16 false c [])) (unseparated-zeros (4 - length (digits_onto 64 16 false c [])))
+    list_all-append (λ d. not (d == 95)) (replicate (4 - length (digits_onto 64 16 false c [])) 48)
+    (digits_onto 64 16 false c [])
+    ∙ ap (λ b. b && unseparated (digits_onto 64 16 false c []))
+    (unseparated-zeros (4 - length (digits_onto 64 16 false c [])))
     ∙ unseparated-digits 64 c [] refl
 
 -- ---- spellings
@@ -172,7 +183,8 @@ unfolding spelling
 spelling-nil = refl
 
 pub character_spelling-mark : (c : ℕ) → is_mark c ≡ true → character_spelling c ≡ codes "_"
-character_spelling-mark c mark = ap (λ b. cond b (codes "_") (cond (is_identifier_char c) (c ∷ []) (codes "_" ++ by_number c))) mark
+character_spelling-mark c mark =
+    ap (λ b. cond b (codes "_") (cond (is_identifier_char c) (c ∷ []) (codes "_" ++ by_number c))) mark
 
 pub character_spelling-plain : (c : ℕ) → is_mark c ≡ false → is_identifier_char c ≡ true → character_spelling c ≡ c ∷ []
 character_spelling-plain c mark plain =
@@ -182,7 +194,8 @@ character_spelling-plain c mark plain =
 pub character_spelling-foreign : (c : ℕ) → is_foreign c ≡ true → character_spelling c ≡ 95 ∷ by_number c
 character_spelling-foreign c foreign =
     let parts = and_parts (not (is_mark c)) (not (is_identifier_char c)) foreign in
-    ap (λ b. cond b (codes "_") (cond (is_identifier_char c) (c ∷ []) (codes "_" ++ by_number c))) (not-true (is_mark c) parts.0)
+    ap (λ b. cond b (codes "_") (cond (is_identifier_char c) (c ∷ []) (codes "_" ++ by_number c)))
+    (not-true (is_mark c) parts.0)
     ∙ ap (λ b. cond b (c ∷ []) (codes "_" ++ by_number c)) (not-true (is_identifier_char c) parts.1)
 
 without_repeated_underscores-by_number : (c : ℕ) → without_repeated_underscores (by_number c) ≡ by_number c
@@ -217,7 +230,9 @@ spelling-body (c ∷ cs) = either (is_foreign c) refl
 body-push : (c : ℕ) (cs : List ℕ) (d : ℕ) → body (c ∷ cs ++ d ∷ []) ≡ body (c ∷ cs) ++ character_spelling d
 unfolding body
 body-push c cs d =
-    ap (λ t. cond (is_foreign c) (drop 1 t) t) (flat_map-append character_spelling (c ∷ cs) (d ∷ []) ∙ ap (λ t. flat_map character_spelling (c ∷ cs) ++ t) (append-nil (character_spelling d)))
+    ap (λ t. cond (is_foreign c) (drop 1 t) t)
+    (flat_map-append character_spelling (c ∷ cs) (d ∷ [])
+    ∙ ap (λ t. flat_map character_spelling (c ∷ cs) ++ t) (append-nil (character_spelling d)))
     ∙ either (is_foreign c) refl
   where
     either : (b : Bool) → is_foreign c ≡ b →
@@ -233,11 +248,14 @@ body-push c cs d =
     either false e = refl
 
 -- one more character
-spelling-push : (c : ℕ) (cs : List ℕ) (d : ℕ) (text : List ℕ) → character_spelling d ≡ text → spelling (c ∷ cs ++ d ∷ []) ≡ without_repeated_underscores (body (c ∷ cs) ++ text)
-spelling-push c cs d text is = spelling-body (c ∷ cs ++ d ∷ []) ∙ ap without_repeated_underscores (body-push c cs d ∙ ap (λ t. body (c ∷ cs) ++ t) is)
+spelling-push : (c : ℕ) (cs : List ℕ) (d : ℕ) (text : List ℕ) → character_spelling d ≡ text →
+    spelling (c ∷ cs ++ d ∷ []) ≡ without_repeated_underscores (body (c ∷ cs) ++ text)
+spelling-push c cs d text is = spelling-body (c ∷ cs ++ d ∷ []) ∙ ap without_repeated_underscores
+    (body-push c cs d ∙ ap (λ t. body (c ∷ cs) ++ t) is)
 
 -- the first character, where it is not foreign
-spelling-first : (d : ℕ) (text : List ℕ) → is_foreign d ≡ false → character_spelling d ≡ text → spelling (d ∷ []) ≡ without_repeated_underscores text
+spelling-first : (d : ℕ) (text : List ℕ) → is_foreign d ≡ false → character_spelling d ≡ text →
+    spelling (d ∷ []) ≡ without_repeated_underscores text
 unfolding spelling
 spelling-first d text plain is =
     ap (λ b. cond b (drop 1 (without_repeated_underscores (character_spelling d ++ [])))
@@ -250,20 +268,25 @@ not_foreign-mark c mark = ap (λ b. not b && not (is_identifier_char c)) mark
 not_foreign-plain : (c : ℕ) → is_identifier_char c ≡ true → is_foreign c ≡ false
 not_foreign-plain c plain = ap (λ b. not (is_mark c) && not b) plain ∙ and-false (not (is_mark c))
 
-pub spelling-separator : (cs : List ℕ) (c : ℕ) → is_mark c ≡ true → spelling (cs ++ c ∷ []) ≡ with_separator (spelling cs)
-spelling-separator [] c mark = spelling-first c (codes "_") (not_foreign-mark c mark) (character_spelling-mark c mark) ∙ sym (ap with_separator spelling-nil)
+pub spelling-separator : (cs : List ℕ) (c : ℕ) → is_mark c ≡ true → spelling (cs ++ c ∷ [])
+    ≡ with_separator (spelling cs)
+spelling-separator [] c mark = spelling-first c (codes "_") (not_foreign-mark c mark)
+    (character_spelling-mark c mark) ∙ sym (ap with_separator spelling-nil)
 spelling-separator (d ∷ cs) c mark =
-    spelling-push d cs c (codes "_") (character_spelling-mark c mark) ∙ without_repeated_underscores-push_separator (body (d ∷ cs)) ∙ ap with_separator (sym (spelling-body (d ∷ cs)))
+    spelling-push d cs c (codes "_") (character_spelling-mark c mark)
+    ∙ without_repeated_underscores-push_separator (body (d ∷ cs)) ∙ ap with_separator (sym (spelling-body (d ∷ cs)))
 
 pub spelling-underscore : (cs : List ℕ) → spelling (cs ++ 95 ∷ []) ≡ with_separator (spelling cs)
 spelling-underscore [] = spelling-first 95 (codes "_") refl refl ∙ sym (ap with_separator spelling-nil)
 spelling-underscore (d ∷ cs) =
-    spelling-push d cs 95 (codes "_") refl ∙ without_repeated_underscores-push_separator (body (d ∷ cs)) ∙ ap with_separator (sym (spelling-body (d ∷ cs)))
+    spelling-push d cs 95 (codes "_") refl ∙ without_repeated_underscores-push_separator (body (d ∷ cs))
+    ∙ ap with_separator (sym (spelling-body (d ∷ cs)))
 
 without_repeated_underscores-one : (c : ℕ) → without_repeated_underscores (c ∷ []) ≡ c ∷ []
 without_repeated_underscores-one c = ap (λ b. cond b [] (c ∷ [])) (and-false (c == 95))
 
-pub spelling-plain : (cs : List ℕ) (c : ℕ) → is_mark c ≡ false → is_identifier_char c ≡ true → (c == 95) ≡ false → spelling (cs ++ c ∷ []) ≡ spelling cs ++ c ∷ []
+pub spelling-plain : (cs : List ℕ) (c : ℕ) → is_mark c ≡ false → is_identifier_char c ≡ true →
+    (c == 95) ≡ false → spelling (cs ++ c ∷ []) ≡ spelling cs ++ c ∷ []
 spelling-plain [] c mark plain other = spelling-first c (c ∷ []) (not_foreign-plain c plain)
     (character_spelling-plain c mark plain) ∙ without_repeated_underscores-one c
     ∙ sym (ap (λ t. t ++ c ∷ []) spelling-nil)
@@ -281,10 +304,25 @@ body_cons c cs = either (is_foreign c) (is_mark c) (is_identifier_char c) refl r
         (d : ℕ) × (ds : List ℕ) ×
         (cond f (drop 1 (character_spelling c ++ flat_map character_spelling cs))
         (character_spelling c ++ flat_map character_spelling cs) ≡ d ∷ ds)
-    either true m p f_is m_is p_is = (117, hexadecimal c ++ codes "_" ++ flat_map character_spelling cs, ap (λ t. drop 1 (t ++ flat_map character_spelling cs)) (character_spelling-foreign c f_is))
-    either false true p f_is m_is p_is = (95, flat_map character_spelling cs, ap (λ t. t ++ flat_map character_spelling cs) (character_spelling-mark c m_is))
-    either false false true f_is m_is p_is = (c, flat_map character_spelling cs, ap (λ t. t ++ flat_map character_spelling cs) (character_spelling-plain c m_is p_is))
-    either false false false f_is m_is p_is = absurd (cc (ap (λ b. not b && not (is_identifier_char c)) m_is, ap not p_is, f_is))
+    either true m p f_is m_is p_is = (
+      117,
+      hexadecimal c ++ codes "_" ++ flat_map character_spelling cs,
+      ap (λ t. drop 1 (t ++ flat_map character_spelling cs)) (character_spelling-foreign c f_is),
+    )
+    either false true p f_is m_is p_is = (
+      95,
+      flat_map character_spelling cs,
+      ap (λ t. t ++ flat_map character_spelling cs)
+          (character_spelling-mark c m_is),
+    )
+    either false false true f_is m_is p_is = (
+      c,
+      flat_map character_spelling cs,
+      ap (λ t. t ++ flat_map character_spelling cs)
+          (character_spelling-plain c m_is p_is),
+    )
+    either false false false f_is m_is p_is =
+        absurd (cc (ap (λ b. not b && not (is_identifier_char c)) m_is, ap not p_is, f_is))
 
 pub spelling_cons : (c : ℕ) (cs : List ℕ) → (d : ℕ) × (ds : List ℕ) × (spelling (c ∷ cs) ≡ d ∷ ds)
 spelling_cons c cs =
@@ -298,42 +336,54 @@ body-foreign c foreign =
     ap (λ b. cond b (drop 1 (character_spelling c ++ [])) (character_spelling c ++ [])) foreign
     ∙ ap (λ t. drop 1 (t ++ [])) (character_spelling-foreign c foreign) ∙ append-nil (by_number c)
 
-pub spelling-first_foreign : (cs : List ℕ) (c : ℕ) → is_foreign c ≡ true → length (spelling cs) ≡ 0 → spelling (cs ++ c ∷ []) ≡ by_number c
-spelling-first_foreign [] c foreign none = spelling-body (c ∷ []) ∙ ap without_repeated_underscores (body-foreign c foreign) ∙ without_repeated_underscores-by_number c
-spelling-first_foreign (d ∷ cs) c foreign none = let some = spelling_cons d cs in let long = ap length some.2 in absurd (omega (arith, long))
+pub spelling-first_foreign : (cs : List ℕ) (c : ℕ) → is_foreign c ≡ true → length (spelling cs) ≡ 0 →
+    spelling (cs ++ c ∷ []) ≡ by_number c
+spelling-first_foreign [] c foreign none = spelling-body (c ∷ []) ∙ ap without_repeated_underscores
+    (body-foreign c foreign) ∙ without_repeated_underscores-by_number c
+spelling-first_foreign (d ∷ cs) c foreign none = let some = spelling_cons d cs in let long = ap length some.2 in
+    absurd (omega (arith, long))
 
-pub spelling-later_foreign : (cs : List ℕ) (c : ℕ) → is_foreign c ≡ true → (length (spelling cs) ≡ 0 → ⊥) → spelling (cs ++ c ∷ []) ≡ with_separator (spelling cs) ++ by_number c
+pub spelling-later_foreign : (cs : List ℕ) (c : ℕ) → is_foreign c ≡ true → (length (spelling cs) ≡ 0 → ⊥) →
+    spelling (cs ++ c ∷ []) ≡ with_separator (spelling cs) ++ by_number c
 spelling-later_foreign [] c foreign some = absurd (some (ap length spelling-nil))
 spelling-later_foreign (d ∷ cs) c foreign some =
     spelling-push d cs c (95 ∷ by_number c) (character_spelling-foreign c foreign)
     ∙ ap without_repeated_underscores (sym (append_assoc (body (d ∷ cs)) (95 ∷ []) (by_number c)))
     ∙ without_repeated_underscores-append (body (d ∷ cs) ++ 95 ∷ []) 117 (hexadecimal c ++ codes "_") refl
     ∙ ap (λ t. without_repeated_underscores (body (d ∷ cs) ++ 95 ∷ []) ++ t) (without_repeated_underscores-by_number c)
-    ∙ ap (λ t. t ++ by_number c) (without_repeated_underscores-push_separator (body (d ∷ cs)) ∙ ap with_separator (sym (spelling-body (d ∷ cs))))
+    ∙ ap (λ t. t ++ by_number c) (without_repeated_underscores-push_separator (body (d ∷ cs))
+    ∙ ap with_separator (sym (spelling-body (d ∷ cs))))
 
 -- ---- the same by the tests that the code makes
-pub spelling-separating : (cs : List ℕ) (c : ℕ) → (is_mark c || c == 95) ≡ true → spelling (cs ++ c ∷ []) ≡ with_separator (spelling cs)
+pub spelling-separating : (cs : List ℕ) (c : ℕ) → (is_mark c || c == 95) ≡ true → spelling (cs ++ c ∷ [])
+    ≡ with_separator (spelling cs)
 spelling-separating cs c test = either (is_mark c) refl test
   where
     either : (b : Bool) → is_mark c ≡ b → (b || c == 95) ≡ true → spelling (cs ++ c ∷ []) ≡ with_separator (spelling cs)
     either true mark test = spelling-separator cs c mark
     either false mark test = ap (λ d. spelling (cs ++ d ∷ [])) (eqb-true c 95 test) ∙ spelling-underscore cs
 
-pub spelling-alphanumeric : (cs : List ℕ) (c : ℕ) → (is_mark c || c == 95) ≡ false → is_ascii_alphanumeric c ≡ true → spelling (cs ++ c ∷ []) ≡ spelling cs ++ c ∷ []
+pub spelling-alphanumeric : (cs : List ℕ) (c : ℕ) → (is_mark c || c == 95) ≡ false → is_ascii_alphanumeric c
+    ≡ true → spelling (cs ++ c ∷ []) ≡ spelling cs ++ c ∷ []
 spelling-alphanumeric cs c test plain =
-    let parts = or_parts (is_mark c) (c == 95) test in spelling-plain cs c parts.0 (ap (λ b. b || c == 95) plain) parts.1
+    let parts = or_parts (is_mark c) (c == 95) test in
+    spelling-plain cs c parts.0 (ap (λ b. b || c == 95) plain) parts.1
 
-pub foreign-from_tests : (c : ℕ) → (is_mark c || c == 95) ≡ false → is_ascii_alphanumeric c ≡ false → is_foreign c ≡ true
+pub foreign-from_tests : (c : ℕ) → (is_mark c || c == 95) ≡ false → is_ascii_alphanumeric c ≡ false →
+    is_foreign c ≡ true
 foreign-from_tests c test plain =
     let parts = or_parts (is_mark c) (c == 95) test in
-    ap (λ b. not b && not (is_ascii_alphanumeric c || c == 95)) parts.0 ∙ ap (λ b. not (b || c == 95)) plain ∙ ap not parts.1
+    ap (λ b. not b && not (is_ascii_alphanumeric c || c == 95)) parts.0 ∙ ap (λ b. not (b || c == 95)) plain
+    ∙ ap not parts.1
 
 -- what `{:04x}` writes
-pub padded-hexadecimal : (c : ℕ) → padded_integral (format_spec 32 0 4 4 (2 ^ 64 - 1)) false [] (digits 16 false c) ≡ hexadecimal c
+pub padded-hexadecimal : (c : ℕ) → padded_integral (format_spec 32 0 4 4 (2 ^ 64 - 1)) false []
+    (digits 16 false c) ≡ hexadecimal c
 unfolding padded_integral hexadecimal char_count
 padded-hexadecimal c =
     let short : 4 - length (digits 16 false c) - 0 - 0 ≡ 4 - length (digits 16 false c) = omega arith in
-    ap (λ n. replicate n 48 ++ (digits 16 false c ++ [])) short ∙ ap (λ t. replicate (4 - length (digits 16 false c)) 48 ++ t) (append-nil (digits 16 false c))
+    ap (λ n. replicate n 48 ++ (digits 16 false c ++ [])) short
+    ∙ ap (λ t. replicate (4 - length (digits 16 false c)) 48 ++ t) (append-nil (digits 16 false c))
 
 -- ---- texts that are spelled as they stand
 pub ends_separated-push : (cs : List ℕ) (c : ℕ) → ends_separated (cs ++ c ∷ []) ≡ (c == 95)
@@ -426,7 +476,8 @@ on_ok_then (Ok x) p f = f p
 on_ok_then (Err e) p f = tt
 
 -- what a `push` of a text on `Ok` leaves
-pub pushed : {T E : Type 0} (r : Result T E) (old new more : List ℕ) → new ≡ cond (is_ok r) (old ++ more) old → is_ok r ≡ true → new ≡ old ++ more
+pub pushed : {T E : Type 0} (r : Result T E) (old new more : List ℕ) → new ≡ cond (is_ok r) (old ++ more) old →
+    is_ok r ≡ true → new ≡ old ++ more
 pushed r old new more is ok = is ∙ ap (λ b. cond b (old ++ more) old) ok
 
 -- what `write!` of `u{:04x}_` leaves
@@ -440,14 +491,16 @@ number_written r old new c d s number options written =
     ap (styled_digits_output d) options
     ∙ ap (option_map (padded_integral (format_spec 32 0 4 4 (2 ^ 64 - 1)) false [])) number
     ∙ ap Some (padded-hexadecimal c) in
-    on_ok_then r written (λ appended. subst (λ o. AppendsText old new (Some (codes "u") ++? (o ++? Some (codes "_")))) shown appended)
+    on_ok_then r written
+    (λ appended. subst (λ o. AppendsText old new (Some (codes "u") ++? (o ++? Some (codes "_")))) shown appended)
 
 pub nothing_there : (text : List ℕ) → length text ≡ 0 → text ≡ []
 nothing_there [] e = refl
 nothing_there (c ∷ text) e = absurd (omega arith)
 
 -- the same of a `push` of an ASCII character
-pub pushed_char : {T E : Type 0} (r : Result T E) (old new encoded : List ℕ) (c : ℕ) → encoded ≡ c ∷ [] → new ≡ cond (is_ok r) (old ++ encoded) old → is_ok r ≡ true → new ≡ old ++ c ∷ []
+pub pushed_char : {T E : Type 0} (r : Result T E) (old new encoded : List ℕ) (c : ℕ) → encoded ≡ c ∷ [] →
+    new ≡ cond (is_ok r) (old ++ encoded) old → is_ok r ≡ true → new ≡ old ++ c ∷ []
 pushed_char r old new encoded c one is ok = pushed r old new encoded is ok ∙ ap (λ t. old ++ t) one
 
 -- ---- prefixes
@@ -456,7 +509,8 @@ pub any_from : (test : List ℕ → Bool) (prefixes : List (Bor (List ℕ))) (i 
     i < length prefixes → list_any test (map (λ p. p.now) (drop i prefixes)) ≡
     (test (get_or prefixes i d).now || list_any test (map (λ p. p.now) (drop (i + 1) prefixes)))
 any_from test prefixes i d lt =
-    let split : drop i prefixes ≡ get_or prefixes i d ∷ drop (i + 1) prefixes = rw add-one (drop-cons prefixes i d lt) in
+    let split : drop i prefixes ≡ get_or prefixes i d ∷ drop (i + 1) prefixes =
+    rw add-one (drop-cons prefixes i d lt) in
     ap (λ ps. list_any test (map (λ p. p.now) ps)) split
 
 pub same_items : (xs : List ℕ) → map (λ c. c) xs ≡ xs
@@ -472,16 +526,19 @@ without_last-pop text shorter n long last split cut =
     let some : 0 < n = omega (arith, ap length split ∙ length-append (take (length text - 1) text) (95 ∷ [])) in
     let same : get_or text (n - 1) 0 ≡ 95 = ap (λ m. get_or text (m - 1) 0) long ∙ eqb-true _ 95 last in
     let front = cut some (omega (arith, same)) ∙ ap (λ m. take (m - 1) text) long in
-    ap without_last_separators front ∙ sym (ap without_last_separators split ∙ without_last-push (take (length text - 1) text))
+    ap without_last_separators front ∙ sym (ap without_last_separators split
+    ∙ without_last-push (take (length text - 1) text))
 
 -- What every base looks like.
 
 -- ---- digits
 module _ (p : ℕ → Bool) (base : ℕ) (each : (n : ℕ) → p (digit_glyph false (n % base)) ≡ true) where
-  pub all_digits_onto : (k n : ℕ) (following : List ℕ) → list_all p following ≡ true → list_all p (digits_onto k base false n following) ≡ true
+  pub all_digits_onto : (k n : ℕ) (following : List ℕ) → list_all p following ≡ true →
+      list_all p (digits_onto k base false n following) ≡ true
   all_digits_onto zero n following e = e
   all_digits_onto (suc k) n following e =
-      more (n / base == 0) (ap (λ b. b && list_all p following) (each n) ∙ e) (all_digits_onto k (n / base) (digit_glyph false (n % base) ∷ following))
+      more (n / base == 0) (ap (λ b. b && list_all p following) (each n) ∙ e)
+      (all_digits_onto k (n / base) (digit_glyph false (n % base) ∷ following))
     where
       more : (b : Bool) → list_all p (digit_glyph false (n % base) ∷ following) ≡ true →
           (list_all p (digit_glyph false (n % base) ∷ following) ≡ true →
@@ -500,7 +557,8 @@ is_text (c ∷ cs) = true
 is_text-digits_onto : (k n c : ℕ) (cs : List ℕ) → is_text (digits_onto k 10 false n (c ∷ cs)) ≡ true
 unfolding is_text
 is_text-digits_onto zero n c cs = refl
-is_text-digits_onto (suc k) n c cs = more (n / 10 == 0) (is_text-digits_onto k (n / 10) (digit_glyph false (n % 10)) (c ∷ cs))
+is_text-digits_onto (suc k) n c cs =
+    more (n / 10 == 0) (is_text-digits_onto k (n / 10) (digit_glyph false (n % 10)) (c ∷ cs))
   where
     more : (b : Bool) →
         is_text (digits_onto k 10 false (n / 10) (digit_glyph false (n % 10) ∷ c ∷ cs)) ≡ true →
@@ -530,7 +588,7 @@ is_text-numeral n = is_text-digits_of_some n n
 decimal_glyph : (n : ℕ) → is_ascii_digit (digit_glyph false (n % 10)) ≡ true
 decimal_glyph n = let lt : n % 10 < 10 = omega arith in grind (arith, nat_tests)
 
-hexadecimal_glyph : (n : ℕ) → is_identifier_char (digit_glyph false (n % 16)) ≡ true
+pub hexadecimal_glyph : (n : ℕ) → is_identifier_char (digit_glyph false (n % 16)) ≡ true
 hexadecimal_glyph n = let lt : n % 16 < 16 = omega arith in grind (arith, nat_tests)
 
 pub all_digits-decimal : (n : ℕ) → list_all is_ascii_digit (decimal n) ≡ true
@@ -540,286 +598,6 @@ all_digits-decimal n = all_digits_onto is_ascii_digit 10 decimal_glyph 64 n [] r
 pub all_digits-numeral : (n : ℕ) → list_all is_ascii_digit (numeral n) ≡ true
 all_digits-numeral n = all_digits_onto is_ascii_digit 10 decimal_glyph (suc n) n [] refl
 
-all_zeros : (n : ℕ) → list_all is_identifier_char (replicate n 48) ≡ true
+pub all_zeros : (n : ℕ) → list_all is_identifier_char (replicate n 48) ≡ true
 all_zeros zero = refl
 all_zeros (suc n) = all_zeros n
-
--- ---- characters of identifiers alone
-abbrev only : List ℕ → Type 0
-only text = list_all is_identifier_char text ≡ true
-
-only_append : (xs ys : List ℕ) → only xs → only ys → only (xs ++ ys)
-only_append xs ys x y = list_all-append is_identifier_char xs ys ∙ and_from _ _ x y
-
-only_hexadecimal : (c : ℕ) → only (hexadecimal c)
-unfolding hexadecimal digits
-only_hexadecimal c = only_append (replicate (4 - length (digits_onto 64 16 false c [])) 48)
-    (digits_onto 64 16 false c []) (all_zeros (4 - length (digits_onto 64 16 false c [])))
-    (all_digits_onto is_identifier_char 16 hexadecimal_glyph 64 c [] refl)
-
-only_by_number : (c : ℕ) → only (95 ∷ by_number c)
-only_by_number c = only_append (hexadecimal c) (codes "_") (only_hexadecimal c) refl
-
-only_spelled : (c : ℕ) → only (character_spelling c)
-only_spelled c = either (is_mark c) (is_identifier_char c) refl
-  where
-    either : (m p : Bool) → is_identifier_char c ≡ p → only (cond m (codes "_") (cond p (c ∷ []) (codes "_" ++ by_number c)))
-    either true p e = refl
-    either false true e = ap (λ b. b && true) e
-    either false false e = only_by_number c
-
-only_flat : (cs : List ℕ) → only (flat_map character_spelling cs)
-only_flat [] = refl
-only_flat (c ∷ cs) = only_append (character_spelling c) (flat_map character_spelling cs) (only_spelled c) (only_flat cs)
-
-only_drop : (text : List ℕ) → only text → only (drop 1 text)
-only_drop [] e = e
-only_drop (c ∷ cs) e = (and_parts (is_identifier_char c) (list_all is_identifier_char cs) e).1
-
-only_squeezed : (text : List ℕ) → only text → only (without_repeated_underscores text)
-only_squeezed [] e = refl
-only_squeezed (c ∷ cs) e =
-    let parts = and_parts (is_identifier_char c) (list_all is_identifier_char cs) e in
-    either (c == 95 && begins_separated cs) parts.0 (only_squeezed cs parts.1)
-  where
-    either : (b : Bool) → is_identifier_char c ≡ true → only (without_repeated_underscores cs) → only (cond b (without_repeated_underscores cs) (c ∷ without_repeated_underscores cs))
-    either true one rest = rest
-    either false one rest = and_from _ _ one rest
-
-only_spelling : (cs : List ℕ) → only (spelling cs)
-unfolding spelling
-only_spelling cs = either (begins_foreign cs)
-  where
-    either : (b : Bool) → only (cond b (drop 1 (without_repeated_underscores (flat_map character_spelling cs))) (without_repeated_underscores (flat_map character_spelling cs)))
-    either true = only_drop (without_repeated_underscores (flat_map character_spelling cs)) (only_squeezed (flat_map character_spelling cs) (only_flat cs))
-    either false = only_squeezed (flat_map character_spelling cs) (only_flat cs)
-
-only_kept : (c : ℕ) (rest : List ℕ) → is_identifier_char c ≡ true → only rest → only (kept_before c rest)
-only_kept c [] one all = either (c == 95)
-  where
-    either : (b : Bool) → only (cond b [] (c ∷ []))
-    either true = refl
-    either false = ap (λ b. b && true) one
-only_kept c (d ∷ rest) one all = and_from _ _ one all
-
-only_without : (text : List ℕ) → only text → only (without_last_separators text)
-only_without [] e = refl
-only_without (c ∷ cs) e =
-    let parts = and_parts (is_identifier_char c) (list_all is_identifier_char cs) e in
-    only_kept c (without_last_separators cs) parts.0 (only_without cs parts.1)
-
--- ---- the first character
--- the text begins with a character that passes
-pub begins_by : (ℕ → Bool) → List ℕ → Bool
-begins_by p [] = false
-begins_by p (c ∷ cs) = p c
-
-numeric_digit : (d : ℕ) → d < 10 → is_numeric (48 + d) ≡ true
-unfolding is_numeric ucd_category
-numeric_digit zero lt = refl
-numeric_digit (suc zero) lt = refl
-numeric_digit (suc (suc zero)) lt = refl
-numeric_digit (suc (suc (suc zero))) lt = refl
-numeric_digit (suc (suc (suc (suc zero)))) lt = refl
-numeric_digit (suc (suc (suc (suc (suc zero))))) lt = refl
-numeric_digit (suc (suc (suc (suc (suc (suc zero)))))) lt = refl
-numeric_digit (suc (suc (suc (suc (suc (suc (suc zero))))))) lt = refl
-numeric_digit (suc (suc (suc (suc (suc (suc (suc (suc zero)))))))) lt = refl
-numeric_digit (suc (suc (suc (suc (suc (suc (suc (suc (suc zero))))))))) lt = refl
-numeric_digit (suc (suc (suc (suc (suc (suc (suc (suc (suc (suc d)))))))))) lt = absurd (omega arith)
-
-digit_range : (c : ℕ) → is_ascii_digit c ≡ true → (48 ≤ c) × (c ≤ 57)
-digit_range c e = (grind (arith, nat_tests), grind (arith, nat_tests))
-
-digit_not_numeric : (c : ℕ) → is_numeric c ≡ false → is_ascii_digit c ≡ false
-digit_not_numeric c e = either (is_ascii_digit c) refl
-  where
-    either : (b : Bool) → is_ascii_digit c ≡ b → b ≡ false
-    either false h = refl
-    either true h =
-        let r = digit_range c h in
-        let same : 48 + (c - 48) ≡ c = omega (arith, r.0) in
-        let numeric = sym (ap is_numeric same) ∙ numeric_digit (c - 48) (omega (arith, r.0, r.1)) in
-        absurd (cc (numeric, e))
-
-after_numerics-first : (cs : List ℕ) → begins_by is_numeric (after_numerics cs) ≡ false
-unfolding begins_by
-after_numerics-first [] = refl
-after_numerics-first (c ∷ cs) = either (is_numeric c) refl (after_numerics-first cs)
-  where
-    either : (b : Bool) → is_numeric c ≡ b → begins_by is_numeric (after_numerics cs) ≡ false → begins_by is_numeric (cond b (after_numerics cs) (c ∷ cs)) ≡ false
-    either true e rest = rest
-    either false e rest = e
-
-without_repeated_underscores-first : (p : ℕ → Bool) (text : List ℕ) → begins_by p (without_repeated_underscores text) ≡ begins_by p text
-unfolding begins_by
-without_repeated_underscores-first p [] = refl
-without_repeated_underscores-first p (c ∷ []) = either (c == 95)
-  where
-    either : (b : Bool) → begins_by p (cond (b && false) [] (c ∷ [])) ≡ p c
-    either true = refl
-    either false = refl
-without_repeated_underscores-first p (c ∷ d ∷ cs) = either (c == 95) (d == 95) refl refl (without_repeated_underscores-first p (d ∷ cs))
-  where
-    either : (x y : Bool) → (c == 95) ≡ x →
-        (d == 95) ≡ y → begins_by p (without_repeated_underscores (d ∷ cs)) ≡ p d →
-        begins_by p (cond (x && y) (without_repeated_underscores (d ∷ cs))
-        (c ∷ without_repeated_underscores (d ∷ cs))) ≡ p c
-    either true true ex ey rest = rest ∙ ap p (eqb-true d 95 ey ∙ sym (eqb-true c 95 ex))
-    either true false ex ey rest = refl
-    either false y ex ey rest = refl
-
-without-first : (p : ℕ → Bool) (text : List ℕ) → begins_by p text ≡ false → begins_by p (without_last_separators text) ≡ false
-unfolding begins_by
-without-first p [] e = refl
-without-first p (c ∷ cs) e = kept (without_last_separators cs)
-  where
-    one : (b : Bool) → begins_by p (cond b [] (c ∷ [])) ≡ false
-    one true = refl
-    one false = e
-
-    kept : (rest : List ℕ) → begins_by p (kept_before c rest) ≡ false
-    kept [] = one (c == 95)
-    kept (d ∷ rest) = e
-
-body-first : (cs : List ℕ) → begins_by is_numeric cs ≡ false → begins_by is_ascii_digit (body cs) ≡ false
-unfolding begins_by body
-body-first [] e = refl
-body-first (c ∷ cs) e = either (is_foreign c) (is_mark c) (is_identifier_char c) refl refl refl
-  where
-    either : (f m p : Bool) → is_foreign c ≡ f → is_mark c ≡ m → is_identifier_char c ≡ p →
-        begins_by is_ascii_digit
-        (cond f (drop 1 (character_spelling c ++ flat_map character_spelling cs))
-        (character_spelling c ++ flat_map character_spelling cs)) ≡ false
-    either true m p f_is m_is p_is = ap (λ t. begins_by is_ascii_digit (drop 1 (t ++ flat_map character_spelling cs))) (character_spelling-foreign c f_is)
-    either false true p f_is m_is p_is = ap (λ t. begins_by is_ascii_digit (t ++ flat_map character_spelling cs)) (character_spelling-mark c m_is)
-    either false false true f_is m_is p_is = ap (λ t. begins_by is_ascii_digit (t ++ flat_map character_spelling cs)) (character_spelling-plain c m_is p_is) ∙ digit_not_numeric c e
-    either false false false f_is m_is p_is = absurd (cc (ap (λ b. not b && not (is_identifier_char c)) m_is, ap not p_is, f_is))
-
--- ---- a base
-unnamed_word : (text : List ℕ) → only text → begins_by is_ascii_digit text ≡ false → is_word (or_unnamed text) ≡ true
-unfolding begins_by
-unnamed_word [] all first = refl
-unnamed_word (c ∷ cs) all first = and_from _ _ all (ap not first)
-
-unnamed_end : (text : List ℕ) → ends_separated text ≡ false → ends_separated (or_unnamed text) ≡ false
-unnamed_end [] e = refl
-unnamed_end (c ∷ cs) e = e
-
-kept_word : (prefixes : List (List ℕ)) (text : List ℕ) → is_word text ≡ true → is_word (kept_off prefixes text) ≡ true
-kept_word prefixes [] e = absurd (cc)
-kept_word prefixes (c ∷ cs) e = either (list_any (starts_with nat_eq (c ∷ cs)) prefixes)
-  where
-    either : (b : Bool) → is_word (cond b (codes "gen_" ++ c ∷ cs) (c ∷ cs)) ≡ true
-    either true = and_from _ _ (and_parts (list_all is_identifier_char (c ∷ cs)) (not (is_ascii_digit c)) e).0 refl
-    either false = e
-
-kept_end : (prefixes : List (List ℕ)) (text : List ℕ) → is_word text ≡ true → ends_separated text ≡ false → ends_separated (kept_off prefixes text) ≡ false
-kept_end prefixes [] some e = absurd (cc)
-kept_end prefixes (c ∷ cs) some e = either (list_any (starts_with nat_eq (c ∷ cs)) prefixes)
-  where
-    either : (b : Bool) → ends_separated (cond b (codes "gen_" ++ c ∷ cs) (c ∷ cs)) ≡ false
-    either true = e
-    either false = e
-
-without-end : (text : List ℕ) → ends_separated (without_last_separators text) ≡ false
-without-end [] = refl
-without-end (c ∷ cs) = kept (without_last_separators cs) (without-end cs)
-  where
-    one : (b : Bool) → (c == 95) ≡ b → ends_separated (cond b [] (c ∷ [])) ≡ false
-    one true e = refl
-    one false e = e
-
-    kept : (rest : List ℕ) → ends_separated rest ≡ false → ends_separated (kept_before c rest) ≡ false
-    kept [] e = one (c == 95) refl
-    kept (d ∷ rest) e = e
-
--- the text before a prefix is kept off
-before_prefix : (characters : List ℕ) → is_word (or_unnamed (without_last_separators (spelling (after_numerics characters)))) ≡ true
-before_prefix characters =
-    let cs = after_numerics characters in
-    unnamed_word (without_last_separators (spelling cs)) (only_without (spelling cs) (only_spelling cs))
-    (without-first is_ascii_digit (spelling cs) (ap (begins_by is_ascii_digit) (spelling-body cs)
-    ∙ without_repeated_underscores-first is_ascii_digit (body cs)
-    ∙ body-first cs (after_numerics-first characters)))
-
-pub base_is_word : (prefixes : List (List ℕ)) (characters : List ℕ) → is_word (base_of prefixes characters) ≡ true
-unfolding base_of
-base_is_word prefixes characters = kept_word prefixes (or_unnamed (without_last_separators (spelling (after_numerics characters)))) (before_prefix characters)
-
-pub base_ends : (prefixes : List (List ℕ)) (characters : List ℕ) → ends_separated (base_of prefixes characters) ≡ false
-unfolding base_of
-base_ends prefixes characters =
-    kept_end prefixes (or_unnamed (without_last_separators (spelling (after_numerics characters)))) (before_prefix characters)
-    (unnamed_end (without_last_separators (spelling (after_numerics characters))) (without-end (spelling (after_numerics characters))))
-
--- ---- the first two characters
--- the text begins with `__`
-abbrev pub begins_double : List ℕ → Bool
-begins_double [] = false
-begins_double (c ∷ []) = false
-begins_double (c ∷ d ∷ cs) = c == 95 && d == 95
-
-without_repeated_underscores-double : (text : List ℕ) → begins_double (without_repeated_underscores text) ≡ false
-unfolding begins_by
-without_repeated_underscores-double [] = refl
-without_repeated_underscores-double (c ∷ []) = either (c == 95)
-  where
-    either : (b : Bool) → begins_double (cond (b && false) [] (c ∷ [])) ≡ false
-    either true = refl
-    either false = refl
-without_repeated_underscores-double (c ∷ d ∷ cs) =
-    either (c == 95) (d == 95) refl refl (without_repeated_underscores (d ∷ cs))
-    (without_repeated_underscores-double (d ∷ cs))
-    (without_repeated_underscores-first (λ x. x == 95) (d ∷ cs))
-  where
-    either : (x y : Bool) → (c == 95) ≡ x → (d == 95) ≡ y →
-        (rest : List ℕ) → begins_double rest ≡ false →
-        begins_by (λ x. x == 95) rest ≡ begins_by (λ x. x == 95) (d ∷ cs) →
-        begins_double (cond (x && y) rest (c ∷ rest)) ≡ false
-    either true true ex ey rest single first = single
-    either true false ex ey [] single first = refl
-    either true false ex ey (e ∷ rest) single first = ap (λ b. (c == 95) && b) (first ∙ ey) ∙ and-false (c == 95)
-    either false y ex ey [] single first = refl
-    either false y ex ey (e ∷ rest) single first = ap (λ b. b && e == 95) ex
-
-without-double : (text : List ℕ) → begins_double text ≡ false → begins_double (without_last_separators text) ≡ false
-without-double [] e = refl
-without-double (c ∷ []) e = either (c == 95)
-  where
-    either : (b : Bool) → begins_double (cond b [] (c ∷ [])) ≡ false
-    either true = refl
-    either false = refl
-without-double (c ∷ d ∷ cs) e = kept (without_last_separators cs)
-  where
-    one : (b x : Bool) → begins_double (cond b [] (c ∷ [])) ≡ false
-    one true x = refl
-    one false x = refl
-
-    inner : (b : Bool) → begins_double (kept_before c (cond b [] (d ∷ []))) ≡ false
-    inner true = one (c == 95) true
-    inner false = e
-
-    kept : (rest : List ℕ) → begins_double (kept_before c (kept_before d rest)) ≡ false
-    kept [] = inner (d == 95)
-    kept (f ∷ rest) = e
-
-unnamed-double : (text : List ℕ) → begins_double text ≡ false → begins_double (or_unnamed text) ≡ false
-unnamed-double [] e = refl
-unnamed-double (c ∷ cs) e = e
-
-kept-double : (prefixes : List (List ℕ)) (text : List ℕ) → begins_double text ≡ false → begins_double (kept_off prefixes text) ≡ false
-kept-double prefixes text e = either (list_any (starts_with nat_eq text) prefixes)
-  where
-    either : (b : Bool) → begins_double (cond b (codes "gen_" ++ text) text) ≡ false
-    either true = refl
-    either false = e
-
-pub base_not_double : (prefixes : List (List ℕ)) (characters : List ℕ) → begins_double (base_of prefixes characters) ≡ false
-unfolding base_of
-base_not_double prefixes characters =
-    let cs = after_numerics characters in
-    kept-double prefixes (or_unnamed (without_last_separators (spelling cs)))
-    (unnamed-double (without_last_separators (spelling cs))
-    (without-double (spelling cs) (ap begins_double (spelling-body cs)
-    ∙ without_repeated_underscores-double (body cs))))

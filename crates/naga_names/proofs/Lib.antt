@@ -1,4 +1,5 @@
 pub mod Label
+pub mod Bases
 pub mod Refusal
 mod Examples
 pub mod Assigned

@@ -52,10 +52,12 @@ use Rattle.naga_names.proofs.NameShapes.{name_after_no_keyword, plain_ends, name
 use Rattle.naga_keywords.proofs.Plains.{words_are}
 
 abbrev named_from : Names → List LabelledItem → List LabelledItem → List (NameKey × List ℕ)
-named_from start earlier items = scan (λ earlier item. earlier ++ item ∷ []) (λ earlier item. (item.0, item_name start earlier item)) earlier items
+named_from start earlier items = scan (λ earlier item. earlier ++ item ∷ [])
+    (λ earlier item. (item.0, item_name start earlier item)) earlier items
 
 abbrev alone_from : Names → List (List ℕ) → List LabelledItem → List (NameKey × List ℕ)
-alone_from start earlier items = scan (λ earlier item. earlier ++ item.1 ∷ []) (λ earlier item. (item.0, name_after start earlier item.1)) earlier items
+alone_from start earlier items = scan (λ earlier item. earlier ++ item.1 ∷ [])
+    (λ earlier item. (item.0, name_after start earlier item.1)) earlier items
 
 abbrev members_from : ℕ → ℕ → List StructMember → List LabelledItem
 members_from t n members = map (λ p. (key.StructMember t p.0, member_label p.1)) (enumerate_from n members)
@@ -71,7 +73,8 @@ pub member_name : (start : Names) (t : ℕ) (earlier done : List LabelledItem) (
     (label : List ℕ) → length done ≡ n →
     item_name start (earlier ++ done) (key.StructMember t n, label) ≡ name_after
     (member_names start) (map (λ item. item.1) done) label
-member_name start t earlier done n label is = ap (λ items. name_after (member_names start) (map (λ item. item.1) items) label) (last_are earlier done n is)
+member_name start t earlier done n label is =
+    ap (λ items. name_after (member_names start) (map (λ item. item.1) items) label) (last_are earlier done n is)
 
 module _ (start : Names) (t : ℕ) (earlier : List LabelledItem) where
   named_beside : (done : List LabelledItem) (n : ℕ) (members : List StructMember) →
@@ -83,21 +86,31 @@ module _ (start : Names) (t : ℕ) (earlier : List LabelledItem) where
       let long : length (done ++ item ∷ []) ≡ n + 1 = omega (arith, length-append done (item ∷ []), is) in
       let rest = named_beside (done ++ item ∷ []) (n + 1) members long in
       λ i. (key.StructMember t n, member_name start t earlier done n (member_label m) is i)
-      ∷ (ap (λ items. named_from start items (members_from t (n + 1) members)) (append_assoc earlier done (item ∷ [])) ∙ rest
-      ∙ ap (λ labels. alone_from (member_names start) labels (members_from t (n + 1) members)) (map-append (λ (item : LabelledItem). item.1) done (item ∷ []))) i
+      ∷ (ap (λ items. named_from start items (members_from t (n + 1) members))
+      (append_assoc earlier done (item ∷ [])) ∙ rest
+      ∙ ap (λ labels. alone_from (member_names start) labels (members_from t (n + 1) members))
+      (map-append (λ (item : LabelledItem). item.1) done (item ∷ []))) i
 
-  scan-append : (before : List LabelledItem) (xs ys : List LabelledItem) → named_from start before (xs ++ ys) ≡ named_from start before xs ++ named_from start (before ++ xs) ys
+  scan-append : (before : List LabelledItem) (xs ys : List LabelledItem) → named_from start before (xs ++ ys)
+      ≡ named_from start before xs ++ named_from start (before ++ xs) ys
   scan-append before [] ys = ap (λ items. named_from start items ys) (sym (append-nil before))
   scan-append before (x ∷ xs) ys =
       ap (λ pairs. (x.0, item_name start before x) ∷ pairs)
-      (scan-append (before ++ x ∷ []) xs ys ∙ ap (λ items. named_from start (before ++ x ∷ []) xs ++ named_from start items ys) (append_assoc before (x ∷ []) xs))
+      (scan-append (before ++ x ∷ []) xs ys
+      ∙ ap (λ items. named_from start (before ++ x ∷ []) xs ++ named_from start items ys)
+      (append_assoc before (x ∷ []) xs))
 
-  pub named_items_members : (members : List StructMember) → named_items start (earlier ++ labelled_members t members) ≡ named_items start earlier ++ named_members (member_names start) t members
+  pub named_items_members : (members : List StructMember) →
+      named_items start (earlier ++ labelled_members t members) ≡ named_items start earlier ++ named_members
+      (member_names start) t members
   named_items_members members =
       scan-append [] earlier (labelled_members t members)
-      ∙ ap (λ pairs. named_items start earlier ++ pairs) (ap (λ items. named_from start items (labelled_members t members)) (sym (append-nil earlier)) ∙ named_beside [] 0 members refl)
+      ∙ ap (λ pairs. named_items start earlier ++ pairs)
+      (ap (λ items. named_from start items (labelled_members t members)) (sym (append-nil earlier))
+      ∙ named_beside [] 0 members refl)
 
-pub own_labels : (t n : ℕ) (members : List StructMember) → map (λ item. item.1) (members_from t n members) ≡ map member_label members
+pub own_labels : (t n : ℕ) (members : List StructMember) → map (λ item. item.1) (members_from t n members)
+    ≡ map member_label members
 own_labels t n [] = refl
 own_labels t n (m ∷ members) = ap (λ labels. member_label m ∷ labels) (own_labels t (n + 1) members)
 
@@ -106,11 +119,14 @@ pub no_labels : (t n : ℕ) (members : List StructMember) → labels_of (members
 no_labels t n [] = refl
 no_labels t n (m ∷ members) = no_labels t (n + 1) members
 
-same_labels : (earlier : List LabelledItem) (t : ℕ) (members : List StructMember) → labels_of (earlier ++ labelled_members t members) ≡ labels_of earlier
-same_labels earlier t members = labels_of-append earlier (labelled_members t members) ∙ ap (λ labels. labels_of earlier ++ labels) (no_labels t 0 members) ∙ append-nil (labels_of earlier)
+same_labels : (earlier : List LabelledItem) (t : ℕ) (members : List StructMember) →
+    labels_of (earlier ++ labelled_members t members) ≡ labels_of earlier
+same_labels earlier t members = labels_of-append earlier (labelled_members t members)
+    ∙ ap (λ labels. labels_of earlier ++ labels) (no_labels t 0 members) ∙ append-nil (labels_of earlier)
 
 -- more pairs that are put into a map
-puts_more : (first before now : NameMap) (xs ys : List (NameKey × List ℕ)) → PutsInto first xs before → PutsInto before ys now → PutsInto first (xs ++ ys) now
+puts_more : (first before now : NameMap) (xs ys : List (NameKey × List ℕ)) → PutsInto first xs before →
+    PutsInto before ys now → PutsInto first (xs ++ ys) now
 puts_more first before now xs ys one two = record {
   finds = λ q.
       two.finds q
@@ -125,20 +141,24 @@ module _ (old : Names) (before now : NameMap) (t : ℕ) (members : List StructMe
       PutsInto first (named_items start (earlier ++ labelled_members t some)) now
   puts_members start first earlier some has put =
       subst (λ pairs. PutsInto first pairs now)
-      (ap (λ names. named_items start earlier ++ named_members (member_names names) t some) has.words ∙ sym (named_items_members start t earlier some))
+      (ap (λ names. named_items start earlier ++ named_members (member_names names) t some) has.words
+      ∙ sym (named_items_members start t earlier some))
       (puts_more first before now (named_items start earlier) (named_members (member_names old) t some) has.put put)
 
-  pub members_named : (inner : Names) → HasNamedMembers (member_names old) before t members inner now → NamesItems old before (labelled_members t members) old now
+  pub members_named : (inner : Names) → HasNamedMembers (member_names old) before t members inner now →
+      NamesItems old before (labelled_members t members) old now
   members_named inner named = record {
     more = λ start first earlier has. record {
       words = has.words;
       labels = subst (HasNamed old) (sym (same_labels earlier t members)) has.labels;
-      keys = list_all-append (λ item. key_fits item.0) earlier (labelled_members t members) ∙ (λ i. has.keys i && named.keys i);
+      keys = list_all-append (λ item. key_fits item.0) earlier (labelled_members t members)
+          ∙ (λ i. has.keys i && named.keys i);
       put = puts_members start first earlier members has named.put;
     };
   }
 
-  pub members_refused : (error : NamerError) → RefusesMembers (member_names old) before t members now error → RefusesItems old before (labelled_members t members) now error
+  pub members_refused : (error : NamerError) → RefusesMembers (member_names old) before t members now error →
+      RefusesItems old before (labelled_members t members) now error
   members_refused error refused = record {
     some = λ start first earlier has. record {
       named = earlier ++ labelled_members t (take refused.count members);
@@ -148,7 +168,8 @@ module _ (old : Names) (before now : NameMap) (t : ℕ) (members : List StructMe
           (ap (labelled_members t) (sym (take-append-drop refused.count members))
           ∙ entries_grown (λ n (m : StructMember). (key.StructMember t n, member_label m)) 0
           (take refused.count members) (drop refused.count members))
-          ∙ sym (append_assoc earlier (labelled_members t (take refused.count members)) (members_from t (0 + length (take refused.count members)) (drop refused.count members)));
+          ∙ sym (append_assoc earlier (labelled_members t (take refused.count members))
+          (members_from t (0 + length (take refused.count members)) (drop refused.count members)));
       put = puts_members start first earlier (take refused.count members) has refused.put;
     };
     why = λ start first earlier has. reason start earlier error refused.why;
@@ -158,7 +179,8 @@ module _ (old : Names) (before now : NameMap) (t : ℕ) (members : List StructMe
           IsRefusalOfMembers (labelled_members t members) error →
           IsRefusalOfItems start (earlier ++ labelled_members t members) error
       reason start earlier Full never = absurd never
-      reason start earlier KeyFull why = list_all-append (λ item. key_fits item.0) earlier (labelled_members t members) ∙ or_not_this (keys_fit earlier) (keys_fit (labelled_members t members)) why
+      reason start earlier KeyFull why = list_all-append (λ item. key_fits item.0) earlier
+          (labelled_members t members) ∙ or_not_this (keys_fit earlier) (keys_fit (labelled_members t members)) why
       reason start earlier (Memory e) why = tt
 
 -- ---- one member more
@@ -167,14 +189,18 @@ module _ (start : Names) (before : NameMap) (t : ℕ) where
   pub no_members : (names : Names) → HasNamed names [] → HasNamedMembers start before t [] names before
   no_members names none = record { labels = none; keys = refl; put = record { finds = λ q. refl } }
 
-  pushed : (members : List StructMember) (m : StructMember) → labelled_members t (members ++ m ∷ []) ≡ labelled_members t members ++ (key.StructMember t (length members), member_label m) ∷ []
+  pushed : (members : List StructMember) (m : StructMember) → labelled_members t (members ++ m ∷ [])
+      ≡ labelled_members t members ++ (key.StructMember t (length members), member_label m) ∷ []
   pushed members m =
       let same : 0 + length members ≡ length members = omega arith in
-      entries_grown (λ n (m : StructMember). (key.StructMember t n, member_label m)) 0 members (m ∷ []) ∙ ap (λ n. labelled_members t members ++ (key.StructMember t n, member_label m) ∷ []) same
+      entries_grown (λ n (m : StructMember). (key.StructMember t n, member_label m)) 0 members (m ∷ [])
+      ∙ ap (λ n. labelled_members t members ++ (key.StructMember t n, member_label m) ∷ []) same
 
-  labels_folded : (earlier : List (List ℕ)) (items : List LabelledItem) → fold (λ labels item. labels ++ item.1 ∷ []) earlier items ≡ earlier ++ map (λ item. item.1) items
+  labels_folded : (earlier : List (List ℕ)) (items : List LabelledItem) →
+      fold (λ labels item. labels ++ item.1 ∷ []) earlier items ≡ earlier ++ map (λ item. item.1) items
   labels_folded earlier [] = sym (append-nil earlier)
-  labels_folded earlier (x ∷ items) = labels_folded (earlier ++ x.1 ∷ []) items ∙ append_assoc earlier (x.1 ∷ []) (map (λ item. item.1) items)
+  labels_folded earlier (x ∷ items) = labels_folded (earlier ++ x.1 ∷ []) items
+      ∙ append_assoc earlier (x.1 ∷ []) (map (λ item. item.1) items)
 
   named_members-push : (members : List StructMember) (m : StructMember) →
       named_members start t (members ++ m ∷ []) ≡ named_members start t members ++ (
@@ -198,10 +224,12 @@ module _ (start : Names) (before : NameMap) (t : ℕ) where
       PutsName names between (key.StructMember t (length members)) (member_label m) new now →
       HasNamedMembers start before t (members ++ m ∷ []) new now
   member_more members names new between now m words small has puts = record {
-    labels = subst (HasNamed new) (sym (map-append member_label members (m ∷ []))) (puts.history (map member_label members) has.labels);
+    labels = subst (HasNamed new) (sym (map-append member_label members (m ∷ [])))
+        (puts.history (map member_label members) has.labels);
     keys =
         ap keys_fit (pushed members m)
-        ∙ list_all-append (λ item. key_fits item.0) (labelled_members t members) ((key.StructMember t (length members), member_label m) ∷ [])
+        ∙ list_all-append (λ item. key_fits item.0) (labelled_members t members)
+        ((key.StructMember t (length members), member_label m) ∷ [])
         ∙ (λ i. has.keys i && (lt-ltb (length members) (2 ^ 32) small i && true));
     put = record {
       finds = λ q.
@@ -228,7 +256,8 @@ module _ (start : Names) (before : NameMap) (t : ℕ) where
   member_more_at all i names new between now m lt is words small has n label n_is label_is puts =
       let long : length (take i all) ≡ i = omega (arith, length-take-le i all (omega (arith, lt))) in
       let short : length (take i all) < 2 ^ 32 = omega (arith, small, long) in
-      subst (λ members. HasNamedMembers start before t members new now) (sym (take_more all i m lt ∙ ap (λ y. take i all ++ y ∷ []) (sym is)))
+      subst (λ members. HasNamedMembers start before t members new now)
+      (sym (take_more all i m lt ∙ ap (λ y. take i all ++ y ∷ []) (sym is)))
       (member_more (take i all) names new between now m words short has
       (subst (λ k. PutsName names between (key.StructMember t k) (member_label m) new now)
       (n_is ∙ sym long)
@@ -236,7 +265,8 @@ module _ (start : Names) (before : NameMap) (t : ℕ) where
       puts)))
 
   -- ---- why one is refused
-  no_full : (members : List StructMember) (names : Names) (label : List ℕ) → length members < 2 ^ 32 → HasNamed names (map member_label members) → IsFull names label → ⊥
+  no_full : (members : List StructMember) (names : Names) (label : List ℕ) → length members < 2 ^ 32 →
+      HasNamed names (map member_label members) → IsFull names label → ⊥
   no_full members names label small has full =
       let base : List ℕ = label_base names label in
       let used : labels_with_base names (map member_label members) base ≡ 2 ^ 32 = sym (has.uses_are base) ∙ full in
@@ -291,8 +321,10 @@ module _ (start : Names) (before : NameMap) (t : ℕ) where
   }
 
 -- ---- the words while the members are named, and afterwards
-pub within : (inside old : Names) (uses : Uses) (words : Words) → inside ≡ old → uses ≡ finite.empty → words ≡ set.empty → record inside { uses = uses; builtin_identifiers = words } ≡ member_names old
-within inside old uses words same none no_words = λ i. record (same i) { uses = none i; builtin_identifiers = no_words i }
+pub within : (inside old : Names) (uses : Uses) (words : Words) → inside ≡ old → uses ≡ finite.empty →
+    words ≡ set.empty → record inside { uses = uses; builtin_identifiers = words } ≡ member_names old
+within inside old uses words same none no_words =
+    λ i. record (same i) { uses = none i; builtin_identifiers = no_words i }
 
 pub outside_again : (inside old last new : Names) (uses : Uses) (words within : Words) →
     inside ≡ old → last ≡ new → new ≡ record inside {
@@ -301,14 +333,17 @@ pub outside_again : (inside old last new : Names) (uses : Uses) (words within : 
           within;
     } → uses ≡ inside.uses → words ≡ inside.builtin_identifiers →
     record last { uses = uses; builtin_identifiers = words } ≡ old
-outside_again inside old last new uses words within same last_is kept uses_are words_are = (λ i. record ((last_is ∙ kept) i) { uses = uses_are i; builtin_identifiers = words_are i }) ∙ same
+outside_again inside old last new uses words within same last_is kept uses_are words_are =
+    (λ i. record ((last_is ∙ kept) i) { uses = uses_are i; builtin_identifiers = words_are i }) ∙ same
 
 -- Their names after a `reset`.
 
 -- what is found in a list passes the test that all of it passes
-all_at : (test : LabelledItem → Bool) (xs : List LabelledItem) (i : ℕ) (x : LabelledItem) → list_all test xs ≡ true → slice_get xs i ≡ Some x → test x ≡ true
+all_at : (test : LabelledItem → Bool) (xs : List LabelledItem) (i : ℕ) (x : LabelledItem) → list_all test xs
+    ≡ true → slice_get xs i ≡ Some x → test x ≡ true
 all_at test [] i x all e = absurd (none-some x e)
-all_at test (y ∷ xs) zero x all e = subst (λ z. test z ≡ true) (ap (λ o. unwrap_or o y) e) (and_parts (test y) (list_all test xs) all).0
+all_at test (y ∷ xs) zero x all e = subst (λ z. test z ≡ true) (ap (λ o. unwrap_or o y) e)
+    (and_parts (test y) (list_all test xs) all).0
 all_at test (y ∷ xs) (suc i) x all e = all_at test xs i x (and_parts (test y) (list_all test xs) all).1 e
 
 pub reserved_plain : HasPlainEnds (set.from_list (map (λ word. word.now) RESERVED.now))
@@ -321,16 +356,28 @@ pub record StandsAfter (items : List LabelledItem) (item : LabelledItem) (done :
   pub front : List LabelledItem
   pub before : take place items ≡ front ++ done
 
-after_left : (xs ys : List LabelledItem) (item : LabelledItem) (done : List LabelledItem) → StandsAfter xs item done → StandsAfter (xs ++ ys) item done
+after_left : (xs ys : List LabelledItem) (item : LabelledItem) (done : List LabelledItem) →
+    StandsAfter xs item done → StandsAfter (xs ++ ys) item done
 after_left xs ys item done s =
     let le : s.place ≤ length xs = omega (arith, slice_get_within xs s.place item s.there) in
-    record { place = s.place; there = place_left xs ys s.place item s.there; front = s.front; before = take-append-le s.place xs ys le ∙ s.before }
+    record {
+      place = s.place;
+      there = place_left xs ys s.place item s.there;
+      front = s.front;
+      before = take-append-le s.place xs ys le ∙ s.before;
+    }
 
-after_right : (xs ys : List LabelledItem) (item : LabelledItem) (done : List LabelledItem) → StandsAfter ys item done → StandsAfter (xs ++ ys) item done
+after_right : (xs ys : List LabelledItem) (item : LabelledItem) (done : List LabelledItem) →
+    StandsAfter ys item done → StandsAfter (xs ++ ys) item done
 after_right [] ys item done s = s
 after_right (x ∷ xs) ys item done s =
     let inner = after_right xs ys item done s in
-    record { place = suc inner.place; there = inner.there; front = x ∷ inner.front; before = ap (λ items. x ∷ items) inner.before }
+    record {
+      place = suc inner.place;
+      there = inner.there;
+      front = x ∷ inner.front;
+      before = ap (λ items. x ∷ items) inner.before;
+    }
 
 after_sections : {X : Type 0} (section : ℕ → X → List LabelledItem) (n i : ℕ) (xs : List X) (x : X)
     (item : LabelledItem) (done : List LabelledItem) → slice_get xs i ≡ Some x →
@@ -340,7 +387,8 @@ after_sections section n i [] x item done e s = absurd (none-some x e)
 after_sections section n zero (y ∷ xs) x item done e s =
     let here : n + zero ≡ n = omega arith in
     after_left (section n y) (flat_map (λ p. section p.0 p.1) (enumerate_from (n + 1) xs)) item done
-    (subst (λ z. StandsAfter (section n z) item done) (sym (ap (λ o. unwrap_or o y) e)) (subst (λ m. StandsAfter (section m x) item done) here s))
+    (subst (λ z. StandsAfter (section n z) item done) (sym (ap (λ o. unwrap_or o y) e))
+    (subst (λ m. StandsAfter (section m x) item done) here s))
 after_sections section n (suc i) (y ∷ xs) x item done e s =
     let next : n + suc i ≡ n + 1 + i = omega arith in
     after_right (section n y) (flat_map (λ p. section p.0 p.1) (enumerate_from (n + 1) xs)) item
@@ -348,15 +396,18 @@ after_sections section n (suc i) (y ∷ xs) x item done e s =
     (subst (λ m. StandsAfter (section m x) item done) next s))
 
 module _ {X : Type 0} (entry : ℕ → X → LabelledItem) where
-  entry_at : (n i : ℕ) (xs : List X) (x : X) → slice_get xs i ≡ Some x → slice_get (map (λ p. entry p.0 p.1) (enumerate_from n xs)) i ≡ Some (entry (n + i) x)
+  entry_at : (n i : ℕ) (xs : List X) (x : X) → slice_get xs i ≡ Some x →
+      slice_get (map (λ p. entry p.0 p.1) (enumerate_from n xs)) i ≡ Some (entry (n + i) x)
   entry_at n i [] x e = absurd (none-some x e)
   entry_at n zero (y ∷ xs) x e =
       let same : n ≡ n + zero = omega arith in
       let is : y ≡ x = ap (λ o. unwrap_or o y) e in
       λ j. Some (entry (same j) (is j))
-  entry_at n (suc i) (y ∷ xs) x e = let same : n + 1 + i ≡ n + suc i = omega arith in entry_at (n + 1) i xs x e ∙ ap (λ k. Some (entry k x)) same
+  entry_at n (suc i) (y ∷ xs) x e = let same : n + 1 + i ≡ n + suc i = omega arith in entry_at (n + 1) i xs x e
+      ∙ ap (λ k. Some (entry k x)) same
 
-  entries_taken : (n i : ℕ) (xs : List X) → take i (map (λ p. entry p.0 p.1) (enumerate_from n xs)) ≡ map (λ p. entry p.0 p.1) (enumerate_from n (take i xs))
+  entries_taken : (n i : ℕ) (xs : List X) → take i (map (λ p. entry p.0 p.1) (enumerate_from n xs))
+      ≡ map (λ p. entry p.0 p.1) (enumerate_from n (take i xs))
   entries_taken n zero xs = refl
   entries_taken n (suc i) [] = refl
   entries_taken n (suc i) (x ∷ xs) = ap (λ items. entry n x ∷ items) (entries_taken (n + 1) i xs)
@@ -376,7 +427,8 @@ module _ (start : Names) («module» : Module) (t : ℕ) (ty : Type_)
       let same : 0 + n ≡ n = omega arith in
       record {
         place = suc n;
-        there = entry_at (λ n (m : StructMember). (key.StructMember t n, member_label m)) 0 n (members_of ty.inner) member there ∙ ap (λ k. Some (key.StructMember t k, member_label member)) same;
+        there = entry_at (λ n (m : StructMember). (key.StructMember t n, member_label m)) 0 n
+            (members_of ty.inner) member there ∙ ap (λ k. Some (key.StructMember t k, member_label member)) same;
         front = (key.Type_ t, type_label «module».entry_points.items t ty) ∷ [];
         before = ap (λ items. (key.Type_ t, type_label «module».entry_points.items t ty) ∷ items)
             (entries_taken (λ n (m : StructMember). (key.StructMember t n, member_label m)) 0 n
@@ -387,47 +439,62 @@ module _ (start : Names) («module» : Module) (t : ℕ) (ty : Type_)
   in_module =
       let m = «module» in
       let same : t ≡ 0 + t = omega arith in
-      let others = labelled_entry_points m.entry_points.items ++ (labelled_functions m.types m.functions ++ labelled_globals m.types m.global_variables) in
+      let others = labelled_entry_points m.entry_points.items
+      ++ (labelled_functions m.types m.functions ++ labelled_globals m.types m.global_variables) in
       after_left (labelled_declarations m) (labelled_values (type_name start m) m) item done
       (after_left (labelled_types m.entry_points.items m.types) others item done
-      (after_sections (labelled_type m.entry_points.items) 0 t m.types ty item done found (subst (λ k. StandsAfter (labelled_type m.entry_points.items k ty) item done) same in_type)))
+      (after_sections (labelled_type m.entry_points.items) 0 t m.types ty item done found
+      (subst (λ k. StandsAfter (labelled_type m.entry_points.items k ty) item done) same in_type)))
 
   long : length (take n (members_of ty.inner)) ≡ n
-  long = let le : n ≤ length (members_of ty.inner) = omega (arith, slice_get_within (members_of ty.inner) n member there) in omega (arith, length-take-le n (members_of ty.inner) le)
+  long = let le : n ≤ length (members_of ty.inner) = omega
+      (arith, slice_get_within (members_of ty.inner) n member there) in
+      omega (arith, length-take-le n (members_of ty.inner) le)
 
   module _ (before now : NameMap) (put : PutsInto before (named_items start (labelled_items start «module»)) now) where
-    pub member_put : now (key.StructMember t n) ≡ Some (name_after (member_names start) (map member_label (take n (members_of ty.inner))) (member_label member))
+    pub member_put : now (key.StructMember t n)
+        ≡ Some (name_after (member_names start) (map member_label (take n (members_of ty.inner))) (member_label member))
     member_put =
         let done_long : length done ≡ n =
         length-map (enumerate_from 0 (take n (members_of ty.inner)))
         (λ p. (key.StructMember t p.0, member_label p.1))
         ∙ length-enumerate_from 0 (take n (members_of ty.inner)) ∙ long in
-        item_put start before now (labelled_items start «module») put (items_apart start «module») in_module.place item in_module.there
+        item_put start before now (labelled_items start «module») put (items_apart start «module»)
+        in_module.place item in_module.there
         ∙ ap (λ items. Some (item_name start items item)) in_module.before
         ∙ ap Some (member_name start t in_module.front done n (member_label member) done_long)
-        ∙ ap (λ labels. Some (name_after (member_names start) labels (member_label member))) (own_labels t 0 (take n (members_of ty.inner)))
+        ∙ ap (λ labels. Some (name_after (member_names start) labels (member_label member)))
+        (own_labels t 0 (take n (members_of ty.inner)))
 
-  module _ (before now : NameMap) (names : Names) (has : HasNamedItems start before (labelled_items start «module») names now) where
-    pub member_named : now (key.StructMember t n) ≡ Some (name_after (member_names start) (map member_label (take n (members_of ty.inner))) (member_label member))
+  module _ (before now : NameMap) (names : Names)
+      (has : HasNamedItems start before (labelled_items start «module») names now) where
+    pub member_named : now (key.StructMember t n)
+        ≡ Some (name_after (member_names start) (map member_label (take n (members_of ty.inner))) (member_label member))
     member_named = member_put before now has.put
 
-    pub member_not_reserved : start.keywords ≡ set.from_list (map (λ word. word.now) RESERVED.now) → (name : List ℕ) → now (key.StructMember t n) ≡ Some name → set.contains start.keywords name ≡ false
+    pub member_not_reserved : start.keywords ≡ set.from_list (map (λ word. word.now) RESERVED.now) →
+        (name : List ℕ) → now (key.StructMember t n) ≡ Some name → set.contains start.keywords name ≡ false
     member_not_reserved reserved name is =
-        let same : name_after (member_names start) (map member_label (take n (members_of ty.inner))) (member_label member) ≡ name = ap (λ o. unwrap_or o name) (sym member_named ∙ is) in
+        let same : name_after (member_names start) (map member_label (take n (members_of ty.inner)))
+        (member_label member) ≡ name = ap (λ o. unwrap_or o name) (sym member_named ∙ is) in
         ap (set.contains start.keywords) (sym same)
-        ∙ name_after_no_keyword (member_names start) (map member_label (take n (members_of ty.inner))) (member_label member) (subst HasPlainEnds (sym reserved) reserved_plain)
+        ∙ name_after_no_keyword (member_names start) (map member_label (take n (members_of ty.inner)))
+        (member_label member) (subst HasPlainEnds (sym reserved) reserved_plain)
 
 -- ---- no two members of one struct have one name
 module _ (start : Names) where
-  split_before : (xs : List StructMember) (n k : ℕ) (x : StructMember) → n < k → slice_get xs n ≡ Some x → (middle : List StructMember) × (take k xs ≡ take n xs ++ x ∷ middle)
+  split_before : (xs : List StructMember) (n k : ℕ) (x : StructMember) → n < k → slice_get xs n ≡ Some x →
+      (middle : List StructMember) × (take k xs ≡ take n xs ++ x ∷ middle)
   split_before [] n k x lt e = absurd (none-some x e)
   split_before (y ∷ xs) zero zero x lt e = absurd (omega (arith, lt))
   split_before (y ∷ xs) zero (suc k) x lt e = (take k xs, ap (λ z. z ∷ take k xs) (ap (λ o. unwrap_or o y) e))
   split_before (y ∷ xs) (suc n) zero x lt e = absurd (omega (arith, lt))
-  split_before (y ∷ xs) (suc n) (suc k) x lt e = let inner = split_before xs n k x (omega (arith, lt)) e in (inner.0, ap (λ t. y ∷ t) inner.1)
+  split_before (y ∷ xs) (suc n) (suc k) x lt e = let inner = split_before xs n k x (omega (arith, lt)) e in
+      (inner.0, ap (λ t. y ∷ t) inner.1)
 
   member_name_at : List StructMember → ℕ → StructMember → List ℕ
-  member_name_at members n member = name_after (member_names start) (map member_label (take n members)) (member_label member)
+  member_name_at members n member = name_after (member_names start) (map member_label (take n members))
+      (member_label member)
 
   members_differ : (members : List StructMember) (n k : ℕ) (a b : StructMember) → n < k →
       slice_get members n ≡ Some a → slice_get members k ≡ Some b →
@@ -437,11 +504,13 @@ module _ (start : Names) where
       let parts = split_before members n k a lt there_a in
       let first : List (List ℕ) = map member_label (take n members) in
       let middle : List (List ℕ) = map member_label parts.0 in
-      let before : map member_label (take k members) ≡ first ++ member_label a ∷ middle = ap (map member_label) parts.1 ∙ map-append member_label (take n members) (a ∷ parts.0) in
+      let before : map member_label (take k members) ≡ first ++ member_label a ∷ middle =
+      ap (map member_label) parts.1 ∙ map-append member_label (take n members) (a ∷ parts.0) in
       names_differ (member_names start) first (member_label a) middle (member_label b)
       (same ∙ ap (λ labels. name_after (member_names start) labels (member_label b)) before)
 
-module _ (start : Names) («module» : Module) (before now : NameMap) (put : PutsInto before (named_items start (labelled_items start «module»)) now) where
+module _ (start : Names) («module» : Module) (before now : NameMap)
+    (put : PutsInto before (named_items start (labelled_items start «module»)) now) where
   pub put_members_distinguished : (t : ℕ) (ty : Type_) → slice_get «module».types t ≡ Some ty →
       (n k : ℕ) (a b : StructMember) → slice_get (members_of ty.inner) n ≡ Some a →
       slice_get (members_of ty.inner) k ≡ Some b →
@@ -462,7 +531,8 @@ module _ (start : Names) («module» : Module) (before now : NameMap) (put : Put
       either (inr (inl lt)) = absurd (members_differ start members n k a b lt there_a there_b one)
       either (inr (inr lt)) = absurd (members_differ start members k n b a lt there_b there_a (sym one))
 
-module _ (start : Names) («module» : Module) (before now : NameMap) (names : Names) (has : HasNamedItems start before (labelled_items start «module») names now) where
+module _ (start : Names) («module» : Module) (before now : NameMap) (names : Names)
+    (has : HasNamedItems start before (labelled_items start «module») names now) where
   pub members_distinguished : (t : ℕ) (ty : Type_) → slice_get «module».types t ≡ Some ty →
       (n k : ℕ) (a b : StructMember) → slice_get (members_of ty.inner) n ≡ Some a →
       slice_get (members_of ty.inner) k ≡ Some b →

@@ -20,9 +20,10 @@ use Rattle.std.proofs.lemmas.Bool.{and_parts, and_from, true≢false, or_parts}
 use Rattle.std.proofs.Math.Bool.{and-false}
 use Rattle.naga_names.proofs.Label.{get_or-last, ends_separated-push, is_text, is_text-decimal}
 use Rattle.naga_names.proofs.Label.{is_text-numeral, all_digits-numeral}
-use Rattle.naga_names.proofs.Label.{all_digits-decimal, base_is_word, base_ends, begins_double}
+use Rattle.naga_names.proofs.Label.{all_digits-decimal}
+use Rattle.naga_names.proofs.Bases.{base_is_word, base_ends, begins_double}
 use Rattle.naga_names.proofs.Numerals.{numeral_injective}
-use Rattle.naga_names.proofs.Label.{base_not_double}
+use Rattle.naga_names.proofs.Bases.{base_not_double}
 use Rattle.naga_names.specs.Label.{ends_separated, after_numerics, spelling}
 use Rattle.naga_names.specs.Label.{without_last_separators, or_unnamed, kept_off, base_of}
 use Rattle.naga_keywords.specs.Plain.{is_identifier_char, is_word, is_identifier}
@@ -67,7 +68,8 @@ has_none-not xs ys = list_all-append (λ c. not (c == 95)) xs (95 ∷ ys) ∙ an
 split_last : (a b c d : List ℕ) → has_none b ≡ true → has_none d ≡ true → a ++ 95 ∷ b ≡ c ++ 95 ∷ d → (a ≡ c) × (b ≡ d)
 split_last [] b [] d nb nd e = (refl, ap (drop 1) e)
 split_last [] b (x ∷ c) d nb nd e = absurd (true≢false (sym nb ∙ ap (λ t. has_none (drop 1 t)) e ∙ has_none-not c d))
-split_last (x ∷ a) b [] d nb nd e = absurd (true≢false (sym nd ∙ ap (λ t. has_none (drop 1 t)) (sym e) ∙ has_none-not a b))
+split_last (x ∷ a) b [] d nb nd e =
+    absurd (true≢false (sym nd ∙ ap (λ t. has_none (drop 1 t)) (sym e) ∙ has_none-not a b))
 split_last (x ∷ a) b (y ∷ c) d nb nd e =
     let rest = split_last a b c d nb nd (ap (drop 1) e) in
     ((λ i. ap (λ t. get_or t 0 0) e i ∷ rest.0 i), rest.1)
@@ -86,7 +88,8 @@ number_has_none n = digits_have_none (numeral n) (all_digits-numeral n)
 
 -- ---- a name by its base and the uses before it
 module _ (names : Names) (base : List ℕ) where
-  first_cases : (first_name names base ≡ base ++ 95 ∷ []) ⊎ ((first_name names base ≡ base) × (ends_in_digit base ≡ false) × (is_taken names base ≡ false))
+  first_cases : (first_name names base ≡ base ++ 95 ∷ [])
+      ⊎ ((first_name names base ≡ base) × (ends_in_digit base ≡ false) × (is_taken names base ≡ false))
   first_cases = either (ends_in_digit base || is_taken names base) refl
     where
       either : (b : Bool) → (ends_in_digit base || is_taken names base) ≡ b →
@@ -99,7 +102,8 @@ module _ (names : Names) (base : List ℕ) where
   later_is : (n : ℕ) → later_name base n ≡ base ++ 95 ∷ numeral n
   later_is n = append_assoc base (95 ∷ []) (numeral n)
 
-  name_cases : (n : ℕ) → ((n ≡ 0) × (name_of_base names base n ≡ first_name names base)) ⊎ (name_of_base names base n ≡ base ++ 95 ∷ numeral n)
+  name_cases : (n : ℕ) → ((n ≡ 0) × (name_of_base names base n ≡ first_name names base))
+      ⊎ (name_of_base names base n ≡ base ++ 95 ∷ numeral n)
   name_cases n = either (n == 0) refl
     where
       none : (n == 0) ≡ true → n ≡ 0
@@ -123,14 +127,18 @@ module _ (names : Names) (base : List ℕ) where
 
   later_ends : (n : ℕ) → ends_by is_ascii_digit (base ++ 95 ∷ numeral n) ≡ true
   unfolding is_text
-  later_ends n = ap (ends_by is_ascii_digit) (sym (append_assoc base (95 ∷ []) (numeral n))) ∙ ended (numeral n) (is_text-numeral n) (all_digits-numeral n)
+  later_ends n = ap (ends_by is_ascii_digit) (sym (append_assoc base (95 ∷ []) (numeral n)))
+      ∙ ended (numeral n) (is_text-numeral n) (all_digits-numeral n)
     where
-      ended : (ds : List ℕ) → is_text ds ≡ true → list_all is_ascii_digit ds ≡ true → ends_by is_ascii_digit ((base ++ 95 ∷ []) ++ ds) ≡ true
+      ended : (ds : List ℕ) → is_text ds ≡ true → list_all is_ascii_digit ds ≡ true →
+          ends_by is_ascii_digit ((base ++ 95 ∷ []) ++ ds) ≡ true
       ended [] some all = absurd (cc)
-      ended (d ∷ ds) some all = ends_by-append is_ascii_digit (base ++ 95 ∷ []) d ds ∙ ends_by-all is_ascii_digit (d ∷ ds) refl all
+      ended (d ∷ ds) some all = ends_by-append is_ascii_digit (base ++ 95 ∷ []) d ds
+          ∙ ends_by-all is_ascii_digit (d ∷ ds) refl all
 
   -- ---- a name is a word
-  only_more : (more : List ℕ) → is_word base ≡ true → list_all is_identifier_char more ≡ true → is_word (base ++ more) ≡ true
+  only_more : (more : List ℕ) → is_word base ≡ true → list_all is_identifier_char more ≡ true →
+      is_word (base ++ more) ≡ true
   only_more more word all = grown base word
     where
       grown : (base : List ℕ) → is_word base ≡ true → is_word (base ++ more) ≡ true
@@ -151,13 +159,17 @@ module _ (names : Names) (base : List ℕ) where
   word_of_base : is_word base ≡ true → (n : ℕ) → is_word (name_of_base names base n) ≡ true
   word_of_base word n = either (name_cases n)
     where
-      first : (first_name names base ≡ base ++ 95 ∷ []) ⊎ ((first_name names base ≡ base) × (ends_in_digit base ≡ false) × (is_taken names base ≡ false)) → is_word (first_name names base) ≡ true
+      first : (first_name names base ≡ base ++ 95 ∷ [])
+          ⊎ ((first_name names base ≡ base) × (ends_in_digit base ≡ false) × (is_taken names base ≡ false)) →
+          is_word (first_name names base) ≡ true
       first (inl is) = ap is_word is ∙ only_more (95 ∷ []) word refl
       first (inr is) = ap is_word is.0 ∙ word
 
-      either : ((n ≡ 0) × (name_of_base names base n ≡ first_name names base)) ⊎ (name_of_base names base n ≡ base ++ 95 ∷ numeral n) → is_word (name_of_base names base n) ≡ true
+      either : ((n ≡ 0) × (name_of_base names base n ≡ first_name names base))
+          ⊎ (name_of_base names base n ≡ base ++ 95 ∷ numeral n) → is_word (name_of_base names base n) ≡ true
       either (inl is) = ap is_word is.1 ∙ first first_cases
-      either (inr is) = ap is_word is ∙ only_more (95 ∷ numeral n) word (digits_are_only (numeral n) (all_digits-numeral n))
+      either (inr is) = ap is_word is ∙ only_more (95 ∷ numeral n) word
+          (digits_are_only (numeral n) (all_digits-numeral n))
 
   -- ---- a name is none of these words
   module _ (taken : List ℕ → Bool) (plain : (front digits : List ℕ) →
@@ -166,11 +178,14 @@ module _ (names : Names) (base : List ℕ) where
     free_of_base : (n : ℕ) → taken (name_of_base names base n) ≡ false
     free_of_base n = either (name_cases n)
       where
-        first : (first_name names base ≡ base ++ 95 ∷ []) ⊎ ((first_name names base ≡ base) × (ends_in_digit base ≡ false) × (is_taken names base ≡ false)) → taken (first_name names base) ≡ false
+        first : (first_name names base ≡ base ++ 95 ∷ [])
+            ⊎ ((first_name names base ≡ base) × (ends_in_digit base ≡ false) × (is_taken names base ≡ false)) →
+            taken (first_name names base) ≡ false
         first (inl is) = ap taken is ∙ plain base [] refl
         first (inr is) = ap taken is.0 ∙ kept is.2
 
-        either : ((n ≡ 0) × (name_of_base names base n ≡ first_name names base)) ⊎ (name_of_base names base n ≡ base ++ 95 ∷ numeral n) → taken (name_of_base names base n) ≡ false
+        either : ((n ≡ 0) × (name_of_base names base n ≡ first_name names base))
+            ⊎ (name_of_base names base n ≡ base ++ 95 ∷ numeral n) → taken (name_of_base names base n) ≡ false
         either (inl is) = ap taken is.1 ∙ first first_cases
         either (inr is) = ap taken is ∙ plain base (numeral n) (all_digits-numeral n)
 
@@ -182,24 +197,31 @@ module _ (names : Names) (base : List ℕ) where
       nothing : base ≡ [] → ⊥
       nothing e = true≢false (sym word ∙ ap is_word e)
 
-      either : ((n ≡ 0) × (name_of_base names base n ≡ first_name names base)) ⊎ (name_of_base names base n ≡ base ++ 95 ∷ numeral n) → ⊥
+      either : ((n ≡ 0) × (name_of_base names base n ≡ first_name names base))
+          ⊎ (name_of_base names base n ≡ base ++ 95 ∷ numeral n) → ⊥
       either (inl first) = true≢false (sym numbered_ends ∙ ap (ends_by is_ascii_digit) (sym is ∙ first.1) ∙ first_ends)
         where
           numbered_ends : ends_by is_ascii_digit (codes "_e" ++ decimal h) ≡ true
           numbered_ends = ended (decimal h) (is_text-decimal h) (all_digits-decimal h)
             where
-              ended : (ds : List ℕ) → is_text ds ≡ true → list_all is_ascii_digit ds ≡ true → ends_by is_ascii_digit (codes "_e" ++ ds) ≡ true
+              ended : (ds : List ℕ) → is_text ds ≡ true → list_all is_ascii_digit ds ≡ true →
+                  ends_by is_ascii_digit (codes "_e" ++ ds) ≡ true
               ended [] some all = absurd (cc)
-              ended (d ∷ ds) some all = ends_by-append is_ascii_digit (codes "_e") d ds ∙ ends_by-all is_ascii_digit (d ∷ ds) refl all
-      either (inr later) = nothing (split_last base (numeral n) [] (101 ∷ decimal h) (number_has_none n) (digits_have_none (decimal h) (all_digits-decimal h)) (sym later ∙ is)).0
+              ended (d ∷ ds) some all = ends_by-append is_ascii_digit (codes "_e") d ds
+                  ∙ ends_by-all is_ascii_digit (d ∷ ds) refl all
+      either (inr later) = nothing (split_last base (numeral n) [] (101 ∷ decimal h) (number_has_none n)
+          (digits_have_none (decimal h) (all_digits-decimal h)) (sym later ∙ is)).0
 
 -- ---- a name tells its base and its number
-module _ (names : Names) (b c : List ℕ) (m n : ℕ) (b_ends : ends_separated b ≡ false) (c_ends : ends_separated c ≡ false) where
+module _ (names : Names) (b c : List ℕ) (m n : ℕ) (b_ends : ends_separated b ≡ false)
+    (c_ends : ends_separated c ≡ false) where
   abbrev FirstCases : List ℕ → Type 0
-  FirstCases d = (first_name names d ≡ d ++ 95 ∷ []) ⊎ ((first_name names d ≡ d) × (ends_in_digit d ≡ false) × (is_taken names d ≡ false))
+  FirstCases d = (first_name names d ≡ d ++ 95 ∷ [])
+      ⊎ ((first_name names d ≡ d) × (ends_in_digit d ≡ false) × (is_taken names d ≡ false))
 
   abbrev NameCases : List ℕ → ℕ → Type 0
-  NameCases d k = ((k ≡ 0) × (name_of_base names d k ≡ first_name names d)) ⊎ (name_of_base names d k ≡ d ++ 95 ∷ numeral k)
+  NameCases d k = ((k ≡ 0) × (name_of_base names d k ≡ first_name names d))
+      ⊎ (name_of_base names d k ≡ d ++ 95 ∷ numeral k)
 
   both_first : FirstCases b → FirstCases c → first_name names b ≡ first_name names c → b ≡ c
   both_first (inl x) (inl y) e = (split_last b [] c [] refl refl (sym x ∙ e ∙ y)).0
@@ -213,8 +235,12 @@ module _ (names : Names) (b c : List ℕ) (m n : ℕ) (b_ends : ends_separated b
 
   both : NameCases b m → NameCases c n → name_of_base names b m ≡ name_of_base names c n → (b ≡ c) × (m ≡ n)
   both (inl x) (inl y) e = (both_first (first_cases names b) (first_cases names c) (sym x.1 ∙ e ∙ y.1), x.0 ∙ sym y.0)
-  both (inl x) (inr y) e = absurd (true≢false (sym (later_ends names c n) ∙ ap (ends_by is_ascii_digit) (sym y ∙ sym e ∙ x.1) ∙ first_ends names b))
-  both (inr x) (inl y) e = absurd (true≢false (sym (later_ends names b m) ∙ ap (ends_by is_ascii_digit) (sym x ∙ e ∙ y.1) ∙ first_ends names c))
+  both (inl x) (inr y) e =
+      absurd (true≢false (sym (later_ends names c n) ∙ ap (ends_by is_ascii_digit) (sym y ∙ sym e ∙ x.1)
+      ∙ first_ends names b))
+  both (inr x) (inl y) e =
+      absurd (true≢false (sym (later_ends names b m) ∙ ap (ends_by is_ascii_digit) (sym x ∙ e ∙ y.1)
+      ∙ first_ends names c))
   both (inr x) (inr y) e =
       let parts = split_last b (numeral m) c (numeral n) (number_has_none m) (number_has_none n) (sym x ∙ e ∙ y) in
       (parts.0, numeral_injective m n parts.1)
@@ -224,35 +250,43 @@ module _ (names : Names) (b c : List ℕ) (m n : ℕ) (b_ends : ends_separated b
 
 -- ---- the laws, over the labels that were named before
 -- a name is a word: ASCII letters, digits and `_`, at least one of them, and no digit first
-pub name_after_is_word : (start : Names) (earlier : List (List ℕ)) (label : List ℕ) → is_word (name_after start earlier label) ≡ true
-name_after_is_word start earlier label = word_of_base start (label_base start label) (base_is_word start.reserved_prefixes (chars label)) (labels_with_base start earlier (label_base start label))
+pub name_after_is_word : (start : Names) (earlier : List (List ℕ)) (label : List ℕ) →
+    is_word (name_after start earlier label) ≡ true
+name_after_is_word start earlier label = word_of_base start (label_base start label)
+    (base_is_word start.reserved_prefixes (chars label)) (labels_with_base start earlier (label_base start label))
 
 kept_three : (start : Names) (word : List ℕ) → is_taken start word ≡ false →
     (set.contains start.keywords word ≡ false) ×
     (set.contains start.builtin_identifiers word ≡ false) ×
     (set.contains start.caseless_keywords (in_lower_case word) ≡ false)
 kept_three start word e =
-    let outer = or_parts (set.contains start.keywords word || set.contains start.builtin_identifiers word) (set.contains start.caseless_keywords (in_lower_case word)) e in
+    let outer = or_parts (set.contains start.keywords word || set.contains start.builtin_identifiers word)
+    (set.contains start.caseless_keywords (in_lower_case word)) e in
     let inner = or_parts (set.contains start.keywords word) (set.contains start.builtin_identifiers word) outer.0 in
     (inner.0, inner.1, outer.1)
 
 -- a word that does not begin with `__`, with more after it, where it does not end in `_`
-identifier_more : (base more : List ℕ) → is_word base ≡ true → ends_separated base ≡ false → begins_double base ≡ false → is_word (base ++ more) ≡ true → is_identifier (base ++ more) ≡ true
+identifier_more : (base more : List ℕ) → is_word base ≡ true → ends_separated base ≡ false → begins_double base
+    ≡ false → is_word (base ++ more) ≡ true → is_identifier (base ++ more) ≡ true
 identifier_more [] more some ends single word = absurd (cc)
-identifier_more (c ∷ []) more some ends single word = and_from _ _ word (ap (λ b. not (b && is_empty_or_separated more)) ends)
+identifier_more (c ∷ []) more some ends single word =
+    and_from _ _ word (ap (λ b. not (b && is_empty_or_separated more)) ends)
 identifier_more (c ∷ d ∷ cs) more some ends single word = and_from _ _ word (ap not single)
 
-identifier_of_base : (names : Names) (base : List ℕ) (n : ℕ) → is_word base ≡ true → ends_separated base ≡ false → begins_double base ≡ false → is_identifier (name_of_base names base n) ≡ true
+identifier_of_base : (names : Names) (base : List ℕ) (n : ℕ) → is_word base ≡ true → ends_separated base
+    ≡ false → begins_double base ≡ false → is_identifier (name_of_base names base n) ≡ true
 identifier_of_base names base n some ends single = either (name_cases names base n) (word_of_base names base some n)
   where
     plain : is_word base ≡ true → is_identifier base ≡ true
-    plain word = ap is_identifier (sym (append-nil base)) ∙ identifier_more base [] some ends single (ap is_word (append-nil base) ∙ word)
+    plain word = ap is_identifier (sym (append-nil base)) ∙ identifier_more base [] some ends single
+        (ap is_word (append-nil base) ∙ word)
 
     first : (first_name names base ≡ base ++ 95 ∷ []) ⊎
         ((first_name names base ≡ base) × (ends_in_digit base ≡ false) ×
         (is_taken names base ≡ false)) → is_word (first_name names base) ≡ true →
         is_identifier (first_name names base) ≡ true
-    first (inl is) word = ap is_identifier is ∙ identifier_more base (95 ∷ []) some ends single (ap is_word (sym is) ∙ word)
+    first (inl is) word = ap is_identifier is ∙ identifier_more base (95 ∷ []) some ends single
+        (ap is_word (sym is) ∙ word)
     first (inr is) word = ap is_identifier is.0 ∙ plain some
 
     either : ((n ≡ 0) × (name_of_base names base n ≡ first_name names base)) ⊎
@@ -260,10 +294,12 @@ identifier_of_base names base n some ends single = either (name_cases names base
         is_word (name_of_base names base n) ≡ true →
         is_identifier (name_of_base names base n) ≡ true
     either (inl is) word = ap is_identifier is.1 ∙ first (first_cases names base) (ap is_word (sym is.1) ∙ word)
-    either (inr is) word = ap is_identifier is ∙ identifier_more base (95 ∷ numeral n) some ends single (ap is_word (sym is) ∙ word)
+    either (inr is) word = ap is_identifier is ∙ identifier_more base (95 ∷ numeral n) some ends single
+        (ap is_word (sym is) ∙ word)
 
 -- a name is an identifier: a word that does not begin with `__`, and is not `_`
-pub name_after_is_identifier : (start : Names) (earlier : List (List ℕ)) (label : List ℕ) → is_identifier (name_after start earlier label) ≡ true
+pub name_after_is_identifier : (start : Names) (earlier : List (List ℕ)) (label : List ℕ) →
+    is_identifier (name_after start earlier label) ≡ true
 name_after_is_identifier start earlier label =
     identifier_of_base start (label_base start label)
     (labels_with_base start earlier (label_base start label))
@@ -283,7 +319,8 @@ naga_parted (a ∷ b ∷ c ∷ []) more some = refl
 naga_parted (a ∷ b ∷ c ∷ d ∷ []) more some = refl
 naga_parted (a ∷ b ∷ c ∷ d ∷ e ∷ rest) more some = refl
 
-base_no_naga : (prefixes : List (List ℕ)) (characters : List ℕ) → prefixes ≡ codes "__" ∷ codes "_naga" ∷ [] → naga (base_of prefixes characters) ≡ false
+base_no_naga : (prefixes : List (List ℕ)) (characters : List ℕ) → prefixes ≡ codes "__" ∷ codes "_naga" ∷ [] →
+    naga (base_of prefixes characters) ≡ false
 unfolding base_of
 base_no_naga prefixes characters is =
     ap (λ ps. naga (kept_off ps text)) is ∙ either (starts_with nat_eq text (codes "__") || (naga text || false)) refl
@@ -291,18 +328,24 @@ base_no_naga prefixes characters is =
     text : List ℕ
     text = or_unnamed (without_last_separators (spelling (after_numerics characters)))
 
-    either : (b : Bool) → (starts_with nat_eq text (codes "__") || (naga text || false)) ≡ b → naga (cond b (codes "gen_" ++ text) text) ≡ false
+    either : (b : Bool) → (starts_with nat_eq text (codes "__") || (naga text || false)) ≡ b →
+        naga (cond b (codes "gen_" ++ text) text) ≡ false
     either true e = refl
-    either false e = (or_parts (naga text) false (or_parts (starts_with nat_eq text (codes "__")) (naga text || false) e).1).0
+    either false e =
+        (or_parts (naga text) false (or_parts (starts_with nat_eq text (codes "__")) (naga text || false) e).1).0
 
-naga_of_base : (names : Names) (base : List ℕ) (n : ℕ) → is_word base ≡ true → naga base ≡ false → naga (name_of_base names base n) ≡ false
+naga_of_base : (names : Names) (base : List ℕ) (n : ℕ) → is_word base ≡ true → naga base ≡ false →
+    naga (name_of_base names base n) ≡ false
 naga_of_base names base n some off = either (name_cases names base n)
   where
-    first : (first_name names base ≡ base ++ 95 ∷ []) ⊎ ((first_name names base ≡ base) × (ends_in_digit base ≡ false) × (is_taken names base ≡ false)) → naga (first_name names base) ≡ false
+    first : (first_name names base ≡ base ++ 95 ∷ [])
+        ⊎ ((first_name names base ≡ base) × (ends_in_digit base ≡ false) × (is_taken names base ≡ false)) →
+        naga (first_name names base) ≡ false
     first (inl is) = ap naga is ∙ naga_parted base [] some ∙ off
     first (inr is) = ap naga is.0 ∙ off
 
-    either : ((n ≡ 0) × (name_of_base names base n ≡ first_name names base)) ⊎ (name_of_base names base n ≡ base ++ 95 ∷ numeral n) → naga (name_of_base names base n) ≡ false
+    either : ((n ≡ 0) × (name_of_base names base n ≡ first_name names base))
+        ⊎ (name_of_base names base n ≡ base ++ 95 ∷ numeral n) → naga (name_of_base names base n) ≡ false
     either (inl is) = ap naga is.1 ∙ first (first_cases names base)
     either (inr is) = ap naga is ∙ naga_parted base (numeral n) some ∙ off
 
@@ -317,7 +360,8 @@ name_after_no_naga start earlier label prefixes =
     (base_no_naga start.reserved_prefixes (chars label) prefixes)
 
 -- no name is a word of the sets
-pub name_after_no_keyword : (start : Names) (earlier : List (List ℕ)) (label : List ℕ) → HasPlainEnds start.keywords → set.contains start.keywords (name_after start earlier label) ≡ false
+pub name_after_no_keyword : (start : Names) (earlier : List (List ℕ)) (label : List ℕ) →
+    HasPlainEnds start.keywords → set.contains start.keywords (name_after start earlier label) ≡ false
 name_after_no_keyword start earlier label plain =
     free_of_base start (label_base start label) (set.contains start.keywords) plain.no_end
     (λ e. (kept_three start (label_base start label) e).0)
@@ -337,14 +381,17 @@ pub name_after_no_caseless : (start : Names) (earlier : List (List ℕ)) (label 
 name_after_no_caseless start earlier label plain =
     let base = label_base start label in
     free_of_base start base (λ word. set.contains start.caseless_keywords (in_lower_case word))
-    (λ front digits all. ap (set.contains start.caseless_keywords) (lowered_end front digits) ∙ plain.no_end (in_lower_case front) (in_lower_case digits) (lowered_digits digits all))
+    (λ front digits all. ap (set.contains start.caseless_keywords) (lowered_end front digits)
+    ∙ plain.no_end (in_lower_case front) (in_lower_case digits) (lowered_digits digits all))
     (λ e. (kept_three start base e).2) (labels_with_base start earlier base)
   where
-    lowered_end : (front digits : List ℕ) → in_lower_case (front ++ 95 ∷ digits) ≡ in_lower_case front ++ 95 ∷ in_lower_case digits
+    lowered_end : (front digits : List ℕ) → in_lower_case (front ++ 95 ∷ digits) ≡ in_lower_case front ++ 95
+        ∷ in_lower_case digits
     lowered_end [] digits = refl
     lowered_end (c ∷ front) digits = ap (λ t. to_ascii_lowercase c ∷ t) (lowered_end front digits)
 
-    lowered_digits : (digits : List ℕ) → list_all is_ascii_digit digits ≡ true → list_all is_ascii_digit (in_lower_case digits) ≡ true
+    lowered_digits : (digits : List ℕ) → list_all is_ascii_digit digits ≡ true →
+        list_all is_ascii_digit (in_lower_case digits) ≡ true
     lowered_digits [] e = refl
     lowered_digits (d ∷ digits) e =
         let parts = and_parts (is_ascii_digit d) (list_all is_ascii_digit digits) e in
@@ -371,7 +418,8 @@ plain_ends words all = record {
         either false e = refl
 
 -- no name is `_e` and a number after it
-pub name_after_not_numbered : (start : Names) (earlier : List (List ℕ)) (label : List ℕ) (h : ℕ) → name_after start earlier label ≡ codes "_e" ++ decimal h → ⊥
+pub name_after_not_numbered : (start : Names) (earlier : List (List ℕ)) (label : List ℕ) (h : ℕ) →
+    name_after start earlier label ≡ codes "_e" ++ decimal h → ⊥
 name_after_not_numbered start earlier label h is =
     numbered_of_base start (label_base start label)
     (base_is_word start.reserved_prefixes (chars label))
@@ -389,14 +437,17 @@ module _ (start : Names) where
       ∙ ap (λ b. cond b 1 0 + labels_with_base start rest base) ((bytes_decides (label_base start a) base).1 same))
 
   -- labels at two places have different names
-  pub names_differ : (first : List (List ℕ)) (a : List ℕ) (middle : List (List ℕ)) (b : List ℕ) → name_after start first a ≡ name_after start (first ++ a ∷ middle) b → ⊥
+  pub names_differ : (first : List (List ℕ)) (a : List ℕ) (middle : List (List ℕ)) (b : List ℕ) →
+      name_after start first a ≡ name_after start (first ++ a ∷ middle) b → ⊥
   names_differ first a middle b is =
       let base_a : List ℕ = label_base start a in
       let base_b : List ℕ = label_base start b in
       let m : ℕ = labels_with_base start first base_a in
       let n : ℕ = labels_with_base start (first ++ a ∷ middle) base_b in
-      let same = same_base_and_number start base_a base_b m n (base_ends start.reserved_prefixes (chars a)) (base_ends start.reserved_prefixes (chars b)) is in
-      let more : n ≡ labels_with_base start first base_b + (1 + labels_with_base start middle base_b) = counted_more first a middle base_b same.0 in
+      let same = same_base_and_number start base_a base_b m n (base_ends start.reserved_prefixes (chars a))
+      (base_ends start.reserved_prefixes (chars b)) is in
+      let more : n ≡ labels_with_base start first base_b + (1 + labels_with_base start middle base_b) =
+      counted_more first a middle base_b same.0 in
       let less : m ≡ labels_with_base start first base_b = ap (labels_with_base start first) same.0 in
       let equal : m ≡ n = same.1 in
       absurd (omega (arith, more, less, equal))

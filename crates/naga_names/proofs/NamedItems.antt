@@ -39,10 +39,12 @@ use Rattle.naga_names.proofs.NameShapes.{names_differ}
 
 -- ---- the name of the item at a place
 abbrev named_from : Names → List LabelledItem → List LabelledItem → List (NameKey × List ℕ)
-named_from start earlier items = scan (λ earlier item. earlier ++ item ∷ []) (λ earlier item. (item.0, item_name start earlier item)) earlier items
+named_from start earlier items = scan (λ earlier item. earlier ++ item ∷ [])
+    (λ earlier item. (item.0, item_name start earlier item)) earlier items
 
 -- ---- no name comes twice
-split_one : (xs : List LabelledItem) (j : ℕ) (y : LabelledItem) → slice_get xs j ≡ Some y → (rest : List LabelledItem) × (xs ≡ take j xs ++ y ∷ rest)
+split_one : (xs : List LabelledItem) (j : ℕ) (y : LabelledItem) → slice_get xs j ≡ Some y →
+    (rest : List LabelledItem) × (xs ≡ take j xs ++ y ∷ rest)
 split_one [] j y e = absurd (none-some y e)
 split_one (x ∷ xs) zero y e = (xs, ap (λ z. z ∷ xs) (same_Some x y e))
 split_one (x ∷ xs) (suc j) y e = let rest = split_one xs j y e in (rest.0, ap (λ t. x ∷ t) rest.1)
@@ -53,7 +55,8 @@ record Split (xs : List LabelledItem) (i j : ℕ) (x y : LabelledItem) : Type 0 
   all : xs ≡ (take i xs ++ x ∷ middle) ++ y ∷ rest
   before : take j xs ≡ take i xs ++ x ∷ middle
 
-split_two : (xs : List LabelledItem) (i j : ℕ) (x y : LabelledItem) → i < j → slice_get xs i ≡ Some x → slice_get xs j ≡ Some y → Split xs i j x y
+split_two : (xs : List LabelledItem) (i j : ℕ) (x y : LabelledItem) → i < j → slice_get xs i ≡ Some x →
+    slice_get xs j ≡ Some y → Split xs i j x y
 split_two [] i j x y lt ex ey = absurd (none-some x ex)
 split_two (z ∷ xs) zero zero x y lt ex ey = absurd (omega (arith, lt))
 split_two (z ∷ xs) zero (suc j) x y lt ex ey =
@@ -63,7 +66,12 @@ split_two (z ∷ xs) zero (suc j) x y lt ex ey =
 split_two (z ∷ xs) (suc i) zero x y lt ex ey = absurd (omega (arith, lt))
 split_two (z ∷ xs) (suc i) (suc j) x y lt ex ey =
     let inner = split_two xs i j x y (omega (arith, lt)) ex ey in
-    record { middle = inner.middle; rest = inner.rest; all = ap (λ t. z ∷ t) inner.all; before = ap (λ t. z ∷ t) inner.before }
+    record {
+      middle = inner.middle;
+      rest = inner.rest;
+      all = ap (λ t. z ∷ t) inner.all;
+      before = ap (λ t. z ∷ t) inner.before;
+    }
 
 -- two places are one, or one is before the other
 pub order : (i j : ℕ) → (i ≡ j) ⊎ ((i < j) ⊎ (j < i))
@@ -86,8 +94,10 @@ module _ (start : Names) (items : List LabelledItem) where
   item_names_differ i j x y lt ex ey out_x out_y same =
       let parts = split_two items i j x y lt ex ey in
       let front : List (List ℕ) = labels_of (take i items) in
-      let before : labels_of (take j items) ≡ front ++ x.1 ∷ labels_of parts.middle = ap labels_of parts.before ∙ labels_of-around (take i items) x parts.middle out_x in
-      names_differ start front x.1 (labels_of parts.middle) y.1 (same ∙ ap (λ labels. name_after start labels y.1) before)
+      let before : labels_of (take j items) ≡ front ++ x.1 ∷ labels_of parts.middle = ap labels_of parts.before
+      ∙ labels_of-around (take i items) x parts.middle out_x in
+      names_differ start front x.1 (labels_of parts.middle) y.1
+      (same ∙ ap (λ labels. name_after start labels y.1) before)
 
   -- two places with one name are one place
   pub item_names_tell : (i j : ℕ) (x y : LabelledItem) → slice_get items i ≡ Some x →
@@ -108,12 +118,15 @@ apart_from : (start : Names) (k : NameKey) (earlier items : List LabelledItem) �
 apart_from start k earlier [] all = tt
 apart_from start k earlier (x ∷ items) all = (all.0, apart_from start k (earlier ++ x ∷ []) items all.1)
 
-keys_distinct : (start : Names) (earlier items : List LabelledItem) → AreApart items → IsDistinct same_key (keys_of (named_from start earlier items))
+keys_distinct : (start : Names) (earlier items : List LabelledItem) → AreApart items →
+    IsDistinct same_key (keys_of (named_from start earlier items))
 unfolding IsDistinct
 keys_distinct start earlier [] apart = tt
-keys_distinct start earlier (x ∷ items) apart = (apart_from start x.0 (earlier ++ x ∷ []) items apart.0, keys_distinct start (earlier ++ x ∷ []) items apart.1)
+keys_distinct start earlier (x ∷ items) apart =
+    (apart_from start x.0 (earlier ++ x ∷ []) items apart.0, keys_distinct start (earlier ++ x ∷ []) items apart.1)
 
-at_place : (P : LabelledItem → Type 0) (xs : List LabelledItem) (i : ℕ) (y : LabelledItem) → AllByRecursion P xs → slice_get xs i ≡ Some y → P y
+at_place : (P : LabelledItem → Type 0) (xs : List LabelledItem) (i : ℕ) (y : LabelledItem) →
+    AllByRecursion P xs → slice_get xs i ≡ Some y → P y
 at_place P [] i y all e = absurd (none-some y e)
 at_place P (x ∷ xs) zero y all e = subst P (same_Some x y e) all.0
 at_place P (x ∷ xs) (suc i) y all e = at_place P xs i y all.1 e
@@ -126,18 +139,22 @@ found start earlier [] i item apart e = absurd (none-some item e)
 found start earlier (x ∷ items) zero item apart e =
     let same = same_Some x item e in
     let yes = ap (same_key item.0) (ap (λ (y : LabelledItem). y.0) same) ∙ same_key_laws.refl item.0 in
-    ap (λ b. cond b (Some (item_name start earlier x)) (lookup (same_key item.0) (named_from start (earlier ++ x ∷ []) items))) yes
+    ap (λ b. cond b (Some (item_name start earlier x))
+    (lookup (same_key item.0) (named_from start (earlier ++ x ∷ []) items))) yes
     ∙ (λ j. Some (item_name start (sym (append-nil earlier) j) (same j)))
 found start earlier (x ∷ items) (suc i) item apart e =
     let other = same_key_laws.symm item.0 x.0 ∙ at_place (λ y. same_key x.0 y.0 ≡ false) items i item apart.0 e in
-    ap (λ b. cond b (Some (item_name start earlier x)) (lookup (same_key item.0) (named_from start (earlier ++ x ∷ []) items))) other
+    ap (λ b. cond b (Some (item_name start earlier x))
+    (lookup (same_key item.0) (named_from start (earlier ++ x ∷ []) items))) other
     ∙ found start (earlier ++ x ∷ []) items i item apart.1 e
     ∙ ap (λ items. Some (item_name start items item)) (append_assoc earlier (x ∷ []) (take i items))
 
-absent : (start : Names) (k : NameKey) (earlier items : List LabelledItem) → AllByRecursion (λ y. same_key k y.0 ≡ false) items → lookup (same_key k) (named_from start earlier items) ≡ None
+absent : (start : Names) (k : NameKey) (earlier items : List LabelledItem) →
+    AllByRecursion (λ y. same_key k y.0 ≡ false) items → lookup (same_key k) (named_from start earlier items) ≡ None
 absent start k earlier [] all = refl
 absent start k earlier (x ∷ items) all =
-    ap (λ b. cond b (Some (item_name start earlier x)) (lookup (same_key k) (named_from start (earlier ++ x ∷ []) items))) all.0
+    ap (λ b. cond b (Some (item_name start earlier x))
+    (lookup (same_key k) (named_from start (earlier ++ x ∷ []) items))) all.0
     ∙ absent start k (earlier ++ x ∷ []) items all.1
 
 -- among the names of some items, an item's key has its name, and a key that no item has none
@@ -146,7 +163,8 @@ pub name_found : (start : Names) (items : List LabelledItem) (i : ℕ) (item : L
     lookup (same_key item.0) (named_items start items) ≡ Some (item_name start (take i items) item)
 name_found start items i item apart e = found start [] items i item apart e
 
-pub name_absent : (start : Names) (items : List LabelledItem) (k : NameKey) → AllByRecursion (λ y. same_key k y.0 ≡ false) items → lookup (same_key k) (named_items start items) ≡ None
+pub name_absent : (start : Names) (items : List LabelledItem) (k : NameKey) →
+    AllByRecursion (λ y. same_key k y.0 ≡ false) items → lookup (same_key k) (named_items start items) ≡ None
 name_absent start items k none = absent start k [] items none
 
 -- the name of the item at a place is in the map
@@ -155,7 +173,8 @@ pub item_put : (start : Names) (before now : NameMap) (items : List LabelledItem
     slice_get items i ≡ Some item → now item.0 ≡ Some (item_name start (take i items) item)
 item_put start before now items put apart i item e =
     put.finds item.0
-    ∙ update_all_distinct same_key_laws same_key (λ x y. refl) before (named_items start items) item.0 (keys_distinct start [] items apart)
+    ∙ update_all_distinct same_key_laws same_key (λ x y. refl) before (named_items start items) item.0
+    (keys_distinct start [] items apart)
     ∙ ap (λ o. option_or o (before item.0)) (name_found start items i item apart e)
 
 -- of an item outside structs, the name after the labels before it
@@ -163,7 +182,8 @@ pub put_at : (start : Names) (before now : NameMap) (items : List LabelledItem) 
     PutsInto before (named_items start items) now → AreApart items → (i : ℕ) (item : LabelledItem) →
     slice_get items i ≡ Some item → is_member item.0 ≡ false →
     now item.0 ≡ Some (name_after start (labels_of (take i items)) item.1)
-put_at start before now items put apart i item e outside = item_put start before now items put apart i item e ∙ ap Some (item_name-outside start (take i items) item.0 item.1 outside)
+put_at start before now items put apart i item e outside = item_put start before now items put apart i item e
+    ∙ ap Some (item_name-outside start (take i items) item.0 item.1 outside)
 
 -- a map has at a key that no item has what it had
 pub put_elsewhere : (start : Names) (before now : NameMap) (items : List LabelledItem) →
@@ -171,7 +191,8 @@ pub put_elsewhere : (start : Names) (before now : NameMap) (items : List Labelle
     (key : NameKey) → AllByRecursion (λ y. same_key key y.0 ≡ false) items → now key ≡ before key
 put_elsewhere start before now items put apart k none =
     put.finds k
-    ∙ update_all_distinct same_key_laws same_key (λ x y. refl) before (named_items start items) k (keys_distinct start [] items apart)
+    ∙ update_all_distinct same_key_laws same_key (λ x y. refl) before (named_items start items) k
+    (keys_distinct start [] items apart)
     ∙ ap (λ o. option_or o (before k)) (name_absent start items k none)
 
 -- ---- where an item stands
@@ -189,13 +210,15 @@ pub record Stands (items : List LabelledItem) (item : LabelledItem) : Type 0 whe
 among : {items : List LabelledItem} {item : LabelledItem} → Stands items item → IsAmong items item
 among s = record { place = s.place; there = s.there }
 
-standing : {items others : List LabelledItem} {item : LabelledItem} → Stands others item → IsAmong items item → Stands items item
+standing : {items others : List LabelledItem} {item : LabelledItem} → Stands others item → IsAmong items item →
+    Stands items item
 standing s a = record { place = a.place; there = a.there; outside = s.outside }
 
 pub first_among : (item : LabelledItem) (items : List LabelledItem) → IsAmong (item ∷ items) item
 first_among item items = record { place = 0; there = refl }
 
-pub place_left : (xs ys : List LabelledItem) (i : ℕ) (item : LabelledItem) → slice_get xs i ≡ Some item → slice_get (xs ++ ys) i ≡ Some item
+pub place_left : (xs ys : List LabelledItem) (i : ℕ) (item : LabelledItem) → slice_get xs i ≡ Some item →
+    slice_get (xs ++ ys) i ≡ Some item
 place_left [] ys i item e = absurd (none-some item e)
 place_left (x ∷ xs) ys zero item e = e
 place_left (x ∷ xs) ys (suc i) item e = place_left xs ys i item e
@@ -205,7 +228,8 @@ among_left xs ys item s = record { place = s.place; there = place_left xs ys s.p
 
 pub among_right : (xs ys : List LabelledItem) (item : LabelledItem) → IsAmong ys item → IsAmong (xs ++ ys) item
 among_right [] ys item s = s
-among_right (x ∷ xs) ys item s = let inner = among_right xs ys item s in record { place = suc inner.place; there = inner.there }
+among_right (x ∷ xs) ys item s = let inner = among_right xs ys item s in
+    record { place = suc inner.place; there = inner.there }
 
 pub among_sections : {X : Type 0} (section : ℕ → X → List LabelledItem) (n i : ℕ) (xs : List X)
     (x : X) (item : LabelledItem) → slice_get xs i ≡ Some x → IsAmong (section (n + i) x) item →
@@ -218,15 +242,19 @@ among_sections section n zero (y ∷ xs) x item e s =
     (subst (λ m. IsAmong (section m x) item) here s))
 among_sections section n (suc i) (y ∷ xs) x item e s =
     let next : n + suc i ≡ n + 1 + i = omega arith in
-    among_right (section n y) (flat_map (λ p. section p.0 p.1) (enumerate_from (n + 1) xs)) item (among_sections section (n + 1) i xs x item e (subst (λ m. IsAmong (section m x) item) next s))
+    among_right (section n y) (flat_map (λ p. section p.0 p.1) (enumerate_from (n + 1) xs)) item
+    (among_sections section (n + 1) i xs x item e (subst (λ m. IsAmong (section m x) item) next s))
 
-pub among_entries : {X : Type 0} (entry : ℕ → X → LabelledItem) (i : ℕ) (xs : List X) (x : X) → slice_get xs i ≡ Some x → IsAmong (map (λ p. entry p.0 p.1) (enumerate_from 0 xs)) (entry i x)
+pub among_entries : {X : Type 0} (entry : ℕ → X → LabelledItem) (i : ℕ) (xs : List X) (x : X) → slice_get xs i
+    ≡ Some x → IsAmong (map (λ p. entry p.0 p.1) (enumerate_from 0 xs)) (entry i x)
 among_entries entry i xs x e =
     let same : 0 + i ≡ i = omega arith in
     subst (λ items. IsAmong items (entry i x)) (single (λ p. entry p.0 p.1) (enumerate_from 0 xs))
-    (among_sections (λ n x. entry n x ∷ []) 0 i xs x (entry i x) e (subst (λ n. IsAmong (entry n x ∷ []) (entry i x)) (sym same) (first_among (entry i x) [])))
+    (among_sections (λ n x. entry n x ∷ []) 0 i xs x (entry i x) e
+    (subst (λ n. IsAmong (entry n x ∷ []) (entry i x)) (sym same) (first_among (entry i x) [])))
 
-pub stands_first : (item : LabelledItem) (items : List LabelledItem) → is_member item.0 ≡ false → Stands (item ∷ items) item
+pub stands_first : (item : LabelledItem) (items : List LabelledItem) → is_member item.0 ≡ false →
+    Stands (item ∷ items) item
 stands_first item items outside = record { place = 0; there = refl; outside = outside }
 
 pub stands_left : (xs ys : List LabelledItem) (item : LabelledItem) → Stands xs item → Stands (xs ++ ys) item
@@ -243,7 +271,8 @@ stands_in_section section n i xs x item e s = standing s (among_sections section
 pub stands_in_entries : {X : Type 0} (entry : ℕ → X → LabelledItem) (i : ℕ) (xs : List X) (x : X) →
     slice_get xs i ≡ Some x → is_member (entry i x).0 ≡ false →
     Stands (map (λ p. entry p.0 p.1) (enumerate_from 0 xs)) (entry i x)
-stands_in_entries entry i xs x e outside = let a = among_entries entry i xs x e in record { place = a.place; there = a.there; outside = outside }
+stands_in_entries entry i xs x e outside = let a = among_entries entry i xs x e in
+    record { place = a.place; there = a.there; outside = outside }
 
 -- ---- the items of a module, each where its list has it
 pub type_among_types : (start : Names) («module» : Module) (t : ℕ) (ty : Type_) →
@@ -254,7 +283,8 @@ pub type_among_types : (start : Names) («module» : Module) (t : ℕ) (ty : Typ
     )
 type_among_types start m t ty e =
     let same : t ≡ 0 + t = omega arith in
-    stands_in_section (labelled_type m.entry_points.items) 0 t m.types ty (key.Type_ t, type_label m.entry_points.items t ty) e
+    stands_in_section (labelled_type m.entry_points.items) 0 t m.types ty
+    (key.Type_ t, type_label m.entry_points.items t ty) e
     (subst (λ n. Stands (labelled_type m.entry_points.items n ty) (
       key.Type_ t,
       type_label m.entry_points.items t ty,
@@ -279,13 +309,16 @@ module _ (start : Names) («module» : Module) where
   the_globals = labelled_globals «module».types «module».global_variables
 
   -- what is declared beside the values
-  declared : (item : LabelledItem) → Stands (labelled_declarations «module») item → Stands (labelled_items start «module») item
+  declared : (item : LabelledItem) → Stands (labelled_declarations «module») item →
+      Stands (labelled_items start «module») item
   declared item s = stands_left (labelled_declarations «module») the_values item s
 
-  pub type_stands : (t : ℕ) (ty : Type_) → slice_get «module».types t ≡ Some ty → Stands (labelled_items start «module») (key.Type_ t, type_label «module».entry_points.items t ty)
+  pub type_stands : (t : ℕ) (ty : Type_) → slice_get «module».types t ≡ Some ty →
+      Stands (labelled_items start «module») (key.Type_ t, type_label «module».entry_points.items t ty)
   type_stands t ty e =
       declared (key.Type_ t, type_label «module».entry_points.items t ty)
-      (stands_left the_types (the_entry_points ++ (the_functions ++ the_globals)) (key.Type_ t, type_label «module».entry_points.items t ty) (type_among_types start «module» t ty e))
+      (stands_left the_types (the_entry_points ++ (the_functions ++ the_globals))
+      (key.Type_ t, type_label «module».entry_points.items t ty) (type_among_types start «module» t ty e))
 
   in_entry_point : (n : ℕ) (entry_point : EntryPoint) (item : LabelledItem) →
       slice_get «module».entry_points.items n ≡ Some entry_point →
@@ -294,12 +327,14 @@ module _ (start : Names) («module» : Module) where
       let same : n ≡ 0 + n = omega arith in
       declared item (stands_right the_types (the_entry_points ++ (the_functions ++ the_globals)) item
       (stands_left the_entry_points (the_functions ++ the_globals) item
-      (stands_in_section labelled_entry_point 0 n «module».entry_points.items entry_point item e (subst (λ k. Stands (labelled_entry_point k entry_point) item) same s))))
+      (stands_in_section labelled_entry_point 0 n «module».entry_points.items entry_point item e
+      (subst (λ k. Stands (labelled_entry_point k entry_point) item) same s))))
 
   pub entry_point_stands : (n : ℕ) (entry_point : EntryPoint) →
       slice_get «module».entry_points.items n ≡ Some entry_point →
       Stands (labelled_items start «module») (key.EntryPoint n, string_bytes entry_point.name)
-  entry_point_stands n entry_point e = in_entry_point n entry_point (key.EntryPoint n, string_bytes entry_point.name) e (stands_first _ _ refl)
+  entry_point_stands n entry_point e =
+      in_entry_point n entry_point (key.EntryPoint n, string_bytes entry_point.name) e (stands_first _ _ refl)
 
   pub entry_argument_stands : (n : ℕ) (entry_point : EntryPoint) (a : ℕ)
       (argument : FunctionArgument) → slice_get «module».entry_points.items n ≡ Some entry_point →
@@ -312,7 +347,8 @@ module _ (start : Names) («module» : Module) where
       let item : LabelledItem = (key.EntryPointArgument n a, label_or argument.name (codes "param")) in
       let arguments = labelled_entry_arguments n entry_point.function.arguments.items in
       let locals = labelled_entry_locals n entry_point.function.local_variables in
-      in_entry_point n entry_point item e (stands_right ((key.EntryPoint n, string_bytes entry_point.name) ∷ []) (arguments ++ locals) item
+      in_entry_point n entry_point item e (stands_right ((key.EntryPoint n, string_bytes entry_point.name) ∷ [])
+      (arguments ++ locals) item
       (stands_left arguments locals item
       (stands_in_entries
       (λ k (b : FunctionArgument). (
@@ -332,7 +368,8 @@ module _ (start : Names) («module» : Module) where
       let item : LabelledItem = (key.EntryPointLocal n l, label_or local.name (codes "local")) in
       let arguments = labelled_entry_arguments n entry_point.function.arguments.items in
       let locals = labelled_entry_locals n entry_point.function.local_variables in
-      in_entry_point n entry_point item e (stands_right ((key.EntryPoint n, string_bytes entry_point.name) ∷ []) (arguments ++ locals) item
+      in_entry_point n entry_point item e (stands_right ((key.EntryPoint n, string_bytes entry_point.name) ∷ [])
+      (arguments ++ locals) item
       (stands_right arguments locals item
       (stands_in_entries
       (λ k (v : LocalVariable). (key.EntryPointLocal n k, label_or v.name (codes "local"))) l
@@ -347,7 +384,8 @@ module _ (start : Names) («module» : Module) where
       declared item (stands_right the_types (the_entry_points ++ (the_functions ++ the_globals)) item
       (stands_right the_entry_points (the_functions ++ the_globals) item
       (stands_left the_functions the_globals item
-      (stands_in_section (labelled_function «module».types) 0 h «module».functions function item e (subst (λ n. Stands (labelled_function «module».types n function) item) same s)))))
+      (stands_in_section (labelled_function «module».types) 0 h «module».functions function item e
+      (subst (λ n. Stands (labelled_function «module».types n function) item) same s)))))
 
   pub function_stands : (h : ℕ) (function : Function) →
       slice_get «module».functions h ≡ Some function →
@@ -355,7 +393,10 @@ module _ (start : Names) («module» : Module) where
         key.Function h,
         label_or function.name (codes "function"),
       )
-  function_stands h function e = in_function h function (key.Function h, label_or function.name (codes "function")) e (stands_first _ _ refl)
+  function_stands h function e = in_function h function (
+    key.Function h,
+    label_or function.name (codes "function"),
+  ) e (stands_first _ _ refl)
 
   in_argument : (h : ℕ) (function : Function) (n : ℕ) (argument : FunctionArgument)
       (item : LabelledItem) → slice_get «module».functions h ≡ Some function →
@@ -366,9 +407,11 @@ module _ (start : Names) («module» : Module) where
       let same : n ≡ 0 + n = omega arith in
       let arguments = labelled_arguments «module».types h function.arguments.items in
       let locals = labelled_locals h function.local_variables in
-      in_function h function item e (stands_right ((key.Function h, label_or function.name (codes "function")) ∷ []) (arguments ++ locals) item
+      in_function h function item e
+      (stands_right ((key.Function h, label_or function.name (codes "function")) ∷ []) (arguments ++ locals) item
       (stands_left arguments locals item
-      (stands_in_section (labelled_argument «module».types h) 0 n function.arguments.items argument item a (subst (λ k. Stands (labelled_argument «module».types h k argument) item) same s))))
+      (stands_in_section (labelled_argument «module».types h) 0 n function.arguments.items argument item a
+      (subst (λ k. Stands (labelled_argument «module».types h k argument) item) same s))))
 
   pub argument_stands : (h : ℕ) (function : Function) (n : ℕ) (argument : FunctionArgument) →
       slice_get «module».functions h ≡ Some function →
@@ -377,7 +420,9 @@ module _ (start : Names) («module» : Module) where
         key.FunctionArgument h n,
         label_or argument.name (codes "param"),
       )
-  argument_stands h function n argument e a = in_argument h function n argument (key.FunctionArgument h n, label_or argument.name (codes "param")) e a (stands_first _ _ refl)
+  argument_stands h function n argument e a =
+      in_argument h function n argument (key.FunctionArgument h n, label_or argument.name (codes "param")) e a
+      (stands_first _ _ refl)
 
   -- a part of an argument that is an external image
   pub argument_part_stands : (h : ℕ) (function : Function) (n : ℕ) (argument : FunctionArgument)
@@ -392,7 +437,9 @@ module _ (start : Names) («module» : Module) where
       (cond (is_external «module».types argument.ty)
       (labelled_parts (key.ExternalTextureFunctionArgument h n)
       (label_or argument.name (codes "param"))) []) part
-      (subst (λ b. Stands (cond b (labelled_parts (key.ExternalTextureFunctionArgument h n) (label_or argument.name (codes "param"))) []) part) (sym external) s))
+      (subst (λ b. Stands
+      (cond b (labelled_parts (key.ExternalTextureFunctionArgument h n)
+      (label_or argument.name (codes "param"))) []) part) (sym external) s))
 
   pub local_stands : (h : ℕ) (function : Function) (l : ℕ) (local : LocalVariable) →
       slice_get «module».functions h ≡ Some function →
@@ -405,8 +452,11 @@ module _ (start : Names) («module» : Module) where
       let item : LabelledItem = (key.FunctionLocal h l, label_or local.name (codes "local")) in
       let arguments = labelled_arguments «module».types h function.arguments.items in
       let locals = labelled_locals h function.local_variables in
-      in_function h function item e (stands_right ((key.Function h, label_or function.name (codes "function")) ∷ []) (arguments ++ locals) item
-      (stands_right arguments locals item (stands_in_entries (λ k (v : LocalVariable). (key.FunctionLocal h k, label_or v.name (codes "local"))) l function.local_variables local f refl)))
+      in_function h function item e
+      (stands_right ((key.Function h, label_or function.name (codes "function")) ∷ []) (arguments ++ locals) item
+      (stands_right arguments locals item
+      (stands_in_entries (λ k (v : LocalVariable).
+      (key.FunctionLocal h k, label_or v.name (codes "local"))) l function.local_variables local f refl)))
 
   in_global : (g : ℕ) (global : GlobalVariable) (item : LabelledItem) →
       slice_get «module».global_variables g ≡ Some global →
@@ -417,7 +467,8 @@ module _ (start : Names) («module» : Module) where
       declared item (stands_right the_types (the_entry_points ++ (the_functions ++ the_globals)) item
       (stands_right the_entry_points (the_functions ++ the_globals) item
       (stands_right the_functions the_globals item
-      (stands_in_section (labelled_global «module».types) 0 g «module».global_variables global item e (subst (λ k. Stands (labelled_global «module».types k global) item) same s)))))
+      (stands_in_section (labelled_global «module».types) 0 g «module».global_variables global item e
+      (subst (λ k. Stands (labelled_global «module».types k global) item) same s)))))
 
   pub global_stands : (g : ℕ) (global : GlobalVariable) →
       slice_get «module».global_variables g ≡ Some global →
@@ -425,7 +476,8 @@ module _ (start : Names) («module» : Module) where
         key.GlobalVariable g,
         label_or global.name (codes "global"),
       )
-  global_stands g global e = in_global g global (key.GlobalVariable g, label_or global.name (codes "global")) e (stands_first _ _ refl)
+  global_stands g global e = in_global g global (key.GlobalVariable g, label_or global.name (codes "global")) e
+      (stands_first _ _ refl)
 
   -- a part of a global that is an external image
   pub global_part_stands : (g : ℕ) (global : GlobalVariable) (part : LabelledItem) →
@@ -439,7 +491,9 @@ module _ (start : Names) («module» : Module) where
       (cond (is_external «module».types global.ty)
       (labelled_parts (key.ExternalTextureGlobalVariable g)
       (label_or global.name (codes "global"))) []) part
-      (subst (λ b. Stands (cond b (labelled_parts (key.ExternalTextureGlobalVariable g) (label_or global.name (codes "global"))) []) part) (sym external) s))
+      (subst (λ b. Stands
+      (cond b (labelled_parts (key.ExternalTextureGlobalVariable g)
+      (label_or global.name (codes "global"))) []) part) (sym external) s))
 
   pub constant_stands : (c : ℕ) (constant : Constant) →
       slice_get «module».constants c ≡ Some constant →
@@ -448,10 +502,14 @@ module _ (start : Names) («module» : Module) where
         value_label (type_name start «module») (codes "const_") constant.name constant.ty,
       )
   constant_stands c constant e =
-      let item : LabelledItem = (key.Constant c, value_label (type_name start «module») (codes "const_") constant.name constant.ty) in
+      let item : LabelledItem =
+      (key.Constant c, value_label (type_name start «module») (codes "const_") constant.name constant.ty) in
       stands_right (labelled_declarations «module») the_values item
-      (stands_left (labelled_constants (type_name start «module») «module».constants) (labelled_overrides (type_name start «module») «module».overrides) item
-      (stands_in_entries (λ k (v : Constant). (key.Constant k, value_label (type_name start «module») (codes "const_") v.name v.ty)) c «module».constants constant e refl))
+      (stands_left (labelled_constants (type_name start «module») «module».constants)
+      (labelled_overrides (type_name start «module») «module».overrides) item
+      (stands_in_entries (λ k (v : Constant).
+      (key.Constant k, value_label (type_name start «module») (codes "const_") v.name v.ty)) c
+      «module».constants constant e refl))
 
   pub override_stands : (o : ℕ) (value : Override) → slice_get «module».overrides o ≡ Some value →
       Stands (labelled_items start «module») (
@@ -459,40 +517,65 @@ module _ (start : Names) («module» : Module) where
         value_label (type_name start «module») (codes "override_") value.name value.ty,
       )
   override_stands o value e =
-      let item : LabelledItem = (key.Override o, value_label (type_name start «module») (codes "override_") value.name value.ty) in
+      let item : LabelledItem =
+      (key.Override o, value_label (type_name start «module») (codes "override_") value.name value.ty) in
       stands_right (labelled_declarations «module») the_values item
-      (stands_right (labelled_constants (type_name start «module») «module».constants) (labelled_overrides (type_name start «module») «module».overrides) item
-      (stands_in_entries (λ k (v : Override). (key.Override k, value_label (type_name start «module») (codes "override_") v.name v.ty)) o «module».overrides value e refl))
+      (stands_right (labelled_constants (type_name start «module») «module».constants)
+      (labelled_overrides (type_name start «module») «module».overrides) item
+      (stands_in_entries (λ k (v : Override).
+      (key.Override k, value_label (type_name start «module») (codes "override_") v.name v.ty)) o
+      «module».overrides value e refl))
 
 -- ---- after a `reset`
-module _ (start : Names) (before : NameMap) («module» : Module) (names : Names) (now : NameMap) (has : HasNamedItems start before (labelled_items start «module») names now) where
+module _ (start : Names) (before : NameMap) («module» : Module) (names : Names) (now : NameMap)
+    (has : HasNamedItems start before (labelled_items start «module») names now) where
   -- each item has its name in the map
-  pub named_there : (item : LabelledItem) (s : Stands (labelled_items start «module») item) → now item.0 ≡ Some (name_after start (labels_of (take s.place (labelled_items start «module»))) item.1)
-  named_there item s = put_at start before now (labelled_items start «module») has.put (items_apart start «module») s.place item s.there s.outside
+  pub named_there : (item : LabelledItem) (s : Stands (labelled_items start «module») item) →
+      now item.0 ≡ Some (name_after start (labels_of (take s.place (labelled_items start «module»))) item.1)
+  named_there item s = put_at start before now (labelled_items start «module») has.put
+      (items_apart start «module») s.place item s.there s.outside
 
   -- items with one name are one item
-  pub names_tell : (a b : LabelledItem) → Stands (labelled_items start «module») a → Stands (labelled_items start «module») b → now a.0 ≡ now b.0 → a ≡ b
+  pub names_tell : (a b : LabelledItem) → Stands (labelled_items start «module») a →
+      Stands (labelled_items start «module») b → now a.0 ≡ now b.0 → a ≡ b
   names_tell a b s t same =
       let one = same_Some _ _ (sym (named_there a s) ∙ same ∙ named_there b t) in
-      let place = item_names_tell start (labelled_items start «module») s.place t.place a b s.there t.there s.outside t.outside one in
+      let place = item_names_tell start (labelled_items start «module») s.place t.place a b s.there t.there
+      s.outside t.outside one in
       same_Some a b (sym s.there ∙ ap (slice_get (labelled_items start «module»)) place ∙ t.there)
 
   -- a function has its name, and each of its arguments
-  pub function_named : (h : ℕ) (function : Function) → slice_get «module».functions h ≡ Some function → (name : List ℕ) × (now (key.Function h) ≡ Some name)
-  function_named h function e = (_, named_there (key.Function h, label_or function.name (codes "function")) (function_stands start «module» h function e))
+  pub function_named : (h : ℕ) (function : Function) → slice_get «module».functions h ≡ Some function →
+      (name : List ℕ) × (now (key.Function h) ≡ Some name)
+  function_named h function e = (
+    _,
+    named_there (key.Function h, label_or function.name (codes "function"))
+        (function_stands start «module» h function e),
+  )
 
   pub argument_named : (h : ℕ) (function : Function) (n : ℕ) (argument : FunctionArgument) →
       slice_get «module».functions h ≡ Some function →
       slice_get function.arguments.items n ≡ Some argument → (name : List ℕ) ×
       (now (key.FunctionArgument h n) ≡ Some name)
-  argument_named h function n argument e a = (_, named_there (key.FunctionArgument h n, label_or argument.name (codes "param")) (argument_stands start «module» h function n argument e a))
+  argument_named h function n argument e a = (
+    _,
+    named_there (key.FunctionArgument h n, label_or argument.name (codes "param"))
+        (argument_stands start «module» h function n argument e a),
+  )
 
-  pub type_named : (t : ℕ) (ty : Type_) → slice_get «module».types t ≡ Some ty → (name : List ℕ) × (now (key.Type_ t) ≡ Some name)
-  type_named t ty e = (_, named_there (key.Type_ t, type_label «module».entry_points.items t ty) (type_stands start «module» t ty e))
+  pub type_named : (t : ℕ) (ty : Type_) → slice_get «module».types t ≡ Some ty → (name : List ℕ)
+      × (now (key.Type_ t) ≡ Some name)
+  type_named t ty e = (
+    _,
+    named_there (key.Type_ t, type_label «module».entry_points.items t ty)
+        (type_stands start «module» t ty e),
+  )
 
   -- the same by places
-  pub named_at : (i : ℕ) (item : LabelledItem) → slice_get (labelled_items start «module») i ≡ Some item → now item.0 ≡ Some (item_name start (take i (labelled_items start «module»)) item)
-  named_at i item e = item_put start before now (labelled_items start «module») has.put (items_apart start «module») i item e
+  pub named_at : (i : ℕ) (item : LabelledItem) → slice_get (labelled_items start «module») i ≡ Some item →
+      now item.0 ≡ Some (item_name start (take i (labelled_items start «module»)) item)
+  named_at i item e = item_put start before now (labelled_items start «module») has.put
+      (items_apart start «module») i item e
 
   pub distinguished_at : (i j : ℕ) (a b : LabelledItem) →
       slice_get (labelled_items start «module») i ≡ Some a →

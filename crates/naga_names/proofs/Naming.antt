@@ -26,10 +26,13 @@ module _ {Y : Type 0} where
   abbrev pub uses_in : List (String Y × ℕ) → Uses
   uses_in es = finite.from_entries (map (λ e. (string_bytes e.0, e.1 + 1)) es)
 
-  found : (q : List ℕ) (es : List (String Y × ℕ)) → finite.find (slice_cmp nat_cmp) q (map (λ e. (string_bytes e.0, e.1 + 1)) es) ≡ option_map one_more (lookup (λ k. bytes_eq q (string_bytes k)) es)
+  found : (q : List ℕ) (es : List (String Y × ℕ)) →
+      finite.find (slice_cmp nat_cmp) q (map (λ e. (string_bytes e.0, e.1 + 1)) es)
+      ≡ option_map one_more (lookup (λ k. bytes_eq q (string_bytes k)) es)
   found q [] = refl
   found q (e ∷ es) =
-      ap (λ b. cond b (Some (e.1 + 1)) (finite.find (slice_cmp nat_cmp) q (map (λ e. (string_bytes e.0, e.1 + 1)) es))) (is_eq-slice_cmp q (string_bytes e.0))
+      ap (λ b. cond b (Some (e.1 + 1)) (finite.find (slice_cmp nat_cmp) q
+      (map (λ e. (string_bytes e.0, e.1 + 1)) es))) (is_eq-slice_cmp q (string_bytes e.0))
       ∙ either (bytes_eq q (string_bytes e.0)) (found q es)
     where
       either : (b : Bool) →
@@ -41,7 +44,8 @@ module _ {Y : Type 0} where
       either true rest = refl
       either false rest = rest
 
-  pub get-uses_in : (es : List (String Y × ℕ)) (q : List ℕ) → finite.get (uses_in es) q ≡ option_map one_more (lookup (λ k. bytes_eq q (string_bytes k)) es)
+  pub get-uses_in : (es : List (String Y × ℕ)) (q : List ℕ) → finite.get (uses_in es) q
+      ≡ option_map one_more (lookup (λ k. bytes_eq q (string_bytes k)) es)
   get-uses_in es q = finite.get-from_entries nat_list_cmp_total _ q ∙ found q es
 
   -- what `insert` leaves
@@ -58,7 +62,8 @@ module _ {Y : Type 0} where
       ∙ sym (finite.get-insert nat_list_cmp_total (uses_in old.entries) base (later + 1) q
       ∙ (λ i. cond (is_eq-slice_cmp q base i) (Some (later + 1)) (get-uses_in old.entries q i))))
     where
-      either : (q : List ℕ) (b : Bool) → option_map one_more (cond b (Some later) (get_by_text old q)) ≡ cond b (Some (later + 1)) (option_map one_more (get_by_text old q))
+      either : (q : List ℕ) (b : Bool) → option_map one_more (cond b (Some later) (get_by_text old q))
+          ≡ cond b (Some (later + 1)) (option_map one_more (get_by_text old q))
       either q true = refl
       either q false = refl
 
@@ -81,7 +86,10 @@ uses_of-empty base = ap (λ u. unwrap_or u 0) (finite.get-empty (slice_cmp nat_c
 
 -- nothing was named by a `Namer` that is new
 pub has_named_nothing : (names : Names) → names.uses ≡ finite.empty → HasNamed names []
-has_named_nothing names none = record { uses_are = λ base. ap (λ u. uses_of u base) none ∙ uses_of-empty base; few = λ base. omega arith }
+has_named_nothing names none = record {
+  uses_are = λ base. ap (λ u. uses_of u base) none ∙ uses_of-empty base;
+  few = λ base. omega arith;
+}
 
 -- a label that has the base b
 pub with_use_is : (names : Names) (label b : List ℕ) (n : ℕ) (after : Uses) →
@@ -90,17 +98,23 @@ pub with_use_is : (names : Names) (label b : List ℕ) (n : ℕ) (after : Uses) 
     record names { uses = after } ≡ with_use names label
 unfolding with_use
 with_use_is names label b n after base_is uses_are is =
-    (λ i. record names { uses = (is ∙ ap (λ m. finite.insert names.uses b (m + 1)) (sym uses_are) ∙ ap (λ d. finite.insert names.uses d (uses_of names.uses d + 1)) base_is) i })
+    (λ i. record names {
+      uses = (is ∙ ap (λ m. finite.insert names.uses b (m + 1)) (sym uses_are)
+          ∙ ap (λ d. finite.insert names.uses d (uses_of names.uses d + 1)) base_is) i;
+    })
 
-pub name_of-first : (names : Names) (label b : List ℕ) → b ≡ label_base names label → uses_of names.uses b ≡ 0 → first_name names b ≡ name_of names label
+pub name_of-first : (names : Names) (label b : List ℕ) → b ≡ label_base names label → uses_of names.uses b ≡ 0 →
+    first_name names b ≡ name_of names label
 unfolding name_of
 name_of-first names label b base_is unused =
     sym (ap (name_of_base names b) unused) ∙ ap (λ d. name_of_base names d (uses_of names.uses d)) base_is
 
-pub name_of-later : (names : Names) (label b : List ℕ) (n : ℕ) → b ≡ label_base names label → uses_of names.uses b ≡ n + 1 → later_name b (n + 1) ≡ name_of names label
+pub name_of-later : (names : Names) (label b : List ℕ) (n : ℕ) → b ≡ label_base names label →
+    uses_of names.uses b ≡ n + 1 → later_name b (n + 1) ≡ name_of names label
 unfolding name_of
 name_of-later names label b n base_is used =
-    sym (ap (name_of_base names b) used ∙ later (n + 1 == 0) (omega_false n)) ∙ ap (λ d. name_of_base names d (uses_of names.uses d)) base_is
+    sym (ap (name_of_base names b) used ∙ later (n + 1 == 0) (omega_false n))
+    ∙ ap (λ d. name_of_base names d (uses_of names.uses d)) base_is
   where
     omega_false : (n : ℕ) → (n + 1 == 0) ≡ false
     omega_false n = grind (arith, nat_tests)
@@ -109,9 +123,11 @@ name_of-later names label b n base_is used =
     later true e = absurd (cc)
     later false e = refl
 
-pub name_of-after : (names : Names) (earlier : List (List ℕ)) (label : List ℕ) → HasNamed names earlier → name_of names label ≡ name_after names earlier label
+pub name_of-after : (names : Names) (earlier : List (List ℕ)) (label : List ℕ) → HasNamed names earlier →
+    name_of names label ≡ name_after names earlier label
 unfolding name_of
-name_of-after names earlier label has = ap (name_of_base names (label_base names label)) (has.uses_are (label_base names label))
+name_of-after names earlier label has = ap (name_of_base names (label_base names label))
+    (has.uses_are (label_base names label))
 
 pub has_named-push : (names : Names) (earlier : List (List ℕ)) (label : List ℕ) →
     uses_of names.uses (label_base names label) < 2 ^ 32 → HasNamed names earlier →
@@ -131,25 +147,34 @@ has_named-push names earlier label room has = record {
     b : List ℕ
     b = label_base names label
 
-    either : (base : List ℕ) (t : Bool) → bytes_eq b base ≡ t → unwrap_or (cond t (Some (uses_of names.uses b + 1)) (finite.get names.uses base)) 0 ≡ labels_with_base names earlier base + cond t 1 0
-    either base true same = ap (λ d. uses_of names.uses d + 1) ((bytes_decides b base).0 same) ∙ ap (λ n. n + 1) (has.uses_are base)
+    either : (base : List ℕ) (t : Bool) → bytes_eq b base ≡ t →
+        unwrap_or (cond t (Some (uses_of names.uses b + 1)) (finite.get names.uses base)) 0
+        ≡ labels_with_base names earlier base + cond t 1 0
+    either base true same = ap (λ d. uses_of names.uses d + 1) ((bytes_decides b base).0 same)
+        ∙ ap (λ n. n + 1) (has.uses_are base)
     either base false differs = has.uses_are base ∙ sym (add-zero (labels_with_base names earlier base))
 
-    fewer : (base : List ℕ) (t : Bool) → bytes_eq b base ≡ t → labels_with_base names (earlier ++ label ∷ []) base ≤ 2 ^ 32
+    fewer : (base : List ℕ) (t : Bool) → bytes_eq b base ≡ t →
+        labels_with_base names (earlier ++ label ∷ []) base ≤ 2 ^ 32
     fewer base true same =
         let pushed : labels_with_base names (earlier ++ label ∷ []) base ≡ labels_with_base names earlier base + 1 =
-        sum_by_push (λ l. cond (bytes_eq (label_base names l) base) 1 0) earlier label ∙ ap (λ t. labels_with_base names earlier base + cond t 1 0) same in
-        let used : labels_with_base names earlier base ≡ uses_of names.uses b = sym (has.uses_are base) ∙ sym (ap (uses_of names.uses) ((bytes_decides b base).0 same)) in
+        sum_by_push (λ l. cond (bytes_eq (label_base names l) base) 1 0) earlier label
+        ∙ ap (λ t. labels_with_base names earlier base + cond t 1 0) same in
+        let used : labels_with_base names earlier base ≡ uses_of names.uses b = sym (has.uses_are base)
+        ∙ sym (ap (uses_of names.uses) ((bytes_decides b base).0 same)) in
         omega (arith, pushed, used, room)
     fewer base false differs =
         let pushed : labels_with_base names (earlier ++ label ∷ []) base ≡ labels_with_base names earlier base + 0 =
-        sum_by_push (λ l. cond (bytes_eq (label_base names l) base) 1 0) earlier label ∙ ap (λ t. labels_with_base names earlier base + cond t 1 0) differs in
+        sum_by_push (λ l. cond (bytes_eq (label_base names l) base) 1 0) earlier label
+        ∙ ap (λ t. labels_with_base names earlier base + cond t 1 0) differs in
         omega (arith, pushed, has.few base)
 
-pub uses_of-unused : (uses : Uses) (b : List ℕ) (later : Option ℕ) → option_map (λ n. n + 1) later ≡ finite.get uses b → later ≡ None → uses_of uses b ≡ 0
+pub uses_of-unused : (uses : Uses) (b : List ℕ) (later : Option ℕ) → option_map (λ n. n + 1) later
+    ≡ finite.get uses b → later ≡ None → uses_of uses b ≡ 0
 uses_of-unused uses b later is none = ap (λ u. unwrap_or u 0) (sym is ∙ ap (option_map (λ n. n + 1)) none)
 
-pub uses_of-used : (uses : Uses) (b : List ℕ) (later : Option ℕ) (n : ℕ) → option_map (λ n. n + 1) later ≡ finite.get uses b → later ≡ Some n → uses_of uses b ≡ n + 1
+pub uses_of-used : (uses : Uses) (b : List ℕ) (later : Option ℕ) (n : ℕ) → option_map (λ n. n + 1) later
+    ≡ finite.get uses b → later ≡ Some n → uses_of uses b ≡ n + 1
 uses_of-used uses b later n is some = ap (λ u. unwrap_or u 0) (sym is ∙ ap (option_map (λ n. n + 1)) some)
 
 -- a label that has the base b

@@ -36,10 +36,13 @@ element [] n lt = absurd (omega (arith, lt))
 element (x ∷ xs) zero lt = (x, refl)
 element (x ∷ xs) (suc n) lt = element xs n (omega (arith, lt))
 
-one_unfit : (items : List LabelledItem) (i : ℕ) (item : LabelledItem) → slice_get items i ≡ Some item → key_fits item.0 ≡ false → keys_fit items ≡ false
+one_unfit : (items : List LabelledItem) (i : ℕ) (item : LabelledItem) → slice_get items i ≡ Some item →
+    key_fits item.0 ≡ false → keys_fit items ≡ false
 one_unfit [] i item e unfit = absurd (none-some item e)
-one_unfit (x ∷ items) zero item e unfit = ap (λ b. b && keys_fit items) (ap (λ (y : LabelledItem). key_fits y.0) (ap (λ o. unwrap_or o x) e) ∙ unfit)
-one_unfit (x ∷ items) (suc i) item e unfit = or_not_this (key_fits x.0) (keys_fit items) (one_unfit items i item e unfit)
+one_unfit (x ∷ items) zero item e unfit =
+    ap (λ b. b && keys_fit items) (ap (λ (y : LabelledItem). key_fits y.0) (ap (λ o. unwrap_or o x) e) ∙ unfit)
+one_unfit (x ∷ items) (suc i) item e unfit = or_not_this (key_fits x.0) (keys_fit items)
+    (one_unfit items i item e unfit)
 
 -- ---- a list that is too long
 module _ (start : Names) («module» : Module) where
@@ -47,20 +50,27 @@ module _ (start : Names) («module» : Module) where
   run_out_unfit (inl long) =
       let last = element «module».entry_points.items (2 ^ 16) long in
       let s = entry_point_stands start «module» (2 ^ 16) last.0 last.1 in
-      one_unfit (labelled_items start «module») s.place (key.EntryPoint (2 ^ 16), string_bytes last.0.name) s.there (not_below (2 ^ 16) (2 ^ 16) (λ lt. omega (arith, lt)))
+      one_unfit (labelled_items start «module») s.place (key.EntryPoint (2 ^ 16), string_bytes last.0.name)
+      s.there (not_below (2 ^ 16) (2 ^ 16) (λ lt. omega (arith, lt)))
   run_out_unfit (inr (inl long)) =
       let last = element (members_of long.ty.inner) (2 ^ 32) long.long in
       let s = in_module start «module» long.place long.ty long.there (2 ^ 32) last.0 last.1 in
-      one_unfit (labelled_items start «module») s.place (key.StructMember long.place (2 ^ 32), member_label last.0) s.there (not_below (2 ^ 32) (2 ^ 32) (λ lt. omega (arith, lt)))
+      one_unfit (labelled_items start «module») s.place
+      (key.StructMember long.place (2 ^ 32), member_label last.0) s.there
+      (not_below (2 ^ 32) (2 ^ 32) (λ lt. omega (arith, lt)))
   run_out_unfit (inr (inr (inl long))) =
       let last = element long.function.arguments.items (2 ^ 32) long.long in
       let s = argument_stands start «module» long.place long.function (2 ^ 32) last.0 long.there last.1 in
-      one_unfit (labelled_items start «module») s.place (key.FunctionArgument long.place (2 ^ 32), label_or last.0.name (codes "param")) s.there (not_below (2 ^ 32) (2 ^ 32) (λ lt. omega (arith, lt)))
+      one_unfit (labelled_items start «module») s.place
+      (key.FunctionArgument long.place (2 ^ 32), label_or last.0.name (codes "param")) s.there
+      (not_below (2 ^ 32) (2 ^ 32) (λ lt. omega (arith, lt)))
   run_out_unfit (inr (inr (inr long))) =
       let last = element long.entry_point.function.arguments.items (2 ^ 32) long.long in
       let s = entry_argument_stands start «module» long.place long.entry_point (2 ^ 32) last.0 long.there last.1 in
-      one_unfit (labelled_items start «module») s.place (key.EntryPointArgument long.place (2 ^ 32), label_or last.0.name (codes "param")) s.there
-      (or_not_this (nat_lt long.place (2 ^ 16)) (nat_lt (2 ^ 32) (2 ^ 32)) (not_below (2 ^ 32) (2 ^ 32) (λ lt. omega (arith, lt))))
+      one_unfit (labelled_items start «module») s.place
+      (key.EntryPointArgument long.place (2 ^ 32), label_or last.0.name (codes "param")) s.there
+      (or_not_this (nat_lt long.place (2 ^ 16)) (nat_lt (2 ^ 32) (2 ^ 32))
+      (not_below (2 ^ 32) (2 ^ 32) (λ lt. omega (arith, lt))))
 
 -- ---- where a key does not fit
 module _ (P : LabelledItem → Type 0) where
@@ -70,18 +80,24 @@ module _ (P : LabelledItem → Type 0) where
   sections_in section n [] each = tt
   sections_in section n (x ∷ xs) each =
       let here : n + 0 ≡ n = omega arith in
-      all_append P (section n x) (flat_map (λ p. section p.0 p.1) (enumerate_from (n + 1) xs)) (subst (λ k. AllByRecursion P (section k x)) here (each 0 x refl))
-      (sections_in section (n + 1) xs (λ i y e. let next : n + suc i ≡ n + 1 + i = omega arith in subst (λ k. AllByRecursion P (section k y)) next (each (suc i) y e)))
+      all_append P (section n x) (flat_map (λ p. section p.0 p.1) (enumerate_from (n + 1) xs))
+      (subst (λ k. AllByRecursion P (section k x)) here (each 0 x refl))
+      (sections_in section (n + 1) xs (λ i y e. let next : n + suc i ≡ n + 1 + i = omega arith in subst
+      (λ k. AllByRecursion P (section k y)) next (each (suc i) y e)))
 
   entries_in : {X : Type 0} (entry : ℕ → X → LabelledItem) (n : ℕ) (xs : List X) →
       ((i : ℕ) (x : X) → slice_get xs i ≡ Some x → P (entry (n + i) x)) →
       AllByRecursion P (map (λ p. entry p.0 p.1) (enumerate_from n xs))
   entries_in entry n [] each = tt
   entries_in entry n (x ∷ xs) each =
-      let here : n + 0 ≡ n = omega arith in
-      (subst (λ k. P (entry k x)) here (each 0 x refl), entries_in entry (n + 1) xs (λ i y e. let next : n + suc i ≡ n + 1 + i = omega arith in subst (λ k. P (entry k y)) next (each (suc i) y e)))
+      let here : n + 0 ≡ n = omega arith in (
+        subst (λ k. P (entry k x)) here (each 0 x refl),
+        entries_in entry (n + 1) xs (λ i y e. let next : n + suc i ≡ n + 1 + i = omega arith in subst
+            (λ k. P (entry k y)) next (each (suc i) y e)),
+      )
 
-found_unfit : (R : Type 0) (items : List LabelledItem) → AllByRecursion (λ (item : LabelledItem). key_fits item.0 ≡ false → R) items → keys_fit items ≡ false → R
+found_unfit : (R : Type 0) (items : List LabelledItem) →
+    AllByRecursion (λ (item : LabelledItem). key_fits item.0 ≡ false → R) items → keys_fit items ≡ false → R
 found_unfit R [] all e = absurd (true≢false e)
 found_unfit R (x ∷ items) all e = either (λ f. found_unfit R items all.1 f) (key_fits x.0) refl e
   where
@@ -122,10 +138,14 @@ module _ (start : Names) («module» : Module) where
       let long = slice_get_within «module».entry_points.items e p found in
       let arguments = p.function.arguments.items in (
         λ unfit. inl (too_long e (2 ^ 16) (length «module».entry_points.items) long unfit),
-        all_append Unfit (labelled_entry_arguments (0 + e) arguments) (labelled_entry_locals (0 + e) p.function.local_variables)
-            (entries_in Unfit (λ n (a : FunctionArgument). (key.EntryPointArgument (0 + e) n, label_or a.name (codes "param"))) 0 arguments
-            (λ n a there unfit. either e p found long n (slice_get_within arguments n a there) (one_of (nat_lt (0 + e) (2 ^ 16)) (nat_lt (0 + n) (2 ^ 32)) unfit)))
-            (entries_in Unfit (λ l (v : LocalVariable). (key.EntryPointLocal (0 + e) l, label_or v.name (codes "local"))) 0 p.function.local_variables
+        all_append Unfit (labelled_entry_arguments (0 + e) arguments)
+            (labelled_entry_locals (0 + e) p.function.local_variables)
+            (entries_in Unfit (λ n (a : FunctionArgument).
+            (key.EntryPointArgument (0 + e) n, label_or a.name (codes "param"))) 0 arguments
+            (λ n a there unfit. either e p found long n (slice_get_within arguments n a there)
+            (one_of (nat_lt (0 + e) (2 ^ 16)) (nat_lt (0 + n) (2 ^ 32)) unfit)))
+            (entries_in Unfit (λ l (v : LocalVariable).
+            (key.EntryPointLocal (0 + e) l, label_or v.name (codes "local"))) 0 p.function.local_variables
             (λ l v there unfit. inl (too_long e (2 ^ 16) (length «module».entry_points.items) long unfit))),
       ))
     where
@@ -134,13 +154,21 @@ module _ (start : Names) («module» : Module) where
           (nat_lt (0 + e) (2 ^ 16) ≡ false) ⊎ (nat_lt (0 + n) (2 ^ 32) ≡ false) →
           KeysRunOut «module»
       either e p found lt n few (inl unfit) = inl (too_long e (2 ^ 16) (length «module».entry_points.items) lt unfit)
-      either e p found lt n few (inr unfit) = inr (inr (inr (record { place = e; entry_point = p; there = found; long = too_long n (2 ^ 32) (length p.function.arguments.items) few unfit })))
+      either e p found lt n few (inr unfit) =
+          inr (inr (inr
+          (record {
+            place = e;
+            entry_point = p;
+            there = found;
+            long = too_long n (2 ^ 32) (length p.function.arguments.items) few unfit;
+          })))
 
   functions_unfit : AllByRecursion Unfit (labelled_functions «module».types «module».functions)
   functions_unfit = sections_in Unfit (labelled_function «module».types) 0 «module».functions (λ h f found.
       let arguments = f.arguments.items in (
         λ unfit. absurd (true≢false unfit),
-        all_append Unfit (labelled_arguments «module».types (0 + h) arguments) (labelled_locals (0 + h) f.local_variables)
+        all_append Unfit (labelled_arguments «module».types (0 + h) arguments)
+            (labelled_locals (0 + h) f.local_variables)
             (sections_in Unfit (labelled_argument «module».types (0 + h)) 0 arguments (λ n a there.
             let long : nat_lt (0 + n) (2 ^ 32) ≡ false → KeysRunOut «module» =
             λ unfit. inr
@@ -156,7 +184,9 @@ module _ (start : Names) («module» : Module) where
             (key.ExternalTextureFunctionArgument (0 + h) (0 + n))
             (key.FunctionArgument (0 + h) (0 + n), label_or a.name (codes "param")) Unfit long
             (λ part label. long)))
-            (entries_in Unfit (λ l (v : LocalVariable). (key.FunctionLocal (0 + h) l, label_or v.name (codes "local"))) 0 f.local_variables (λ l v there unfit. absurd (true≢false unfit))),
+            (entries_in Unfit (λ l (v : LocalVariable).
+            (key.FunctionLocal (0 + h) l, label_or v.name (codes "local"))) 0 f.local_variables
+            (λ l v there unfit. absurd (true≢false unfit))),
       ))
 
   globals_unfit : AllByRecursion Unfit (labelled_globals «module».types «module».global_variables)
@@ -169,8 +199,11 @@ module _ (start : Names) («module» : Module) where
   values_unfit =
       let names = type_name start «module» in
       all_append Unfit (labelled_constants names «module».constants) (labelled_overrides names «module».overrides)
-      (entries_in Unfit (λ c (v : Constant). (key.Constant c, value_label names (codes "const_") v.name v.ty)) 0 «module».constants (λ c v there unfit. absurd (true≢false unfit)))
-      (entries_in Unfit (λ o (v : Override). (key.Override o, value_label names (codes "override_") v.name v.ty)) 0 «module».overrides (λ o v there unfit. absurd (true≢false unfit)))
+      (entries_in Unfit (λ c (v : Constant). (key.Constant c, value_label names (codes "const_") v.name v.ty)) 0
+      «module».constants (λ c v there unfit. absurd (true≢false unfit)))
+      (entries_in Unfit (λ o (v : Override).
+      (key.Override o, value_label names (codes "override_") v.name v.ty)) 0 «module».overrides
+      (λ o v there unfit. absurd (true≢false unfit)))
 
   pub unfit_run_out : SomeKeyIsFull (labelled_items start «module») → KeysRunOut «module»
   unfit_run_out unfit =
@@ -181,6 +214,8 @@ module _ (start : Names) («module» : Module) where
       (labelled_entry_points m.entry_points.items ++
       (labelled_functions m.types m.functions ++ labelled_globals m.types m.global_variables))
       types_unfit
-      (all_append Unfit (labelled_entry_points m.entry_points.items) (labelled_functions m.types m.functions ++ labelled_globals m.types m.global_variables) entry_points_unfit
-      (all_append Unfit (labelled_functions m.types m.functions) (labelled_globals m.types m.global_variables) functions_unfit globals_unfit)))
+      (all_append Unfit (labelled_entry_points m.entry_points.items)
+      (labelled_functions m.types m.functions ++ labelled_globals m.types m.global_variables) entry_points_unfit
+      (all_append Unfit (labelled_functions m.types m.functions) (labelled_globals m.types m.global_variables)
+      functions_unfit globals_unfit)))
       values_unfit) unfit

@@ -39,7 +39,8 @@ pub labels_of-around : (items : List LabelledItem) (item : LabelledItem)
     (others : List LabelledItem) → is_member item.0 ≡ false →
     labels_of (items ++ item ∷ others) ≡ labels_of items ++ item.1 ∷ labels_of others
 labels_of-around items item others outside =
-    labels_of-append items (item ∷ others) ∙ ap (λ b. labels_of items ++ (cond b [] (item.1 ∷ []) ++ labels_of others)) outside
+    labels_of-append items (item ∷ others)
+    ∙ ap (λ b. labels_of items ++ (cond b [] (item.1 ∷ []) ++ labels_of others)) outside
 
 -- its name is that of its label after these labels
 pub item_name-outside : (start : Names) (earlier : List LabelledItem) (key : NameKey)
@@ -48,30 +49,37 @@ pub item_name-outside : (start : Names) (earlier : List LabelledItem) (key : Nam
 item_name-outside start earlier (key.StructMember t n) label outside = absurd (cc)
 item_name-outside start earlier other label outside = refl
 
-pub scan-push : {S X Y : Type 0} (next : S → X → S) (out : S → X → Y) (a : S) (xs : List X) (x : X) → scan next out a (xs ++ x ∷ []) ≡ scan next out a xs ++ out (fold next a xs) x ∷ []
+pub scan-push : {S X Y : Type 0} (next : S → X → S) (out : S → X → Y) (a : S) (xs : List X) (x : X) →
+    scan next out a (xs ++ x ∷ []) ≡ scan next out a xs ++ out (fold next a xs) x ∷ []
 scan-push next out a [] x = refl
 scan-push next out a (y ∷ xs) x = ap (λ ys. out a y ∷ ys) (scan-push next out (next a y) xs x)
 
-fold-push : {S X : Type 0} (next : S → X → S) (a : S) (xs : List X) (x : X) → fold next a (xs ++ x ∷ []) ≡ next (fold next a xs) x
+fold-push : {S X : Type 0} (next : S → X → S) (a : S) (xs : List X) (x : X) → fold next a (xs ++ x ∷ [])
+    ≡ next (fold next a xs) x
 fold-push next a [] x = refl
 fold-push next a (y ∷ xs) x = fold-push next (next a y) xs x
 
-pub items_folded : (earlier items : List LabelledItem) → fold (λ earlier item. earlier ++ item ∷ []) earlier items ≡ earlier ++ items
+pub items_folded : (earlier items : List LabelledItem) →
+    fold (λ earlier item. earlier ++ item ∷ []) earlier items ≡ earlier ++ items
 items_folded earlier [] = sym (append-nil earlier)
 items_folded earlier (x ∷ items) = items_folded (earlier ++ x ∷ []) items ∙ append_assoc earlier (x ∷ []) items
 
-named_items-push : (start : Names) (items : List LabelledItem) (item : LabelledItem) → named_items start (items ++ item ∷ []) ≡ named_items start items ++ (item.0, item_name start items item) ∷ []
+named_items-push : (start : Names) (items : List LabelledItem) (item : LabelledItem) →
+    named_items start (items ++ item ∷ []) ≡ named_items start items ++ (item.0, item_name start items item) ∷ []
 named_items-push start items item =
-    scan-push (λ earlier item. earlier ++ item ∷ []) (λ earlier item. (item.0, item_name start earlier item)) [] items item
+    scan-push (λ earlier item. earlier ++ item ∷ [])
+    (λ earlier item. (item.0, item_name start earlier item)) [] items item
     ∙ ap (λ earlier. named_items start items ++ (item.0, item_name start earlier item) ∷ []) (items_folded [] items)
 
 -- one more use leaves the words and the prefixes
-with_use-words : (old start : Names) (label : List ℕ) → old ≡ record start { uses = old.uses } → with_use old label ≡ record start { uses = (with_use old label).uses }
+with_use-words : (old start : Names) (label : List ℕ) → old ≡ record start { uses = old.uses } →
+    with_use old label ≡ record start { uses = (with_use old label).uses }
 unfolding with_use
 with_use-words old start label same = ap (λ (n : Names). record n { uses = (with_use old label).uses }) same
 
 pub used_words : (old new : Names) (label : List ℕ) → new ≡ with_use old label → new ≡ record old { uses = new.uses }
-used_words old new label used = subst (λ n. n ≡ record old { uses = n.uses }) (sym used) (with_use-words old old label refl)
+used_words old new label used = subst (λ n. n ≡ record old { uses = n.uses }) (sym used)
+    (with_use-words old old label refl)
 
 module _ where
   -- one more item, after whatever was named before
@@ -80,9 +88,12 @@ module _ where
       PutsName old before key label new now → NamesItems old before ((key, label) ∷ []) new now
   names_one old before now key label new fits outside puts = record {
     more = λ start first earlier has. record {
-      words = subst (λ n. n ≡ record start { uses = n.uses }) (sym puts.used) (with_use-words old start label has.words);
-      labels = subst (HasNamed new) (sym (labels_of-around earlier (key, label) [] outside)) (puts.history (labels_of earlier) has.labels);
-      keys = list_all-append (λ item. key_fits item.0) earlier ((key, label) ∷ []) ∙ (λ i. has.keys i && (fits i && true));
+      words = subst (λ n. n ≡ record start { uses = n.uses }) (sym puts.used)
+          (with_use-words old start label has.words);
+      labels = subst (HasNamed new) (sym (labels_of-around earlier (key, label) [] outside))
+          (puts.history (labels_of earlier) has.labels);
+      keys = list_all-append (λ item. key_fits item.0) earlier ((key, label) ∷ [])
+          ∙ (λ i. has.keys i && (fits i && true));
       put = record {
         finds = λ q.
             puts.put q
@@ -91,7 +102,8 @@ module _ where
             ∙ ap (λ n. name_after n (labels_of earlier) label) has.words
             ∙ sym (item_name-outside start earlier key label outside)) i)) (has.put.finds q i))
             ∙ sym (ap (λ pairs. update_all same_key first pairs q) (named_items-push start earlier (key, label))
-            ∙ ap (λ f. f q) (fold-push (λ f p. update same_key f p.0 (Some p.1)) first (named_items start earlier) (key, item_name start earlier (key, label))));
+            ∙ ap (λ f. f q) (fold-push (λ f p. update same_key f p.0 (Some p.1)) first
+            (named_items start earlier) (key, item_name start earlier (key, label))));
       };
     };
   }
@@ -112,7 +124,13 @@ pub starts : (keywords builtins caseless : Words) (uses : Uses)
     } ≡ new_names keywords builtins
     caseless (map (λ p. p.now) assigned)
 starts keywords builtins caseless uses prefixes assigned none same =
-    λ i. record { keywords = keywords; builtin_identifiers = builtins; caseless_keywords = caseless; reserved_prefixes = map (λ p. p.now) (same i); uses = none i }
+    λ i. record {
+      keywords = keywords;
+      builtin_identifiers = builtins;
+      caseless_keywords = caseless;
+      reserved_prefixes = map (λ p. p.now) (same i);
+      uses = none i;
+    }
 
 -- ---- why items are refused
 pub if_err : {T E : Type 0} (r : Result T E) (e : E) (P : E → Type 0) → IsErrAnd r (λ y. y ≡ e) → P e → IfErr r P
@@ -123,7 +141,8 @@ pub if_err_more : {T E : Type 0} (r : Result T E) (P Q : E → Type 0) → IfErr
 if_err_more (Ok x) P Q p f = tt
 if_err_more (Err y) P Q p f = f y p
 
-full_more : (start : Names) (items others : List LabelledItem) → SomeNameIsFull start items → SomeNameIsFull start (items ++ others)
+full_more : (start : Names) (items others : List LabelledItem) → SomeNameIsFull start items →
+    SomeNameIsFull start (items ++ others)
 full_more start items others full = record {
   named = full.named;
   item = full.item;
@@ -133,13 +152,16 @@ full_more start items others full = record {
   full = full.full;
 }
 
-pub refusal_more : (start : Names) (items others : List LabelledItem) (error : NamerError) → IsRefusalOfItems start items error → IsRefusalOfItems start (items ++ others) error
+pub refusal_more : (start : Names) (items others : List LabelledItem) (error : NamerError) →
+    IsRefusalOfItems start items error → IsRefusalOfItems start (items ++ others) error
 refusal_more start items others Full why = full_more start items others why
-refusal_more start items others KeyFull why = list_all-append (λ item. key_fits item.0) items others ∙ ap (λ b. b && keys_fit others) why
+refusal_more start items others KeyFull why = list_all-append (λ item. key_fits item.0) items others
+    ∙ ap (λ b. b && keys_fit others) why
 refusal_more start items others (Memory e) why = tt
 
 -- a beginning of some items is one of more
-pub beginning_more : (start : Names) (first now : NameMap) (items others : List LabelledItem) → PutsBeginning start first items now → PutsBeginning start first (items ++ others) now
+pub beginning_more : (start : Names) (first now : NameMap) (items others : List LabelledItem) →
+    PutsBeginning start first items now → PutsBeginning start first (items ++ others) now
 beginning_more start first now items others p = record {
   named = p.named;
   left = p.left ++ others;
@@ -163,7 +185,8 @@ pub refuses_one : (old : Names) (before now : NameMap) (key : NameKey) (label : 
     (error : NamerError) → is_member key ≡ false → PutsNoName old before label now error →
     RefusesItems old before ((key, label) ∷ []) now error
 refuses_one old before now key label error outside refused = record {
-  some = λ start first earlier has. beginning_unchanged start first before now earlier ((key, label) ∷ []) old refused.kept has;
+  some = λ start first earlier has. beginning_unchanged start first before now earlier
+      ((key, label) ∷ []) old refused.kept has;
   why = λ start first earlier has. reason error refused.why start first earlier has;
 }
   where
@@ -197,13 +220,19 @@ or_not_this false b e = refl
 
 -- an item whose key can't be told
 -- where all items got their names, none met a full base
-pub none_full : (start : Names) (before : NameMap) (items : List LabelledItem) (names : Names) (now : NameMap) → HasNamedItems start before items names now → SomeNameIsFull start items → ⊥
+pub none_full : (start : Names) (before : NameMap) (items : List LabelledItem) (names : Names) (now : NameMap) →
+    HasNamedItems start before items names now → SomeNameIsFull start items → ⊥
 none_full start before items names now has full =
     let base : List ℕ = label_base start full.item.1 in
-    let all : labels_of items ≡ labels_of full.named ++ full.item.1 ∷ labels_of full.left = ap labels_of full.all ∙ labels_of-around full.named full.item full.left full.outside in
-    let few : labels_with_base start (labels_of items) base ≤ 2 ^ 32 = subst (λ n. n ≤ 2 ^ 32) (ap (λ (n : Names). labels_with_base n (labels_of items) base) has.words) (has.labels.few base) in
-    let count : labels_with_base start (labels_of items) base ≡ labels_with_base start (labels_of full.named) base + (1 + labels_with_base start (labels_of full.left) base) =
-    ap (λ labels. labels_with_base start labels base) all ∙ counted_more start (labels_of full.named) full.item.1 (labels_of full.left) base refl in
+    let all : labels_of items ≡ labels_of full.named ++ full.item.1 ∷ labels_of full.left =
+    ap labels_of full.all ∙ labels_of-around full.named full.item full.left full.outside in
+    let few : labels_with_base start (labels_of items) base ≤ 2 ^ 32 =
+    subst (λ n. n ≤ 2 ^ 32) (ap (λ (n : Names). labels_with_base n (labels_of items) base) has.words)
+    (has.labels.few base) in
+    let count : labels_with_base start (labels_of items) base
+    ≡ labels_with_base start (labels_of full.named) base + (1 + labels_with_base start (labels_of full.left) base) =
+    ap (λ labels. labels_with_base start labels base) all
+    ∙ counted_more start (labels_of full.named) full.item.1 (labels_of full.left) base refl in
     let met : labels_with_base start (labels_of full.named) base ≡ 2 ^ 32 = full.full in
     omega (arith, few, count, met)
 
@@ -214,15 +243,19 @@ pub names_in-insert : {Y S : Type 0} (old new : HashMap NameKey (String Y) S) (k
     (names_in old q)
 names_in-insert old new key name updates q = ap (option_map string_bytes) (updates.0 q) ∙ either (same_key key q)
   where
-    either : (b : Bool) → option_map string_bytes (cond b (Some name) (hash.get same_key old q)) ≡ cond b (Some (string_bytes name)) (names_in old q)
-    either b = elim b as (λ t. option_map string_bytes (cond t (Some name) (hash.get same_key old q)) ≡ cond t (Some (string_bytes name)) (names_in old q)) [ true ↦ refl | false ↦ refl ]
+    either : (b : Bool) → option_map string_bytes (cond b (Some name) (hash.get same_key old q))
+        ≡ cond b (Some (string_bytes name)) (names_in old q)
+    either b = elim b as (λ t. option_map string_bytes (cond t (Some name) (hash.get same_key old q))
+        ≡ cond t (Some (string_bytes name)) (names_in old q)) [ true ↦ refl | false ↦ refl ]
 
 -- ---- loops over items
-pub enumerate_from-append : {X : Type 0} (n : ℕ) (xs ys : List X) → enumerate_from n (xs ++ ys) ≡ enumerate_from n xs ++ enumerate_from (n + length xs) ys
+pub enumerate_from-append : {X : Type 0} (n : ℕ) (xs ys : List X) → enumerate_from n (xs ++ ys)
+    ≡ enumerate_from n xs ++ enumerate_from (n + length xs) ys
 enumerate_from-append n [] ys = ap (λ m. enumerate_from m ys) (sym (add-zero n))
 enumerate_from-append n (x ∷ xs) ys =
     let long : n + 1 + length xs ≡ n + length (x ∷ xs) = omega arith in
-    ap (λ items. (n, x) ∷ items) (enumerate_from-append (n + 1) xs ys ∙ ap (λ m. enumerate_from (n + 1) xs ++ enumerate_from m ys) long)
+    ap (λ items. (n, x) ∷ items) (enumerate_from-append (n + 1) xs ys
+    ∙ ap (λ m. enumerate_from (n + 1) xs ++ enumerate_from m ys) long)
 
 -- items that come of a list, in order, each by its place and the entry there
 module _ {X : Type 0} (items : ℕ → List X → List LabelledItem) (own : ℕ → X → List LabelledItem)
@@ -256,7 +289,8 @@ module _ {X : Type 0} (entry : ℕ → X → LabelledItem) where
   pub entries_grown : (n : ℕ) (xs ys : List X) →
       map (λ p. entry p.0 p.1) (enumerate_from n (xs ++ ys)) ≡ map (λ p. entry p.0 p.1)
       (enumerate_from n xs) ++ map (λ p. entry p.0 p.1) (enumerate_from (n + length xs) ys)
-  entries_grown n xs ys = ap (map (λ p. entry p.0 p.1)) (enumerate_from-append n xs ys) ∙ map-append (λ p. entry p.0 p.1) (enumerate_from n xs) (enumerate_from (n + length xs) ys)
+  entries_grown n xs ys = ap (map (λ p. entry p.0 p.1)) (enumerate_from-append n xs ys)
+      ∙ map-append (λ p. entry p.0 p.1) (enumerate_from n xs) (enumerate_from (n + length xs) ys)
 
 -- ---- optional values, and the word of the last entry point
 pub option_or-assoc : {X : Type 0} (a b c : Option X)
@@ -275,7 +309,8 @@ pub output_label-push : (t : ℕ) (entry_points : List EntryPoint) (entry_point 
 output_label-push t [] entry_point =
     sym (option_or-none (cond (returns t entry_point) (output_word entry_point.stage) None))
 output_label-push t (first ∷ entry_points) entry_point =
-    ap (λ o. option_or o (cond (returns t first) (output_word first.stage) None)) (output_label-push t entry_points entry_point)
+    ap (λ o. option_or o (cond (returns t first) (output_word first.stage) None))
+    (output_label-push t entry_points entry_point)
     ∙ option_or-assoc (cond (returns t entry_point) (output_word entry_point.stage) None)
     (output_label t entry_points) (cond (returns t first) (output_word first.stage) None)
 
@@ -286,8 +321,10 @@ pub output_label-more : (t : ℕ) (entry_points : List EntryPoint) (i : ℕ)
     (cond (returns t entry_point) (output_word entry_point.stage) None)
     (output_label t (take i entry_points))
 output_label-more t entry_points i entry_point lt is =
-    ap (output_label t) (take_more entry_points i entry_point lt ∙ ap (λ e. take i entry_points ++ e ∷ []) (sym is)) ∙ output_label-push t (take i entry_points) entry_point
+    ap (output_label t) (take_more entry_points i entry_point lt ∙ ap (λ e. take i entry_points ++ e ∷ [])
+    (sym is)) ∙ output_label-push t (take i entry_points) entry_point
 
 -- a map that has the same names for types
-pub same_type_names : (before now : NameMap) (count : ℕ) → ((t : ℕ) → now (key.Type_ t) ≡ before (key.Type_ t)) → type_names_in now count ≡ type_names_in before count
+pub same_type_names : (before now : NameMap) (count : ℕ) →
+    ((t : ℕ) → now (key.Type_ t) ≡ before (key.Type_ t)) → type_names_in now count ≡ type_names_in before count
 same_type_names before now count same = λ i t. cond (nat_lt t count) (unwrap_or (same t i) []) []

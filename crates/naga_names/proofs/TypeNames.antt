@@ -35,8 +35,10 @@ no_type : (entry_points : List EntryPoint) (t n : ℕ) (types : List Type_) → 
 no_type entry_points t n [] le = tt
 no_type entry_points t n (ty ∷ types) le =
     let differ : t ≡ n → ⊥ = λ e. absurd (omega (arith, e, le)) in
-    all_append (λ y. same_key (key.Type_ t) y.0 ≡ false) (labelled_type entry_points n ty) (flat_map (λ p. labelled_type entry_points p.0 p.1) (enumerate_from (n + 1) types))
-    (unlike_types t n differ, members_differ 0 (members_of ty.inner)) (no_type entry_points t (n + 1) types (omega (arith, le)))
+    all_append (λ y. same_key (key.Type_ t) y.0 ≡ false) (labelled_type entry_points n ty)
+    (flat_map (λ p. labelled_type entry_points p.0 p.1) (enumerate_from (n + 1) types))
+    (unlike_types t n differ, members_differ 0 (members_of ty.inner))
+    (no_type entry_points t (n + 1) types (omega (arith, le)))
   where
     members_differ : (k : ℕ) (members : List StructMember) →
         AllByRecursion (λ (y : LabelledItem). same_key (key.Type_ t) y.0 ≡ false)
@@ -49,30 +51,40 @@ module _ (start : Names) («module» : Module) where
   the_types = labelled_types «module».entry_points.items «module».types
 
   abbrev the_others : List LabelledItem
-  the_others = labelled_entry_points «module».entry_points.items ++ (labelled_functions «module».types «module».functions ++ labelled_globals «module».types «module».global_variables)
+  the_others = labelled_entry_points «module».entry_points.items
+      ++ (labelled_functions «module».types «module».functions
+      ++ labelled_globals «module».types «module».global_variables)
 
   -- a type has the name that a map has for it
-  module _ (first : NameMap) (names : Names) (now : NameMap) (has : HasNamedItems start first (labelled_declarations «module») names now) where
-    there : (t : ℕ) (ty : Type_) → slice_get «module».types t ≡ Some ty → now (key.Type_ t) ≡ Some (type_name start «module» t)
+  module _ (first : NameMap) (names : Names) (now : NameMap)
+      (has : HasNamedItems start first (labelled_declarations «module») names now) where
+    there : (t : ℕ) (ty : Type_) → slice_get «module».types t ≡ Some ty → now (key.Type_ t)
+        ≡ Some (type_name start «module» t)
     there t ty e =
         let item : LabelledItem = (key.Type_ t, type_label «module».entry_points.items t ty) in
         let s = type_among_types start «module» t ty e in
         let le : s.place ≤ length the_types = omega (arith, slice_get_within the_types s.place item s.there) in
-        item_put start first now (labelled_declarations «module») has.put (declarations_apart «module») s.place item (place_left the_types the_others s.place item s.there)
+        item_put start first now (labelled_declarations «module») has.put (declarations_apart «module») s.place
+        item (place_left the_types the_others s.place item s.there)
         ∙ ap (λ items. Some (item_name start items item)) (take-append-le s.place the_types the_others le)
-        ∙ sym (ap (λ o. Some (unwrap_or o [])) (name_found start the_types s.place item (types_apart «module».entry_points.items «module».types) s.there))
+        ∙ sym (ap (λ o. Some (unwrap_or o []))
+        (name_found start the_types s.place item (types_apart «module».entry_points.items «module».types) s.there))
 
     agrees : (t : ℕ) → type_names_in now (length «module».types) t ≡ type_name start «module» t
     agrees t = by (slice_get «module».types t) refl
       where
-        by : (o : Option Type_) → slice_get «module».types t ≡ o → type_names_in now (length «module».types) t ≡ type_name start «module» t
+        by : (o : Option Type_) → slice_get «module».types t ≡ o → type_names_in now (length «module».types) t
+            ≡ type_name start «module» t
         by (Some ty) e =
-            ap (λ b. cond b (unwrap_or (now (key.Type_ t)) []) []) (lt-ltb t (length «module».types) (slice_get_within «module».types t ty e))
+            ap (λ b. cond b (unwrap_or (now (key.Type_ t)) []) [])
+            (lt-ltb t (length «module».types) (slice_get_within «module».types t ty e))
             ∙ ap (λ o. unwrap_or o []) (there t ty e)
         by None e =
             let past_end : length «module».types ≤ t = past «module».types t e in
-            ap (λ b. cond b (unwrap_or (now (key.Type_ t)) []) []) (not_below t (length «module».types) (λ lt. omega (arith, lt, past_end)))
-            ∙ sym (ap (λ o. unwrap_or o []) (name_absent start the_types (key.Type_ t) (no_type «module».entry_points.items t 0 «module».types (omega (arith, past_end)))))
+            ap (λ b. cond b (unwrap_or (now (key.Type_ t)) []) [])
+            (not_below t (length «module».types) (λ lt. omega (arith, lt, past_end)))
+            ∙ sym (ap (λ o. unwrap_or o []) (name_absent start the_types (key.Type_ t)
+            (no_type «module».entry_points.items t 0 «module».types (omega (arith, past_end)))))
 
     pub agree : type_names_in now (length «module».types) ≡ type_name start «module»
     agree = λ i t. agrees t i

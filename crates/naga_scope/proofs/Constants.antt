@@ -60,7 +60,8 @@ first_everywhere : (b : Bool) → is_everywhere (first_availability b) ≡ b
 first_everywhere true = refl
 first_everywhere false = refl
 
-first_at_start : (named : ℕ → List ℕ) (name : List ℕ) (b : Bool) → availability_of named name (first_availability b) ≡ start_availability b
+first_at_start : (named : ℕ → List ℕ) (name : List ℕ) (b : Bool) →
+    availability_of named name (first_availability b) ≡ start_availability b
 first_at_start named name true = refl
 first_at_start named name false = refl
 
@@ -84,7 +85,8 @@ pub is_start_none : (m : Module) (info : ModuleInfo) (f : ir_function.Function)
 is_start_none m info f es table size =
     record { size = size; cells = λ h lt. absurd (omega (arith, lt)) }
 
-module _ (m : Module) (info : ModuleInfo) (f : ir_function.Function) (es : List ExpressionInfo) (ordered : OperandsStandBefore f.expressions) where
+module _ (m : Module) (info : ModuleInfo) (f : ir_function.Function) (es : List ExpressionInfo)
+    (ordered : OperandsStandBefore f.expressions) where
   abbrev all : ℕ
   all = length f.expressions
 

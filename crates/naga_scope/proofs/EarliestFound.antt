@@ -22,15 +22,18 @@ use Rattle.shader_runs.specs.Premises.{AllBelow}
 -- ---- the table
 -- for each last line the sweep has come to this handle
 abbrev pub SweptTo : List Expression → List (Line × ℕ) → (first lines : List (Option Line)) → (end : ℕ) → Type 0
-SweptTo es writes first lines end = (last : Line) → Swept es (handles_to last writes) (marks_to last first) (marks_to last lines) end
+SweptTo es writes first lines end = (last : Line) → Swept es (handles_to last writes) (marks_to last first)
+    (marks_to last lines) end
 
 module _ (es : List Expression) (writes : List (Line × ℕ)) (first : List (Option Line)) where
-  pub swept_begun : WritesJust writes first → length first ≡ length es → (end : ℕ) → length es ≤ end → SweptTo es writes first first end
+  pub swept_begun : WritesJust writes first → length first ≡ length es → (end : ℕ) → length es ≤ end →
+      SweptTo es writes first first end
   swept_begun just size end past last =
       begun es (handles_to last writes) (marks_to last first) (just last) (marks_size last first ∙ size) end past
 
   -- what no line writes is passed
-  pub swept_passed : (lines : List (Option Line)) (h : ℕ) → get_or lines h None ≡ None → SweptTo es writes first lines (suc h) →
+  pub swept_passed : (lines : List (Option Line)) (h : ℕ) → get_or lines h None ≡ None →
+      SweptTo es writes first lines (suc h) →
       SweptTo es writes first lines h
   swept_passed lines h none swept last =
       passed es (handles_to last writes) (marks_to last first) (marks_to last lines) h
@@ -46,18 +49,21 @@ module _ (es : List Expression) (writes : List (Line × ℕ)) (first : List (Opt
       marked : is_marked (marks_to last old) h ≡ is_up_to last line
       marked = marked_is last old h ∙ ap (has_line_to last) is
 
-      by : (b : Bool) → is_up_to last line ≡ b → Swept es (handles_to last writes) (marks_to last first) (marks_to last new) h
+      by : (b : Bool) → is_up_to last line ≡ b → Swept es (handles_to last writes) (marks_to last first)
+          (marks_to last new) h
       by true there =
           next es (handles_to last writes) (marks_to last first) (marks_to last old) (marks_to last new) h e
           (marks_size last old ∙ size) at below (marked ∙ there)
-          (λ j. (also.marks last).marks j ∙ ap (λ hs. marked_with (marks_to last old) hs j) (handles_there last line (expression_operands e) there))
+          (λ j. (also.marks last).marks j ∙ ap (λ hs. marked_with (marks_to last old) hs j)
+          (handles_there last line (expression_operands e) there))
           (swept last)
       by false beyond =
           moved es (handles_to last writes) (marks_to last first) (marks_to last old) (marks_to last new) h
           (λ j. (also.marks last).marks j
           ∙ ap (λ hs. marked_with (marks_to last old) hs j) (handles_beyond last line (expression_operands e) beyond)
           ∙ or-false (is_marked (marks_to last old) j))
-          (passed es (handles_to last writes) (marks_to last first) (marks_to last old) h (marked ∙ beyond) (swept last))
+          (passed es (handles_to last writes) (marks_to last first) (marks_to last old) h (marked ∙ beyond)
+          (swept last))
 
 -- ---- what is found
 module _ (formed : Expression → Bool) (es : List Expression) where
@@ -73,7 +79,8 @@ module _ (formed : Expression → Bool) (es : List Expression) where
       is_marked (marks_to last lines) h ≡ true → IsFalse (formed e) → ComesNoEarlier found last h)
 
   pub found_begun : (lines : List (Option Line)) (end : ℕ) → length es ≤ end → FoundFrom end lines None
-  found_begun lines end past last h e le at is = let lt = slice_get_within es h e at in absurd (omega (arith, lt, le, past))
+  found_begun lines end past last h e le at is = let lt = slice_get_within es h e at in
+      absurd (omega (arith, lt, le, past))
 
   -- what no line writes is passed
   pub found_passed : (lines : List (Option Line)) (x : ℕ) (found : Option (Line × ℕ)) → get_or lines x None ≡ None →
@@ -85,19 +92,24 @@ module _ (formed : Expression → Bool) (es : List Expression) where
         where
           by : (h ≡ x) ⊎ (suc x ≤ h) → suc x ≤ h
           by (inl same) =
-              absurd (false≢true (sym (ap (λ k. is_marked (marks_to last lines) k) same ∙ marked_is last lines x ∙ ap (has_line_to last) none) ∙ is))
+              absurd (false≢true
+              (sym (ap (λ k. is_marked (marks_to last lines) k) same ∙ marked_is last lines x
+              ∙ ap (has_line_to last) none) ∙ is))
           by (inr lt) = lt
 
       by : (found : Option (Line × ℕ)) → FoundFrom (suc x) lines found → FoundFrom x lines found
       by None each = λ last h e le at is. each last h e (later last h le is) at is
-      by (Some f) (is, lacks, each) = (is, lacks, λ last h e le at there fails. each last h e (later last h le there) at there fails)
+      by (Some f) (is, lacks, each) =
+          (is, lacks, λ last h e le at there fails. each last h e (later last h le there) at there fails)
 
   -- one that a line writes is looked at
   module _ (lines : List (Option Line)) (x : ℕ) (e : Expression) (line : Line) (at : slice_get es x ≡ Some e)
       (is : get_or lines x None ≡ Some line) where
     up_to : (last : Line) (h : ℕ) → h ≡ x → is_marked (marks_to last lines) h ≡ true → is_before last line ≡ false
     up_to last h same marked =
-        let there : is_up_to last line ≡ true = sym (ap (λ k. is_marked (marks_to last lines) k) same ∙ marked_is last lines x ∙ ap (has_line_to last) is) ∙ marked in
+        let there : is_up_to last line ≡ true =
+        sym (ap (λ k. is_marked (marks_to last lines) k) same ∙ marked_is last lines x
+        ∙ ap (has_line_to last) is) ∙ marked in
         not-true (is_before last line) there
 
     same_expression : (h : ℕ) (d : Expression) → h ≡ x → slice_get es h ≡ Some d → e ≡ d
@@ -110,7 +122,8 @@ module _ (formed : Expression → Bool) (es : List Expression) where
     itself : (last : Line) (h : ℕ) → h ≡ x → is_marked (marks_to last lines) h ≡ true → ComesNoEarlier (line, x) last h
     itself last h same marked = by (cases_line line last)
       where
-        by : (is_before line last ≡ true) ⊎ ((line ≡ last) ⊎ (is_before last line ≡ true)) → ComesNoEarlier (line, x) last h
+        by : (is_before line last ≡ true) ⊎ ((line ≡ last) ⊎ (is_before last line ≡ true)) →
+            ComesNoEarlier (line, x) last h
         by (inl before) = inl before
         by (inr (inl alike)) = inr (alike, omega (arith, same))
         by (inr (inr before)) = absurd (false≢true (sym (up_to last h same marked) ∙ before))
@@ -119,13 +132,16 @@ module _ (formed : Expression → Bool) (es : List Expression) where
         FoundFrom x lines (found_with found line x has_form)
     here true has None each = λ last h d le there marked. by last h d there marked (from_there x h le)
       where
-        by : (last : Line) (h : ℕ) (d : Expression) → slice_get es h ≡ Some d → is_marked (marks_to last lines) h ≡ true →
+        by : (last : Line) (h : ℕ) (d : Expression) → slice_get es h ≡ Some d →
+            is_marked (marks_to last lines) h ≡ true →
             (h ≡ x) ⊎ (suc x ≤ h) → IsTrue (formed d)
         by last h d there marked (inl same) = ap formed (sym (same_expression h d same there)) ∙ has
         by last h d there marked (inr lt) = each last h d lt there marked
-    here true has (Some f) (marked, lacks, each) = (marked, lacks, λ last h d le there marked fails. by last h d there marked fails (from_there x h le))
+    here true has (Some f) (marked, lacks, each) =
+        (marked, lacks, λ last h d le there marked fails. by last h d there marked fails (from_there x h le))
       where
-        by : (last : Line) (h : ℕ) (d : Expression) → slice_get es h ≡ Some d → is_marked (marks_to last lines) h ≡ true →
+        by : (last : Line) (h : ℕ) (d : Expression) → slice_get es h ≡ Some d →
+            is_marked (marks_to last lines) h ≡ true →
             IsFalse (formed d) → (h ≡ x) ⊎ (suc x ≤ h) → ComesNoEarlier f last h
         by last h d there marked fails (inl same) =
             absurd (false≢true (sym fails ∙ (ap formed (sym (same_expression h d same there)) ∙ has)))
@@ -136,16 +152,23 @@ module _ (formed : Expression → Bool) (es : List Expression) where
       λ last h d le there marked fails. by last h d there marked fails (from_there x h le),
     )
       where
-        by : (last : Line) (h : ℕ) (d : Expression) → slice_get es h ≡ Some d → is_marked (marks_to last lines) h ≡ true →
+        by : (last : Line) (h : ℕ) (d : Expression) → slice_get es h ≡ Some d →
+            is_marked (marks_to last lines) h ≡ true →
             IsFalse (formed d) → (h ≡ x) ⊎ (suc x ≤ h) → ComesNoEarlier (line, x) last h
         by last h d there marked fails (inl same) = itself last h same marked
         by last h d there marked fails (inr lt) = absurd (false≢true (sym fails ∙ each last h d lt there marked))
     here false lacks (Some f) (marked, was, each) = which (is_before f.0 line) refl
       where
         which : (b : Bool) → is_before f.0 line ≡ b → FoundFrom x lines (if b then Some f else Some (line, x))
-        which true before = (marked, was, λ last h d le there marked fails. by last h d there marked fails (from_there x h le))
+        which true before = (
+          marked,
+          was,
+          λ last h d le there marked fails. by last h d there marked fails
+              (from_there x h le),
+        )
           where
-            by : (last : Line) (h : ℕ) (d : Expression) → slice_get es h ≡ Some d → is_marked (marks_to last lines) h ≡ true →
+            by : (last : Line) (h : ℕ) (d : Expression) → slice_get es h ≡ Some d →
+                is_marked (marks_to last lines) h ≡ true →
                 IsFalse (formed d) → (h ≡ x) ⊎ (suc x ≤ h) → ComesNoEarlier f last h
             by last h d there marked fails (inl same) = no_earlier f.0 f.1 before last h same marked
             by last h d there marked fails (inr lt) = each last h d lt there marked fails
@@ -159,19 +182,23 @@ module _ (formed : Expression → Bool) (es : List Expression) where
             beyond last h lt (inl before) = inl (up_to_before line f.0 last later before)
             beyond last h lt (inr (same, le)) = inside (cases_line line last)
               where
-                inside : (is_before line last ≡ true) ⊎ ((line ≡ last) ⊎ (is_before last line ≡ true)) → ComesNoEarlier (line, x) last h
+                inside : (is_before line last ≡ true) ⊎ ((line ≡ last) ⊎ (is_before last line ≡ true)) →
+                    ComesNoEarlier (line, x) last h
                 inside (inl before) = inl before
                 inside (inr (inl alike)) = inr (alike, omega (arith, lt))
                 inside (inr (inr before)) = absurd (false≢true (sym later ∙ (ap (λ l. is_before l line) same ∙ before)))
 
-            by : (last : Line) (h : ℕ) (d : Expression) → slice_get es h ≡ Some d → is_marked (marks_to last lines) h ≡ true →
+            by : (last : Line) (h : ℕ) (d : Expression) → slice_get es h ≡ Some d →
+                is_marked (marks_to last lines) h ≡ true →
                 IsFalse (formed d) → (h ≡ x) ⊎ (suc x ≤ h) → ComesNoEarlier (line, x) last h
             by last h d there marked fails (inl same) = itself last h same marked
             by last h d there marked fails (inr lt) = beyond last h lt (each last h d lt there marked fails)
 
   -- the operands that are noted then stand before it
-  pub found_next : (old new : List (Option Line)) (x : ℕ) (e : Expression) (line : Line) (has_form : Bool) (found : Option (Line × ℕ)) →
-      slice_get es x ≡ Some e → AllBelow x (expression_operands e) → get_or old x None ≡ Some line → formed e ≡ has_form →
+  pub found_next : (old new : List (Option Line)) (x : ℕ) (e : Expression) (line : Line) (has_form : Bool)
+      (found : Option (Line × ℕ)) →
+      slice_get es x ≡ Some e → AllBelow x (expression_operands e) → get_or old x None ≡ Some line →
+      formed e ≡ has_form →
       WritesAlso old (writes_at line (expression_operands e)) new → FoundFrom (suc x) old found →
       FoundFrom x new (found_with found line x has_form)
   found_next old new x e line has_form found at below is has also before =
@@ -180,20 +207,26 @@ module _ (formed : Expression → Bool) (es : List Expression) where
       stays : (last : Line) (h : ℕ) → is_marked (marks_to last old) h ≡ true → is_marked (marks_to last new) h ≡ true
       stays last h marked = (also.marks last).marks h ∙ or_left (is_marked (marks_to last old) h) _ marked
 
-      of_operands : (last : Line) (h : ℕ) → is_one_of (handles_to last (writes_at line (expression_operands e))) h ≡ true →
+      of_operands : (last : Line) (h : ℕ) →
+          is_one_of (handles_to last (writes_at line (expression_operands e))) h ≡ true →
           is_one_of (expression_operands e) h ≡ true
       of_operands last h one = inside (is_up_to last line) refl
         where
           inside : (b : Bool) → is_up_to last line ≡ b → is_one_of (expression_operands e) h ≡ true
-          inside true there = sym (ap (λ hs. is_one_of hs h) (handles_there last line (expression_operands e) there)) ∙ one
+          inside true there =
+              sym (ap (λ hs. is_one_of hs h) (handles_there last line (expression_operands e) there)) ∙ one
           inside false beyond =
-              absurd (false≢true (sym (ap (λ hs. is_one_of hs h) (handles_beyond last line (expression_operands e) beyond)) ∙ one))
+              absurd (false≢true
+              (sym (ap (λ hs. is_one_of hs h) (handles_beyond last line (expression_operands e) beyond)) ∙ one))
 
-      was : (last : Line) (h : ℕ) → x ≤ h → is_marked (marks_to last new) h ≡ true → is_marked (marks_to last old) h ≡ true
-      was last h le marked = inside (or_cases (is_marked (marks_to last old) h) _ (sym ((also.marks last).marks h) ∙ marked))
+      was : (last : Line) (h : ℕ) → x ≤ h → is_marked (marks_to last new) h ≡ true →
+          is_marked (marks_to last old) h ≡ true
+      was last h le marked =
+          inside (or_cases (is_marked (marks_to last old) h) _ (sym ((also.marks last).marks h) ∙ marked))
         where
           inside : (is_marked (marks_to last old) h ≡ true) ⊎
-              ((is_one_of (handles_to last (writes_at line (expression_operands e))) h && nat_lt h (length (marks_to last old))) ≡ true) →
+              ((is_one_of (handles_to last (writes_at line (expression_operands e))) h
+              && nat_lt h (length (marks_to last old))) ≡ true) →
               is_marked (marks_to last old) h ≡ true
           inside (inl is) = is
           inside (inr is) =
@@ -206,14 +239,18 @@ module _ (formed : Expression → Bool) (es : List Expression) where
           (stays f.0 f.1 marked, lacks, λ last h d le there marked. each last h d le there (was last h le marked))
 
   -- at the end all has been looked at
-  pub found_all : (writes : List (Line × ℕ)) (first lines : List (Option Line)) (found : Option (Line × ℕ)) → WritesJust writes first →
-      length first ≡ length es → SweptTo es writes first lines 0 → FoundFrom 0 lines found → FindsEarliest formed es writes found
+  pub found_all : (writes : List (Line × ℕ)) (first lines : List (Option Line)) (found : Option (Line × ℕ)) →
+      WritesJust writes first →
+      length first ≡ length es → SweptTo es writes first lines 0 → FoundFrom 0 lines found →
+      FindsEarliest formed es writes found
   found_all writes first lines found just size swept is = by found is
     where
-      marked : (last : Line) (h : ℕ) (e : Expression) → slice_get es h ≡ Some e → IsWritten es (handles_to last writes) h →
+      marked : (last : Line) (h : ℕ) (e : Expression) → slice_get es h ≡ Some e →
+          IsWritten es (handles_to last writes) h →
           is_marked (marks_to last lines) h ≡ true
       marked last h e at written =
-          all_marked es (handles_to last writes) (marks_to last first) (just last) (marks_size last first ∙ size) (marks_to last lines) (swept last)
+          all_marked es (handles_to last writes) (marks_to last first) (just last)
+          (marks_size last first ∙ size) (marks_to last lines) (swept last)
           h (slice_get_within es h e at) written
 
       by : (found : Option (Line × ℕ)) → FoundFrom 0 lines found → FindsEarliest formed es writes found

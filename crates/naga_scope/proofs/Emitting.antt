@@ -58,14 +58,20 @@ module _ (named : ℕ → List ℕ) where
       (availability_of named (numbered_name h) cell)
   set_handles table h cell lt = λ i j. each j i
     where
-      by : (j : ℕ) (b : Bool) → nat_eq j h ≡ b → handles_of named (slice_set table h cell) j ≡ cond b (availability_of named (numbered_name h) cell) (handles_of named table j)
-      by j true is = let same = eqb-true j h is in ap₂ (λ k c. availability_of named (numbered_name k) c) same (get_or-set_at table h j cell Absent same lt)
-      by j false is = ap (availability_of named (numbered_name j)) (get_or-set_other table h j cell Absent (eqb-false j h is))
+      by : (j : ℕ) (b : Bool) → nat_eq j h ≡ b → handles_of named (slice_set table h cell) j
+          ≡ cond b (availability_of named (numbered_name h) cell) (handles_of named table j)
+      by j true is = let same = eqb-true j h is in ap₂ (λ k c. availability_of named (numbered_name k) c) same
+          (get_or-set_at table h j cell Absent same lt)
+      by j false is = ap (availability_of named (numbered_name j))
+          (get_or-set_other table h j cell Absent (eqb-false j h is))
 
-      each : (j : ℕ) → handles_of named (slice_set table h cell) j ≡ update (handles_of named table) h (availability_of named (numbered_name h) cell) j
+      each : (j : ℕ) → handles_of named (slice_set table h cell) j ≡ update (handles_of named table) h
+          (availability_of named (numbered_name h) cell) j
       each j = by j (nat_eq j h) refl
 
-  unbound_is : (u : Bool) (name : List ℕ) (cell : Availability) → availability_of named name (unbound_availability u cell) ≡ runs.availability_without_name u (availability_of named name cell)
+  unbound_is : (u : Bool) (name : List ℕ) (cell : Availability) →
+      availability_of named name (unbound_availability u cell) ≡ runs.availability_without_name u
+      (availability_of named name cell)
   unbound_is true name cell = refl
   unbound_is false name Absent = refl
   unbound_is false name _ = refl
@@ -83,7 +89,8 @@ module _ (named : ℕ → List ℕ) where
   cell_emitted false false u name table h lt = ap (handles_of named) (set-get_or table h Absent)
 
 -- the name that a handle is bound under after so many given ones
-next_is : (named : ℕ → List ℕ) (numbered : List ℕ) (b : Bool) (k : ℕ) → name_of_bound named numbered (next_name b k) ≡ cond b (named k) numbered
+next_is : (named : ℕ → List ℕ) (numbered : List ℕ) (b : Bool) (k : ℕ) →
+    name_of_bound named numbered (next_name b k) ≡ cond b (named k) numbered
 next_is named numbered true k = refl
 next_is named numbered false k = refl
 
@@ -126,9 +133,11 @@ module _ (m : Module) (info : ModuleInfo) (f : ir_function.Function) (es : List 
     checked_by ordered held b own new kind bound is =
         let all = is ∙ sym (checked_operands m info f es ordered s n h held h) in
         λ i. result_and (unless (sym new i) (GivenBefore n h))
-        (result_and (unless (sym (emittable_at m info f es h ∙ kind) i) (NeedsNoEmit n h)) (check_bound (bound i) (all i)))
+        (result_and (unless (sym (emittable_at m info f es h ∙ kind) i) (NeedsNoEmit n h))
+        (check_bound (bound i) (all i)))
 
-module _ (names : NameMap) (m : Module) (info : ModuleInfo) (named : ℕ → List ℕ) (g : ℕ) (f : ir_function.Function) (es : List ExpressionInfo) where
+module _ (names : NameMap) (m : Module) (info : ModuleInfo) (named : ℕ → List ℕ) (g : ℕ)
+    (f : ir_function.Function) (es : List ExpressionInfo) where
   abbrev own : Naming
   own = function_naming names named m info g f es
 
@@ -142,7 +151,8 @@ module _ (names : NameMap) (m : Module) (info : ModuleInfo) (named : ℕ → Lis
   pub emitted_is : (h k : ℕ) (table : List Availability) (cell : Availability) → h < length table →
       (let evaluated = expression_of shape h in
       cell ≡ emitted_availability (binds shape h) (is_pure evaluated)
-      (usable_all shape (handles table) (operands_of evaluated)) (next_name (is_some (label_of f h)) k) (get_or table h Absent)) →
+      (usable_all shape (handles table) (operands_of evaluated)) (next_name (is_some (label_of f h)) k)
+      (get_or table h Absent)) →
       handles (slice_set table h cell) ≡ after_one own k h (handles table)
   emitted_is h k table cell lt is =
       let s = handles table in
@@ -157,21 +167,25 @@ module _ (names : NameMap) (m : Module) (info : ModuleInfo) (named : ℕ → Lis
       ∙ ap (λ b. cond b (named k) (numbered_name h)) (sym (named_is m info f es h))))
 
   -- an Emit of a handle past the expressions changes nothing
-  pub past_emitted : (k h : ℕ) (table : List Availability) → length table ≤ h → length table ≡ length f.expressions → handles table ≡ after_one own k h (handles table)
+  pub past_emitted : (k h : ℕ) (table : List Availability) → length table ≤ h →
+      length table ≡ length f.expressions → handles table ≡ after_one own k h (handles table)
   past_emitted k h table le size =
       let past : length f.expressions ≤ h = omega (arith, le, size) in
       let s = handles table in
       let at = no_expression_at m info f es h (slice_get_past f.expressions h past) in
-      sym (ap (λ e. with_emitted_handle (binds_as shape h e) (is_pure e) (usable_all shape s (operands_of e)) (runs.bound_name own k h) s h) at)
+      sym (ap (λ e. with_emitted_handle (binds_as shape h e) (is_pure e) (usable_all shape s (operands_of e))
+      (runs.bound_name own k h) s h) at)
 
   -- so an Emit of any handle does
   pub any_emitted : (h k : ℕ) (table : List Availability) (cell : Availability) → length table ≡ length f.expressions →
       (let evaluated = expression_of shape h in
       cell ≡ emitted_availability (binds shape h) (is_pure evaluated)
-      (usable_all shape (handles table) (operands_of evaluated)) (next_name (is_some (label_of f h)) k) (get_or table h Absent)) →
+      (usable_all shape (handles table) (operands_of evaluated)) (next_name (is_some (label_of f h)) k)
+      (get_or table h Absent)) →
       handles (slice_set table h cell) ≡ after_one own k h (handles table)
   any_emitted h k table cell size is = by (cases_lt h (length table))
     where
-      by : (h < length table) ⊎ (length table ≤ h) → handles (slice_set table h cell) ≡ after_one own k h (handles table)
+      by : (h < length table) ⊎ (length table ≤ h) → handles (slice_set table h cell)
+          ≡ after_one own k h (handles table)
       by (inl lt) = emitted_is h k table cell lt is
       by (inr le) = ap handles (set_past table h cell le) ∙ past_emitted k h table le size

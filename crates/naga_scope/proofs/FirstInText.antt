@@ -67,14 +67,16 @@ few_kinds ExpressionForm = omega arith
 few_kinds DeclaredType = omega arith
 few_kinds LetType = omega arith
 
-earlier_or_this : (kind this : Kind) (n : ℕ) → kind_rank this ≡ n → kind_rank kind < suc n → (kind_rank kind < n) ⊎ (kind ≡ this)
+earlier_or_this : (kind this : Kind) (n : ℕ) → kind_rank this ≡ n → kind_rank kind < suc n →
+    (kind_rank kind < n) ⊎ (kind ≡ this)
 earlier_or_this kind this n rank lt = by (cases_lt (kind_rank kind) n)
   where
     by : (kind_rank kind < n) ⊎ (n ≤ kind_rank kind) → (kind_rank kind < n) ⊎ (kind ≡ this)
     by (inl earlier) = inl earlier
     by (inr le) = inr (same_kind kind this (omega (arith, rank, lt, le)))
 
-module _ (explicit : Bool) (m : Module) (info : ModuleInfo) (f : Function) (es : List ExpressionInfo) (namer : Names) where
+module _ (explicit : Bool) (m : Module) (info : ModuleInfo) (f : Function) (es : List ExpressionInfo)
+    (namer : Names) where
   abbrev Nothing : Kind → Line → Type 0
   Nothing kind line = NothingAt explicit m info f es kind line
 
@@ -83,7 +85,8 @@ module _ (explicit : Bool) (m : Module) (info : ModuleInfo) (f : Function) (es :
     pub of_kind : IsFirstOfKind explicit m info f es error
     pub refused : IsRefusalToPlan explicit m info f es namer error
     pub rank : kind_rank (kind_of error) < n
-    pub before : (line : Line) (kind : Kind) → kind_rank kind < n → ComesBefore line kind (line_of error) (kind_of error) → Nothing kind line
+    pub before : (line : Line) (kind : Kind) → kind_rank kind < n →
+        ComesBefore line kind (line_of error) (kind_of error) → Nothing kind line
 
   abbrev pub FoundBelow : ℕ → Option PlanError → Type 0
   FoundBelow n None = (line : Line) (kind : Kind) → kind_rank kind < n → Nothing kind line
@@ -118,13 +121,16 @@ module _ (explicit : Bool) (m : Module) (info : ModuleInfo) (f : Function) (es :
         of_this line (inl before) = one.before line before
         of_this line (inr (same, lt)) = let is = ap kind_rank one.is in absurd (omega (arith, is, lt))
 
-        by : (line : Line) (kind : Kind) → (kind_rank kind < n) ⊎ (kind ≡ this) → ComesBefore line kind (line_of error) (kind_of error) → Nothing kind line
+        by : (line : Line) (kind : Kind) → (kind_rank kind < n) ⊎ (kind ≡ this) →
+            ComesBefore line kind (line_of error) (kind_of error) → Nothing kind line
         by line kind (inl lt) comes = none line kind lt
         by line kind (inr same) comes =
-            subst (λ k. Nothing k line) (sym same) (of_this line (subst (λ k. ComesBefore line k (line_of error) (kind_of error)) same comes))
+            subst (λ k. Nothing k line) (sym same)
+            (of_this line (subst (λ k. ComesBefore line k (line_of error) (kind_of error)) same comes))
 
     -- the first of two
-    kept : (x y : PlanError) → is_before (line_of y) (line_of x) ≡ false → FirstBelow n x → FirstOf this y → FirstBelow (suc n) x
+    kept : (x y : PlanError) → is_before (line_of y) (line_of x) ≡ false → FirstBelow n x → FirstOf this y →
+        FirstBelow (suc n) x
     kept x y later first one = record {
       of_kind = first.of_kind;
       refused = first.refused;
@@ -136,12 +142,15 @@ module _ (explicit : Bool) (m : Module) (info : ModuleInfo) (f : Function) (es :
         of_this line (inl before) = one.before line (before_up_to line (line_of x) (line_of y) before later)
         of_this line (inr (same, lt)) = let is = first.rank in absurd (omega (arith, is, lt, rank))
 
-        by : (line : Line) (kind : Kind) → (kind_rank kind < n) ⊎ (kind ≡ this) → ComesBefore line kind (line_of x) (kind_of x) → Nothing kind line
+        by : (line : Line) (kind : Kind) → (kind_rank kind < n) ⊎ (kind ≡ this) →
+            ComesBefore line kind (line_of x) (kind_of x) → Nothing kind line
         by line kind (inl lt) comes = first.before line kind lt comes
         by line kind (inr same) comes =
-            subst (λ k. Nothing k line) (sym same) (of_this line (subst (λ k. ComesBefore line k (line_of x) (kind_of x)) same comes))
+            subst (λ k. Nothing k line) (sym same)
+            (of_this line (subst (λ k. ComesBefore line k (line_of x) (kind_of x)) same comes))
 
-    taken : (x y : PlanError) → is_before (line_of y) (line_of x) ≡ true → FirstBelow n x → FirstOf this y → FirstBelow (suc n) y
+    taken : (x y : PlanError) → is_before (line_of y) (line_of x) ≡ true → FirstBelow n x → FirstOf this y →
+        FirstBelow (suc n) y
     taken x y earlier first one = record {
       of_kind = one.of_kind;
       refused = one.refused;
@@ -153,14 +162,19 @@ module _ (explicit : Bool) (m : Module) (info : ModuleInfo) (f : Function) (es :
         of_this line (inl before) = one.before line before
         of_this line (inr (same, lt)) = let is = ap kind_rank one.is in absurd (omega (arith, is, lt))
 
-        of_first : (line : Line) (kind : Kind) → kind_rank kind < n → ComesBefore line kind (line_of y) (kind_of y) → Nothing kind line
-        of_first line kind lt (inl before) = first.before line kind lt (inl (before_then line (line_of y) (line_of x) before earlier))
-        of_first line kind lt (inr (same, _)) = first.before line kind lt (inl (ap (λ l. is_before l (line_of x)) same ∙ earlier))
+        of_first : (line : Line) (kind : Kind) → kind_rank kind < n →
+            ComesBefore line kind (line_of y) (kind_of y) → Nothing kind line
+        of_first line kind lt (inl before) =
+            first.before line kind lt (inl (before_then line (line_of y) (line_of x) before earlier))
+        of_first line kind lt (inr (same, _)) =
+            first.before line kind lt (inl (ap (λ l. is_before l (line_of x)) same ∙ earlier))
 
-        by : (line : Line) (kind : Kind) → (kind_rank kind < n) ⊎ (kind ≡ this) → ComesBefore line kind (line_of y) (kind_of y) → Nothing kind line
+        by : (line : Line) (kind : Kind) → (kind_rank kind < n) ⊎ (kind ≡ this) →
+            ComesBefore line kind (line_of y) (kind_of y) → Nothing kind line
         by line kind (inl lt) comes = of_first line kind lt comes
         by line kind (inr same) comes =
-            subst (λ k. Nothing k line) (sym same) (of_this line (subst (λ k. ComesBefore line k (line_of y) (kind_of y)) same comes))
+            subst (λ k. Nothing k line) (sym same)
+            (of_this line (subst (λ k. ComesBefore line k (line_of y) (kind_of y)) same comes))
 
     next : (a b : Option PlanError) → FoundBelow n a → FoundOf this b → FoundBelow (suc n) (earlier a b)
     next None None none nothing = λ line kind lt. by line kind (earlier_or_this kind this n rank lt)
@@ -176,7 +190,8 @@ module _ (explicit : Bool) (m : Module) (info : ModuleInfo) (f : Function) (es :
       before = λ line kind lt comes. by line kind (earlier_or_this kind this n rank lt) comes;
     }
       where
-        by : (line : Line) (kind : Kind) → (kind_rank kind < n) ⊎ (kind ≡ this) → ComesBefore line kind (line_of x) (kind_of x) → Nothing kind line
+        by : (line : Line) (kind : Kind) → (kind_rank kind < n) ⊎ (kind ≡ this) →
+            ComesBefore line kind (line_of x) (kind_of x) → Nothing kind line
         by line kind (inl lt) comes = first.before line kind lt comes
         by line kind (inr same) comes = subst (λ k. Nothing k line) (sym same) (nothing line)
     next (Some x) (Some y) first one = by (is_before (line_of y) (line_of x)) refl
@@ -187,14 +202,17 @@ module _ (explicit : Bool) (m : Module) (info : ModuleInfo) (f : Function) (es :
 
   -- ---- what the check of scope finds
   module _ (ordered : OperandsStandBefore f.expressions) where
-    of_scope : (checked : Result ℕ ScopeFault) → checked ≡ checked_scope m info f es → FoundOf ScopeRule (scope_lack checked)
+    of_scope : (checked : Result ℕ ScopeFault) → checked ≡ checked_scope m info f es →
+        FoundOf ScopeRule (scope_lack checked)
     of_scope (Ok n) is = λ line fault found same. let clash = is ∙ found in absurd cc
     of_scope (Err fault) is = record {
       is = refl;
       of_kind = sym is;
       refused = checked_fault m info f es ordered fault (sym is);
-      before = λ line before other found same. let one = same_fault fault other (checked_scope m info f es) (sym is) found in
-          absurd (false≢true (sym (not_before_itself (line_of_fault fault)) ∙ (ap (λ l. is_before l (line_of_fault fault)) (ap line_of_fault one ∙ same) ∙ before)));
+      before = λ line before other found same. let one = same_fault fault other (checked_scope m info f es)
+          (sym is) found in
+          absurd (false≢true (sym (not_before_itself (line_of_fault fault))
+          ∙ (ap (λ l. is_before l (line_of_fault fault)) (ap line_of_fault one ∙ same) ∙ before)));
     }
       where
         same_fault : (a b : ScopeFault) (r : Result ℕ ScopeFault) → r ≡ Err a → r ≡ Err b → a ≡ b
@@ -220,7 +238,8 @@ module _ (explicit : Bool) (m : Module) (info : ModuleInfo) (f : Function) (es :
         by : (line : Line) → is_before line (Statement n) ≡ true → Nothing StatementForm line
         by Signature before = tt
         by (Local i) before = tt
-        by (Statement k) before = λ st at. found.4 k st (subst (λ i. k < i) found.3 (ltb-true k n before)) (ap (λ ss. slice_get ss k) trees ∙ at)
+        by (Statement k) before = λ st at. found.4 k st (subst (λ i. k < i) found.3 (ltb-true k n before))
+            (ap (λ ss. slice_get ss k) trees ∙ at)
 
     abbrev bound : ℕ → Bool
     bound = binds (function_shape m info f es)
@@ -232,12 +251,14 @@ module _ (explicit : Bool) (m : Module) (info : ModuleInfo) (f : Function) (es :
     up_to_itself line = ap not (not_before_itself line)
 
     -- each written expression has a form
-    pub expressions_formed : FindsEarliest formed f.expressions (function_writes bound f (trees_in f.body)) None → ExpressionsHaveForms m info f es
+    pub expressions_formed : FindsEarliest formed f.expressions (function_writes bound f (trees_in f.body))
+        None → ExpressionsHaveForms m info f es
     expressions_formed each h e at written =
         let on = on_some_line bound f f.expressions h written in
         each on.0 h e at (from_line bound f f.expressions on.0 on.0 h (up_to_itself on.0) on.1)
 
-    of_expressions : (found : Option (Line × ℕ)) → FindsEarliest formed f.expressions (function_writes bound f (trees_in f.body)) found →
+    of_expressions : (found : Option (Line × ℕ)) →
+        FindsEarliest formed f.expressions (function_writes bound f (trees_in f.body)) found →
         FoundOf ExpressionForm (option_map (λ it. reason.WithoutForm it.0 it.1) found)
     of_expressions None each = λ line h e at written.
         each line h e at (from_line bound f f.expressions line line h (up_to_itself line) written)
@@ -256,20 +277,24 @@ module _ (explicit : Bool) (m : Module) (info : ModuleInfo) (f : Function) (es :
             by true is = is
             by false is = absurd (not_lacking is)
 
-        comes : (line : Line) (h : ℕ) (e : Expression) → slice_get f.expressions h ≡ Some e → IsWrittenAt m info f es line h →
+        comes : (line : Line) (h : ℕ) (e : Expression) → slice_get f.expressions h ≡ Some e →
+            IsWrittenAt m info f es line h →
             formed e ≡ false → ComesNoEarlier (first, x) line h
         comes line h e at written fails =
             found.2 line h e at (from_line bound f f.expressions line line h (up_to_itself line) written) fails
 
-        on_earlier : (line : Line) → is_before line first ≡ true → (h : ℕ) (e : Expression) → slice_get f.expressions h ≡ Some e →
+        on_earlier : (line : Line) → is_before line first ≡ true → (h : ℕ) (e : Expression) →
+            slice_get f.expressions h ≡ Some e →
             IsWrittenAt m info f es line h → formed e ≡ false → ⊥
         on_earlier line before h e at written fails = by (comes line h e at written fails)
           where
             by : ComesNoEarlier (first, x) line h → ⊥
             by (inl later) = false≢true (sym (not_before_itself first) ∙ before_then first line first later before)
-            by (inr (same, le)) = false≢true (sym (not_before_itself first) ∙ (ap (λ l. is_before l first) same ∙ before))
+            by (inr (same, le)) = false≢true (sym (not_before_itself first)
+                ∙ (ap (λ l. is_before l first) same ∙ before))
 
-        same_line : (h : ℕ) (e : Expression) → h < x → slice_get f.expressions h ≡ Some e → IsWrittenAt m info f es first h → formed e ≡ false → ⊥
+        same_line : (h : ℕ) (e : Expression) → h < x → slice_get f.expressions h ≡ Some e →
+            IsWrittenAt m info f es first h → formed e ≡ false → ⊥
         same_line h e lt at written fails = by (comes first h e at written fails)
           where
             by : ComesNoEarlier (first, x) first h → ⊥
@@ -277,14 +302,16 @@ module _ (explicit : Bool) (m : Module) (info : ModuleInfo) (f : Function) (es :
             by (inr (same, le)) = omega (arith, lt, le)
 
         -- it is written on that very line
-        written_there : ((line : Line) × (is_up_to first line ≡ true) × IsWrittenAt m info f es line x) → IsWrittenAt m info f es first x
+        written_there : ((line : Line) × (is_up_to first line ≡ true) × IsWrittenAt m info f es line x) →
+            IsWrittenAt m info f es first x
         written_there (line, there, written) = lacking (slice_get f.expressions x) refl found.1
           where
             by : (e : Expression) → ComesNoEarlier (first, x) line x → IsWrittenAt m info f es first x
             by e (inl later) = absurd (false≢true (sym (ap not later) ∙ there))
             by e (inr (same, le)) = subst (λ l. IsWrittenAt m info f es l x) (sym same) written
 
-            lacking : (o : Option Expression) → slice_get f.expressions x ≡ o → IsSomeAnd o (λ e. IsFalse (formed e)) → IsWrittenAt m info f es first x
+            lacking : (o : Option Expression) → slice_get f.expressions x ≡ o →
+                IsSomeAnd o (λ e. IsFalse (formed e)) → IsWrittenAt m info f es first x
             lacking None at fails = absurd fails
             lacking (Some e) at fails = by e (comes line x e at written fails)
 
@@ -310,10 +337,12 @@ module _ (explicit : Bool) (m : Module) (info : ModuleInfo) (f : Function) (es :
         by (Local i) = tt
         by (Statement n) = λ st at. each n st (ap (λ ss. slice_get ss n) trees ∙ at)
     of_lets (Some (n, h)) found =
-        let there : slice_get (trees_in f.body) n ≡ Some found.1 = ap (slice_get (trees_in f.body)) found.3 ∙ (ap (λ ss. slice_get ss found.0) (sym trees) ∙ found.2) in
+        let there : slice_get (trees_in f.body) n ≡ Some found.1 = ap (slice_get (trees_in f.body)) found.3
+        ∙ (ap (λ ss. slice_get ss found.0) (sym trees) ∙ found.2) in
         record {
           is = refl;
-          of_kind = λ st at. ap (own_annotated explicit m es bound) (sym (same_tree found.1 st (sym there ∙ at))) ∙ found.5;
+          of_kind = λ st at. ap (own_annotated explicit m es bound)
+              (sym (same_tree found.1 st (sym there ∙ at))) ∙ found.5;
           refused = let_lacks explicit m info f es n found.1 there h found.5;
           before = by;
         }
@@ -324,17 +353,20 @@ module _ (explicit : Bool) (m : Module) (info : ModuleInfo) (f : Function) (es :
         by : (line : Line) → is_before line (Statement n) ≡ true → Nothing LetType line
         by Signature before = tt
         by (Local i) before = tt
-        by (Statement k) before = λ st at. found.4 k st (subst (λ i. k < i) found.3 (ltb-true k n before)) (ap (λ ss. slice_get ss k) trees ∙ at)
+        by (Statement k) before = λ st at. found.4 k st (subst (λ i. k < i) found.3 (ltb-true k n before))
+            (ap (λ ss. slice_get ss k) trees ∙ at)
 
     -- ---- all of them
     module _ (ordered : OperandsStandBefore f.expressions) (small : length sts < 2 ^ 64)
         (checked : Result ℕ ScopeFault) (is_checked : checked ≡ checked_scope m info f es)
         (statement : Option (ℕ × UnsupportedStatement)) (finds_statement : FindsUnsupported sts statement)
-        (expression : Option (Line × ℕ)) (finds_expression : FindsEarliest formed f.expressions (function_writes bound f sts) expression)
+        (expression : Option (Line × ℕ)) (finds_expression : FindsEarliest formed f.expressions
+        (function_writes bound f sts) expression)
         (declared : Option (Declared × ℕ)) (is_declared : declared ≡ declared_unsupported m f)
         (annotated : Option (ℕ × ℕ)) (finds_annotated : FindsAnnotated explicit m es bound sts annotated) where
       of_body : FindsEarliest formed f.expressions (function_writes bound f (trees_in f.body)) expression
-      of_body = subst (λ ts. FindsEarliest formed f.expressions (function_writes bound f ts) expression) trees finds_expression
+      of_body = subst (λ ts. FindsEarliest formed f.expressions (function_writes bound f ts) expression) trees
+          finds_expression
 
       pub first_found : FoundBelow 5 (first_lack checked statement expression declared annotated)
       first_found =
@@ -358,10 +390,17 @@ module _ (explicit : Bool) (m : Module) (info : ModuleInfo) (f : Function) (es :
           let scoped = neither _ _ stated.0 in (
             in_scope checked is_checked scoped.0,
             record {
-              expressions = expressions_formed (subst (FindsEarliest formed f.expressions (function_writes bound f (trees_in f.body))) (unmapped _ expression stated.1) of_body);
-              statements = none_unsupported f.body (none_found sts f.body trees (subst (FindsUnsupported sts) (unmapped _ statement scoped.1) finds_statement));
+              expressions =
+                  expressions_formed
+                  (subst (FindsEarliest formed f.expressions (function_writes bound f (trees_in f.body)))
+                  (unmapped _ expression stated.1) of_body);
+              statements = none_unsupported f.body
+                  (none_found sts f.body trees (subst (FindsUnsupported sts)
+                  (unmapped _ statement scoped.1) finds_statement));
               types = spelled_formed explicit m info f es (sym is_declared ∙ unmapped _ declared formed_all.1)
-                  (subst (λ ts. FindsAnnotated explicit m es bound ts None) trees (subst (FindsAnnotated explicit m es bound sts) (unmapped _ annotated spelled.1) finds_annotated));
+                  (subst (λ ts. FindsAnnotated explicit m es bound ts None) trees
+                  (subst (FindsAnnotated explicit m es bound sts)
+                  (unmapped _ annotated spelled.1) finds_annotated));
             },
           )
         where
@@ -374,18 +413,21 @@ module _ (explicit : Bool) (m : Module) (info : ModuleInfo) (f : Function) (es :
           unmapped g None is = refl
           unmapped g (Some x) is = absurd cc
 
-          in_scope : (checked : Result ℕ ScopeFault) → checked ≡ checked_scope m info f es → scope_lack checked ≡ None → ScopeHolds (function_shape m info f es)
+          in_scope : (checked : Result ℕ ScopeFault) → checked ≡ checked_scope m info f es → scope_lack checked
+              ≡ None → ScopeHolds (function_shape m info f es)
           in_scope (Ok n) is none = checked_holds m info f es ordered (sym is)
           in_scope (Err fault) is none = absurd cc
 
   -- what is told of the first
-  pub first_to_plan : (Labelled : Type 0) → Labelled → (error : PlanError) → FirstBelow 5 error → IsFirstToPlan Labelled explicit m info f es error
+  pub first_to_plan : (Labelled : Type 0) → Labelled → (error : PlanError) → FirstBelow 5 error →
+      IsFirstToPlan Labelled explicit m info f es error
   first_to_plan Labelled labelled error first = by error (record {
     of_kind = first.of_kind;
     before = λ line kind comes. first.before line kind (few_kinds kind) comes;
   })
     where
-      by : (error : PlanError) → IsFirstInText explicit m info f es error → IsFirstToPlan Labelled explicit m info f es error
+      by : (error : PlanError) → IsFirstInText explicit m info f es error →
+          IsFirstToPlan Labelled explicit m info f es error
       by (reason.OutOfScope fault) first = (labelled, first)
       by (reason.StatementWithoutForm n it) first = (labelled, first)
       by (reason.WithoutForm line h) first = (labelled, first)

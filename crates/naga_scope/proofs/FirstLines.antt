@@ -66,10 +66,12 @@ module _ (last : Line) where
       ∙ handles_beyond line hs beyond
 
   -- ---- one write
-  marks_of_one : (line : Line) (i h : ℕ) → is_one_of (handles_to last ((line, i) ∷ [])) h ≡ (is_up_to last line && nat_eq h i)
+  marks_of_one : (line : Line) (i h : ℕ) → is_one_of (handles_to last ((line, i) ∷ [])) h
+      ≡ (is_up_to last line && nat_eq h i)
   marks_of_one line i h = by (is_up_to last line)
     where
-      by : (b : Bool) → is_one_of (map {A = Line × ℕ} (λ w. w.1) (if b then (line, i) ∷ [] else [])) h ≡ (b && nat_eq h i)
+      by : (b : Bool) → is_one_of (map {A = Line × ℕ} (λ w. w.1) (if b then (line, i) ∷ [] else [])) h
+          ≡ (b && nat_eq h i)
       by true = or-false (nat_eq h i)
       by false = refl
 
@@ -82,9 +84,11 @@ module _ (last : Line) where
     abbrev new : List (Option Line)
     new = slice_set lines i (Some (first_line (get_or lines i None) line))
 
-    pub one_noted : i < length lines → MarksAlso (marks_to last lines) (handles_to last ((line, i) ∷ [])) (marks_to last new)
+    pub one_noted : i < length lines → MarksAlso (marks_to last lines) (handles_to last ((line, i) ∷ []))
+        (marks_to last new)
     one_noted within = record {
-      size = marks_size new ∙ (length-set lines i (Some (first_line (get_or lines i None) line)) ∙ sym (marks_size lines));
+      size = marks_size new ∙ (length-set lines i (Some (first_line (get_or lines i None) line))
+          ∙ sym (marks_size lines));
       marks = λ h. by h (cases_order h i);
     }
       where
@@ -104,14 +108,17 @@ module _ (last : Line) where
         nothing false true c = refl
         nothing false false c = refl
 
-        unlike : (h : ℕ) → (h ≡ i → ⊥) → is_marked (marks_to last new) h ≡ marked_with (marks_to last lines) (handles_to last ((line, i) ∷ [])) h
+        unlike : (h : ℕ) → (h ≡ i → ⊥) → is_marked (marks_to last new) h ≡ marked_with (marks_to last lines)
+            (handles_to last ((line, i) ∷ [])) h
         unlike h other =
             marked_is new h
-            ∙ ap (has_line_to last) (get_or-set_other lines i h (Some (first_line (get_or lines i None) line)) None other)
+            ∙ ap (has_line_to last) (get_or-set_other lines i h (Some (first_line (get_or lines i None) line))
+            None other)
             ∙ sym (marked_is lines h)
             ∙ sym (ap (λ b. is_marked (marks_to last lines) h || (b && nat_lt h (length (marks_to last lines))))
             (marks_of_one line i h ∙ ap (λ b. is_up_to last line && b) (other_index h i other))
-            ∙ nothing (is_marked (marks_to last lines) h) (is_up_to last line) (nat_lt h (length (marks_to last lines))))
+            ∙ nothing (is_marked (marks_to last lines) h) (is_up_to last line)
+            (nat_lt h (length (marks_to last lines))))
 
         by : (h : ℕ) → (h ≡ i) ⊎ ((h < i) ⊎ (i < h)) →
             is_marked (marks_to last new) h ≡ marked_with (marks_to last lines) (handles_to last ((line, i) ∷ [])) h
@@ -119,9 +126,11 @@ module _ (last : Line) where
             let size = marks_size lines in
             let lt : h < length (marks_to last lines) = omega (arith, same, within, size) in
             marked_is new h
-            ∙ ap (has_line_to last) (get_or-set_at lines i h (Some (first_line (get_or lines i None) line)) None same within)
+            ∙ ap (has_line_to last) (get_or-set_at lines i h (Some (first_line (get_or lines i None) line)) None
+            same within)
             ∙ first_has (get_or lines i None) line
-            ∙ ap (λ o. o || is_up_to last line) (ap (λ k. has_line_to last (get_or lines k None)) (sym same) ∙ sym (marked_is lines h))
+            ∙ ap (λ o. o || is_up_to last line) (ap (λ k. has_line_to last (get_or lines k None)) (sym same)
+            ∙ sym (marked_is lines h))
             ∙ sym (ap₂ (λ b c. is_marked (marks_to last lines) h || (b && c))
             (marks_of_one line i h ∙ ap (λ b. is_up_to last line && b) (same_index h same))
             (lt-ltb h (length (marks_to last lines)) lt)
@@ -129,7 +138,8 @@ module _ (last : Line) where
         by h (inr (inl lt)) = unlike h (λ same. omega (arith, lt, same))
         by h (inr (inr lt)) = unlike h (λ same. omega (arith, lt, same))
 
-    pub none_noted : length lines ≤ i → MarksAlso (marks_to last lines) (handles_to last ((line, i) ∷ [])) (marks_to last lines)
+    pub none_noted : length lines ≤ i → MarksAlso (marks_to last lines) (handles_to last ((line, i) ∷ []))
+        (marks_to last lines)
     none_noted past = record { size = refl; marks = λ h. by h (nat_lt h (length (marks_to last lines))) refl }
       where
         nothing : (a b : Bool) → a ≡ (a || (b && false))
@@ -138,15 +148,18 @@ module _ (last : Line) where
         nothing false false = refl
 
         out : (h : ℕ) → is_one_of (handles_to last ((line, i) ∷ [])) h ≡ false → (c : Bool) →
-            is_marked (marks_to last lines) h ≡ (is_marked (marks_to last lines) h || (is_one_of (handles_to last ((line, i) ∷ [])) h && c))
-        out h is c = sym (ap (λ b. is_marked (marks_to last lines) h || (b && c)) is ∙ or-false (is_marked (marks_to last lines) h))
+            is_marked (marks_to last lines) h ≡ (is_marked (marks_to last lines) h
+            || (is_one_of (handles_to last ((line, i) ∷ [])) h && c))
+        out h is c = sym (ap (λ b. is_marked (marks_to last lines) h || (b && c)) is
+            ∙ or-false (is_marked (marks_to last lines) h))
 
         by : (h : ℕ) (b : Bool) → nat_lt h (length (marks_to last lines)) ≡ b →
             is_marked (marks_to last lines) h ≡ marked_with (marks_to last lines) (handles_to last ((line, i) ∷ [])) h
         by h true is =
             let lt = ltb-true h (length (marks_to last lines)) is in
             let size = marks_size lines in
-            out h (marks_of_one line i h ∙ ap (λ b. is_up_to last line && b) (other_index h i (λ same. omega (arith, lt, size, past, same))) ∙ none (is_up_to last line))
+            out h (marks_of_one line i h ∙ ap (λ b. is_up_to last line && b)
+            (other_index h i (λ same. omega (arith, lt, size, past, same))) ∙ none (is_up_to last line))
             (nat_lt h (length (marks_to last lines)))
           where
             none : (b : Bool) → (b && false) ≡ false
@@ -154,16 +167,19 @@ module _ (last : Line) where
             none false = refl
         by h false is =
             nothing (is_marked (marks_to last lines) h) (is_one_of (handles_to last ((line, i) ∷ [])) h)
-            ∙ ap (λ c. is_marked (marks_to last lines) h || (is_one_of (handles_to last ((line, i) ∷ [])) h && c)) (sym is)
+            ∙ ap (λ c. is_marked (marks_to last lines) h
+            || (is_one_of (handles_to last ((line, i) ∷ [])) h && c)) (sym is)
 
 -- ---- several writes
 pub writes_none : (lines : List (Option Line)) → WritesAlso lines [] lines
 writes_none lines = record { marks = λ last. marks_none (marks_to last lines) }
 
-pub writes_then : {old mid new : List (Option Line)} {xs ys : List (Line × ℕ)} → WritesAlso old xs mid → WritesAlso mid ys new →
+pub writes_then : {old mid new : List (Option Line)} {xs ys : List (Line × ℕ)} → WritesAlso old xs mid →
+    WritesAlso mid ys new →
     WritesAlso old (xs ++ ys) new
 writes_then {old} {mid} {new} {xs} {ys} first second = record {
-  marks = λ last. subst (λ hs. MarksAlso (marks_to last old) hs (marks_to last new)) (sym (handles_both last xs ys)) (marks_then (first.marks last) (second.marks last));
+  marks = λ last. subst (λ hs. MarksAlso (marks_to last old) hs (marks_to last new))
+      (sym (handles_both last xs ys)) (marks_then (first.marks last) (second.marks last));
 }
 
 -- some of these are noted, and the others are left
@@ -183,8 +199,10 @@ noted_more here left1 s split more = record {
   so_far = writes_then s.so_far more;
 }
 
-pub noted_all : {old new : List (Option Line)} {all left : List (Line × ℕ)} → NotedSoFar old all left new → left ≡ [] → WritesAlso old all new
-noted_all {old} {new} s none = subst (λ ws. WritesAlso old ws new) (sym (s.parts ∙ (ap (λ ws. s.done ++ ws) none ∙ append-nil s.done))) s.so_far
+pub noted_all : {old new : List (Option Line)} {all left : List (Line × ℕ)} → NotedSoFar old all left new →
+    left ≡ [] → WritesAlso old all new
+noted_all {old} {new} s none =
+    subst (λ ws. WritesAlso old ws new) (sym (s.parts ∙ (ap (λ ws. s.done ++ ws) none ∙ append-nil s.done))) s.so_far
 
 -- what is left of a list by a test, by its first item
 pub kept_writes : (line : Line) (keep : ℕ → Bool) (x : ℕ) (xs : List ℕ) →
@@ -211,7 +229,8 @@ just_noted first lines writes n none also last =
     just_marked (marks_to last first) (marks_to last lines) (handles_to last writes) n
     (ap (marks_to last) none ∙ no_marks_to last n) (also.marks last).size (also.marks last).marks
 
-pub size_kept : {old new : List (Option Line)} {writes : List (Line × ℕ)} → WritesAlso old writes new → length new ≡ length old
+pub size_kept : {old new : List (Option Line)} {writes : List (Line × ℕ)} → WritesAlso old writes new →
+    length new ≡ length old
 size_kept {old} {new} also =
     sym (marks_size Signature new) ∙ ((also.marks Signature).size ∙ marks_size Signature old)
 

@@ -62,7 +62,8 @@ module _ (before : Option Placed) (k : Placed) (more : List Placed) (it : Mispla
           ap (λ b. own_fault b x) (prior_next before k more j) ∙ f.earlier j x (omega (arith, lt)) at
 
 -- what is found was found before, or else it is the first: by those after a member
-by_next : (before : Option Placed) (found : Option Misplaced) (k : Placed) (more : List Placed) (it : Misplaced) (x : Bool) →
+by_next : (before : Option Placed) (found : Option Misplaced) (k : Placed) (more : List Placed) (it : Misplaced)
+    (x : Bool) →
     (first_fault (Some k) (option_or found (own_fault before k)) more ≡ Some it →
     (option_or found (own_fault before k) ≡ Some it)
     ⊎ ((option_or found (own_fault before k) ≡ None) × FirstFrom (Some k) more it)) →

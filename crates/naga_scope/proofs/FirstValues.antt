@@ -114,7 +114,8 @@ module _ (m : Module) (info : ModuleInfo) (f : ir_function.Function) (es : List 
   usable_shape h _ s = and_true _
 
   -- what is in scope in front of a local is in scope at the start, and no later local
-  pub usable_before : (s : Handles) (o : Option ℕ) → (usable_if shape s o && is_earlier f.expressions i o) ≡ usable_if (before_local shape i) s o
+  pub usable_before : (s : Handles) (o : Option ℕ) → (usable_if shape s o && is_earlier f.expressions i o)
+      ≡ usable_if (before_local shape i) s o
   usable_before s None = refl
   usable_before s (Some h) = by (slice_get f.expressions h) refl
     where

@@ -38,9 +38,11 @@ falls_none true false = refl
 falls_none false is_empty = refl
 
 simple_formed : (st : SimpleStatement) → simple_has_form st ≡ is_none (simple_unsupported st)
-simple_formed (image_atomic image coordinate array_index fun value) = sym (unless_none (is_some (texel_change_word (change_of fun))) _)
+simple_formed (image_atomic image coordinate array_index fun value) =
+    sym (unless_none (is_some (texel_change_word (change_of fun))) _)
 simple_formed (ray_query query) = refl
-simple_formed (subgroup_collective_operation op collective argument outcome) = sym (unless_none (is_some (collective_word op collective)) _)
+simple_formed (subgroup_collective_operation op collective argument outcome) =
+    sym (unless_none (is_some (collective_word op collective)) _)
 simple_formed _ = refl
 
 -- the statements of cases have forms
@@ -63,11 +65,13 @@ cases_formed (case v b falls cs) =
     ap (λ x. stays && (block_has_forms b && x)) (cases_formed cs)
     ∙ third_second stays (block_has_forms b) none (bodies_have_forms cs)
     ∙ ap (λ x. x && (block_has_forms b && bodies_have_forms cs))
-    (sym (both_none (falls_unsupported falls (has_no_statements b)) (unsupported_case cs) ∙ ap (λ x. x && none) (falls_none falls (has_no_statements b))))
+    (sym (both_none (falls_unsupported falls (has_no_statements b)) (unsupported_case cs)
+    ∙ ap (λ x. x && none) (falls_none falls (has_no_statements b))))
 
 block_formed : (b : BlockTree) → is_none (unsupported_statement b) ≡ block_has_forms b
 block_formed =
-    gathered all_of (λ sts. is_none (first_unsupported sts)) (λ st. is_none (own_unsupported st)) statement_has_form block_has_forms bodies_have_forms (record {
+    gathered all_of (λ sts. is_none (first_unsupported sts)) (λ st. is_none (own_unsupported st))
+    statement_has_form block_has_forms bodies_have_forms (record {
       none = refl;
       next = λ st sts. both_none (own_unsupported st) (first_unsupported sts);
       simple_is = simple_formed;
@@ -85,7 +89,8 @@ block_formed =
 pub none_unsupported : (b : BlockTree) → unsupported_statement b ≡ None → IsTrue (block_has_forms b)
 none_unsupported b none = sym (block_formed b) ∙ ap is_none none
 
-pub some_unsupported : (b : BlockTree) (it : UnsupportedStatement) → unsupported_statement b ≡ Some it → IsFalse (block_has_forms b)
+pub some_unsupported : (b : BlockTree) (it : UnsupportedStatement) → unsupported_statement b ≡ Some it →
+    IsFalse (block_has_forms b)
 some_unsupported b it is = sym (block_formed b) ∙ ap is_none is
 
 -- ---- what is found
@@ -94,7 +99,8 @@ all_formed [] each = refl
 all_formed (st ∷ sts) each =
     ap (λ o. option_or o (first_unsupported sts)) (each 0 st refl) ∙ all_formed sts (λ i x at. each (suc i) x at)
 
-first_is : (sts : List StatementTree) (i : ℕ) (st : StatementTree) (it : UnsupportedStatement) → slice_get sts i ≡ Some st →
+first_is : (sts : List StatementTree) (i : ℕ) (st : StatementTree) (it : UnsupportedStatement) → slice_get sts i
+    ≡ Some st →
     FormedBefore sts i → own_unsupported st ≡ Some it → first_unsupported sts ≡ Some it
 first_is [] i st it at before is = absurd cc
 first_is (x ∷ sts) zero st it at before is =
@@ -107,7 +113,8 @@ case_falls : (cs : CaseTrees) (it : UnsupportedStatement) → unsupported_case c
 case_falls no_cases it is = absurd cc
 case_falls (case v b falls cs) it is = by (falls_unsupported falls (has_no_statements b)) is (case_falls cs it)
   where
-    by : (o : Option UnsupportedStatement) → option_or o (unsupported_case cs) ≡ Some it → (unsupported_case cs ≡ Some it → SomeCaseFalls cs it) →
+    by : (o : Option UnsupportedStatement) → option_or o (unsupported_case cs) ≡ Some it →
+        (unsupported_case cs ≡ Some it → SomeCaseFalls cs it) →
         (o ≡ Some it) ⊎ SomeCaseFalls cs it
     by None is further = inr (further is)
     by (Some x) is further = inl is

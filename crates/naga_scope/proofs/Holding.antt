@@ -1,5 +1,6 @@
 -- The check over the locals, and over statements without blocks.
-use Rattle.std.proofs.Common.{◌≡◌, ℕ, ◌+◌, Bool, true, false, Option, None, Some, List, [], ◌∷◌, map, length, refl, sym, ap}
+use Rattle.std.proofs.Common.{◌≡◌, ℕ, ◌+◌, Bool, true, false, Option, None, Some, List, [], ◌∷◌}
+use Rattle.std.proofs.Common.{map, length, refl, sym, ap}
 use Rattle.std.specs.Prelude.{Result, Ok, Err}
 use Rattle.std.specs.Result.{result_and}
 use Rattle.std.specs.List.{enumerate_from}
@@ -23,7 +24,8 @@ use Rattle.naga_scope.specs.declared.scope_faults.ScopeFault.{ScopeFault}
 use Rattle.shader_runs.specs.Scope.{Naming, Handles, after, after_result, named_by}
 
 -- ---- first values
-pub first_values_listed : (n : ℕ) (ls : List LocalVariable) → map (λ p. p.1.init) (enumerate_from n ls) ≡ map (λ l. l.init) ls
+pub first_values_listed : (n : ℕ) (ls : List LocalVariable) → map (λ p. p.1.init) (enumerate_from n ls)
+    ≡ map (λ l. l.init) ls
 first_values_listed n [] = refl
 first_values_listed n (l ∷ ls) = ap (λ os. l.init ∷ os) (first_values_listed (n + 1) ls)
 
@@ -91,7 +93,8 @@ module _ (n : Naming) (a : ExpressionContext) where
       and_assoc (check_uses n.function s number (simple_operands st)) (check_result number (simple_result st) s)
       (Ok (next_number number))
 
-  pub act_after : (st : SimpleStatement) → is_emit st ≡ false → (k : ℕ) (s : Handles) → after n k (simple_shape a st) s ≡ after_result n.names (simple_result st) s
+  pub act_after : (st : SimpleStatement) → is_emit st ≡ false → (k : ℕ) (s : Handles) →
+      after n k (simple_shape a st) s ≡ after_result n.names (simple_result st) s
   act_after (emit first end) other k s = absurd cc
   act_after (store p v) other k s = sym (stored_after (is_atomic_pointer a p) p v k s)
   act_after _ other k s = refl
@@ -101,15 +104,18 @@ module _ (n : Naming) (a : ExpressionContext) where
   act_named (store p v) other k = sym (stored_named (is_atomic_pointer a p) p v k)
   act_named _ other k = refl
 
-pub act_changes : (st : SimpleStatement) → is_emit st ≡ false → simple_changes st ≡ length (option_to_list (simple_result st))
+pub act_changes : (st : SimpleStatement) → is_emit st ≡ false → simple_changes st
+    ≡ length (option_to_list (simple_result st))
 act_changes (emit first end) other = absurd cc
 act_changes _ other = refl
 
-pub act_lets : (bound : ℕ → Bool) (st : SimpleStatement) → is_emit st ≡ false → simple_lets bound st ≡ option_to_list (simple_result st)
+pub act_lets : (bound : ℕ → Bool) (st : SimpleStatement) → is_emit st ≡ false → simple_lets bound st
+    ≡ option_to_list (simple_result st)
 act_lets bound (emit first end) other = absurd cc
 act_lets bound _ other = refl
 
-pub act_roots : (bound : ℕ → Bool) (st : SimpleStatement) → is_emit st ≡ false → simple_roots bound st ≡ simple_operands st
+pub act_roots : (bound : ℕ → Bool) (st : SimpleStatement) → is_emit st ≡ false → simple_roots bound st
+    ≡ simple_operands st
 act_roots bound (emit first end) other = absurd cc
 act_roots bound _ other = refl
 
@@ -123,8 +129,10 @@ pub record IsAct (st : Statement) : Type 0 where
   pub is : tree_of st ≡ simple act
   pub other : is_emit act ≡ false
 
-pub act_of : (st : Statement) → ((range : Range) → st ≡ statement_variant.Emit range → ⊥) → ((b : _) → st ≡ statement_variant.Block b → ⊥) →
-    ((c : _) (x y : _) → st ≡ statement_variant.If c x y → ⊥) → ((c : _) (cs : _) → st ≡ statement_variant.Switch c cs → ⊥) →
+pub act_of : (st : Statement) → ((range : Range) → st ≡ statement_variant.Emit range → ⊥) →
+    ((b : _) → st ≡ statement_variant.Block b → ⊥) →
+    ((c : _) (x y : _) → st ≡ statement_variant.If c x y → ⊥) →
+    ((c : _) (cs : _) → st ≡ statement_variant.Switch c cs → ⊥) →
     ((x y : _) (e : _) → st ≡ statement_variant.Loop x y e → ⊥) → IsAct st
 act_of (statement_variant.Emit range) emits blocks branches switches loops = absurd (emits range refl)
 act_of (statement_variant.Block b) emits blocks branches switches loops = absurd (blocks b refl)

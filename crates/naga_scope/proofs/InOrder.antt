@@ -43,13 +43,16 @@ pub record Gathers {A : Type 0} (m : Monoid A) (each : List StatementTree → A)
   pub next : (st : StatementTree) (sts : List StatementTree) → each (st ∷ sts) ≡ m.op (own st) (each sts)
   pub simple_is : (st : SimpleStatement) → told (simple st) ≡ own (simple st)
   pub block_is : (b : BlockTree) → told (block b) ≡ m.op (own (block b)) (of_block b)
-  pub branch_is : (c : ℕ) (x y : BlockTree) → told (branch c x y) ≡ m.op (own (branch c x y)) (m.op (of_block x) (of_block y))
+  pub branch_is : (c : ℕ) (x y : BlockTree) → told (branch c x y)
+      ≡ m.op (own (branch c x y)) (m.op (of_block x) (of_block y))
   pub switch_is : (s : ℕ) (cs : CaseTrees) → told (switch s cs) ≡ m.op (own (switch s cs)) (of_cases cs)
-  pub loop_is : (x y : BlockTree) (e : Option ℕ) → told (loop x y e) ≡ m.op (own (loop x y e)) (m.op (of_block x) (of_block y))
+  pub loop_is : (x y : BlockTree) (e : Option ℕ) → told (loop x y e)
+      ≡ m.op (own (loop x y e)) (m.op (of_block x) (of_block y))
   pub no_statements_is : of_block no_statements ≡ m.unit
   pub statement_is : (st : StatementTree) (b : BlockTree) → of_block (statement st b) ≡ m.op (told st) (of_block b)
   pub no_cases_is : of_cases no_cases ≡ m.unit
-  pub case_is : (v : SwitchValue) (b : BlockTree) (falls : Bool) (cs : CaseTrees) → of_cases (case v b falls cs) ≡ m.op (of_block b) (of_cases cs)
+  pub case_is : (v : SwitchValue) (b : BlockTree) (falls : Bool) (cs : CaseTrees) → of_cases (case v b falls cs)
+      ≡ m.op (of_block b) (of_cases cs)
 
 module _ {A : Type 0} (m : Monoid A) (each : List StatementTree → A) (own told : StatementTree → A)
     (of_block : BlockTree → A) (of_cases : CaseTrees → A) (g : Gathers m each own told of_block of_cases) where
@@ -67,7 +70,8 @@ module _ {A : Type 0} (m : Monoid A) (each : List StatementTree → A) (own told
     inside : (st : StatementTree) → m.op (own st) (each (trees_inside st)) ≡ told st
     inside (simple st) = ap (m.op (own (simple st))) g.none ∙ m.right (own (simple st)) ∙ sym (g.simple_is st)
     inside (block b) = ap (m.op (own (block b))) (gathered b) ∙ sym (g.block_is b)
-    inside (branch c x y) = ap (m.op (own (branch c x y))) (both x y (gathered x) (gathered y)) ∙ sym (g.branch_is c x y)
+    inside (branch c x y) = ap (m.op (own (branch c x y))) (both x y (gathered x) (gathered y))
+        ∙ sym (g.branch_is c x y)
     inside (switch s cs) = ap (m.op (own (switch s cs))) (in_cases cs) ∙ sym (g.switch_is s cs)
     inside (loop x y e) = ap (m.op (own (loop x y e))) (both x y (gathered x) (gathered y)) ∙ sym (g.loop_is x y e)
 
@@ -88,38 +92,40 @@ abbrev lists : {X : Type 0} → Monoid (List X)
 lists {X} = record { unit = []; op = λ xs ys. xs ++ ys; left = λ xs. refl; right = append-nil; assoc = append_assoc }
 
 pub labels_in_order : (f : Function) (b : BlockTree) → flat_map (own_labels f) (trees_in b) ≡ block_labels f b
-labels_in_order f = gathered lists (flat_map (own_labels f)) (own_labels f) (labels_in f) (block_labels f) (cases_labels f) (record {
-  none = refl;
-  next = λ st sts. refl;
-  simple_is = simple_labels;
-  block_is = λ b. refl;
-  branch_is = λ c x y. refl;
-  switch_is = λ s cs. refl;
-  loop_is = λ x y e. refl;
-  no_statements_is = refl;
-  statement_is = λ st b. refl;
-  no_cases_is = refl;
-  case_is = λ v b falls cs. refl;
-})
+labels_in_order f = gathered lists (flat_map (own_labels f)) (own_labels f) (labels_in f) (block_labels f)
+    (cases_labels f) (record {
+      none = refl;
+      next = λ st sts. refl;
+      simple_is = simple_labels;
+      block_is = λ b. refl;
+      branch_is = λ c x y. refl;
+      switch_is = λ s cs. refl;
+      loop_is = λ x y e. refl;
+      no_statements_is = refl;
+      statement_is = λ st b. refl;
+      no_cases_is = refl;
+      case_is = λ v b falls cs. refl;
+    })
   where
     simple_labels : (st : SimpleStatement) → labels_in f (simple st) ≡ own_labels f (simple st)
     simple_labels (emit first end) = refl
     simple_labels _ = refl
 
 pub lets_in_order : (binds : ℕ → Bool) (b : BlockTree) → flat_map (own_lets binds) (trees_in b) ≡ block_lets binds b
-lets_in_order binds = gathered lists (flat_map (own_lets binds)) (own_lets binds) (statement_lets binds) (block_lets binds) (cases_lets binds) (record {
-  none = refl;
-  next = λ st sts. refl;
-  simple_is = λ st. refl;
-  block_is = λ b. refl;
-  branch_is = λ c x y. refl;
-  switch_is = λ s cs. refl;
-  loop_is = λ x y e. refl;
-  no_statements_is = refl;
-  statement_is = λ st b. refl;
-  no_cases_is = refl;
-  case_is = λ v b falls cs. refl;
-})
+lets_in_order binds = gathered lists (flat_map (own_lets binds)) (own_lets binds) (statement_lets binds)
+    (block_lets binds) (cases_lets binds) (record {
+      none = refl;
+      next = λ st sts. refl;
+      simple_is = λ st. refl;
+      block_is = λ b. refl;
+      branch_is = λ c x y. refl;
+      switch_is = λ s cs. refl;
+      loop_is = λ x y e. refl;
+      no_statements_is = refl;
+      statement_is = λ st b. refl;
+      no_cases_is = refl;
+      case_is = λ v b falls cs. refl;
+    })
 
 -- ---- numbers
 none_more : (x : ℕ) → 0 + x ≡ x
@@ -129,19 +135,20 @@ abbrev sums : Monoid ℕ
 sums = record { unit = 0; op = λ x y. x + y; left = none_more; right = λ x. omega arith; assoc = λ x y z. omega arith }
 
 pub changes_in_order : (b : BlockTree) → sum_by own_changes (trees_in b) ≡ block_changes b
-changes_in_order = gathered sums (sum_by own_changes) own_changes statement_changes block_changes cases_changes (record {
-  none = refl;
-  next = sum_by-cons own_changes;
-  simple_is = λ st. refl;
-  block_is = λ b. sym (none_more (block_changes b));
-  branch_is = λ c x y. sym (none_more (block_changes x + block_changes y));
-  switch_is = λ s cs. sym (none_more (cases_changes cs));
-  loop_is = λ x y e. sym (none_more (block_changes x + block_changes y));
-  no_statements_is = refl;
-  statement_is = λ st b. refl;
-  no_cases_is = refl;
-  case_is = λ v b falls cs. refl;
-})
+changes_in_order = gathered sums (sum_by own_changes) own_changes statement_changes block_changes cases_changes
+    (record {
+      none = refl;
+      next = sum_by-cons own_changes;
+      simple_is = λ st. refl;
+      block_is = λ b. sym (none_more (block_changes b));
+      branch_is = λ c x y. sym (none_more (block_changes x + block_changes y));
+      switch_is = λ s cs. sym (none_more (cases_changes cs));
+      loop_is = λ x y e. sym (none_more (block_changes x + block_changes y));
+      no_statements_is = refl;
+      statement_is = λ st b. refl;
+      no_cases_is = refl;
+      case_is = λ v b falls cs. refl;
+    })
 
 -- ---- truth values
 abbrev some_of : Monoid Bool
@@ -154,7 +161,8 @@ module _ (binds : ℕ → Bool) (h : ℕ) where
   either : (xs ys : List ℕ) → is_one_of (xs ++ ys) h ≡ (is_one_of xs h || is_one_of ys h)
   either = list_any-append (nat_eq h)
 
-  roots_in_order : (b : BlockTree) → is_one_of (flat_map (own_roots binds) (trees_in b)) h ≡ is_one_of (block_roots binds b) h
+  roots_in_order : (b : BlockTree) → is_one_of (flat_map (own_roots binds) (trees_in b)) h
+      ≡ is_one_of (block_roots binds b) h
   roots_in_order = gathered some_of (λ sts. is_one_of (flat_map (own_roots binds) sts) h)
       (λ st. is_one_of (own_roots binds st) h) (λ st. is_one_of (statement_roots binds st) h)
       (λ b. is_one_of (block_roots binds b) h) (λ cs. is_one_of (cases_roots binds cs) h) (record {
@@ -167,8 +175,10 @@ module _ (binds : ℕ → Bool) (h : ℕ) where
         switch_is = λ s cs. either (s ∷ []) (cases_roots binds cs);
         loop_is = λ x y e. either (block_roots binds x) (block_roots binds y ++ option_to_list e)
             ∙ ap (λ a. is_one_of (block_roots binds x) h || a) (either (block_roots binds y) (option_to_list e))
-            ∙ sym (or_assoc (is_one_of (block_roots binds x) h) (is_one_of (block_roots binds y) h) (is_one_of (option_to_list e) h))
-            ∙ or_comm (is_one_of (block_roots binds x) h || is_one_of (block_roots binds y) h) (is_one_of (option_to_list e) h);
+            ∙ sym (or_assoc (is_one_of (block_roots binds x) h) (is_one_of (block_roots binds y) h)
+            (is_one_of (option_to_list e) h))
+            ∙ or_comm (is_one_of (block_roots binds x) h || is_one_of (block_roots binds y) h)
+            (is_one_of (option_to_list e) h);
         no_statements_is = refl;
         statement_is = λ st b. either (statement_roots binds st) (block_roots binds b);
         no_cases_is = refl;
@@ -176,7 +186,8 @@ module _ (binds : ℕ → Bool) (h : ℕ) where
       })
 
   -- the handles that a function writes by itself
-  pub same_roots : (f : Function) → is_one_of (roots_with binds f (trees_in f.body)) h ≡ is_one_of (function_roots binds f) h
+  pub same_roots : (f : Function) → is_one_of (roots_with binds f (trees_in f.body)) h
+      ≡ is_one_of (function_roots binds f) h
   same_roots f =
       let firsts = flat_map (λ l. option_to_list l.init) f.local_variables in
       either firsts (flat_map (own_roots binds) (trees_in f.body))
@@ -190,11 +201,13 @@ pub first_tree : (ss : List (Bor Statement)) (i : ℕ) (x : Bor Statement) → i
 first_tree ss i x lt is = ap trees_of (drop_first i ss x lt is)
 
 -- what one of them is seen as
-pub tree_at : (ss : List (Bor Statement)) (i n : ℕ) (x : Bor Statement) → n ≡ i → i < length ss → x ≡ slice_index_or ss i x →
+pub tree_at : (ss : List (Bor Statement)) (i n : ℕ) (x : Bor Statement) → n ≡ i → i < length ss →
+    x ≡ slice_index_or ss i x →
     slice_get (trees_of ss) n ≡ Some (tree_of x.now)
 tree_at ss i n x same lt is = ap (slice_get (trees_of ss)) same ∙ at ss i lt is
   where
-    at : (ss : List (Bor Statement)) (i : ℕ) → i < length ss → x ≡ slice_index_or ss i x → slice_get (trees_of ss) i ≡ Some (tree_of x.now)
+    at : (ss : List (Bor Statement)) (i : ℕ) → i < length ss → x ≡ slice_index_or ss i x →
+        slice_get (trees_of ss) i ≡ Some (tree_of x.now)
     at [] i lt is = absurd (omega (arith, lt))
     at (s ∷ ss) zero lt is = ap (λ y. Some (tree_of y.now)) (sym is)
     at (s ∷ ss) (suc i) lt is = at ss i (omega (arith, lt)) is

@@ -1,5 +1,6 @@
 -- The order of the lines of a function's text.
-use Rattle.std.proofs.Common.{◌≡◌, ◌<◌, ◌≤◌, ◌⊎◌, inl, inr, Bool, true, false, ℕ, ap, arith, refl, sym, ◌∙◌, nat_lt, ◌||◌}
+use Rattle.std.proofs.Common.{◌≡◌, ◌<◌, ◌≤◌, ◌⊎◌, inl, inr, Bool, true, false, ℕ, ap, arith, refl}
+use Rattle.std.proofs.Common.{sym, ◌∙◌, nat_lt, ◌||◌}
 use Rattle.std.proofs.lemmas.Bool.{false≢true, lt-ltb, ltb-false, ltb-true}
 use Rattle.std.specs.Prelude.{if◌then◌else◌, not}
 use Rattle.naga_scope.specs.Lines.{is_before, is_up_to}

@@ -64,7 +64,8 @@ module _ (old new : List Bool) (size : length new ≡ length old) (h : ℕ) wher
 pub marks_none : (marks : List Bool) → MarksAlso marks [] marks
 marks_none marks = record { size = refl; marks = λ h. marked_none (is_marked marks h) (nat_lt h (length marks)) }
 
-pub marks_then : {old mid new : List Bool} {xs ys : List ℕ} → MarksAlso old xs mid → MarksAlso mid ys new → MarksAlso old (xs ++ ys) new
+pub marks_then : {old mid new : List Bool} {xs ys : List ℕ} → MarksAlso old xs mid → MarksAlso mid ys new →
+    MarksAlso old (xs ++ ys) new
 marks_then {old} {mid} {new} {xs} {ys} first second = record {
   size = second.size ∙ first.size;
   marks = λ h. second.marks h ∙ marked_both old mid first.size h xs ys (first.marks h);
@@ -79,15 +80,18 @@ pub record MarkedSoFar (old : List Bool) (all left : List ℕ) (new : List Bool)
 pub so_far_none : (old : List Bool) (all : List ℕ) → MarkedSoFar old all all old
 so_far_none old all = record { done = []; parts = refl; so_far = marks_none old }
 
-pub so_far_more : {old mid new : List Bool} {all left : List ℕ} (here left1 : List ℕ) → MarkedSoFar old all left mid → left ≡ here ++ left1 → MarksAlso mid here new → MarkedSoFar old all left1 new
+pub so_far_more : {old mid new : List Bool} {all left : List ℕ} (here left1 : List ℕ) →
+    MarkedSoFar old all left mid → left ≡ here ++ left1 → MarksAlso mid here new → MarkedSoFar old all left1 new
 so_far_more here left1 s split more = record {
   done = s.done ++ here;
   parts = s.parts ∙ (ap (λ hs. s.done ++ hs) split ∙ sym (append_assoc s.done here left1));
   so_far = marks_then s.so_far more;
 }
 
-pub so_far_all : {old new : List Bool} {all left : List ℕ} → MarkedSoFar old all left new → left ≡ [] → MarksAlso old all new
-so_far_all {old} {new} s none = subst (λ hs. MarksAlso old hs new) (sym (s.parts ∙ (ap (λ hs. s.done ++ hs) none ∙ append-nil s.done))) s.so_far
+pub so_far_all : {old new : List Bool} {all left : List ℕ} → MarkedSoFar old all left new → left ≡ [] →
+    MarksAlso old all new
+so_far_all {old} {new} s none =
+    subst (λ hs. MarksAlso old hs new) (sym (s.parts ∙ (ap (λ hs. s.done ++ hs) none ∙ append-nil s.done))) s.so_far
 
 -- a table without marks
 pub unmarked : (n h : ℕ) → is_marked (replicate n false) h ≡ false

@@ -44,7 +44,8 @@ module _ (m : Module) (info : ModuleInfo) (f : ir_function.Function) (es : List 
       (scope_check_is_the_rules unnamed operands_before).0 (sym (function_ok unnamed) ∙ ap is_ok is)
 
   -- and what it finds is a fault
-  pub checked_fault : (fault : ScopeFault) → check_function unnamed ≡ Err fault → IsScopeFault (function_shape m info f es) fault
+  pub checked_fault : (fault : ScopeFault) → check_function unnamed ≡ Err fault →
+      IsScopeFault (function_shape m info f es) fault
   checked_fault fault is = check_finds unnamed operands_before fault is
 
 -- a function that there is, with what is known of it, has a shape

@@ -23,7 +23,8 @@ module _ (callees count : ℕ) where
         let in_y = block_in_range callees count y in
         let blocks = and_parts in_x in_y (and_right (nat_lt c count) (in_x && in_y) within) in
         (results_fit x blocks.0, results_fit y blocks.1)
-    statement_fits (switch c cases) within = case_results_fit cases (and_right (nat_lt c count) (cases_in_range callees count cases) within)
+    statement_fits (switch c cases) within =
+        case_results_fit cases (and_right (nat_lt c count) (cases_in_range callees count cases) within)
     statement_fits (loop x y e) within =
         let in_x = block_in_range callees count x in
         let in_y = block_in_range callees count y in
@@ -46,24 +47,28 @@ module _ (callees count : ℕ) where
 
 -- so do those of a list's parts
 module _ (count : ℕ) where
-  before_by : (c : Bool) (st : StatementTree) (b : BlockTree) → StatementResultsFit count st → ResultsFit count b → ResultsFit count (cond c no_statements (statement st b))
+  before_by : (c : Bool) (st : StatementTree) (b : BlockTree) → StatementResultsFit count st →
+      ResultsFit count b → ResultsFit count (cond c no_statements (statement st b))
   before_by true st b here rest = tt
   before_by false st b here rest = (here, rest)
 
   results_before : (b : BlockTree) → ResultsFit count b → ResultsFit count (before_continue b)
   results_before no_statements fit = tt
-  results_before (statement st b) fit = before_by (holds_continue st) st (before_continue b) fit.0 (results_before b fit.1)
+  results_before (statement st b) fit = before_by (holds_continue st) st (before_continue b) fit.0
+      (results_before b fit.1)
 
   pub first_results : (b front : BlockTree) → front ≡ before_continue b → ResultsFit count b → ResultsFit count front
   first_results b front is fit = subst (ResultsFit count) (sym is) (results_before b fit)
 
-  from_by : (c : Bool) (all rest : BlockTree) → ResultsFit count all → ResultsFit count rest → ResultsFit count (cond c all rest)
+  from_by : (c : Bool) (all rest : BlockTree) → ResultsFit count all → ResultsFit count rest →
+      ResultsFit count (cond c all rest)
   from_by true all rest fit following = fit
   from_by false all rest fit following = following
 
   results_from : (b : BlockTree) → ResultsFit count b → ResultsFit count (from_continue b)
   results_from no_statements fit = tt
-  results_from (statement st b) fit = from_by (holds_continue st) (statement st b) (from_continue b) fit (results_from b fit.1)
+  results_from (statement st b) fit = from_by (holds_continue st) (statement st b) (from_continue b) fit
+      (results_from b fit.1)
 
   pub second_results : (b back : BlockTree) → back ≡ from_continue b → ResultsFit count b → ResultsFit count back
   second_results b back is fit = subst (ResultsFit count) (sym is) (results_from b fit)

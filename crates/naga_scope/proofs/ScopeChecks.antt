@@ -82,7 +82,8 @@ module _ (f : Function) (s : Handles) (n : ℕ) where
       and_ok (unless (usable f s h) (EmittedOperand n x h)) (check_operands f s n x hs)
       (unless_ok (usable f s h) (EmittedOperand n x h)) (operands_ok x hs)
 
-  bound_ok : (b : Bool) (operands : Checked) {a : Bool} → is_ok operands ≡ a → is_ok (check_bound b operands) ≡ (not b || a)
+  bound_ok : (b : Bool) (operands : Checked) {a : Bool} → is_ok operands ≡ a → is_ok (check_bound b operands)
+      ≡ (not b || a)
   bound_ok true operands same = same
   bound_ok false operands same = refl
 
@@ -159,11 +160,13 @@ module _ (f : Naming) where
         onward_ok (λ n. check_cases f k1 n cs s) (check_all f k n b s) (all_ok k n b s)
         (λ n. cases_ok k1 n cs s)
 
-first_ok : (f : Function) (i : ℕ) (o : Option ℕ) → is_ok (check_first f i o) ≡ usable_if (before_local f i) (at_start f) o
+first_ok : (f : Function) (i : ℕ) (o : Option ℕ) → is_ok (check_first f i o) ≡ usable_if (before_local f i)
+    (at_start f) o
 first_ok f i None = refl
 first_ok f i (Some h) = unless_ok (usable (before_local f i) (at_start f) h) (FirstValue i h)
 
-pub first_values_ok : (f : Function) (i : ℕ) (os : List (Option ℕ)) → is_ok (check_first_values f i os) ≡ first_values_fit f i os
+pub first_values_ok : (f : Function) (i : ℕ) (os : List (Option ℕ)) → is_ok (check_first_values f i os)
+    ≡ first_values_fit f i os
 first_values_ok f i [] = refl
 first_values_ok f i (o ∷ os) =
     and_ok (check_first f i o) (check_first_values f (suc i) os) (first_ok f i o) (first_values_ok f (suc i) os)
@@ -235,7 +238,8 @@ plain_number n m j is ok =
     (subst (λ j. IsNumber j (suc m)) (same_ok (next_number n) j ok) (next_is n m is))
 
 module _ (f : Naming) (g : Function) where
-  done_number : {T : Type 0} (r : Result T ScopeFault) (n m j : ℕ) → IsNumber n m → result_and r (Ok (next_number n)) ≡ Ok j →
+  done_number : {T : Type 0} (r : Result T ScopeFault) (n m j : ℕ) → IsNumber n m →
+      result_and r (Ok (next_number n)) ≡ Ok j →
       IsNumber j (suc m + 0)
   done_number r n m j is ok =
       further_is j (suc m) (suc m + 0) (omega arith)
@@ -244,7 +248,8 @@ module _ (f : Naming) (g : Function) where
   mutual
     statement_number : (k n m j : ℕ) (st : Statement) (at : Point) (s : Handles) → IsNumber n m →
         check_statement f k n st s ≡ Ok j → IsNumber j (suc m + length (inside g at st))
-    statement_number k n m j (Emit first count) at s is ok = done_number (check_emit f k n (from first count) s) n m j is ok
+    statement_number k n m j (Emit first count) at s is ok =
+        done_number (check_emit f k n (from first count) s) n m j is ok
     statement_number k n m j (Store p v) at s is ok =
         done_number (check_use f.function s n v) n m j is
         (and_of (check_use f.function s n p) (result_and (check_use f.function s n v) (Ok (next_number n))) j ok)
@@ -331,7 +336,8 @@ module _ (f : Function) (e : ScopeFault) where
       (suc x.0, x.1, x.2, subst (λ j. BreaksWith f x.1 (j % 2 ^ 64) e) same x.3)
 
   -- the statement itself breaks a rule, or one inside it
-  itself : (m n : ℕ) (at : Point) (st : Statement) → IsNumber n m → BreaksWith f (record { at = at; statement = st }) n e →
+  itself : (m n : ℕ) (at : Point) (st : Statement) → IsNumber n m →
+      BreaksWith f (record { at = at; statement = st }) n e →
       Among f m (record { at = at; statement = st } ∷ inside f at st) e
   itself m n at st = among_here m n (record { at = at; statement = st }) (inside f at st)
 
@@ -412,7 +418,8 @@ module _ (f : Function) (at : Point) (s : Handles) (t : Tracks f at s) (st : Sta
       let x = unless_err (usable f s h) (Operand n h) e is in
       subst (BreaksWith f (record { at = at; statement = st }) n) x.1 (refl, (at, u, out_of h x.0))
 
-  uses_break : (hs : List ℕ) → ((i h : ℕ) → slice_get hs i ≡ Some h → UsesAt f at st at h) → check_uses f s n hs ≡ Err e → Breaks
+  uses_break : (hs : List ℕ) → ((i h : ℕ) → slice_get hs i ≡ Some h → UsesAt f at st at h) → check_uses f s n hs
+      ≡ Err e → Breaks
   uses_break [] u is = absurd cc
   uses_break (h ∷ hs) u is =
       ⊎_elim (use_breaks h (u 0 h refl)) (λ p. uses_break hs (λ i. u (suc i)) p.1)
@@ -422,7 +429,8 @@ module _ (f : Function) (at : Point) (s : Handles) (t : Tracks f at s) (st : Sta
   use_if_breaks None u is = absurd cc
   use_if_breaks (Some h) u is = use_breaks h (u h refl) is
 
-  result_breaks : (o : Option ℕ) → ((h : ℕ) → o ≡ Some h → GivesAt f at st at (AsResult h)) → check_result n o s ≡ Err e → Breaks
+  result_breaks : (o : Option ℕ) → ((h : ℕ) → o ≡ Some h → GivesAt f at st at (AsResult h)) → check_result n o s
+      ≡ Err e → Breaks
   result_breaks None g is = absurd cc
   result_breaks (Some h) g is =
       let x = unless_err (is_new (s h)) (GivenBefore n h) e is in
@@ -432,7 +440,8 @@ module _ (f : Function) (at : Point) (s : Handles) (t : Tracks f at s) (st : Sta
   -- an Emit gives this handle here
   module _ (x : ℕ) (g : GivesAt f at st at (Emitted x)) where
     operands_break : IsTrue (binds f x) → (hs : List ℕ) →
-        ((i h : ℕ) → slice_get hs i ≡ Some h → IsOperandOf f x h) → check_operands f s n x hs ≡ Err e → EmitsWith f at st n e
+        ((i h : ℕ) → slice_get hs i ≡ Some h → IsOperandOf f x h) → check_operands f s n x hs ≡ Err e →
+        EmitsWith f at st n e
     operands_break bound [] u is = absurd cc
     operands_break bound (h ∷ hs) u is =
         ⊎_elim
@@ -441,7 +450,8 @@ module _ (f : Function) (at : Point) (s : Handles) (t : Tracks f at s) (st : Sta
         (λ p. operands_break bound hs (λ i. u (suc i)) p.1)
         (and_err (unless (usable f s h) (EmittedOperand n x h)) (check_operands f s n x hs) e is)
 
-    bound_breaks : (b : Bool) → binds f x ≡ b → check_bound b (check_operands f s n x (operands_of (expression_of f x))) ≡ Err e →
+    bound_breaks : (b : Bool) → binds f x ≡ b →
+        check_bound b (check_operands f s n x (operands_of (expression_of f x))) ≡ Err e →
         EmitsWith f at st n e
     bound_breaks true bound is = operands_break bound (operands_of (expression_of f x)) (λ i h at. (i, at)) is
     bound_breaks false bound is = absurd cc
@@ -512,7 +522,8 @@ module _ (f : Naming) (e : ScopeFault) where
     statement_breaks k n m (Switch h cs) at s t num is =
         let n1 = next_number n in
         ⊎_elim
-        (λ is. itself f.function e m n at (Switch h cs) num (use_breaks f.function at s t (Switch h cs) n e h selector is))
+        (λ is. itself f.function e m n at (Switch h cs) num
+        (use_breaks f.function at s t (Switch h cs) n e h selector is))
         (λ q. inner f.function e m at (Switch h cs) (cases_break k n1 (suc m) cs at s t (next_is n m num) q.1))
         (and_err (check_use f.function s n h) (check_cases f k n1 cs s) e is)
     statement_breaks k n m (Loop b d o) at s t num is =
@@ -552,7 +563,8 @@ module _ (f : Naming) (e : ScopeFault) where
             let last = after_turn f.function d (after_turn f.function b at) in
             let x = unless_err (usable f.function s2 h) (Operand n h) e is in
             let used = subst (λ o. UsesAt f.function at (Loop b d o) last h) (sym same) break_if in
-            let out : IsOutOfScopeAt f.function last h = λ d. false_is_not_true (usable f.function s2 h) x.0 ((t2.used h).1 d) in
+            let out : IsOutOfScopeAt f.function last h = λ d. false_is_not_true (usable f.function s2 h) x.0
+            ((t2.used h).1 d) in
             subst (BreaksWith f.function (record { at = at; statement = Loop b d o }) n) x.1 (refl, (last, used, out))
     statement_breaks k n m (Jumps (Return v)) at s t num is =
         itself f.function e m n at (Jumps (Return v)) num
@@ -604,7 +616,8 @@ module _ (f : Naming) (e : ScopeFault) where
 
 -- ---- the whole function
 first_values_break : (f : Function) → ((h : ℕ) → AllBelow h (operands_of (expression_of f h))) → (e : ScopeFault) →
-    (i : ℕ) (os : List (Option ℕ)) → ((k h : ℕ) → slice_get os k ≡ Some (Some h) → slice_get f.first_values (i + k) ≡ Some (Some h)) →
+    (i : ℕ) (os : List (Option ℕ)) → ((k h : ℕ) → slice_get os k ≡ Some (Some h) →
+    slice_get f.first_values (i + k) ≡ Some (Some h)) →
     check_first_values f i os ≡ Err e → IsScopeFault f e
 first_values_break f ordered e i [] stands is = absurd cc
 first_values_break f ordered e i (o ∷ os) stands is =
@@ -619,7 +632,8 @@ first_values_break f ordered e i (o ∷ os) stands is =
         let own = before_local f i in
         let x = unless_err (usable own (at_start f) h) (FirstValue i h) e is in
         let t = tracks_start own ordered in
-        let out : IsOutOfScopeAt own entry_point h = λ d. false_is_not_true (usable own (at_start f) h) x.0 ((t.used h).1 d) in
+        let out : IsOutOfScopeAt own entry_point h = λ d. false_is_not_true (usable own (at_start f) h) x.0
+        ((t.used h).1 d) in
         let at = subst (λ j. slice_get f.first_values j ≡ Some (Some h)) (omega arith) (stands 0 h (ap Some same)) in
         subst (IsScopeFault f) x.1 (at, out)
 
@@ -653,11 +667,13 @@ within (y ∷ xs) ys zero x is = inl is
 within (y ∷ xs) ys (suc i) x is = within xs ys i x is
 
 mutual
-  stands_in : (f : Function) (at : Point) (ss : Statements) (i : ℕ) (s : Standing) → slice_get (standing f at ss) i ≡ Some s →
+  stands_in : (f : Function) (at : Point) (ss : Statements) (i : ℕ) (s : Standing) →
+      slice_get (standing f at ss) i ≡ Some s →
       StandsIn f at ss s.at s.statement
   stands_in f at end i s is = absurd cc
   stands_in f at (then st ss) zero s is =
-      subst (λ s. StandsIn f at (then st ss) s.at s.statement) (same_Some (record { at = at; statement = st }) s is) stands_first
+      subst (λ s. StandsIn f at (then st ss) s.at s.statement)
+      (same_Some (record { at = at; statement = st }) s is) stands_first
   stands_in f at (then st ss) (suc i) s is =
       ⊎_elim (inside_in f at st ss i s) (λ p. later (stands_in f (following f st at) ss p.0 s p.1))
       (within (inside f at st) (standing f (following f st at) ss) i s is)
@@ -675,7 +691,8 @@ mutual
       (within (standing f at b) (standing f (after_turn f b at) d) i s is)
   inside_in f at _ ss i s is = absurd cc
 
-  case_in : (f : Function) (at : Point) (cs : Cases) (i : ℕ) (s : Standing) → slice_get (case_standing f at cs) i ≡ Some s →
+  case_in : (f : Function) (at : Point) (cs : Cases) (i : ℕ) (s : Standing) →
+      slice_get (case_standing f at cs) i ≡ Some s →
       (b : Statements) × IsCaseBody b cs × StandsIn f at b s.at s.statement
   case_in f at no_case i s is = absurd cc
   case_in f at (case l b falls cs) i s is =
@@ -683,11 +700,13 @@ mutual
       (λ p. let x = case_in f at cs p.0 s p.1 in (x.0, later_case x.1, x.2))
       (within (standing f at b) (case_standing f at cs) i s is)
 
-binds_operand : (f : Function) (at : Point) (st : Statement) (there : Point) (x h : ℕ) → GivesAt f at st there (Emitted x) →
+binds_operand : (f : Function) (at : Point) (st : Statement) (there : Point) (x h : ℕ) →
+    GivesAt f at st there (Emitted x) →
     IsTrue (binds f x) → IsOperandOf f x h → UsesAt f at st there h
 binds_operand f at st there x h (emitted i l) bound is = emitted_operand i is.0 l bound is.1
 
-breaks_scope : (f : Function) (s : Standing) (n : ℕ) (e : ScopeFault) → BreaksWith f s n e → BreaksScope f s.at s.statement
+breaks_scope : (f : Function) (s : Standing) (n : ℕ) (e : ScopeFault) → BreaksWith f s n e →
+    BreaksScope f s.at s.statement
 breaks_scope f s n (FirstValue i h) x = elim x [ ]
 breaks_scope f s n (Operand k h) x = let c = x.1 in out_of_scope c.0 h c.1 c.2
 breaks_scope f s n (EmittedOperand k y h) x =
@@ -697,7 +716,8 @@ breaks_scope f s n (GivenBefore k h) x =
 breaks_scope f s n (NeedsNoEmit k h) x = let c = x.1 in not_emittable c.0 h c.1 c.2
 
 in_the_body : (f : Function) (e : ScopeFault) →
-    ((n : ℕ) × (s : Standing) × (slice_get (standing f entry_point f.body) n ≡ Some s) × BreaksWith f s (n % 2 ^ 64) e) →
+    ((n : ℕ) × (s : Standing) × (slice_get (standing f entry_point f.body) n ≡ Some s)
+    × BreaksWith f s (n % 2 ^ 64) e) →
     HasScopeFault f
 in_the_body f e x =
     in_body x.1.at x.1.statement (stands_in f entry_point f.body x.0 x.1 x.2) (breaks_scope f x.1 (x.0 % 2 ^ 64) e x.3)

@@ -57,7 +57,8 @@ module _ {X : Type 0} (HasForm : (i : ℕ) → X → Type 0) (xs : List X) where
     numbered : rest ≡ enumerate_from (place + 1) items
     stands : (i : ℕ) → slice_get items i ≡ slice_get xs (place + 1 + i)
 
-  turn : (h : ℕ) (x : X) (rest : List (ℕ × X)) (items : List X) (place : ℕ) → (h, x) ∷ rest ≡ enumerate_from place items →
+  turn : (h : ℕ) (x : X) (rest : List (ℕ × X)) (items : List X) (place : ℕ) →
+      (h, x) ∷ rest ≡ enumerate_from place items →
       ((i : ℕ) → slice_get items i ≡ slice_get xs (place + i)) → Turn h x rest place
   turn h x rest [] place is stands = absurd cc
   turn h x rest (y ∷ ys) place is stands =
@@ -75,7 +76,8 @@ module _ {X : Type 0} (HasForm : (i : ℕ) → X → Type 0) (xs : List X) where
         stands = λ i. let next : place + suc i ≡ place + 1 + i = omega arith in stands (suc i) ∙ ap (slice_get xs) next;
       }
 
-  turn_of : (old rest : List (ℕ × X)) (h : ℕ) (x : X) → old ≡ (h, x) ∷ rest → (left : Left old) → Turn h x rest left.place
+  turn_of : (old rest : List (ℕ × X)) (h : ℕ) (x : X) → old ≡ (h, x) ∷ rest → (left : Left old) →
+      Turn h x rest left.place
   turn_of old rest h x is left =
       turn h x rest left.items left.place (sym is ∙ left.numbered) left.stands
 
@@ -102,10 +104,12 @@ module _ {X : Type 0} (HasForm : (i : ℕ) → X → Type 0) (xs : List X) where
       }
 
   -- where none is left, all have forms
-  pub none_left : (rest : List (ℕ × X)) → rest ≡ [] → Left rest → (i : ℕ) (x : X) → slice_get xs i ≡ Some x → HasForm i x
+  pub none_left : (rest : List (ℕ × X)) → rest ≡ [] → Left rest → (i : ℕ) (x : X) → slice_get xs i ≡ Some x →
+      HasForm i x
   none_left rest is left = by left.items (sym is ∙ left.numbered) left.stands
     where
-      by : (items : List X) → [] ≡ enumerate_from left.place items → ((i : ℕ) → slice_get items i ≡ slice_get xs (left.place + i)) →
+      by : (items : List X) → [] ≡ enumerate_from left.place items →
+          ((i : ℕ) → slice_get items i ≡ slice_get xs (left.place + i)) →
           (i : ℕ) (x : X) → slice_get xs i ≡ Some x → HasForm i x
       by [] is stands i x at = inside (cases_lt i left.place)
         where

@@ -68,16 +68,20 @@ module _ {X : Type 0} (p : X → Bool) where
 
   -- it is the first that passes
   pub found_first : (xs : List X) (x : X) → find p xs ≡ Some x →
-      (i : ℕ) × (slice_get xs i ≡ Some x) × (p x ≡ true) × ((j : ℕ) (y : X) → j < i → slice_get xs j ≡ Some y → p y ≡ false)
+      (i : ℕ) × (slice_get xs i ≡ Some x) × (p x ≡ true)
+      × ((j : ℕ) (y : X) → j < i → slice_get xs j ≡ Some y → p y ≡ false)
   found_first [] x is = absurd cc
   found_first (y ∷ ys) x is = by (p y) refl is (found_first ys x)
     where
       by : (b : Bool) → p y ≡ b → cond b (Some y) (find p ys) ≡ Some x →
-          (find p ys ≡ Some x → (i : ℕ) × (slice_get ys i ≡ Some x) × (p x ≡ true) × ((j : ℕ) (z : X) → j < i → slice_get ys j ≡ Some z → p z ≡ false)) →
-          (i : ℕ) × (slice_get (y ∷ ys) i ≡ Some x) × (p x ≡ true) × ((j : ℕ) (z : X) → j < i → slice_get (y ∷ ys) j ≡ Some z → p z ≡ false)
+          (find p ys ≡ Some x → (i : ℕ) × (slice_get ys i ≡ Some x) × (p x ≡ true)
+          × ((j : ℕ) (z : X) → j < i → slice_get ys j ≡ Some z → p z ≡ false)) →
+          (i : ℕ) × (slice_get (y ∷ ys) i ≡ Some x) × (p x ≡ true)
+          × ((j : ℕ) (z : X) → j < i → slice_get (y ∷ ys) j ≡ Some z → p z ≡ false)
       by true passes is rest =
           let same : y ≡ x = cc in (0, ap Some same, ap p (sym same) ∙ passes, λ j z lt at. absurd (omega (arith, lt)))
-      by false fails is rest = let further = rest is in (suc further.0, further.1, further.2, before further.0 further.3)
+      by false fails is rest = let further = rest is in
+          (suc further.0, further.1, further.2, before further.0 further.3)
         where
           before : (i : ℕ) → ((j : ℕ) (z : X) → j < i → slice_get ys j ≡ Some z → p z ≡ false) →
               (j : ℕ) (z : X) → j < suc i → slice_get (y ∷ ys) j ≡ Some z → p z ≡ false
@@ -85,7 +89,8 @@ module _ {X : Type 0} (p : X → Bool) where
           before i each (suc j) z lt at = each j z (omega (arith, lt)) at
 
 -- a search from an item on, by whether the item passes
-module _ {X Y : Type 0} (g : X → Y) (p : Y → Bool) (xs : List X) (i : ℕ) (x : X) (lt : i < length xs) (is : x ≡ slice_index_or xs i x) where
+module _ {X Y : Type 0} (g : X → Y) (p : Y → Bool) (xs : List X) (i : ℕ) (x : X) (lt : i < length xs)
+    (is : x ≡ slice_index_or xs i x) where
   from_here : find p (map g (drop i xs)) ≡ cond (p (g x)) (Some (g x)) (find p (map g (drop (i + 1) xs)))
   from_here =
       ap (λ ys. find p (map g ys))
@@ -132,19 +137,27 @@ abbrev pub numbered_locals : List (ℕ × LocalVariable) → List (Declared × �
 numbered_locals ps = map (λ p. (Local p.0, p.1.ty)) ps
 
 -- a search from an argument on, by whether its type has no form
-module _ (m : Module) (xs : List FunctionArgument) (i n : ℕ) (x : FunctionArgument) (lt : i < length xs) (is : x ≡ slice_index_or xs i x) where
+module _ (m : Module) (xs : List FunctionArgument) (i n : ℕ) (x : FunctionArgument) (lt : i < length xs)
+    (is : x ≡ slice_index_or xs i x) where
   from_argument : first_unsupported m (arguments_from n (drop i xs)) ≡
-      cond (is_unsupported m x.ty) (Some (Argument n, x.ty)) (first_unsupported m (arguments_from (n + 1) (drop (i + 1) xs)))
+      cond (is_unsupported m x.ty) (Some (Argument n, x.ty))
+      (first_unsupported m (arguments_from (n + 1) (drop (i + 1) xs)))
   from_argument = ap (λ ys. first_unsupported m (arguments_from n ys)) (drop_first i xs x lt is)
 
-  pub found_argument : is_unsupported m x.ty ≡ true → Some (Argument n, x.ty) ≡ first_unsupported m (arguments_from n (drop i xs))
+  pub found_argument : is_unsupported m x.ty ≡ true → Some (Argument n, x.ty)
+      ≡ first_unsupported m (arguments_from n (drop i xs))
   found_argument passes =
-      sym (from_argument ∙ ap (λ b. cond b (Some (Argument n, x.ty)) (first_unsupported m (arguments_from (n + 1) (drop (i + 1) xs)))) passes)
+      sym (from_argument
+      ∙ ap (λ b. cond b (Some (Argument n, x.ty))
+      (first_unsupported m (arguments_from (n + 1) (drop (i + 1) xs)))) passes)
 
   pub not_argument : is_unsupported m x.ty ≡ false →
-      first_unsupported m (arguments_from (n + 1) (drop (i + 1) xs)) ≡ first_unsupported m (arguments_from n (drop i xs))
+      first_unsupported m (arguments_from (n + 1) (drop (i + 1) xs))
+      ≡ first_unsupported m (arguments_from n (drop i xs))
   not_argument fails =
-      sym (from_argument ∙ ap (λ b. cond b (Some (Argument n, x.ty)) (first_unsupported m (arguments_from (n + 1) (drop (i + 1) xs)))) fails)
+      sym (from_argument
+      ∙ ap (λ b. cond b (Some (Argument n, x.ty))
+      (first_unsupported m (arguments_from (n + 1) (drop (i + 1) xs)))) fails)
 
 -- the same by what is among a list
 pub there_among : {X : Type 0} (xs : List X) (x : X) → IsAmong xs x → (i : ℕ) × (slice_get xs i ≡ Some x)
@@ -170,16 +183,20 @@ either_one (Some y) b x is = inl is
 -- ---- lists in parts
 module _ {X : Type 0} (p : X → Bool) where
   -- one through what is left of a list by a test, by the first item
-  pub kept_found : (keep : X → Bool) (x : X) (xs : List X) → (keep x && p x) ≡ true → find p (filter keep (x ∷ xs)) ≡ Some x
+  pub kept_found : (keep : X → Bool) (x : X) (xs : List X) → (keep x && p x) ≡ true →
+      find p (filter keep (x ∷ xs)) ≡ Some x
   kept_found keep x xs both =
       let kept = (and_parts (keep x) (p x) both).0 in
       let passes = (and_parts (keep x) (p x) both).1 in
-      ap (λ b. find p (if b then x ∷ filter keep xs else filter keep xs)) kept ∙ ap (λ b. cond b (Some x) (find p (filter keep xs))) passes
+      ap (λ b. find p (if b then x ∷ filter keep xs else filter keep xs)) kept
+      ∙ ap (λ b. cond b (Some x) (find p (filter keep xs))) passes
 
-  pub kept_not_found : (keep : X → Bool) (x : X) (xs : List X) → (keep x && p x) ≡ false → find p (filter keep (x ∷ xs)) ≡ find p (filter keep xs)
+  pub kept_not_found : (keep : X → Bool) (x : X) (xs : List X) → (keep x && p x) ≡ false →
+      find p (filter keep (x ∷ xs)) ≡ find p (filter keep xs)
   kept_not_found keep x xs fails = by (keep x) refl fails
     where
-      by : (b : Bool) → keep x ≡ b → (b && p x) ≡ false → find p (if b then x ∷ filter keep xs else filter keep xs) ≡ find p (filter keep xs)
+      by : (b : Bool) → keep x ≡ b → (b && p x) ≡ false →
+          find p (if b then x ∷ filter keep xs else filter keep xs) ≡ find p (filter keep xs)
       by true kept fails = ap (λ b. cond b (Some x) (find p (filter keep xs))) fails
       by false kept fails = refl
 
@@ -190,11 +207,13 @@ pub parted : (m : Module) (f : Function) →
     option_or (first_unsupported m (argument_types f.arguments.items))
     (option_or (first_unsupported m (result_types f.result)) (first_unsupported m (local_types f.local_variables)))
 parted m f =
-    find-append (λ d. is_unsupported m d.1) (argument_types f.arguments.items) (result_types f.result ++ local_types f.local_variables)
+    find-append (λ d. is_unsupported m d.1) (argument_types f.arguments.items)
+    (result_types f.result ++ local_types f.local_variables)
     ∙ ap (option_or (first_unsupported m (argument_types f.arguments.items)))
     (find-append (λ d. is_unsupported m d.1) (result_types f.result) (local_types f.local_variables))
 
-mapped_some : {X Y : Type 0} (g : X → Y) (o : Option X) (y : Y) → option_map g o ≡ Some y → (x : X) × (o ≡ Some x) × (g x ≡ y)
+mapped_some : {X Y : Type 0} (g : X → Y) (o : Option X) (y : Y) → option_map g o ≡ Some y →
+    (x : X) × (o ≡ Some x) × (g x ≡ y)
 mapped_some g None y is = absurd cc
 mapped_some g (Some x) y is = let same : g x ≡ y = cc in (x, refl, same)
 
@@ -214,17 +233,22 @@ module _ (m : Module) (f : Function) where
   arguments_spelled none i ty is =
       let a = mapped_some (λ a. a.ty) (slice_get f.arguments.items i) ty is in
       let at = numbered_at (λ p. (Argument p.0, p.1.ty)) 0 f.arguments.items i a.0 a.1 in
-      subst IsSpellable a.2 (not-false _ (none_passes lacks (argument_types f.arguments.items) none i (Argument (0 + i), a.0.ty) at))
+      subst IsSpellable a.2
+      (not-false _ (none_passes lacks (argument_types f.arguments.items) none i (Argument (0 + i), a.0.ty) at))
 
-  result_spelled : first_unsupported m (result_types f.result) ≡ None → (ty : ℕ) → declared_type f declared.Result ≡ Some ty → IsSpellable ty
+  result_spelled : first_unsupported m (result_types f.result) ≡ None → (ty : ℕ) →
+      declared_type f declared.Result ≡ Some ty → IsSpellable ty
   result_spelled none ty is =
       let r = mapped_some (λ r. r.ty) f.result ty is in
-      subst IsSpellable r.2 (not-false _ (none_passes lacks (result_types f.result) none 0 (declared.Result, r.0.ty) (there r.0 r.1)))
+      subst IsSpellable r.2
+      (not-false _ (none_passes lacks (result_types f.result) none 0 (declared.Result, r.0.ty) (there r.0 r.1)))
     where
-      there : (r : FunctionResult) → f.result ≡ Some r → slice_get (result_types f.result) 0 ≡ Some (declared.Result, r.ty)
+      there : (r : FunctionResult) → f.result ≡ Some r → slice_get (result_types f.result) 0
+          ≡ Some (declared.Result, r.ty)
       there r is = ap (λ o. slice_get (result_types o) 0) is
 
-  local_at : (i ty : ℕ) → declared_type f (Local i) ≡ Some ty → slice_get (local_types f.local_variables) i ≡ Some (Local i, ty)
+  local_at : (i ty : ℕ) → declared_type f (Local i) ≡ Some ty → slice_get (local_types f.local_variables) i
+      ≡ Some (Local i, ty)
   local_at i ty is =
       let v = mapped_some (λ l. l.ty) (slice_get f.local_variables i) ty is in
       numbered_at (λ p. (Local p.0, p.1.ty)) 0 f.local_variables i v.0 v.1 ∙ (λ j. Some (Local (none_more i j), v.2 j))
@@ -235,11 +259,13 @@ module _ (m : Module) (f : Function) where
       not-false _ (none_passes lacks (local_types f.local_variables) none i (Local i, ty) (local_at i ty is))
 
   -- where none is found, each type that is declared has a form
-  pub declared_spelled : declared_unsupported m f ≡ None → (at : Declared) (ty : ℕ) → declared_type f at ≡ Some ty → IsSpellable ty
+  pub declared_spelled : declared_unsupported m f ≡ None → (at : Declared) (ty : ℕ) → declared_type f at
+      ≡ Some ty → IsSpellable ty
   declared_spelled none at ty is = by (neither _ _ (sym (parted m f) ∙ none)) at is
     where
       by : (first_unsupported m (argument_types f.arguments.items) ≡ None)
-          × (option_or (first_unsupported m (result_types f.result)) (first_unsupported m (local_types f.local_variables)) ≡ None) →
+          × (option_or (first_unsupported m (result_types f.result))
+          (first_unsupported m (local_types f.local_variables)) ≡ None) →
           (at : Declared) → declared_type f at ≡ Some ty → IsSpellable ty
       by both (Argument i) is = arguments_spelled both.0 i ty is
       by both declared.Result is = result_spelled (neither _ _ both.1).0 ty is
@@ -284,7 +310,8 @@ module _ (m : Module) (f : Function) where
           let a = at_numbered (λ p. (Argument p.0, p.1.ty)) 0 f.arguments.items first.0 x first.1 in
           subst FirstDeclared (a.2 ∙ same)
           (record {
-            declared = ap (λ i. option_map (λ a. a.ty) (slice_get f.arguments.items i)) (none_more first.0) ∙ ap (option_map (λ a. a.ty)) a.1;
+            declared = ap (λ i. option_map (λ a. a.ty) (slice_get f.arguments.items i)) (none_more first.0)
+                ∙ ap (option_map (λ a. a.ty)) a.1;
             lacks = not-true _ (ap lacks a.2 ∙ first.2);
             before = λ at ty there lt. absurd (never_before at lt);
           })
@@ -293,7 +320,8 @@ module _ (m : Module) (f : Function) where
           let first = found_first lacks (result_types f.result) x result in
           subst FirstDeclared same (at_result f.result refl x first.0 first.1 first.2)
         where
-          at_result : (o : Option FunctionResult) → f.result ≡ o → (x : Declared × ℕ) (i : ℕ) → slice_get (result_types o) i ≡ Some x →
+          at_result : (o : Option FunctionResult) → f.result ≡ o → (x : Declared × ℕ) (i : ℕ) →
+              slice_get (result_types o) i ≡ Some x →
               lacks x ≡ true → FirstDeclared x
           at_result None is x i at fails = absurd cc
           at_result (Some r) is x zero at fails =
@@ -317,11 +345,14 @@ module _ (m : Module) (f : Function) where
             before = λ at ty there lt. earlier first.0 first.3 at ty there lt;
           })
         where
-          earlier : (i : ℕ) → ((j : ℕ) (y : Declared × ℕ) → j < i → slice_get (local_types f.local_variables) j ≡ Some y → lacks y ≡ false) →
-              (at : Declared) (ty : ℕ) → declared_type f at ≡ Some ty → is_before (line_of_declared at) (line.Local i) ≡ true → IsSpellable ty
+          earlier : (i : ℕ) → ((j : ℕ) (y : Declared × ℕ) → j < i → slice_get (local_types f.local_variables) j
+              ≡ Some y → lacks y ≡ false) →
+              (at : Declared) (ty : ℕ) → declared_type f at ≡ Some ty →
+              is_before (line_of_declared at) (line.Local i) ≡ true → IsSpellable ty
           earlier i each (Argument k) ty there lt = arguments_spelled arguments k ty there
           earlier i each declared.Result ty there lt = result_spelled result ty there
-          earlier i each (Local k) ty there lt = not-false _ (each k (Local k, ty) (ltb-true k i lt) (local_at k ty there))
+          earlier i each (Local k) ty there lt =
+              not-false _ (each k (Local k, ty) (ltb-true k i lt) (local_at k ty there))
       by None None None arguments result locals is = absurd cc
 
 -- ---- `let`s
@@ -337,7 +368,8 @@ module _ (explicit : Bool) (m : Module) (info : ModuleInfo) (f : Function) (es :
       (n : ℕ) × (st : StatementTree) × (slice_get sts n ≡ Some st) × (is_one_of (own_lets bound st) h ≡ true)
   let_of_one [] h is = absurd cc
   let_of_one (st ∷ sts) h is =
-      by (or_cases _ _ (sym (list_any-append (nat_eq h) (own_lets bound st) (flat_map (own_lets bound) sts)) ∙ is)) (let_of_one sts h)
+      by (or_cases _ _ (sym (list_any-append (nat_eq h) (own_lets bound st) (flat_map (own_lets bound) sts))
+      ∙ is)) (let_of_one sts h)
     where
       by : (is_one_of (own_lets bound st) h ≡ true) ⊎ (is_one_of (flat_map (own_lets bound) sts) h ≡ true) →
           (is_one_of (flat_map (own_lets bound) sts) h ≡ true →
@@ -378,11 +410,14 @@ module _ (explicit : Bool) (m : Module) (info : ModuleInfo) (f : Function) (es :
           λ i. formed i && not (declared i)
 
       spelled : (r : TypeResolution) → IsSpelledIn explicit m info f es r → IsTrue (is_spellable m r)
-      spelled _ (OfArgument n a at) = declared_spelled m f none_declared (Argument n) a.ty (ap (option_map (λ a. a.ty)) at)
-      spelled _ (OfResult r is) = declared_spelled m f none_declared declared.Result r.ty (ap (option_map (λ r. r.ty)) is)
+      spelled _ (OfArgument n a at) = declared_spelled m f none_declared (Argument n) a.ty
+          (ap (option_map (λ a. a.ty)) at)
+      spelled _ (OfResult r is) = declared_spelled m f none_declared declared.Result r.ty
+          (ap (option_map (λ r. r.ty)) is)
       spelled _ (OfLocal l v at) = declared_spelled m f none_declared (Local l) v.ty (ap (option_map (λ l. l.ty)) at)
       spelled _ (OfLet h k tells among at declared) =
-          let one = ap (λ hs. is_one_of hs h) (lets_in_order bound f.body) ∙ among_one (block_lets bound f.body) h among in
+          let one = ap (λ hs. is_one_of hs h) (lets_in_order bound f.body)
+          ∙ among_one (block_lets bound f.body) h among in
           let of = let_of_one (trees_in f.body) h one in
           let_formed explicit tells of.1 (none_annotated of.0 of.1 of.2) h k of.3 at declared
 
@@ -409,7 +444,9 @@ module _ (explicit : Bool) (m : Module) (info : ModuleInfo) (f : Function) (es :
           let found = found_passes annotated (own_lets bound st) h is in
           let among = among_there (own_lets bound st) found.0 h found.1 in
           let one = let_in_body (trees_in f.body) n st h there (among_one (own_lets bound st) h among) in
-          let in_body = one_among (block_lets bound f.body) h (sym (ap (λ hs. is_one_of hs h) (lets_in_order bound f.body)) ∙ one) in (
+          let in_body =
+          one_among (block_lets bound f.body) h
+          (sym (ap (λ hs. is_one_of hs h) (lets_in_order bound f.body)) ∙ one) in (
             subst (λ hs. IsAmong hs h) (sym (ap (λ o. option_map_or (own_lets bound) o []) there)) among,
             known (slice_get es h) refl tells in_body found.2,
           )

@@ -105,7 +105,8 @@ module _ (es : List Expression) (roots : List ℕ) (first : List Bool) where
           by (inr lt) = lt
 
   -- the same of a table with the same marks
-  pub moved : (old new : List Bool) (end : ℕ) → ((j : ℕ) → is_marked new j ≡ is_marked old j) → Swept old end → Swept new end
+  pub moved : (old new : List Bool) (end : ℕ) → ((j : ℕ) → is_marked new j ≡ is_marked old j) → Swept old end →
+      Swept new end
   moved old new end same swept = record {
     sound = λ h is. swept.sound h (sym (same h) ∙ is);
     kept = λ h is. same h ∙ swept.kept h is;

@@ -120,13 +120,15 @@ module _ (m : Module) where
   passed_lacks f v (inl (i, a, at, earlier, (bound, lacks))) = (OfArgument i a (binding.BuiltIn v) at bound, lacks)
   passed_lacks f v (inr (formed, (r, is, (bound, lacks)))) = (OfResult r (binding.BuiltIn v) is bound, lacks)
 
-  pub function_lacks : (h : ℕ) (f : Function) → slice_get m.functions h ≡ Some f → (v : BuiltIn) → IsUnsupportedPassed f v →
+  pub function_lacks : (h : ℕ) (f : Function) → slice_get m.functions h ≡ Some f → (v : BuiltIn) →
+      IsUnsupportedPassed f v →
       IsUnsupportedHead m h (head.BuiltIn v)
   function_lacks h f there v lacks =
       let passed = passed_lacks f v lacks in
       (f, function_among m h f there, passed.0, passed.1)
 
-  pub entry_point_lacks : (j : ℕ) (p : EntryPoint) → slice_get m.entry_points.items j ≡ Some p → (it : UnsupportedHead) →
+  pub entry_point_lacks : (j : ℕ) (p : EntryPoint) → slice_get m.entry_points.items j ≡ Some p →
+      (it : UnsupportedHead) →
       IsUnsupportedEntryPoint p it → IsUnsupportedHead m (length m.functions + j) it
   entry_point_lacks j p there (head.BuiltIn v) lacks =
       let passed = passed_lacks p.function v lacks in
@@ -135,19 +137,22 @@ module _ (m : Module) where
 
   -- ---- an entry point, by whether something of it lacks a form
   module _ (j : ℕ) (p : EntryPoint) (there : slice_get m.entry_points.items j ≡ Some p) where
-    pub entry_point_without : (found : Option UnsupportedHead) → MatchOption found (EntryPointHasForm p) (IsUnsupportedEntryPoint p) →
+    pub entry_point_without : (found : Option UnsupportedHead) →
+        MatchOption found (EntryPointHasForm p) (IsUnsupportedEntryPoint p) →
         IfNone found (HeadHasForm m (length m.functions + j))
     entry_point_without None has = entry_point_head j p there has
     entry_point_without (Some it) lacks = tt
 
-    pub entry_point_with : (found : Option UnsupportedHead) → MatchOption found (EntryPointHasForm p) (IsUnsupportedEntryPoint p) →
+    pub entry_point_with : (found : Option UnsupportedHead) →
+        MatchOption found (EntryPointHasForm p) (IsUnsupportedEntryPoint p) →
         IfSome found (IsUnsupportedHead m (length m.functions + j))
     entry_point_with None has = tt
     entry_point_with (Some it) lacks = entry_point_lacks j p there it lacks
 
   -- ---- what a search finds
   -- a struct that a text declares is concerned where its members are
-  module _ (h : ℕ) (t : Type_) (at : slice_get m.types h ≡ Some t) (declared : is_declared m.special_types h t.inner ≡ true) where
+  module _ (h : ℕ) (t : Type_) (at : slice_get m.types h ≡ Some t)
+      (declared : is_declared m.special_types h t.inner ≡ true) where
     concerned_is : concerned_members m h ≡ concerned_among m (members_of t.inner)
     concerned_is =
         ap (option_and_then (λ t. concerned_of m h t.inner)) at
@@ -162,7 +167,8 @@ module _ (m : Module) where
     }
 
     stride_in : (ty : ℕ) (ks : List Placed) → concerned_among m (members_of t.inner) ≡ Some ks →
-        (i : ℕ) (s : StructMember) → slice_get (members_of t.inner) i ≡ Some s → IsOtherStride m s ty → HasOtherStride m h ty
+        (i : ℕ) (s : StructMember) → slice_get (members_of t.inner) i ≡ Some s → IsOtherStride m s ty →
+        HasOtherStride m h ty
     stride_in ty ks concerned i s there other = record {
       members = ks;
       concerned = concerned_is ∙ concerned;
@@ -210,7 +216,8 @@ module _ (m : Module) where
   overrides_lack i o at (declaration.Misplaced fault) lacks = absurd lacks
   overrides_lack i o at (declaration.Stride ty) lacks = absurd lacks
 
-  variables_lack : (i : ℕ) (g : GlobalVariable) → slice_get m.global_variables i ≡ Some g → (it : UnsupportedDeclaration) →
+  variables_lack : (i : ℕ) (g : GlobalVariable) → slice_get m.global_variables i ≡ Some g →
+      (it : UnsupportedDeclaration) →
       IsUnsupportedValue m g.ty g.init it → IsUnsupportedDeclaration m it
   variables_lack i g at (declaration.Type_ ty) (same, lacks) =
       (subst (IsDeclaredType m) (sym same) (VariableType i g at), lacks)
@@ -252,34 +259,42 @@ module _ (m : Module) where
 
   module _ (types : TypesHaveForms m) where
     pub of_constants : (found : DeclarationPosition × UnsupportedDeclaration) →
-        FindsFirst m.constants (λ i. ConstantHasForm m) (λ h. position.Constant h) (λ i. IsUnsupportedConstant m) (Some found) → IsFound found
+        FindsFirst m.constants (λ i. ConstantHasForm m) (λ h. position.Constant h)
+        (λ i. IsUnsupportedConstant m) (Some found) → IsFound found
     of_constants (at, it) (h, c, there, same, earlier, lacks) =
         at_place at (position.Constant h) it same (constants_lack h c there it lacks) (c, there, lacks) (types, earlier)
 
     module _ (constants : ConstantsHaveForms m) where
       pub of_overrides : (found : DeclarationPosition × UnsupportedDeclaration) →
-          FindsFirst m.overrides (λ i o. ValueHasForm m o.ty o.init) (λ h. position.Override h) (λ i o. IsUnsupportedValue m o.ty o.init) (Some found) → IsFound found
+          FindsFirst m.overrides (λ i o. ValueHasForm m o.ty o.init) (λ h. position.Override h)
+          (λ i o. IsUnsupportedValue m o.ty o.init) (Some found) → IsFound found
       of_overrides (at, it) (h, o, there, same, earlier, lacks) =
-          at_place at (position.Override h) it same (overrides_lack h o there it lacks) (o, there, lacks) (types, constants, earlier)
+          at_place at (position.Override h) it same (overrides_lack h o there it lacks) (o, there, lacks)
+          (types, constants, earlier)
 
       module _ (overrides : OverridesHaveForms m) where
         pub of_variables : (found : DeclarationPosition × UnsupportedDeclaration) →
-            FindsFirst m.global_variables (λ i g. ValueHasForm m g.ty g.init) (λ h. position.GlobalVariable h) (λ i g. IsUnsupportedValue m g.ty g.init) (Some found) → IsFound found
+            FindsFirst m.global_variables (λ i g. ValueHasForm m g.ty g.init) (λ h. position.GlobalVariable h)
+            (λ i g. IsUnsupportedValue m g.ty g.init) (Some found) → IsFound found
         of_variables (at, it) (h, g, there, same, earlier, lacks) =
-            at_place at (position.GlobalVariable h) it same (variables_lack h g there it lacks) (g, there, lacks) (types, constants, overrides, earlier)
+            at_place at (position.GlobalVariable h) it same (variables_lack h g there it lacks)
+            (g, there, lacks) (types, constants, overrides, earlier)
 
         module _ (variables : VariablesHaveForms m) where
           pub of_functions : (found : DeclarationPosition × UnsupportedDeclaration) →
-              FindsFirst m.functions (λ i. PassedHasForm) (λ h. position.Function h) (λ i. IsUnsupportedFunction) (Some found) → IsFound found
+              FindsFirst m.functions (λ i. PassedHasForm) (λ h. position.Function h)
+              (λ i. IsUnsupportedFunction) (Some found) → IsFound found
           of_functions (at, it) (h, f, there, same, earlier, lacks) =
               at_place at (position.Function h) it same (functions_lack h f there it lacks) (f, there, lacks)
               (types, constants, overrides, variables, earlier)
 
           pub of_entry_points : FunctionsHaveForms m → (found : ℕ × UnsupportedHead) →
-              FindsFirst m.entry_points.items (λ i. EntryPointHasForm) (λ i. i) (λ i. IsUnsupportedEntryPoint) (Some found) →
+              FindsFirst m.entry_points.items (λ i. EntryPointHasForm) (λ i. i) (λ i. IsUnsupportedEntryPoint)
+              (Some found) →
               IsFound (position.EntryPoint found.0, declaration.Head found.1)
           of_entry_points functions (at, it) (j, p, there, same, earlier, lacks) =
-              at_place (position.EntryPoint at) (position.EntryPoint j) (declaration.Head it) (ap (λ j. position.EntryPoint j) same)
+              at_place (position.EntryPoint at) (position.EntryPoint j) (declaration.Head it)
+              (ap (λ j. position.EntryPoint j) same)
               (length m.functions + j, entry_point_lacks j p there it lacks) (p, there, lacks)
               (types, constants, overrides, variables, functions, earlier)
 
@@ -299,21 +314,26 @@ module _ (m : Module) where
     initialisers_formed h (VariableInitialiser i g _ at is) = (in_variables i g at).initialiser h is
 
     members_formed : (b : Binding) → IsMemberBinding m b → IsTrue (binding_has_form b)
-    members_formed b (MemberBinding h i t s _ at declared there bound) = ((in_types h t at declared).each i s there).binding b bound
+    members_formed b (MemberBinding h i t s _ at declared there bound) =
+        ((in_types h t at declared).each i s there).binding b bound
 
     -- a struct that is concerned is there, and a text declares it
     concerned_formed : (h : ℕ) (ks : List Placed) → concerned_members m h ≡ Some ks →
-        (t : Type_) × (slice_get m.types h ≡ Some t) × (concerned_among m (members_of t.inner) ≡ Some ks) × StructHasForm m (members_of t.inner)
+        (t : Type_) × (slice_get m.types h ≡ Some t) × (concerned_among m (members_of t.inner) ≡ Some ks)
+        × StructHasForm m (members_of t.inner)
     concerned_formed h ks concerned = by (slice_get m.types h) refl concerned
       where
-        by : (o : Option Type_) → slice_get m.types h ≡ o → option_and_then (λ t. concerned_of m h t.inner) o ≡ Some ks →
-            (t : Type_) × (slice_get m.types h ≡ Some t) × (concerned_among m (members_of t.inner) ≡ Some ks) × StructHasForm m (members_of t.inner)
+        by : (o : Option Type_) → slice_get m.types h ≡ o → option_and_then (λ t. concerned_of m h t.inner) o
+            ≡ Some ks →
+            (t : Type_) × (slice_get m.types h ≡ Some t) × (concerned_among m (members_of t.inner) ≡ Some ks)
+            × StructHasForm m (members_of t.inner)
         by None at concerned = absurd cc
         by (Some t) at concerned = by_test (is_declared m.special_types h t.inner) refl concerned
           where
             by_test : (b : Bool) → is_declared m.special_types h t.inner ≡ b →
                 (if b then concerned_among m (members_of t.inner) else None) ≡ Some ks →
-                (t : Type_) × (slice_get m.types h ≡ Some t) × (concerned_among m (members_of t.inner) ≡ Some ks) × StructHasForm m (members_of t.inner)
+                (t : Type_) × (slice_get m.types h ≡ Some t)
+                × (concerned_among m (members_of t.inner) ≡ Some ks) × StructHasForm m (members_of t.inner)
             by_test false declared concerned = absurd cc
             by_test true declared concerned = (t, at, concerned, in_types h t at declared)
 
@@ -333,9 +353,11 @@ module _ (m : Module) where
 
     passed_formed : (number : ℕ) (f : Function) → IsNumbered m number f → PassedHasForm f
     passed_formed number f (OfFunction there is) = in_functions number f there
-    passed_formed number f (OfEntryPoint j p at there same is) = subst PassedHasForm same (in_entry_points j p there).passed
+    passed_formed number f (OfEntryPoint j p at there same is) =
+        subst PassedHasForm same (in_entry_points j p there).passed
 
-    stage_formed : (number : ℕ) (p : EntryPoint) → entry_point_numbered m number ≡ Some p → IsTrue (stage_has_form p p.stage)
+    stage_formed : (number : ℕ) (p : EntryPoint) → entry_point_numbered m number ≡ Some p →
+        IsTrue (stage_has_form p p.stage)
     stage_formed number p at = by (nat_lt number (length m.functions)) at
       where
         by : (b : Bool) → (if b then None else slice_get m.entry_points.items (number - length m.functions)) ≡ Some p →
@@ -359,9 +381,11 @@ module _ (m : Module) where
 -- ---- what a function takes and gives
 module _ (f : Function) (arguments : List FunctionArgument) (are : arguments ≡ f.arguments.items) where
   pub argument_lacks : (v : BuiltIn) →
-      Finds arguments (λ i a. BindingHasForm a.binding) (λ i a. IsUnsupportedBinding a.binding) (Some v) → IsUnsupportedPassed f v
+      Finds arguments (λ i a. BindingHasForm a.binding) (λ i a. IsUnsupportedBinding a.binding) (Some v) →
+      IsUnsupportedPassed f v
   argument_lacks v finds =
-      inl (subst (λ xs. Finds xs (λ i a. BindingHasForm a.binding) (λ i a. IsUnsupportedBinding a.binding) (Some v)) are finds)
+      inl (subst (λ xs. Finds xs (λ i a. BindingHasForm a.binding) (λ i a. IsUnsupportedBinding a.binding)
+      (Some v)) are finds)
 
   -- by whether the result lacks a form, where no argument does
   pub by_result : Finds arguments (λ i a. BindingHasForm a.binding) (λ i a. IsUnsupportedBinding a.binding) None →
@@ -381,7 +405,8 @@ module _ (f : Function) (arguments : List FunctionArgument) (are : arguments ≡
 
 -- ---- the members of a struct
 -- one of them has no form
-pub of_members : (m : Module) (members : List StructMember) (it : UnsupportedDeclaration) → FindsMember m members (Some it) →
+pub of_members : (m : Module) (members : List StructMember) (it : UnsupportedDeclaration) →
+    FindsMember m members (Some it) →
     IsUnsupportedStruct m members it
 of_members m members (declaration.Type_ ty) finds = finds
 of_members m members (declaration.Initialiser h) finds = finds
@@ -396,11 +421,13 @@ module _ (m : Module) (members : List StructMember) where
       (placed_members (layout_in m) members ≡ Some ks) × (is_concerned ks ≡ true)
   among ks concerned = by (placed_members (layout_in m) members) concerned
     where
-      by : (o : Option (List Placed)) → option_and_then concerned_only o ≡ Some ks → (o ≡ Some ks) × (is_concerned ks ≡ true)
+      by : (o : Option (List Placed)) → option_and_then concerned_only o ≡ Some ks →
+          (o ≡ Some ks) × (is_concerned ks ≡ true)
       by None concerned = absurd cc
       by (Some ps) concerned = at (is_concerned ps) refl concerned
         where
-          at : (b : Bool) → is_concerned ps ≡ b → (if b then Some ps else None) ≡ Some ks → (Some ps ≡ Some ks) × (is_concerned ks ≡ true)
+          at : (b : Bool) → is_concerned ps ≡ b → (if b then Some ps else None) ≡ Some ks → (Some ps ≡ Some ks)
+              × (is_concerned ks ≡ true)
           at false is concerned = absurd cc
           at true is concerned =
               let same : ps ≡ ks = cc in
@@ -418,7 +445,8 @@ module _ (m : Module) (members : List StructMember) where
   by_fault fault formed found = by (placed_members (layout_in m) members) refl (sym found)
     where
       by : (o : Option (List Placed)) → placed_members (layout_in m) members ≡ o →
-          option_and_then (first_fault None None) o ≡ Some fault → IsUnsupportedStruct m members (declaration.Misplaced fault)
+          option_and_then (first_fault None None) o ≡ Some fault →
+          IsUnsupportedStruct m members (declaration.Misplaced fault)
       by None are found = absurd cc
       by (Some ks) are found =
           let stands = fault_stands ks fault found in
@@ -451,7 +479,8 @@ module _ (m : Module) (members : List StructMember) where
         offsets = no_fault;
         strides = λ ks concerned i s there.
             let found = among ks concerned in
-            absurd (false≢true (unlaid ∙ concerned_laid (layout_in m) (all_aligned (module_rule m) m.types) members span ks found.0 found.1 (first_none ks found.0)));
+            absurd (false≢true (unlaid ∙ concerned_laid (layout_in m) (all_aligned (module_rule m) m.types)
+            members span ks found.0 found.1 (first_none ks found.0)));
       }
 
     pub by_other : (span ty : ℕ) → FindsStride m members (Some ty) →
@@ -462,11 +491,14 @@ module _ (m : Module) (members : List StructMember) where
         (finds, (placed.placed, concerned, no_fault placed.placed concerned, stride))
 
 -- ---- a struct that a text declares
-pub by_members : (m : Module) (ty : ℕ) (t : Type_) (members : Vec StructMember Global) (span : ℕ) (found : Option UnsupportedDeclaration) →
+pub by_members : (m : Module) (ty : ℕ) (t : Type_) (members : Vec StructMember Global) (span : ℕ)
+    (found : Option UnsupportedDeclaration) →
     t.inner ≡ inner.Struct members span → is_undeclared m.special_types ty ≡ false →
     MatchOption found (StructHasForm m members.items) (IsUnsupportedStruct m members.items) →
     MatchOption found (TypeHasForm m ty t) (IsUnsupportedType m ty t)
 by_members m ty t members span None is declared formed =
     λ named. subst (λ it. StructHasForm m (members_of it)) (sym is) formed
-by_members m ty t members span (Some it) is declared lacks =
-    (ap (is_declared m.special_types ty) is ∙ ap not declared, subst (λ inner. IsUnsupportedStruct m (members_of inner) it) (sym is) lacks)
+by_members m ty t members span (Some it) is declared lacks = (
+  ap (is_declared m.special_types ty) is ∙ ap not declared,
+  subst (λ inner. IsUnsupportedStruct m (members_of inner) it) (sym is) lacks,
+)

@@ -1,6 +1,7 @@
 -- What lines write by themselves, and what is written up to a line.
 use Rattle.std.proofs.Common.{◌≡◌, ◌⊎◌, inl, inr, ℕ, suc, zero, ◌+◌, Bool, true, false, List, [], ◌∷◌, ◌++◌}
-use Rattle.std.proofs.Common.{◌||◌, Option, Some, None, refl, sym, ap, ap₂, ◌∙◌, arith, eqb-true, nat_eq, slice_get, subst}
+use Rattle.std.proofs.Common.{◌||◌, Option, Some, None, refl, sym, ap, ap₂, ◌∙◌, arith, eqb-true}
+use Rattle.std.proofs.Common.{nat_eq, slice_get, subst}
 use Rattle.std.proofs.lemmas.Bool.{eqb-false, false≢true, or_cases, or_left, or_right}
 use Rattle.std.proofs.lemmas.List.Folds.{list_any-append}
 use Rattle.std.specs.List.{IsAmong, enumerate_from, filter, flat_map, list_any}
@@ -53,7 +54,8 @@ module _ {X Y : Type 0} (g : ℕ × X → List Y) (y : Y) where
   in_one n (x ∷ xs) is = by (in_either y (g (n, x)) (flat_map g (enumerate_from (n + 1) xs)) is) (in_one (n + 1) xs)
     where
       by : In (g (n, x)) y ⊎ In (flat_map g (enumerate_from (n + 1) xs)) y →
-          (In (flat_map g (enumerate_from (n + 1) xs)) y → (k : ℕ) × (z : X) × (slice_get xs k ≡ Some z) × In (g (n + 1 + k, z)) y) →
+          (In (flat_map g (enumerate_from (n + 1) xs)) y → (k : ℕ) × (z : X) × (slice_get xs k ≡ Some z)
+          × In (g (n + 1 + k, z)) y) →
           (k : ℕ) × (z : X) × (slice_get (x ∷ xs) k ≡ Some z) × In (g (n + k, z)) y
       by (inl is) rest = let none : n ≡ n + 0 = omega arith in (0, x, refl, subst (λ k. In (g (k, x)) y) none is)
       by (inr is) rest =
@@ -61,15 +63,18 @@ module _ {X Y : Type 0} (g : ℕ × X → List Y) (y : Y) where
           let more : n + 1 + further.0 ≡ n + suc further.0 = omega arith in
           (suc further.0, further.1, further.2, subst (λ k. In (g (k, further.1)) y) more further.3)
 
-  one_in : (n : ℕ) (xs : List X) (k : ℕ) (x : X) → slice_get xs k ≡ Some x → In (g (n + k, x)) y → In (flat_map g (enumerate_from n xs)) y
+  one_in : (n : ℕ) (xs : List X) (k : ℕ) (x : X) → slice_get xs k ≡ Some x → In (g (n + k, x)) y →
+      In (flat_map g (enumerate_from n xs)) y
   one_in n [] k x at is = absurd cc
   one_in n (z ∷ xs) zero x at is =
       let same : z ≡ x = cc in
       let none : n + 0 ≡ n = omega arith in
-      in_left y (g (n, z)) (flat_map g (enumerate_from (n + 1) xs)) (subst (λ z. In (g (n, z)) y) (sym same) (subst (λ k. In (g (k, x)) y) none is))
+      in_left y (g (n, z)) (flat_map g (enumerate_from (n + 1) xs))
+      (subst (λ z. In (g (n, z)) y) (sym same) (subst (λ k. In (g (k, x)) y) none is))
   one_in n (z ∷ xs) (suc k) x at is =
       let more : n + suc k ≡ n + 1 + k = omega arith in
-      in_right y (g (n, z)) (flat_map g (enumerate_from (n + 1) xs)) (one_in (n + 1) xs k x at (subst (λ k. In (g (k, x)) y) more is))
+      in_right y (g (n, z)) (flat_map g (enumerate_from (n + 1) xs))
+      (one_in (n + 1) xs k x at (subst (λ k. In (g (k, x)) y) more is))
 
 -- ---- handles that lines write
 itself : (h x : ℕ) → h ≡ x → nat_eq h x ≡ true
@@ -106,7 +111,8 @@ module _ (h : ℕ) where
     of_writes (w ∷ ws) is = by (is_up_to last w.0) refl is (of_writes ws)
       where
         by : (b : Bool) → is_up_to last w.0 ≡ b →
-            is_one_of (map {A = Line × ℕ} (λ w. w.1) (if b then w ∷ filter (λ w. is_up_to last w.0) ws else filter (λ w. is_up_to last w.0) ws)) h ≡ true →
+            is_one_of (map {A = Line × ℕ} (λ w. w.1)
+            (if b then w ∷ filter (λ w. is_up_to last w.0) ws else filter (λ w. is_up_to last w.0) ws)) h ≡ true →
             (is_one_of (handles_to last ws) h ≡ true → (line : Line) × (is_up_to last line ≡ true) × In ws (line, h)) →
             (line : Line) × (is_up_to last line ≡ true) × In (w ∷ ws) (line, h)
         by false beyond is rest = let further = rest is in (further.0, further.1, inr further.2)
@@ -117,16 +123,19 @@ module _ (h : ℕ) where
             inside (inl same) = (w.0, there, inl (ap (λ x. (w.0, x)) (sym (eqb-true h w.1 same))))
             inside (inr is) = let further = rest is in (further.0, further.1, inr further.2)
 
-    in_writes : (ws : List (Line × ℕ)) (line : Line) → In ws (line, h) → is_up_to last line ≡ true → is_one_of (handles_to last ws) h ≡ true
+    in_writes : (ws : List (Line × ℕ)) (line : Line) → In ws (line, h) → is_up_to last line ≡ true →
+        is_one_of (handles_to last ws) h ≡ true
     in_writes [] line is there = absurd is
     in_writes (w ∷ ws) line (inl same) there =
-        ap (λ b. is_one_of (map {A = Line × ℕ} (λ w. w.1) (if b then w ∷ filter (λ w. is_up_to last w.0) ws else filter (λ w. is_up_to last w.0) ws)) h)
+        ap (λ b. is_one_of (map {A = Line × ℕ} (λ w. w.1)
+        (if b then w ∷ filter (λ w. is_up_to last w.0) ws else filter (λ w. is_up_to last w.0) ws)) h)
         (ap (λ w. is_up_to last w.0) same ∙ there)
         ∙ or_left _ _ (itself h w.1 (sym (ap (λ w. w.1) same)))
     in_writes (w ∷ ws) line (inr is) there = by (is_up_to last w.0) (in_writes ws line is there)
       where
         by : (b : Bool) → is_one_of (handles_to last ws) h ≡ true →
-            is_one_of (map {A = Line × ℕ} (λ w. w.1) (if b then w ∷ filter (λ w. is_up_to last w.0) ws else filter (λ w. is_up_to last w.0) ws)) h ≡ true
+            is_one_of (map {A = Line × ℕ} (λ w. w.1)
+            (if b then w ∷ filter (λ w. is_up_to last w.0) ws else filter (λ w. is_up_to last w.0) ws)) h ≡ true
         by true rest = or_right _ _ rest
         by false rest = rest
 
@@ -148,7 +157,8 @@ module _ (bound : ℕ → Bool) (f : Function) where
   of_function : (line : Line) (h : ℕ) → In writes (line, h) → is_one_of (roots_at bound f line) h ≡ true
   of_function line h is = by (in_either (line, h) (local_writes f) (statement_writes bound (trees_in f.body)) is)
     where
-      by : In (local_writes f) (line, h) ⊎ In (statement_writes bound (trees_in f.body)) (line, h) → is_one_of (roots_at bound f line) h ≡ true
+      by : In (local_writes f) (line, h) ⊎ In (statement_writes bound (trees_in f.body)) (line, h) →
+          is_one_of (roots_at bound f line) h ≡ true
       by (inl is) =
           let one = in_one local_one (line, h) 0 f.local_variables is in
           let of = of_line h (Local (0 + one.0)) line (option_to_list one.1.init) one.3 in
@@ -166,22 +176,26 @@ module _ (bound : ℕ → Bool) (f : Function) where
   in_function Signature h is = absurd cc
   in_function (Local i) h is = by (slice_get f.local_variables i) refl is
     where
-      by : (o : Option LocalVariable) → slice_get f.local_variables i ≡ o → is_one_of (option_to_list (option_and_then (λ l. l.init) o)) h ≡ true →
+      by : (o : Option LocalVariable) → slice_get f.local_variables i ≡ o →
+          is_one_of (option_to_list (option_and_then (λ l. l.init) o)) h ≡ true →
           In writes (Local i, h)
       by None at is = absurd cc
       by (Some v) at is =
           in_left (Local i, h) (local_writes f) (statement_writes bound (trees_in f.body))
           (one_in local_one (Local i, h) 0 f.local_variables i v at
-          (subst (λ k. In (local_one (k, v)) (Local i, h)) (sym (none_more i)) (on_line h (Local i) (option_to_list v.init) is)))
+          (subst (λ k. In (local_one (k, v)) (Local i, h)) (sym (none_more i))
+          (on_line h (Local i) (option_to_list v.init) is)))
   in_function (Statement n) h is = by (slice_get (trees_in f.body) n) refl is
     where
-      by : (o : Option StatementTree) → slice_get (trees_in f.body) n ≡ o → is_one_of (option_map_or (own_roots bound) o []) h ≡ true →
+      by : (o : Option StatementTree) → slice_get (trees_in f.body) n ≡ o →
+          is_one_of (option_map_or (own_roots bound) o []) h ≡ true →
           In writes (Statement n, h)
       by None at is = absurd cc
       by (Some st) at is =
           in_right (Statement n, h) (local_writes f) (statement_writes bound (trees_in f.body))
           (one_in statement_one (Statement n, h) 0 (trees_in f.body) n st at
-          (subst (λ k. In (statement_one (k, st)) (Statement n, h)) (sym (none_more n)) (on_line h (Statement n) (own_roots bound st) is)))
+          (subst (λ k. In (statement_one (k, st)) (Statement n, h)) (sym (none_more n))
+          (on_line h (Statement n) (own_roots bound st) is)))
 
   -- ---- of what is written
   module _ (es : List Expression) where
@@ -199,16 +213,20 @@ module _ (bound : ℕ → Bool) (f : Function) where
     from_line last line h there (Root _ among) =
         Root h (one_among (handles_to last writes) h
         (in_writes h last writes line (in_function line h (among_one (roots_at bound f line) h among)) there))
-    from_line last line x there (OperandOf h _ e is at among) = OperandOf h x e (from_line last line h there is) at among
+    from_line last line x there (OperandOf h _ e is at among) =
+        OperandOf h x e (from_line last line h there is) at among
 
     -- what the function writes is written on a line, and the other way round
     init_of : (ls : List LocalVariable) (h : ℕ) → is_one_of (flat_map (λ l. option_to_list l.init) ls) h ≡ true →
         (i : ℕ) × (is_one_of (option_to_list (option_and_then (λ l. l.init) (slice_get ls i))) h ≡ true)
     init_of [] h is = absurd cc
     init_of (l ∷ ls) h is =
-        by (or_cases _ _ (sym (list_any-append (nat_eq h) (option_to_list l.init) (flat_map (λ l. option_to_list l.init) ls)) ∙ is)) (init_of ls h)
+        by (or_cases _ _
+        (sym (list_any-append (nat_eq h) (option_to_list l.init) (flat_map (λ l. option_to_list l.init) ls))
+        ∙ is)) (init_of ls h)
       where
-        by : (is_one_of (option_to_list l.init) h ≡ true) ⊎ (is_one_of (flat_map (λ l. option_to_list l.init) ls) h ≡ true) →
+        by : (is_one_of (option_to_list l.init) h ≡ true)
+            ⊎ (is_one_of (flat_map (λ l. option_to_list l.init) ls) h ≡ true) →
             (is_one_of (flat_map (λ l. option_to_list l.init) ls) h ≡ true →
             (i : ℕ) × (is_one_of (option_to_list (option_and_then (λ l. l.init) (slice_get ls i))) h ≡ true)) →
             (i : ℕ) × (is_one_of (option_to_list (option_and_then (λ l. l.init) (slice_get (l ∷ ls) i))) h ≡ true)
@@ -219,7 +237,8 @@ module _ (bound : ℕ → Bool) (f : Function) where
         (n : ℕ) × (is_one_of (option_map_or (own_roots bound) (slice_get sts n) []) h ≡ true)
     own_of [] h is = absurd cc
     own_of (st ∷ sts) h is =
-        by (or_cases _ _ (sym (list_any-append (nat_eq h) (own_roots bound st) (flat_map (own_roots bound) sts)) ∙ is)) (own_of sts h)
+        by (or_cases _ _ (sym (list_any-append (nat_eq h) (own_roots bound st) (flat_map (own_roots bound) sts))
+        ∙ is)) (own_of sts h)
       where
         by : (is_one_of (own_roots bound st) h ≡ true) ⊎ (is_one_of (flat_map (own_roots bound) sts) h ≡ true) →
             (is_one_of (flat_map (own_roots bound) sts) h ≡ true →
@@ -228,45 +247,58 @@ module _ (bound : ℕ → Bool) (f : Function) where
         by (inl is) rest = (0, is)
         by (inr is) rest = let further = rest is in (suc further.0, further.1)
 
-    pub on_some_line : (h : ℕ) → IsWritten es (function_roots bound f) h → (line : Line) × IsWritten es (roots_at bound f line) h
+    pub on_some_line : (h : ℕ) → IsWritten es (function_roots bound f) h →
+        (line : Line) × IsWritten es (roots_at bound f line) h
     on_some_line h (Root _ among) =
         let firsts = flat_map (λ l. option_to_list l.init) f.local_variables in
         let own = flat_map (own_roots bound) (trees_in f.body) in
         let one = same_roots bound h f ∙ among_one (function_roots bound f) h among in
         by (or_cases (is_one_of firsts h) (is_one_of own h) (sym (list_any-append (nat_eq h) firsts own) ∙ one))
       where
-        by : (is_one_of (flat_map (λ l. option_to_list l.init) f.local_variables) h ≡ true) ⊎ (is_one_of (flat_map (own_roots bound) (trees_in f.body)) h ≡ true) →
+        by : (is_one_of (flat_map (λ l. option_to_list l.init) f.local_variables) h ≡ true)
+            ⊎ (is_one_of (flat_map (own_roots bound) (trees_in f.body)) h ≡ true) →
             (line : Line) × IsWritten es (roots_at bound f line) h
-        by (inl is) = let of = init_of f.local_variables h is in (Local of.0, Root h (one_among (roots_at bound f (Local of.0)) h of.1))
-        by (inr is) = let of = own_of (trees_in f.body) h is in (Statement of.0, Root h (one_among (roots_at bound f (Statement of.0)) h of.1))
+        by (inl is) = let of = init_of f.local_variables h is in
+            (Local of.0, Root h (one_among (roots_at bound f (Local of.0)) h of.1))
+        by (inr is) = let of = own_of (trees_in f.body) h is in
+            (Statement of.0, Root h (one_among (roots_at bound f (Statement of.0)) h of.1))
     on_some_line x (OperandOf h _ e is at among) = let of = on_some_line h is in (of.0, OperandOf h x e of.1 at among)
 
-    of_init : (ls : List LocalVariable) (i h : ℕ) → is_one_of (option_to_list (option_and_then (λ l. l.init) (slice_get ls i))) h ≡ true →
+    of_init : (ls : List LocalVariable) (i h : ℕ) →
+        is_one_of (option_to_list (option_and_then (λ l. l.init) (slice_get ls i))) h ≡ true →
         is_one_of (flat_map (λ l. option_to_list l.init) ls) h ≡ true
     of_init [] i h is = absurd cc
     of_init (l ∷ ls) zero h is =
         list_any-append (nat_eq h) (option_to_list l.init) (flat_map (λ l. option_to_list l.init) ls) ∙ or_left _ _ is
     of_init (l ∷ ls) (suc i) h is =
-        list_any-append (nat_eq h) (option_to_list l.init) (flat_map (λ l. option_to_list l.init) ls) ∙ or_right _ _ (of_init ls i h is)
+        list_any-append (nat_eq h) (option_to_list l.init) (flat_map (λ l. option_to_list l.init) ls)
+        ∙ or_right _ _ (of_init ls i h is)
 
-    of_own : (sts : List StatementTree) (n h : ℕ) → is_one_of (option_map_or (own_roots bound) (slice_get sts n) []) h ≡ true →
+    of_own : (sts : List StatementTree) (n h : ℕ) →
+        is_one_of (option_map_or (own_roots bound) (slice_get sts n) []) h ≡ true →
         is_one_of (flat_map (own_roots bound) sts) h ≡ true
     of_own [] n h is = absurd cc
     of_own (st ∷ sts) zero h is =
         list_any-append (nat_eq h) (own_roots bound st) (flat_map (own_roots bound) sts) ∙ or_left _ _ is
     of_own (st ∷ sts) (suc n) h is =
-        list_any-append (nat_eq h) (own_roots bound st) (flat_map (own_roots bound) sts) ∙ or_right _ _ (of_own sts n h is)
+        list_any-append (nat_eq h) (own_roots bound st) (flat_map (own_roots bound) sts)
+        ∙ or_right _ _ (of_own sts n h is)
 
-    line_root : (line : Line) (h : ℕ) → is_one_of (roots_at bound f line) h ≡ true → is_one_of (roots_with bound f (trees_in f.body)) h ≡ true
+    line_root : (line : Line) (h : ℕ) → is_one_of (roots_at bound f line) h ≡ true →
+        is_one_of (roots_with bound f (trees_in f.body)) h ≡ true
     line_root Signature h is = absurd cc
     line_root (Local i) h is =
-        list_any-append (nat_eq h) (flat_map (λ l. option_to_list l.init) f.local_variables) (flat_map (own_roots bound) (trees_in f.body))
+        list_any-append (nat_eq h) (flat_map (λ l. option_to_list l.init) f.local_variables)
+        (flat_map (own_roots bound) (trees_in f.body))
         ∙ or_left _ _ (of_init f.local_variables i h is)
     line_root (Statement n) h is =
-        list_any-append (nat_eq h) (flat_map (λ l. option_to_list l.init) f.local_variables) (flat_map (own_roots bound) (trees_in f.body))
+        list_any-append (nat_eq h) (flat_map (λ l. option_to_list l.init) f.local_variables)
+        (flat_map (own_roots bound) (trees_in f.body))
         ∙ or_right _ _ (of_own (trees_in f.body) n h is)
 
-    pub in_the_function : (line : Line) (h : ℕ) → IsWritten es (roots_at bound f line) h → IsWritten es (function_roots bound f) h
+    pub in_the_function : (line : Line) (h : ℕ) → IsWritten es (roots_at bound f line) h →
+        IsWritten es (function_roots bound f) h
     in_the_function line h (Root _ among) =
-        Root h (one_among (function_roots bound f) h (sym (same_roots bound h f) ∙ line_root line h (among_one (roots_at bound f line) h among)))
+        Root h (one_among (function_roots bound f) h
+        (sym (same_roots bound h f) ∙ line_root line h (among_one (roots_at bound f line) h among)))
     in_the_function line x (OperandOf h _ e is at among) = OperandOf h x e (in_the_function line h is) at among

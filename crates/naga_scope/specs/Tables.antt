@@ -9,7 +9,7 @@ use Rattle.std.specs.Option.{is_none, is_some, option_and_then, option_map, opti
 use Rattle.std.specs.Option.{option_to_list}
 use Rattle.indexmap.specs.IndexMap.{values}
 use Rattle.module_meaning.specs.AlikeTypes.{is_spelled}
-use Rattle.module_meaning.specs.LackingScalars.{over, own_lacks}
+use Rattle.module_meaning.specs.LackingScalars.{over, own_unwritable_scalar}
 use Rattle.module_meaning.specs.Layouts.{layout_in, module_rule}
 use Rattle.module_meaning.specs.acceptance.Ranges.{parts_stand_before, special_types_fit}
 use Rattle.module_meaning.specs.Undeclared.{handle_names_undeclared, is_undeclared}
@@ -84,7 +84,7 @@ stands_alone _ = true
 
 -- such a type is spelled where it is made of no scalar without a word
 abbrev pub is_spelled_alone : TypeInner → Bool
-is_spelled_alone it = stands_alone it && is_none (own_lacks it)
+is_spelled_alone it = stands_alone it && is_none (own_unwritable_scalar it)
 
 -- what a type by itself is over has a mark, or it is over none and spelled
 abbrev pub spelled_over : List Bool → TypeInner → Bool

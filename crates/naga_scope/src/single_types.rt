@@ -2,7 +2,8 @@
 
 ghost use Rattle.std.specs.Prelude.{◌≡◌};
 ghost use Rattle.std.specs.Option.{is_some};
-ghost use Rattle.module_meaning.specs.LackingScalars.{image_lacks, over, own_lacks, wordless};
+ghost use Rattle.module_meaning.specs.LackingScalars.{image_lacks, over, own_unwritable_scalar};
+ghost use Rattle.module_meaning.specs.LackingScalars.{wordless};
 ghost use Rattle.naga_scope.specs.Tables.{is_spelled_alone, stands_alone};
 ghost use Rattle.wgsl_words.specs.Words.{space_word};
 
@@ -24,8 +25,8 @@ pub fn over(inner: &TypeInner) -> Option<Handle<Type_>>
 
 /// The scalar without a word in WGSL that it is made of, if it is made of such a one. A pointer and an
 /// array are made of a type, and lack none by themselves.
-pub fn own_lacks(inner: &TypeInner) -> Option<Scalar>
-    ensures { result ≡ own_lacks inner.now }
+pub fn own_unwritable_scalar(inner: &TypeInner) -> Option<Scalar>
+    ensures { result ≡ own_unwritable_scalar inner.now }
 {
     match inner {
         TypeInner::Scalar(scalar)
@@ -83,5 +84,5 @@ fn has_space_word(space: AddressSpace) -> bool
 pub(crate) fn is_spelled_alone(inner: &TypeInner) -> bool
     ensures { result ≡ is_spelled_alone inner.now }
 {
-    stands_alone(inner) && own_lacks(inner).is_none()
+    stands_alone(inner) && own_unwritable_scalar(inner).is_none()
 }

@@ -14,23 +14,33 @@ wrote_nothing content failed = record { appended = sym (append-nil content); kep
 pub wrote_then : {content text middle more now : List ℕ} {failed among failures : ℕ} →
     Wrote content failed text middle among → Wrote middle among more now failures →
     Wrote content failed (text ++ more) now failures
-wrote_then {content} {text} {middle} {more} a b = record { appended = b.appended ∙ ap (λ t. t ++ more) a.appended ∙ append_assoc content text more; kept = b.kept ∙ a.kept }
+wrote_then {content} {text} {middle} {more} a b =
+    record {
+      appended = b.appended ∙ ap (λ t. t ++ more) a.appended ∙ append_assoc content text more;
+      kept = b.kept ∙ a.kept;
+    }
 
 pub stopped_first : {content text now : List ℕ} {failed failures : ℕ} {error : Error}
     (more : List ℕ) → StoppedWithin content failed text now failures error →
     StoppedWithin content failed (text ++ more) now failures error
-stopped_first {content} {text} {now} more s = record { following = after_first content text now more s.following; reason = s.reason }
+stopped_first {content} {text} {now} more s =
+    record { following = after_first content text now more s.following; reason = s.reason }
 
 pub stopped_then : {content text middle more now : List ℕ} {failed among failures : ℕ}
     {error : Error} → Wrote content failed text middle among →
     StoppedWithin middle among more now failures error →
     StoppedWithin content failed (text ++ more) now failures error
 stopped_then {content} {text} {middle} {more} {now} {failures = failures} {error = error} w s =
-    record { following = after_then content text middle more now w.appended s.following; reason = subst (λ n. IsWant n failures error) w.kept s.reason }
+    record {
+      following = after_then content text middle more now w.appended s.following;
+      reason = subst (λ n. IsWant n failures error) w.kept s.reason;
+    }
 
 -- the answer of a call that writes after a text that was written
-pub appends_then : (r : Result Unit Error) {content text middle : List ℕ} {failed among : ℕ} (more now : List ℕ) (failures : ℕ)
-    → Wrote content failed text middle among → Appends r middle among more now failures → Appends r content failed (text ++ more) now failures
+pub appends_then : (r : Result Unit Error) {content text middle : List ℕ} {failed among : ℕ} (more now : List ℕ)
+    (failures : ℕ)
+    → Wrote content failed text middle among → Appends r middle among more now failures →
+    Appends r content failed (text ++ more) now failures
 appends_then (Ok x) more now failures w a = wrote_then w a
 appends_then (Err e) more now failures w s = stopped_then w s
 
@@ -40,4 +50,5 @@ pub appends_stopped : (r : Result Unit Error) {content text now : List ℕ} {fai
     StoppedWithin content failed text now failures error →
     Appends r content failed text now failures
 appends_stopped (Ok x) is s = absurd is
-appends_stopped (Err e) {content} {text} {now} {failed} {failures} is s = subst (λ e. StoppedWithin content failed text now failures e) (sym is) s
+appends_stopped (Err e) {content} {text} {now} {failed} {failures} is s =
+    subst (λ e. StoppedWithin content failed text now failures e) (sym is) s

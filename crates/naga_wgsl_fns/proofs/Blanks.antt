@@ -1,5 +1,6 @@
 -- The blanks in front of a line: one level more, and back at a level.
-use Rattle.std.proofs.Common.{◌≡◌, ℕ, zero, suc, ◌+◌, ◌*◌, ◌≤◌, ◌<◌, ◌^◌, List, [], ◌∷◌, ◌++◌, codes, length, length-append, take, get_or}
+use Rattle.std.proofs.Common.{◌≡◌, ℕ, zero, suc, ◌+◌, ◌*◌, ◌≤◌, ◌<◌, ◌^◌, List, [], ◌∷◌, ◌++◌}
+use Rattle.std.proofs.Common.{codes, length, length-append, take, get_or}
 use Rattle.std.proofs.Common.{refl, sym, ap, ◌∙◌, arith, subst, Option, Some, None, true, false}
 use Rattle.std.specs.Option.{is_some}
 use Rattle.std.specs.String.Boundary.{IsSplitPoint}
@@ -47,7 +48,8 @@ wants_after before after any = by before.want refl
     none : (want : Option TypeTextError) → after.want ≡ want → before.want ≡ None → is_some want ≡ true
     none (Some want) at fresh = refl
     none None at fresh =
-        let lies = λ (text : List ℕ). subst (λ o. Lies before.content before.failures text after.content after.failures o) at
+        let lies = λ (text : List ℕ). subst (λ o. Lies before.content before.failures text after.content
+        after.failures o) at
         (subst (λ o. Follows o before text after) fresh (any text).goes.0) in
         absurd (other before.content (sym (lies []).0 ∙ (lies (0 ∷ [])).0))
       where
@@ -65,7 +67,8 @@ wants_after before after any = by before.want refl
         ap (λ (o : OutputView). is_some o.want) same ∙ ap is_some (sym is)
 
 -- after a want nothing changes
-pub wanting_stays : (before after : OutputView) (text : List ℕ) → is_some before.want ≡ true → Wrote before after text → after ≡ before
+pub wanting_stays : (before after : OutputView) (text : List ℕ) → is_some before.want ≡ true →
+    Wrote before after text → after ≡ before
 unfolding Goes
 wanting_stays before after text some w = by before.want some w.goes.0
   where
@@ -81,4 +84,5 @@ pub cut_is : (bytes : List ℕ) (n m at : ℕ) → bytes ≡ indentation m → n
 cut_is bytes n m at is le here = (λ i. take (here i) (is i)) ∙ cut n m le
 
 pub cut_at : (bytes : List ℕ) (n m at : ℕ) → bytes ≡ indentation m → n ≤ m → at ≡ 4 * n → IsSplitPoint bytes at
-cut_at bytes n m at is le here = subst (λ b. IsSplitPoint b at) (sym is) (subst (IsSplitPoint (indentation m)) (sym here) (cut_within n m le))
+cut_at bytes n m at is le here = subst (λ b. IsSplitPoint b at) (sym is) (subst (IsSplitPoint (indentation m))
+    (sym here) (cut_within n m le))

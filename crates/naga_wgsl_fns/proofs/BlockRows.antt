@@ -25,12 +25,14 @@ use Rattle.naga_wgsl_fns.specs.Statements.{lines_text, named_following, statemen
 use Rattle.naga_wgsl_fns.specs.declared.functions.FunctionText.{FunctionText}
 use Rattle.naga_wgsl_fns.proofs.StatementRows.{indentation_row, one_line}
 
-pub braces_row : (i : ℕ) (start body : List ℕ) → braces_text i start body ≡ joined_texts (line_start i start) (joined_texts body (line_start i (codes "}\n")))
+pub braces_row : (i : ℕ) (start body : List ℕ) → braces_text i start body ≡ joined_texts (line_start i start)
+    (joined_texts body (line_start i (codes "}\n")))
 unfolding braces_text joined_texts
 braces_row i start body = refl
 
 -- braces, by the blanks in front of their lines
-pub braces_lines : (i : ℕ) (start body : List ℕ) → replicate (4 * i) 32 ++ (start ++ (body ++ (replicate (4 * i) 32 ++ codes "}\n"))) ≡ braces_text i start body
+pub braces_lines : (i : ℕ) (start body : List ℕ) →
+    replicate (4 * i) 32 ++ (start ++ (body ++ (replicate (4 * i) 32 ++ codes "}\n"))) ≡ braces_text i start body
 unfolding braces_text line_start
 braces_lines i start body = simp (append_assoc, indentation_row)
 
@@ -39,7 +41,8 @@ pub block_row : (f : FunctionText) (k : ℕ) (s : Handles) (i : ℕ) (b : BlockT
 unfolding statement_text block_text
 block_row f k s i b =
     let lines = lines_form (naming f) (let_annotation f) (source f) k b s in
-    one_line (tree.Block lines) i ∙ (block_row_text lines i ∙ braces_lines i (codes "{\n") (text (statements_pieces lines (suc i))))
+    one_line (tree.Block lines) i ∙ (block_row_text lines i ∙ braces_lines i (codes "{\n")
+    (text (statements_pieces lines (suc i))))
 
 -- ---- choices
 pub else_row : (i : ℕ) (body : List ℕ) → else_text i false body ≡ joined_texts (line_start i (codes "} else {\n")) body
@@ -51,8 +54,13 @@ unfolding else_text
 no_else i body = refl
 
 if_lines : (i : ℕ) (c a b : List ℕ)
-    → replicate (4 * i) 32 ++ (codes "if " ++ (c ++ (codes " {\n" ++ (a ++ (replicate (4 * i) 32 ++ (codes "}" ++ (codes " else {\n" ++ (b ++ (replicate (4 * i) 32 ++ codes "}\n")))))))))
-    ≡ (line_start i (codes "if ") ++ (c ++ codes " {\n")) ++ (a ++ ((line_start i (codes "} else {\n") ++ b) ++ line_start i (codes "}\n")))
+    → replicate (4 * i) 32
+    ++ (codes "if "
+    ++ (c ++ (codes " {\n"
+    ++ (a ++ (replicate (4 * i) 32
+    ++ (codes "}" ++ (codes " else {\n" ++ (b ++ (replicate (4 * i) 32 ++ codes "}\n")))))))))
+    ≡ (line_start i (codes "if ") ++ (c ++ codes " {\n"))
+    ++ (a ++ ((line_start i (codes "} else {\n") ++ b) ++ line_start i (codes "}\n")))
 unfolding line_start
 if_lines i c a b = simp (append_assoc, indentation_row)
 
@@ -65,7 +73,8 @@ if_lines_alone i c a = simp (append_assoc, indentation_row)
 pub if_row : (f : FunctionText) (k : ℕ) (s : Handles) (i c : ℕ) (a r : BlockTree)
     → statement_text f k s i (branch c a r) ≡ joined_texts (around_text f s i (codes "if ") c (codes " {\n"))
     (joined_texts (block_text f k s (suc i) a)
-    (joined_texts (else_text i (has_no_statements r) (block_text f (named_following f a k) s (suc i) r)) (line_start i (codes "}\n"))))
+    (joined_texts (else_text i (has_no_statements r) (block_text f (named_following f a k) s (suc i) r))
+    (line_start i (codes "}\n"))))
 unfolding statement_text block_text around_text else_text joined_texts
 if_row f k s i c a r = by r
   where
@@ -78,9 +87,12 @@ if_row f k s i c a r = by r
     condition : List ℕ
     condition = expression_layout (value_form (naming f) (source f) s c)
 
-    by : (r : BlockTree) → lines_text i (tree.Then (tree.If (value_form (naming f) (source f) s c) accepted (optional_form r (rejected r))) NoStatements) ≡
+    by : (r : BlockTree) →
+        lines_text i (tree.Then (tree.If (value_form (naming f) (source f) s c) accepted
+        (optional_form r (rejected r))) NoStatements) ≡
         (line_start i (codes "if ") ++ (condition ++ codes " {\n")) ++ (text (statements_pieces accepted (suc i)) ++
-        ((cond (has_no_statements r) [] (line_start i (codes "} else {\n") ++ text (statements_pieces (rejected r) (suc i)))) ++ line_start i (codes "}\n")))
+        ((cond (has_no_statements r) [] (line_start i (codes "} else {\n")
+        ++ text (statements_pieces (rejected r) (suc i)))) ++ line_start i (codes "}\n")))
     by no_statements =
         one_line (tree.If (value_form (naming f) (source f) s c) accepted tree.NoBlock) i
         ∙ (if_text (value_form (naming f) (source f) s c) accepted tree.NoBlock i
@@ -89,6 +101,10 @@ if_row f k s i c a r = by r
         let other = rejected (statement st b) in
         one_line (tree.If (value_form (naming f) (source f) s c) accepted (tree.SomeBlock other)) i
         ∙ (if_text (value_form (naming f) (source f) s c) accepted (tree.SomeBlock other) i
-        ∙ (ap (λ t. replicate (4 * i) 32 ++ (codes "if " ++ (condition ++ (codes " {\n" ++ (text (statements_pieces accepted (suc i)) ++ (replicate (4 * i) 32 ++ (codes "}" ++ t)))))))
+        ∙ (ap (λ t. replicate (4 * i) 32
+        ++ (codes "if "
+        ++ (condition
+        ++ (codes " {\n" ++ (text (statements_pieces accepted (suc i))
+        ++ (replicate (4 * i) 32 ++ (codes "}" ++ t)))))))
         (else_row_text other i)
         ∙ if_lines i condition (text (statements_pieces accepted (suc i))) (text (statements_pieces other (suc i)))))

@@ -53,7 +53,8 @@ module _ (m : Module) (info : ModuleInfo) (accepted : IsTrue (is_accepted m info
       let three = and_parts (module_in_range m) _ two.1 in
       (and_parts (declarations_in_range m) _ three.0).0
 
-  parts : (list_all (override_in_range types own) m.overrides ≡ true) × (list_all (global_in_range types own) m.global_variables ≡ true)
+  parts : (list_all (override_in_range types own) m.overrides ≡ true)
+      × (list_all (global_in_range types own) m.global_variables ≡ true)
   parts =
       let one = and_parts (types_in_range (length m.overrides) m.types) _ declared in
       let two = and_parts (special_types_fit types m.special_types) _ one.1 in
@@ -65,11 +66,13 @@ module _ (m : Module) (info : ModuleInfo) (accepted : IsTrue (is_accepted m info
   pub initialiser_there : (h : ℕ) → IsInitialiser m h → h < length m.global_expressions
   initialiser_there _ (OfConstant i k at named) = initialiser_within m info accepted i k at
   initialiser_there h (OfOverride i o _ at is) =
-      let one = and_parts (nat_lt o.ty types) _ (list_all_at (override_in_range types own) m.overrides i o parts.0 at) in
+      let one = and_parts (nat_lt o.ty types) _
+      (list_all_at (override_in_range types own) m.overrides i o parts.0 at) in
       let two = and_parts (is_below own o.init) _ one.1 in
       there own o.init h is two.0
   initialiser_there h (OfVariable i g _ at is) =
-      let one = and_parts (nat_lt g.ty types) _ (list_all_at (global_in_range types own) m.global_variables i g parts.1 at) in
+      let one = and_parts (nat_lt g.ty types) _
+      (list_all_at (global_in_range types own) m.global_variables i g parts.1 at) in
       let two = and_parts (is_below own g.init) _ one.1 in
       there own g.init h is two.0
 
@@ -85,6 +88,7 @@ pub named_declaration : (m : Module) (it : UnsupportedDeclaration) (error : Erro
 named_declaration m (declaration.Type_ ty) error lacks named = OfType ty lacks.0 lacks.1 named
 named_declaration m (declaration.Initialiser h) error lacks named = OfInitialiser h lacks.0 lacks.1 named
 named_declaration m (declaration.BuiltIn v) error lacks named = OfMember (binding.BuiltIn v) lacks.0 lacks.1 named
-named_declaration m (declaration.Head it) error lacks named = OfHead lacks.0 (named_head m lacks.0 it error lacks.1 named)
+named_declaration m (declaration.Head it) error lacks named =
+    OfHead lacks.0 (named_head m lacks.0 it error lacks.1 named)
 named_declaration m (declaration.Misplaced fault) error lacks named = OfOffsets lacks.0 fault lacks.1 named
 named_declaration m (declaration.Stride ty) error lacks named = OfStride lacks.0 ty lacks.1 named

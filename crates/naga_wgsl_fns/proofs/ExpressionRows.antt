@@ -209,8 +209,11 @@ module _ (n : Naming) (code : Source) (before : OperandsStandBefore code.express
 
 -- ---- rows
 -- a handle's form, by its cell in the table
-pub cell_form : (f : FunctionText) (table : List Availability) (handle : ℕ) → CanWrite f → handle < length (expressions f)
-    → plain_form (naming f) (source f) (handles_in f table) handle ≡ availability_plain (availability_of (named_in f) (numbered_name handle) (get_or table handle Absent)) (own_form f table handle)
+pub cell_form : (f : FunctionText) (table : List Availability) (handle : ℕ) → CanWrite f →
+    handle < length (expressions f)
+    → plain_form (naming f) (source f) (handles_in f table) handle
+    ≡ availability_plain (availability_of (named_in f) (numbered_name handle) (get_or table handle Absent))
+    (own_form f table handle)
 cell_form f table handle can lt = plain_level (naming f) (source f) (ordered f can) (handles_in f table) handle lt
 
 -- a value, by its cell
@@ -222,9 +225,13 @@ pub value_row : (f : FunctionText) (table : List Availability) (handle : ℕ) �
     handle < length (expressions f) → value_text f table handle ≡ value_at f table handle
     (get_or table handle Absent)
 unfolding value_text own_text bound_text
-value_row f table handle can lt = ap (λ form. expression_layout (as_value form)) (cell_form f table handle can lt) ∙ by (get_or table handle Absent)
+value_row f table handle can lt = ap (λ form. expression_layout (as_value form))
+    (cell_form f table handle can lt) ∙ by (get_or table handle Absent)
   where
-    by : (cell : Availability) → expression_layout (as_value (availability_plain (availability_of (named_in f) (numbered_name handle) cell) (own_form f table handle))) ≡ value_at f table handle cell
+    by : (cell : Availability) →
+        expression_layout
+        (as_value (availability_plain (availability_of (named_in f) (numbered_name handle) cell)
+        (own_form f table handle))) ≡ value_at f table handle cell
     by (Bound name) = name_text (bound_text f handle name)
     by Absent = refl
     by Barred = refl
@@ -483,7 +490,8 @@ unfolding applied_text value_text joined_texts
 prefix_row f table op operand =
     let form = value_form (naming f) (source f) (handles_in f table) in
     unary_row_text (unary_form op) (form operand)
-    ∙ ap (λ w. joined_texts w (joined_texts (codes "(") (joined_texts (expression_layout (form operand)) (codes ")")))) (sym (unary_row op))
+    ∙ ap (λ w. joined_texts w (joined_texts (codes "(")
+    (joined_texts (expression_layout (form operand)) (codes ")")))) (sym (unary_row op))
 
 pub infix_row : (f : FunctionText) (table : List Availability) (op : ir_operator.BinaryOperator)
     (left right : ℕ)
@@ -512,7 +520,8 @@ pub called_row : (f : FunctionText) (table : List Availability) (word : List ℕ
 unfolding called_text applied_text operands_text joined_texts
 called_row f table word handle =
     call_row_text (NamedType word) (arguments_of (value_forms (form_at f table) (operands_at f handle)))
-    ∙ ap (λ w. joined_texts w (joined_texts (codes "(") (operands_left f table true (operands_at f handle)))) (named_text word)
+    ∙ ap (λ w. joined_texts w (joined_texts (codes "(") (operands_left f table true (operands_at f handle))))
+    (named_text word)
 
 pub made_row : (f : FunctionText) (table : List Availability) (ty handle : ℕ)
     → made_text f table (made_type f ty) handle ≡
@@ -619,11 +628,14 @@ own_called f table {handle} {e} {word} can within here is =
     ∙ sym (own_row f table handle can within
     ∙ (ap (own_at f table handle) here ∙ called_at f table handle e is))
 
-pub address_row : (f : FunctionText) (local : ℕ) → address_text f local ≡ joined_texts (codes "(&") (joined_texts (name_of_local f local) (codes ")"))
+pub address_row : (f : FunctionText) (local : ℕ) → address_text f local
+    ≡ joined_texts (codes "(&") (joined_texts (name_of_local f local) (codes ")"))
 unfolding address_text name_of_local joined_texts
-address_row f local = address_row_text (Name (name_of_local f local)) ∙ ap (λ w. joined_texts (codes "(&") (joined_texts w (codes ")"))) (name_text (name_of_local f local))
+address_row f local = address_row_text (Name (name_of_local f local))
+    ∙ ap (λ w. joined_texts (codes "(&") (joined_texts w (codes ")"))) (name_text (name_of_local f local))
 
-pub pointed_row : (f : FunctionText) (table : List Availability) (handle : ℕ) → pointed_text f table handle ≡ joined_texts (codes "(*") (joined_texts (value_text f table handle) (codes ")"))
+pub pointed_row : (f : FunctionText) (table : List Availability) (handle : ℕ) → pointed_text f table handle
+    ≡ joined_texts (codes "(*") (joined_texts (value_text f table handle) (codes ")"))
 unfolding pointed_text value_text joined_texts
 pointed_row f table handle = dereference_text (value_form (naming f) (source f) (handles_in f table) handle)
 
@@ -636,11 +648,14 @@ query_has_word image_query.NumSamples = refl
 
 -- no other expression is written but the result of a statement, which has no value of its own
 pub no_value_row : (f : FunctionText) (table : List Availability) (handle : ℕ) → CanWrite f → IsInText f handle →
-    (e : ir.Expression) → slice_get (expressions f) handle ≡ Some e → IsNoOther e → codes "false" ≡ own_text f table handle
+    (e : ir.Expression) → slice_get (expressions f) handle ≡ Some e → IsNoOther e →
+    codes "false" ≡ own_text f table handle
 no_value_row f table handle can within e here none =
-    sym (own_row f table handle can within ∙ (ap (own_at f table handle) here ∙ by e (expression_formed f can handle e here within) none))
+    sym (own_row f table handle can within
+    ∙ (ap (own_at f table handle) here ∙ by e (expression_formed f can handle e here within) none))
   where
-    by : (e : ir.Expression) → IsTrue (expression_is_written f.shader.now f.info.now e) → IsNoOther e → own_at f table handle (Some e) ≡ codes "false"
+    by : (e : ir.Expression) → IsTrue (expression_is_written f.shader.now f.info.now e) → IsNoOther e →
+        own_at f table handle (Some e) ≡ codes "false"
     by (expression.Literal v) is none = absurd (none.literal v refl)
     by (expression.Constant c) is none = absurd (none.constant c refl)
     by (expression.Override o) is none = absurd (none.overridden o refl)

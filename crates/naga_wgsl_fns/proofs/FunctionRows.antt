@@ -78,7 +78,8 @@ use Rattle.wgsl_text.specs.Attributes.{attributes_pieces}
 
 -- ---- what is wanted
 -- what is known of a function is what is known of its number
-known_is : (info : ModuleInfo) (g : ℕ) (es : List ExpressionInfo) → slice_get (all_infos info) g ≡ Some es → known_of info g ≡ es
+known_is : (info : ModuleInfo) (g : ℕ) (es : List ExpressionInfo) → slice_get (all_infos info) g ≡ Some es →
+    known_of info g ≡ es
 known_is info g es at = ap (λ o. unwrap_or o []) at
 
 pub can_write : (t : FunctionText) → IsTrue (is_accepted t.shader.now t.module_info.now) →
@@ -108,7 +109,8 @@ can_write t accepted tables named there here known formed head room =
     }
 
 -- the names that a plan has are those of its texts
-pub names_read : {Y : Type 0} (names : List (String Y)) (number : ℕ) → option_map_or string_bytes (slice_get names number) [] ≡ get_or (map string_bytes names) number []
+pub names_read : {Y : Type 0} (names : List (String Y)) (number : ℕ) →
+    option_map_or string_bytes (slice_get names number) [] ≡ get_or (map string_bytes names) number []
 names_read [] number = refl
 names_read (name ∷ names) zero = refl
 names_read (name ∷ names) (suc number) = names_read names number
@@ -151,7 +153,8 @@ pub argument_row : (f : FunctionText) (number : ℕ) (a : FunctionArgument) →
 unfolding argument_text attributes_text name_of_argument type_text joined_texts
 argument_row f number a = text-append (attributes_pieces (passing_attributes a.binding)) _
 
-pub next_argument_row : (f : FunctionText) (number : ℕ) (a : FunctionArgument) → next_argument_text f number a ≡ joined_texts (separator number) (argument_text f number a)
+pub next_argument_row : (f : FunctionText) (number : ℕ) (a : FunctionArgument) → next_argument_text f number a
+    ≡ joined_texts (separator number) (argument_text f number a)
 unfolding next_argument_text joined_texts
 next_argument_row f number a = refl
 
@@ -177,8 +180,10 @@ result_row f = by f.function.now.result
 
 -- what is left of the arguments from this number on, with the parenthesis after the last
 abbrev pub arguments_left : FunctionText → ℕ → List FunctionArgument → List ℕ
-arguments_left f zero more = text (parameters_pieces (parameters_form (module_names f.shader.now) f.shader.now (number f) zero more))
-arguments_left f (suc n) more = text (more_parameters_pieces (parameters_form (module_names f.shader.now) f.shader.now (number f) (suc n) more))
+arguments_left f zero more =
+    text (parameters_pieces (parameters_form (module_names f.shader.now) f.shader.now (number f) zero more))
+arguments_left f (suc n) more =
+    text (more_parameters_pieces (parameters_form (module_names f.shader.now) f.shader.now (number f) (suc n) more))
 
 pub arguments_start : (f : FunctionText) → arguments_text f ≡ arguments_left f 0 f.function.now.arguments.items
 unfolding arguments_text
@@ -202,7 +207,8 @@ arguments_row f n a more = by n
         more_parameters_pieces (form (n + 1) more)) ≡ argument_text f n a ++ arguments_left f
         (n + 1) more
     split n =
-        text-append (parameter_pieces (parameter_form (module_names f.shader.now) f.shader.now (number f) n a)) (more_parameters_pieces (form (n + 1) more))
+        text-append (parameter_pieces (parameter_form (module_names f.shader.now) f.shader.now (number f) n a))
+        (more_parameters_pieces (form (n + 1) more))
         ∙ ap (λ t. argument_text f n a ++ t) (later n)
 
     by : (n : ℕ) → arguments_left f n (a ∷ more) ≡ (separator n ++ argument_text f n a) ++ arguments_left f (n + 1) more
@@ -212,11 +218,15 @@ arguments_row f n a more = by n
         in rw next (ap (λ t. codes ", " ++ t) (split (suc n)))
 
 -- a loop over arguments: one more, and none
-pub arguments_more : (f : FunctionText) (n : ℕ) (items : List FunctionArgument) (a : FunctionArgument) → n < length items → a ≡ slice_index_or items n a
-    → arguments_left f n (drop n items) ≡ joined_texts (next_argument_text f n a) (arguments_left f (n + 1) (drop (n + 1) items))
-arguments_more f n items a lt is = ap (arguments_left f n) (drop_first n items a lt is) ∙ arguments_row f n a (drop (n + 1) items)
+pub arguments_more : (f : FunctionText) (n : ℕ) (items : List FunctionArgument) (a : FunctionArgument) →
+    n < length items → a ≡ slice_index_or items n a
+    → arguments_left f n (drop n items) ≡ joined_texts (next_argument_text f n a)
+    (arguments_left f (n + 1) (drop (n + 1) items))
+arguments_more f n items a lt is = ap (arguments_left f n) (drop_first n items a lt is)
+    ∙ arguments_row f n a (drop (n + 1) items)
 
-pub arguments_none : (f : FunctionText) (n : ℕ) (items : List FunctionArgument) → length items ≤ n → arguments_left f n (drop n items) ≡ codes ")"
+pub arguments_none : (f : FunctionText) (n : ℕ) (items : List FunctionArgument) → length items ≤ n →
+    arguments_left f n (drop n items) ≡ codes ")"
 arguments_none f n items past = ap (arguments_left f n) (drop_all n items past) ∙ by n
   where
     by : (n : ℕ) → arguments_left f n [] ≡ codes ")"
@@ -230,7 +240,8 @@ pub first_value_row : (f : FunctionText) (table : List Availability) (value : �
     first_value_text f value
 unfolding first_value_text value_text joined_texts
 first_value_row f table value start =
-    ap (λ (s : Handles). codes " = " ++ (expression_layout (value_form (naming f) (source f) s value) ++ codes ";\n")) start
+    ap (λ (s : Handles). codes " = " ++ (expression_layout (value_form (naming f) (source f) s value)
+    ++ codes ";\n")) start
     ∙ sym (value_row_text (first_form f value))
 
 abbrev pub first_at : FunctionText → (value : Option ℕ) → List ℕ
@@ -243,13 +254,17 @@ first_row f None = refl
 first_row f (Some value) = refl
 
 -- a local that there is
-pub local_row : (f : FunctionText) (handle : ℕ) (local : LocalVariable) → slice_get f.function.now.local_variables handle ≡ Some local
-    → local_text f handle ≡ joined_texts (codes "    var ") (joined_texts (name_of_local f handle) (joined_texts (codes ": ") (joined_texts (type_text f local.ty) (first_text f local.init))))
+pub local_row : (f : FunctionText) (handle : ℕ) (local : LocalVariable) →
+    slice_get f.function.now.local_variables handle ≡ Some local
+    → local_text f handle ≡ joined_texts (codes "    var ")
+    (joined_texts (name_of_local f handle)
+    (joined_texts (codes ": ") (joined_texts (type_text f local.ty) (first_text f local.init))))
 unfolding local_text name_of_local type_text first_text joined_texts
 local_row f handle local at =
     ap (λ o. option_map_or (local_text_of f handle) o []) at
     ∙ (local_row_text (local_form f handle local) []
-    ∙ ap (λ t. codes "    var " ++ (name_of_local f handle ++ (codes ": " ++ (type_text f local.ty ++ t)))) (append-nil (first_text f local.init)))
+    ∙ ap (λ t. codes "    var " ++ (name_of_local f handle ++ (codes ": " ++ (type_text f local.ty ++ t))))
+    (append-nil (first_text f local.init)))
 
 -- the locals from this one on
 abbrev pub locals_left : FunctionText → ℕ → List LocalVariable → List ℕ
@@ -263,9 +278,13 @@ locals_step f handle local more =
     let following = locals_form (naming f) (type_names_of f) (source f) (handle + 1) more in
     let first = text (locals_pieces following) in
     local_row_text form following
-    ∙ (ap (λ t. codes "    var " ++ (form.name ++ (codes ": " ++ t))) (sym (append_assoc (type_layout form.type) (text (value_pieces form.value)) first))
-    ∙ (ap (λ t. codes "    var " ++ (form.name ++ (codes ": " ++ (t ++ first)))) (ap (λ t. type_layout form.type ++ t) (sym (append-nil (text (value_pieces form.value)))))
-    ∙ (ap (λ t. codes "    var " ++ t) (sym (append_assoc form.name (codes ": " ++ (type_layout form.type ++ (text (value_pieces form.value) ++ []))) first))
+    ∙ (ap (λ t. codes "    var " ++ (form.name ++ (codes ": " ++ t)))
+    (sym (append_assoc (type_layout form.type) (text (value_pieces form.value)) first))
+    ∙ (ap (λ t. codes "    var " ++ (form.name ++ (codes ": " ++ (t ++ first))))
+    (ap (λ t. type_layout form.type ++ t) (sym (append-nil (text (value_pieces form.value)))))
+    ∙ (ap (λ t. codes "    var " ++ t)
+    (sym (append_assoc form.name (codes ": "
+    ++ (type_layout form.type ++ (text (value_pieces form.value) ++ []))) first))
     ∙ ap (λ t. t ++ first) (sym (local_row_text form [])))))
 
 -- a list from an item of it on, by what stands there
@@ -274,7 +293,8 @@ drop_at i xs x at = drop_first i xs x (slice_get_within xs i x at) (sym (get_or_
 
 -- a loop over locals: one more, and none
 pub locals_more : (f : FunctionText) (i handle : ℕ) → i < length f.function.now.local_variables → handle ≡ i
-    → locals_left f i (drop i f.function.now.local_variables) ≡ joined_texts (local_text f handle) (locals_left f (i + 1) (drop (i + 1) f.function.now.local_variables))
+    → locals_left f i (drop i f.function.now.local_variables) ≡ joined_texts (local_text f handle)
+    (locals_left f (i + 1) (drop (i + 1) f.function.now.local_variables))
 unfolding local_text joined_texts
 locals_more f i handle lt is =
     let locals = f.function.now.local_variables in
@@ -282,19 +302,25 @@ locals_more f i handle lt is =
     let more = locals_left f (i + 1) (drop (i + 1) locals) in
     ap (locals_left f i) (drop_at i locals local.0 local.1)
     ∙ (locals_step f i local.0 (drop (i + 1) locals)
-    ∙ (ap (λ o. option_map_or (local_text_of f i) o [] ++ more) (sym local.1) ∙ ap (λ h. local_text f h ++ more) (sym is)))
+    ∙ (ap (λ o. option_map_or (local_text_of f i) o [] ++ more) (sym local.1) ∙ ap (λ h. local_text f h ++ more)
+    (sym is)))
 
 -- after the locals, the empty line
-pub locals_none : (f : FunctionText) (i : ℕ) → length f.function.now.local_variables ≤ i → locals_left f i (drop i f.function.now.local_variables) ≡ []
+pub locals_none : (f : FunctionText) (i : ℕ) → length f.function.now.local_variables ≤ i →
+    locals_left f i (drop i f.function.now.local_variables) ≡ []
 locals_none f i past = ap (locals_left f i) (drop_all i f.function.now.local_variables past)
 
-pub locals_row : (f : FunctionText) → locals_text f ≡ joined_texts (locals_left f 0 f.function.now.local_variables) (group_end_text (length f.function.now.local_variables == 0))
+pub locals_row : (f : FunctionText) →
+    locals_text f ≡ joined_texts (locals_left f 0 f.function.now.local_variables)
+    (group_end_text (length f.function.now.local_variables == 0))
 unfolding locals_text group_end_text joined_texts
 locals_row f = ap (λ t. locals_left f 0 f.function.now.local_variables ++ t) (sym (by f.function.now.local_variables))
   where
-    by : (locals : List LocalVariable) → (if length locals == 0 then [] else codes "\n") ≡ text (group_end (locals_form (naming f) (type_names_of f) (source f) 0 locals))
+    by : (locals : List LocalVariable) → (if length locals == 0 then [] else codes "\n")
+        ≡ text (group_end (locals_form (naming f) (type_names_of f) (source f) 0 locals))
     by [] = refl
-    by (local ∷ more) = ap (λ b. if b then [] else codes "\n") (ne_eqb (suc (length more)) 0 (λ same. absurd (omega arith)))
+    by (local ∷ more) = ap (λ b. if b then [] else codes "\n") (ne_eqb (suc (length more)) 0
+        (λ same. absurd (omega arith)))
 
 -- ---- the whole
 pub body_row : (f : FunctionText) (at : TextPoint) → StartsAt f at.table → at.named ≡ 0 →
@@ -302,7 +328,9 @@ pub body_row : (f : FunctionText) (at : TextPoint) → StartsAt f at.table → a
     (joined_texts (block_text f at.named (handles_in f at.table) 1 f.function.now.body) (codes "}\n")) ≡ body_text f
 unfolding body_text block_text joined_texts
 body_row f at start none =
-    λ i. locals_text f ++ (lines_text 1 (lines_form (naming f) (let_annotation f) (source f) (none i) f.function.now.body (start i)) ++ codes "}\n")
+    λ i. locals_text f
+    ++ (lines_text 1 (lines_form (naming f) (let_annotation f) (source f) (none i) f.function.now.body
+    (start i)) ++ codes "}\n")
 
 pub function_row : (f : FunctionText) → function_text f ≡ joined_texts (head_text f) (body_text f)
 unfolding function_text head_text body_text name_of_function arguments_text result_text locals_text joined_texts
@@ -312,9 +340,12 @@ function_row f =
     let end = text (group_end form.locals) in
     let following = lines_text 1 form.body ++ codes "}\n" in
     function_row_text form
-    ∙ sym (append_assoc (codes "fn ") (name_of_function f ++ (codes "(" ++ (arguments_text f ++ (result_text f ++ codes " {\n")))) ((locals ++ end) ++ following)
-    ∙ ap (λ t. codes "fn " ++ t) (append_assoc form.name (codes "(" ++ (arguments_text f ++ (result_text f ++ codes " {\n"))) ((locals ++ end) ++ following)
-    ∙ ap (λ t. form.name ++ (codes "(" ++ t)) (append_assoc (arguments_text f) (result_text f ++ codes " {\n") ((locals ++ end) ++ following)
+    ∙ sym (append_assoc (codes "fn ") (name_of_function f
+    ++ (codes "(" ++ (arguments_text f ++ (result_text f ++ codes " {\n")))) ((locals ++ end) ++ following)
+    ∙ ap (λ t. codes "fn " ++ t) (append_assoc form.name
+    (codes "(" ++ (arguments_text f ++ (result_text f ++ codes " {\n"))) ((locals ++ end) ++ following)
+    ∙ ap (λ t. form.name ++ (codes "(" ++ t))
+    (append_assoc (arguments_text f) (result_text f ++ codes " {\n") ((locals ++ end) ++ following)
     ∙ ap (λ t. arguments_text f ++ t) (append_assoc (result_text f) (codes " {\n") ((locals ++ end) ++ following)
     ∙ ap (λ t. result_text f ++ (codes " {\n" ++ t)) (append_assoc locals end following)))))
 

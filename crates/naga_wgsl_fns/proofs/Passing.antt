@@ -17,14 +17,17 @@ none_passed at = record {
 }
 
 -- of a block without statements
-pub nothing_passed : (f : FunctionText) (b : BlockTree) (at : Position) → has_no_statements b ≡ true → PassesBlock f at at b
+pub nothing_passed : (f : FunctionText) (b : BlockTree) (at : Position) → has_no_statements b ≡ true →
+    PassesBlock f at at b
 nothing_passed f no_statements at none = none_passed at
 nothing_passed f (statement st b) at none = absurd cc
 
 -- one block, and another after it
-pub both_passed : (f : FunctionText) (b d : BlockTree) {before middle after : Position} → Passed before middle (named_following f b before.scope.named) (block_changes b)
+pub both_passed : (f : FunctionText) (b d : BlockTree) {before middle after : Position} →
+    Passed before middle (named_following f b before.scope.named) (block_changes b)
     → Passed middle after (named_following f d middle.scope.named) (block_changes d)
-    → Passed before after (named_following f d (named_following f b before.scope.named)) (block_changes b + block_changes d)
+    → Passed before after (named_following f d (named_following f b before.scope.named))
+    (block_changes b + block_changes d)
 both_passed f b d {before} {middle} {after} one other =
     let log = one.counted.log in
     let names = one.counted.names in
@@ -37,7 +40,8 @@ both_passed f b d {before} {middle} {after} one other =
     }
 
 -- back at a point of the scope
-pub passed_back : {before after : Position} {names changes : ℕ} (now : TextPoint) → Passed before after names changes → Same before.scope now → now.named ≡ after.scope.named
+pub passed_back : {before after : Position} {names changes : ℕ} (now : TextPoint) →
+    Passed before after names changes → Same before.scope now → now.named ≡ after.scope.named
     → Passed before (record { scope = now; indent = after.indent }) names changes
 passed_back {before} {after} {names} {changes} now passed same kept =
     let log = ap length same.log in
@@ -49,7 +53,8 @@ passed_back {before} {after} {names} {changes} now passed same kept =
     }
 
 -- back at a level
-pub level_back : {after : Position} {names changes : ℕ} (before : Position) (deeper left : ℕ) → Passed (record before { indent = deeper }) after names changes → left ≡ before.indent
+pub level_back : {after : Position} {names changes : ℕ} (before : Position) (deeper left : ℕ) →
+    Passed (record before { indent = deeper }) after names changes → left ≡ before.indent
     → Passed before (record { scope = after.scope; indent = left }) names changes
 level_back {after} {names} {changes} before deeper left passed back = record {
   named = passed.named;

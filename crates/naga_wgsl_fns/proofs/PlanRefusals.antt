@@ -139,7 +139,8 @@ module _ (m : Module) (info : ModuleInfo) (i : ℕ) (error : Error)
   expression_fails : (explicit : Bool) (earlier : List (List ℕ)) →
       IsWritableAt explicit m info earlier i → ⊥
   expression_fails explicit earlier w =
-      let formed = (w.formed n.function n.known n.stands n.is_known).expressions n.expression named.0 named.1 n.written in
+      let formed = (w.formed n.function n.known n.stands n.is_known).expressions n.expression named.0 named.1
+      n.written in
       let unsupported = named.2 in
       absurd cc
 
@@ -184,7 +185,8 @@ no_type_sink m r reason is = by (names_undeclared m r) (lacking_scalar m.types r
     by false None is = is
 
 -- nor one that names a statement
-no_statement_sink : (statement : UnsupportedStatement) (reason : SinkError) → NamesStatement statement (FmtError reason) → ⊥
+no_statement_sink : (statement : UnsupportedStatement) (reason : SinkError) →
+    NamesStatement statement (FmtError reason) → ⊥
 no_statement_sink unsupported_statement.RayQuery reason is = is
 no_statement_sink unsupported_statement.SubgroupOperation reason is = is
 no_statement_sink unsupported_statement.FallThrough reason is = is
@@ -323,7 +325,8 @@ module _ (explicit : Bool) (m : Module) (info : ModuleInfo) (accepted : IsTrue (
     for_scope (Memory e) is fault = tt
     for_scope _ is fault = absurd is
 
-    for_form : (reported : Error) → HasUnsupportedIn explicit m info i reported → IsPlanRefusal explicit m info earlier i reported
+    for_form : (reported : Error) → HasUnsupportedIn explicit m info i reported →
+        IsPlanRefusal explicit m info earlier i reported
     for_form (FmtError reason) (inl n) =
         let at = named m info i (FmtError reason) n in
         absurd (names_no_sink m n.known n.function.expressions at.0 reason at.3)

@@ -202,7 +202,8 @@ module _ (t : FunctionText) (can : CanWrite t) where
 
   -- ---- types
   -- the types of arguments, of the result and of locals have forms
-  pub argument_is_formed : (n : ℕ) (a : argument.FunctionArgument) → slice_get f.arguments.items n ≡ Some a → IsTrue (is_spelled m.types (resolution.Handle a.ty))
+  pub argument_is_formed : (n : ℕ) (a : argument.FunctionArgument) → slice_get f.arguments.items n ≡ Some a →
+      IsTrue (is_spelled m.types (resolution.Handle a.ty))
   argument_is_formed n a here =
       spelled_of_spellable m (resolution.Handle a.ty)
       (can.formed.types (resolution.Handle a.ty) (OfArgument n a here))
@@ -228,19 +229,22 @@ module _ (t : FunctionText) (can : CanWrite t) where
   answer_passes r is =
       passes r.binding (λ k bound. can.head.bindings f can.function k (PassedResult r k is bound))
 
-  pub local_is_formed : (l : ℕ) (v : LocalVariable) → slice_get f.local_variables l ≡ Some v → IsTrue (is_spelled m.types (resolution.Handle v.ty))
+  pub local_is_formed : (l : ℕ) (v : LocalVariable) → slice_get f.local_variables l ≡ Some v →
+      IsTrue (is_spelled m.types (resolution.Handle v.ty))
   local_is_formed l v here =
       spelled_of_spellable m (resolution.Handle v.ty)
       (can.formed.types (resolution.Handle v.ty) (OfLocal l v here))
 
   -- a local's first value is one of the function's expressions
-  local_is_in_range : (l : ℕ) (v : LocalVariable) → slice_get f.local_variables l ≡ Some v → IsTrue (nat_lt v.ty (length m.types)) × IsTrue (is_below (length f.expressions) v.init)
+  local_is_in_range : (l : ℕ) (v : LocalVariable) → slice_get f.local_variables l ≡ Some v →
+      IsTrue (nat_lt v.ty (length m.types)) × IsTrue (is_below (length f.expressions) v.init)
   local_is_in_range l v here =
       and_parts (nat_lt v.ty (length m.types)) (is_below (length f.expressions) v.init)
       (list_all_at (local_in_range (length m.types) (length f.expressions)) f.local_variables l
       v (locals_are_in_range m (callees t) f can.ranges) here)
 
-  pub first_within : (l : ℕ) (v : LocalVariable) → slice_get f.local_variables l ≡ Some v → IsTrue (is_below (length f.expressions) v.init)
+  pub first_within : (l : ℕ) (v : LocalVariable) → slice_get f.local_variables l ≡ Some v →
+      IsTrue (is_below (length f.expressions) v.init)
   first_within l v here = (local_is_in_range l v here).1
 
   -- ---- what is known of an expression
@@ -251,7 +255,8 @@ module _ (t : FunctionText) (can : CanWrite t) where
   annotated_is_formed h k at tells named declared =
       spelled_of_spellable m k.ty (can.formed.types k.ty (OfLet h k tells named at declared))
 
-  pub known_resolution_fits : (h : ℕ) (k : ExpressionInfo) → slice_get es h ≡ Some k → IsTrue (resolution_fits (length m.overrides) (length m.types) k.ty)
+  pub known_resolution_fits : (h : ℕ) (k : ExpressionInfo) → slice_get es h ≡ Some k →
+      IsTrue (resolution_fits (length m.overrides) (length m.types) k.ty)
   known_resolution_fits h k at = known_is_fit m info can.accepted g es can.infos h k at
 
   pub known_in_range : (h : ℕ) (k : ExpressionInfo) → slice_get es h ≡ Some k → InRange k.ty m.types
@@ -267,7 +272,8 @@ module _ (t : FunctionText) (can : CanWrite t) where
   pointee_within h it base at lt known is =
       let k = element es h lt in
       let inside = sym (type_known_is h k.0 k.1) ∙ (known ∙ ap Some is) in
-      let ends = known_before m info can.accepted k.0.ty (known_resolution_fits h k.0 k.1) (inner.Pointer base at) inside in
+      let ends = known_before m info can.accepted k.0.ty (known_resolution_fits h k.0 k.1)
+      (inner.Pointer base at) inside in
       omega (arith, ends)
 
   -- ---- parts
@@ -425,7 +431,8 @@ module _ (t : FunctionText) (can : CanWrite t) where
 
   -- ---- expressions
   -- one that is written has a form
-  pub expression_formed : (h : ℕ) (e : Expression) → slice_get f.expressions h ≡ Some e → IsInText t h → IsTrue (expression_is_written m es e)
+  pub expression_formed : (h : ℕ) (e : Expression) → slice_get f.expressions h ≡ Some e → IsInText t h →
+      IsTrue (expression_is_written m es e)
   expression_formed h e here is = (has_form_parts m es f.expressions e (can.formed.expressions h e here is.written)).0
 
   -- and so has its offset
@@ -442,19 +449,28 @@ module _ (t : FunctionText) (can : CanWrite t) where
       ap (expression_is_written m es) (sym is) ∙ expression_formed h e here within
 
   -- what an expression names is there
-  names_there : (h : ℕ) (e own : Expression) → slice_get f.expressions h ≡ Some e → e ≡ own → IsTrue (names_in_range m (length f.arguments.items) (length f.local_variables) own)
-  names_there h e own here is = ap (names_in_range m (length f.arguments.items) (length f.local_variables)) (sym is) ∙ names_are_in_range m (callees t) f can.ranges h e here
+  names_there : (h : ℕ) (e own : Expression) → slice_get f.expressions h ≡ Some e → e ≡ own →
+      IsTrue (names_in_range m (length f.arguments.items) (length f.local_variables) own)
+  names_there h e own here is = ap (names_in_range m (length f.arguments.items) (length f.local_variables))
+      (sym is) ∙ names_are_in_range m (callees t) f can.ranges h e here
 
-  pub argument_within : (h : ℕ) {e : Expression} {n : ℕ} → slice_get f.expressions h ≡ Some e → e ≡ expression.FunctionArgument n → n < length f.arguments.items
-  argument_within h {e} {n} here is = ltb-true n (length f.arguments.items) (names_there h e (expression.FunctionArgument n) here is)
+  pub argument_within : (h : ℕ) {e : Expression} {n : ℕ} → slice_get f.expressions h ≡ Some e →
+      e ≡ expression.FunctionArgument n → n < length f.arguments.items
+  argument_within h {e} {n} here is =
+      ltb-true n (length f.arguments.items) (names_there h e (expression.FunctionArgument n) here is)
 
-  pub local_within : (h : ℕ) {e : Expression} {v : ℕ} → slice_get f.expressions h ≡ Some e → e ≡ expression.LocalVariable v → v < length f.local_variables
-  local_within h {e} {v} here is = ltb-true v (length f.local_variables) (names_there h e (expression.LocalVariable v) here is)
+  pub local_within : (h : ℕ) {e : Expression} {v : ℕ} → slice_get f.expressions h ≡ Some e →
+      e ≡ expression.LocalVariable v → v < length f.local_variables
+  local_within h {e} {v} here is =
+      ltb-true v (length f.local_variables) (names_there h e (expression.LocalVariable v) here is)
 
-  pub global_within : (h : ℕ) {e : Expression} {v : ℕ} → slice_get f.expressions h ≡ Some e → e ≡ expression.GlobalVariable v → v < length m.global_variables
-  global_within h {e} {v} here is = ltb-true v (length m.global_variables) (names_there h e (expression.GlobalVariable v) here is)
+  pub global_within : (h : ℕ) {e : Expression} {v : ℕ} → slice_get f.expressions h ≡ Some e →
+      e ≡ expression.GlobalVariable v → v < length m.global_variables
+  global_within h {e} {v} here is =
+      ltb-true v (length m.global_variables) (names_there h e (expression.GlobalVariable v) here is)
 
-  pub override_within : (h : ℕ) {e : Expression} {o : ℕ} → slice_get f.expressions h ≡ Some e → e ≡ expression.Override o → o < length m.overrides
+  pub override_within : (h : ℕ) {e : Expression} {o : ℕ} → slice_get f.expressions h ≡ Some e →
+      e ≡ expression.Override o → o < length m.overrides
   override_within h {e} {o} here is = ltb-true o (length m.overrides) (names_there h e (expression.Override o) here is)
 
   pub ordered : OperandsStandBefore f.expressions
@@ -491,7 +507,8 @@ module _ (t : FunctionText) (can : CanWrite t) where
       IsInText t h →
       AreSampled t h image sampler coordinate (option_to_list array_index)
       (option_to_list depth_ref) (level_operands level) (option_to_list offset)
-  sampled_in {h} {e} {image} {sampler} {gather} {coordinate} {array_index} {offset} {level} {depth_ref} {clamp} here is within =
+  sampled_in {h} {e} {image} {sampler} {gather} {coordinate} {array_index} {offset} {level} {depth_ref}
+      {clamp} here is within =
       are_sampled t h image sampler coordinate (option_to_list array_index)
       (option_to_list depth_ref) (level_operands level) (option_to_list offset)
       (operands_in here is within)
@@ -527,7 +544,8 @@ module _ (t : FunctionText) (can : CanWrite t) where
   pub converted_is : (x : ℕ) (kind : ScalarKind) (convert : Option ℕ) →
       expression_is_written m es (expression.As x kind convert) ≡ true → (from : TypeInner) →
       type_known (context t) x ≡ Some from →
-      (to : TypeInner) × ((conversion_target from kind convert ≡ Some to) × (is_spelled m.types (resolution.Value to) ≡ true))
+      (to : TypeInner) × ((conversion_target from kind convert ≡ Some to)
+      × (is_spelled m.types (resolution.Value to) ≡ true))
   converted_is x kind convert may from known =
       let c = conversion m info es x kind convert may in
       let same = same_Some c.from from (sym c.known ∙ known) in
@@ -573,6 +591,7 @@ module _ (t : FunctionText) (can : CanWrite t) where
       by (is_some (label_of f h))
       ∙ sym (ap (λ b. cond b (named_in t k) (numbered_name h)) (named_is m t.module_info.now f es h))
     where
-      by : (b : Bool) → name_of_bound (named_in t) (numbered_name h) (next_name b k) ≡ cond b (named_in t k) (numbered_name h)
+      by : (b : Bool) → name_of_bound (named_in t) (numbered_name h) (next_name b k)
+          ≡ cond b (named_in t k) (numbered_name h)
       by true = refl
       by false = refl

@@ -85,7 +85,8 @@ module _ (m : Module) (can : CanWriteOf m) (representatives : List ℕ) (are : A
     where
       by : (o : Option Expression) → slice_get m.global_expressions h ≡ o →
           option_map_or (global_is_written_over m (global_is_written_within h m)) o false ≡ true →
-          ((x : ℕ) → x < bound → global_is_written m x ≡ true → IsRepresentative m x (representative_at representatives x)) →
+          ((x : ℕ) → x < bound → global_is_written m x ≡ true →
+          IsRepresentative m x (representative_at representatives x)) →
           IsRepresentative m h (representative_at representatives h)
       by None at is_over earlier = absurd cc
       by (Some e) at is_over earlier =
@@ -93,5 +94,6 @@ module _ (m : Module) (can : CanWriteOf m) (representatives : List ℕ) (are : A
           (over_those h e at is (λ x lt_x. earlier x (omega (arith, lt, lt_x))))
 
   -- what the table tells of one
-  pub representative_is : (h : ℕ) → global_is_written m h ≡ true → IsRepresentative m h (representative_at representatives h)
+  pub representative_is : (h : ℕ) → global_is_written m h ≡ true →
+      IsRepresentative m h (representative_at representatives h)
   representative_is h is = below (suc h) h (omega arith) is

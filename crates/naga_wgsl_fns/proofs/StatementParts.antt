@@ -33,34 +33,42 @@ abbrev count : FunctionText → ℕ
 count f = length f.function.now.expressions
 
 -- ---- blocks
-pub first_inside : (f : FunctionText) (st : StatementTree) (b : BlockTree) → CanWriteBlock f (statement st b) → CanWriteStatement f st
+pub first_inside : (f : FunctionText) (st : StatementTree) (b : BlockTree) → CanWriteBlock f (statement st b) →
+    CanWriteStatement f st
 first_inside f st b w =
     record {
-      in_range = (and_parts (statement_in_range (callees f) (count f) st) (block_in_range (callees f) (count f) b) w.in_range).0;
+      in_range = (and_parts (statement_in_range (callees f) (count f) st)
+          (block_in_range (callees f) (count f) b) w.in_range).0;
       formed = (and_parts (statement_has_form st) (block_has_forms b) w.formed).0;
       roots = all_front (IsInText f) (statement_roots (bound f) st) (block_roots (bound f) b) w.roots;
       lets = all_front (IsLet f) (statement_lets (bound f) st) (block_lets (bound f) b) w.lets;
     }
 
-pub rest_inside : (f : FunctionText) (st : StatementTree) (b : BlockTree) → CanWriteBlock f (statement st b) → CanWriteBlock f b
+pub rest_inside : (f : FunctionText) (st : StatementTree) (b : BlockTree) → CanWriteBlock f (statement st b) →
+    CanWriteBlock f b
 rest_inside f st b w =
     record {
-      in_range = (and_parts (statement_in_range (callees f) (count f) st) (block_in_range (callees f) (count f) b) w.in_range).1;
+      in_range = (and_parts (statement_in_range (callees f) (count f) st)
+          (block_in_range (callees f) (count f) b) w.in_range).1;
       formed = (and_parts (statement_has_form st) (block_has_forms b) w.formed).1;
       roots = all_rest (IsInText f) (statement_roots (bound f) st) (block_roots (bound f) b) w.roots;
       lets = all_rest (IsLet f) (statement_lets (bound f) st) (block_lets (bound f) b) w.lets;
     }
 
 -- in a list of statements
-pub first_at : (f : FunctionText) (items : List Statement) (n : ℕ) (item : Statement) → n < length items → item ≡ slice_index_or items n item →
+pub first_at : (f : FunctionText) (items : List Statement) (n : ℕ) (item : Statement) → n < length items →
+    item ≡ slice_index_or items n item →
     CanWriteBlock f (block_of (drop n items)) → CanWriteStatement f (tree_of item)
 first_at f items n item lt here w =
-    first_inside f (tree_of item) (block_of (drop (n + 1) items)) (subst (CanWriteBlock f) (first_of items n item lt here) w)
+    first_inside f (tree_of item) (block_of (drop (n + 1) items))
+    (subst (CanWriteBlock f) (first_of items n item lt here) w)
 
-pub rest_at : (f : FunctionText) (items : List Statement) (n : ℕ) (item : Statement) → n < length items → item ≡ slice_index_or items n item →
+pub rest_at : (f : FunctionText) (items : List Statement) (n : ℕ) (item : Statement) → n < length items →
+    item ≡ slice_index_or items n item →
     CanWriteBlock f (block_of (drop n items)) → CanWriteBlock f (block_of (drop (n + 1) items))
 rest_at f items n item lt here w =
-    rest_inside f (tree_of item) (block_of (drop (n + 1) items)) (subst (CanWriteBlock f) (first_of items n item lt here) w)
+    rest_inside f (tree_of item) (block_of (drop (n + 1) items))
+    (subst (CanWriteBlock f) (first_of items n item lt here) w)
 
 pub block_inside : (f : FunctionText) (b : BlockTree) → CanWriteStatement f (block b) → CanWriteBlock f b
 block_inside f b w = record { in_range = w.in_range; formed = w.formed; roots = w.roots; lets = w.lets }
@@ -69,39 +77,49 @@ block_inside f b w = record { in_range = w.in_range; formed = w.formed; roots = 
 pub condition_inside : (f : FunctionText) (c : ℕ) (a r : BlockTree) → CanWriteStatement f (branch c a r) → IsInText f c
 condition_inside f c a r w = w.roots.0
 
-pub accept_inside : (f : FunctionText) (c : ℕ) (a r : BlockTree) → CanWriteStatement f (branch c a r) → CanWriteBlock f a
+pub accept_inside : (f : FunctionText) (c : ℕ) (a r : BlockTree) → CanWriteStatement f (branch c a r) →
+    CanWriteBlock f a
 accept_inside f c a r w =
-    let ranges = and_parts (nat_lt c (count f)) (block_in_range (callees f) (count f) a && block_in_range (callees f) (count f) r) w.in_range in
+    let ranges = and_parts (nat_lt c (count f))
+    (block_in_range (callees f) (count f) a && block_in_range (callees f) (count f) r) w.in_range in
     record {
-      in_range = (and_parts (block_in_range (callees f) (count f) a) (block_in_range (callees f) (count f) r) ranges.1).0;
+      in_range = (and_parts (block_in_range (callees f) (count f) a)
+          (block_in_range (callees f) (count f) r) ranges.1).0;
       formed = (and_parts (block_has_forms a) (block_has_forms r) w.formed).0;
       roots = all_front (IsInText f) (block_roots (bound f) a) (block_roots (bound f) r) w.roots.1;
       lets = all_front (IsLet f) (block_lets (bound f) a) (block_lets (bound f) r) w.lets;
     }
 
-pub reject_inside : (f : FunctionText) (c : ℕ) (a r : BlockTree) → CanWriteStatement f (branch c a r) → CanWriteBlock f r
+pub reject_inside : (f : FunctionText) (c : ℕ) (a r : BlockTree) → CanWriteStatement f (branch c a r) →
+    CanWriteBlock f r
 reject_inside f c a r w =
-    let ranges = and_parts (nat_lt c (count f)) (block_in_range (callees f) (count f) a && block_in_range (callees f) (count f) r) w.in_range in
+    let ranges = and_parts (nat_lt c (count f))
+    (block_in_range (callees f) (count f) a && block_in_range (callees f) (count f) r) w.in_range in
     record {
-      in_range = (and_parts (block_in_range (callees f) (count f) a) (block_in_range (callees f) (count f) r) ranges.1).1;
+      in_range = (and_parts (block_in_range (callees f) (count f) a)
+          (block_in_range (callees f) (count f) r) ranges.1).1;
       formed = (and_parts (block_has_forms a) (block_has_forms r) w.formed).1;
       roots = all_rest (IsInText f) (block_roots (bound f) a) (block_roots (bound f) r) w.roots.1;
       lets = all_rest (IsLet f) (block_lets (bound f) a) (block_lets (bound f) r) w.lets;
     }
 
 -- ---- loops
-pub body_inside : (f : FunctionText) (b c : BlockTree) (e : Option ℕ) → CanWriteStatement f (loop b c e) → CanWriteBlock f b
+pub body_inside : (f : FunctionText) (b c : BlockTree) (e : Option ℕ) → CanWriteStatement f (loop b c e) →
+    CanWriteBlock f b
 body_inside f b c e w =
     record {
-      in_range = (and_parts (block_in_range (callees f) (count f) b) (block_in_range (callees f) (count f) c && is_below (count f) e) w.in_range).0;
+      in_range = (and_parts (block_in_range (callees f) (count f) b)
+          (block_in_range (callees f) (count f) c && is_below (count f) e) w.in_range).0;
       formed = (and_parts (block_has_forms b) (block_has_forms c) w.formed).0;
       roots = all_front (IsInText f) (block_roots (bound f) b) (block_roots (bound f) c ++ option_to_list e) w.roots;
       lets = all_front (IsLet f) (block_lets (bound f) b) (block_lets (bound f) c) w.lets;
     }
 
-pub continuing_inside : (f : FunctionText) (b c : BlockTree) (e : Option ℕ) → CanWriteStatement f (loop b c e) → CanWriteBlock f c
+pub continuing_inside : (f : FunctionText) (b c : BlockTree) (e : Option ℕ) → CanWriteStatement f (loop b c e) →
+    CanWriteBlock f c
 continuing_inside f b c e w =
-    let ranges = and_parts (block_in_range (callees f) (count f) b) (block_in_range (callees f) (count f) c && is_below (count f) e) w.in_range in
+    let ranges = and_parts (block_in_range (callees f) (count f) b)
+    (block_in_range (callees f) (count f) c && is_below (count f) e) w.in_range in
     record {
       in_range = (and_parts (block_in_range (callees f) (count f) c) (is_below (count f) e) ranges.1).0;
       formed = (and_parts (block_has_forms b) (block_has_forms c) w.formed).1;
@@ -110,7 +128,8 @@ continuing_inside f b c e w =
       lets = all_rest (IsLet f) (block_lets (bound f) b) (block_lets (bound f) c) w.lets;
     }
 
-pub break_if_inside : (f : FunctionText) (b c : BlockTree) (e : Option ℕ) → CanWriteStatement f (loop b c e) → AreInText f (option_to_list e)
+pub break_if_inside : (f : FunctionText) (b c : BlockTree) (e : Option ℕ) → CanWriteStatement f (loop b c e) →
+    AreInText f (option_to_list e)
 break_if_inside f b c e w =
     all_rest (IsInText f) (block_roots (bound f) c) (option_to_list e)
     (all_rest (IsInText f) (block_roots (bound f) b) (block_roots (bound f) c ++ option_to_list e) w.roots)
@@ -133,7 +152,8 @@ module _ (f : FunctionText) (v : SwitchValue) (b : BlockTree) (falls : Bool) (cs
   ranges : IsTrue (block_in_range (callees f) (count f) b) × IsTrue (cases_in_range (callees f) (count f) cs)
   ranges =
       and_parts (block_in_range (callees f) (count f) b) (cases_in_range (callees f) (count f) cs)
-      (and_parts (case_value_fits_32_bits v) (block_in_range (callees f) (count f) b && cases_in_range (callees f) (count f) cs) w.in_range).1
+      (and_parts (case_value_fits_32_bits v)
+      (block_in_range (callees f) (count f) b && cases_in_range (callees f) (count f) cs) w.in_range).1
 
   forms : IsTrue (not falls || has_no_statements b) × IsTrue (block_has_forms b && cases_have_forms cs)
   forms = and_parts (not falls || has_no_statements b) (block_has_forms b && cases_have_forms cs) w.formed
@@ -180,9 +200,11 @@ both_all P (x ∷ xs) ys one other = (one.0, both_all P xs ys one.1 other)
 nothing_inside : (f : FunctionText) → CanWriteBlock f no_statements
 nothing_inside f = record { in_range = refl; formed = refl; roots = tt; lets = tt }
 
-together : (f : FunctionText) (st : StatementTree) (b : BlockTree) → CanWriteStatement f st → CanWriteBlock f b → CanWriteBlock f (statement st b)
+together : (f : FunctionText) (st : StatementTree) (b : BlockTree) → CanWriteStatement f st →
+    CanWriteBlock f b → CanWriteBlock f (statement st b)
 together f st b one other = record {
-  in_range = and_both (statement_in_range (callees f) (count f) st) (block_in_range (callees f) (count f) b) one.in_range other.in_range;
+  in_range = and_both (statement_in_range (callees f) (count f) st) (block_in_range (callees f) (count f) b)
+      one.in_range other.in_range;
   formed = and_both (statement_has_form st) (block_has_forms b) one.formed other.formed;
   roots = both_all (IsInText f) (statement_roots (bound f) st) (block_roots (bound f) b) one.roots other.roots;
   lets = both_all (IsLet f) (statement_lets (bound f) st) (block_lets (bound f) b) one.lets other.lets;
@@ -192,7 +214,8 @@ before : (f : FunctionText) (b : BlockTree) → CanWriteBlock f b → CanWriteBl
 before f no_statements w = w
 before f (statement st b) w = by (holds_continue st) (before f b (rest_inside f st b w))
   where
-    by : (holds : Bool) → CanWriteBlock f (before_continue b) → CanWriteBlock f (cond holds no_statements (statement st (before_continue b)))
+    by : (holds : Bool) → CanWriteBlock f (before_continue b) →
+        CanWriteBlock f (cond holds no_statements (statement st (before_continue b)))
     by true more = nothing_inside f
     by false more = together f st (before_continue b) (first_inside f st b w) more
 
@@ -200,14 +223,17 @@ following : (f : FunctionText) (b : BlockTree) → CanWriteBlock f b → CanWrit
 following f no_statements w = w
 following f (statement st b) w = by (holds_continue st) (following f b (rest_inside f st b w))
   where
-    by : (holds : Bool) → CanWriteBlock f (from_continue b) → CanWriteBlock f (cond holds (statement st b) (from_continue b))
+    by : (holds : Bool) → CanWriteBlock f (from_continue b) →
+        CanWriteBlock f (cond holds (statement st b) (from_continue b))
     by true more = w
     by false more = more
 
-pub front_inside : (f : FunctionText) (b front : BlockTree) → front ≡ before_continue b → CanWriteBlock f b → CanWriteBlock f front
+pub front_inside : (f : FunctionText) (b front : BlockTree) → front ≡ before_continue b → CanWriteBlock f b →
+    CanWriteBlock f front
 front_inside f b front is w = subst (CanWriteBlock f) (sym is) (before f b w)
 
-pub back_inside : (f : FunctionText) (b back : BlockTree) → back ≡ from_continue b → CanWriteBlock f b → CanWriteBlock f back
+pub back_inside : (f : FunctionText) (b back : BlockTree) → back ≡ from_continue b → CanWriteBlock f b →
+    CanWriteBlock f back
 back_inside f b back is w = subst (CanWriteBlock f) (sym is) (following f b w)
 
 pub ruleset turns = (body_inside, continuing_inside, break_if_inside)

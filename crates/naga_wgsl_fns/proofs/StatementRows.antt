@@ -75,7 +75,8 @@ unfolding line_start joined_texts
 line_start_row i words = refl
 
 -- the start of a line in front of what follows
-line_starts : (i : ℕ) (words rest : List ℕ) → joined_texts (line_start i words) rest ≡ replicate (4 * i) 32 ++ (words ++ rest)
+line_starts : (i : ℕ) (words rest : List ℕ) → joined_texts (line_start i words) rest ≡ replicate (4 * i) 32
+    ++ (words ++ rest)
 unfolding line_start joined_texts
 line_starts i words rest = append_assoc (indentation i) words rest ∙ ap (λ t. t ++ (words ++ rest)) (indentation_row i)
 
@@ -89,7 +90,8 @@ one_line line i = then_text line NoStatements i ∙ append-nil (line_text i line
 
 -- ---- single lines
 pub around_row : (f : FunctionText) (table : List Availability) (i : ℕ) (start : List ℕ) (value : ℕ) (end : List ℕ)
-    → around_text f (handles_in f table) i start value end ≡ joined_texts (line_start i start) (joined_texts (value_text f table value) end)
+    → around_text f (handles_in f table) i start value end ≡ joined_texts (line_start i start)
+    (joined_texts (value_text f table value) end)
 unfolding around_text value_text joined_texts
 around_row f table i start value end = refl
 
@@ -101,7 +103,9 @@ unfolding assignment_text reference_text value_text joined_texts
 assignment_row f table i pointer value =
     let operand = plain_form (naming f) (source f) (handles_in f table) in
     assign_text (as_reference (operand pointer)) (as_value (operand value)) i
-    ∙ ap (λ t. t ++ (text (expression_pieces (as_reference (operand pointer))) ++ (codes " = " ++ (text (expression_pieces (as_value (operand value))) ++ codes ";\n")))) (sym (indentation_row i))
+    ∙ ap (λ t. t ++ (text (expression_pieces (as_reference (operand pointer)))
+    ++ (codes " = " ++ (text (expression_pieces (as_value (operand value))) ++ codes ";\n"))))
+    (sym (indentation_row i))
 
 pub let_row : (f : FunctionText) (k : ℕ) (table : List Availability) (i handle : ℕ)
     → let_text f k (handles_in f table) i handle ≡ joined_texts (line_start i (codes "let "))
@@ -126,7 +130,8 @@ let_row f k table i handle = by (let_annotation f handle)
         ∙ sym (line_starts i (codes "let ") (name ++ (codes " = " ++ (text (expression_pieces own) ++ codes ";\n"))))
     by (Some t) =
         typed_let_text name t own i
-        ∙ sym (line_starts i (codes "let ") (name ++ ((codes ": " ++ type_layout t) ++ (codes " = " ++ (text (expression_pieces own) ++ codes ";\n")))))
+        ∙ sym (line_starts i (codes "let ")
+        (name ++ ((codes ": " ++ type_layout t) ++ (codes " = " ++ (text (expression_pieces own) ++ codes ";\n")))))
 
 -- ---- statements of one line
 -- a jump that returns no value is written by its words alone
@@ -190,10 +195,12 @@ asks a (simple s) act = record { acts = cc; operands = cc; outcome = cc }
 asks a _ act = absurd cc
 
 act_lines : (f : FunctionText) (k : ℕ) (s : Handles) (i : ℕ) (shape : shapes.Statement) → IsTrue (acts shape)
-    → act_text f s i (word_in (naming f).names shape) (operands_in shape) (outcome_in shape) ≡ shape_lines f k s i shape NoStatements
+    → act_text f s i (word_in (naming f).names shape) (operands_in shape) (outcome_in shape)
+    ≡ shape_lines f k s i shape NoStatements
 unfolding act_text
 act_lines f k s i (shapes.Act action xs outcome) act =
-    sym (one_line (act_line (naming f) (let_annotation f) (word_of (naming f).names action) (operands (value_forms (plain_form (naming f) (source f) s) xs)) outcome) i)
+    sym (one_line (act_line (naming f) (let_annotation f) (word_of (naming f).names action)
+    (operands (value_forms (plain_form (naming f) (source f) s) xs)) outcome) i)
 act_lines f k s i _ act = absurd cc
 
 pub act_is : (f : FunctionText) (k : ℕ) (s : Handles) (i : ℕ) (st : StatementTree) → IsTrue (is_act st)
@@ -202,11 +209,13 @@ unfolding statement_text
 act_is f k s i (simple st) act =
     let shape = simple_shape (context f) st in
     let is = asks (context f) (simple st) act in
-    (λ j. act_text f s i (word_in (naming f).names shape) (sym is.operands j) (sym is.outcome j)) ∙ act_lines f k s i shape is.acts
+    (λ j. act_text f s i (word_in (naming f).names shape) (sym is.operands j) (sym is.outcome j))
+    ∙ act_lines f k s i shape is.acts
 act_is f k s i _ act = absurd cc
 
 -- which leaves its result in scope, and no other name
-shape_after : (f : FunctionText) (k : ℕ) (s : Handles) (shape : shapes.Statement) → IsTrue (acts shape) → after_result (naming f).names (outcome_in shape) s ≡ after (naming f) k shape s
+shape_after : (f : FunctionText) (k : ℕ) (s : Handles) (shape : shapes.Statement) → IsTrue (acts shape) →
+    after_result (naming f).names (outcome_in shape) s ≡ after (naming f) k shape s
 shape_after f k s (shapes.Act action xs outcome) act = refl
 shape_after f k s _ act = absurd cc
 
@@ -214,40 +223,49 @@ pub act_after : (f : FunctionText) (k : ℕ) (s : Handles) (st : StatementTree) 
     → after_result (naming f).names (own_result st) s ≡ after_statement f k st s
 act_after f k s st act =
     let is = asks (context f) st act in
-    ap (λ o. after_result (naming f).names o s) (sym is.outcome) ∙ shape_after f k s (statement_shape (context f) st) is.acts
+    ap (λ o. after_result (naming f).names o s) (sym is.outcome)
+    ∙ shape_after f k s (statement_shape (context f) st) is.acts
 
-shape_named : (f : FunctionText) (k : ℕ) (shape : shapes.Statement) → IsTrue (acts shape) → named_by (naming f).function shape k ≡ k
+shape_named : (f : FunctionText) (k : ℕ) (shape : shapes.Statement) → IsTrue (acts shape) →
+    named_by (naming f).function shape k ≡ k
 shape_named f k (shapes.Act action xs outcome) act = refl
 shape_named f k _ act = absurd cc
 
 pub act_named : (f : FunctionText) (k : ℕ) (st : StatementTree) → IsTrue (is_act st) → named_after_statement f st k ≡ k
 act_named f k st act = shape_named f k (statement_shape (context f) st) (asks (context f) st act).acts
 
-pub act_changes : (st : StatementTree) → IsTrue (is_act st) → statement_changes st ≡ length (option_to_list (own_result st))
+pub act_changes : (st : StatementTree) → IsTrue (is_act st) → statement_changes st
+    ≡ length (option_to_list (own_result st))
 act_changes (simple (emit first last)) act = absurd cc
 act_changes (simple _) act = refl
 act_changes _ act = absurd cc
 
 -- and writes its operands
-pub act_roots : (binds : ℕ → Bool) (st : StatementTree) → IsTrue (is_act st) → statement_roots binds st ≡ own_operands st
+pub act_roots : (binds : ℕ → Bool) (st : StatementTree) → IsTrue (is_act st) → statement_roots binds st
+    ≡ own_operands st
 act_roots binds (simple (emit first last)) act = absurd cc
 act_roots binds (simple _) act = refl
 act_roots binds _ act = absurd cc
 
 -- ---- stores
-pub store_to_atomic : (f : FunctionText) (k : ℕ) (s : Handles) (i pointer value : ℕ) → is_atomic_pointer (context f) pointer ≡ true
-    → act_text f s i (codes "atomicStore") (pointer ∷ value ∷ []) None ≡ statement_text f k s i (simple (store pointer value))
+pub store_to_atomic : (f : FunctionText) (k : ℕ) (s : Handles) (i pointer value : ℕ) →
+    is_atomic_pointer (context f) pointer ≡ true
+    → act_text f s i (codes "atomicStore") (pointer ∷ value ∷ []) None
+    ≡ statement_text f k s i (simple (store pointer value))
 unfolding statement_text act_text
 store_to_atomic f k s i pointer value is =
     sym (ap (λ b. shape_lines f k s i (store_shape b pointer value) NoStatements) is
-    ∙ one_line (act_line (naming f) (let_annotation f) (codes "atomicStore") (operands (value_forms (plain_form (naming f) (source f) s) (pointer ∷ value ∷ []))) None) i)
+    ∙ one_line (act_line (naming f) (let_annotation f) (codes "atomicStore")
+    (operands (value_forms (plain_form (naming f) (source f) s) (pointer ∷ value ∷ []))) None) i)
 
-pub store_to_other : (f : FunctionText) (k : ℕ) (s : Handles) (i pointer value : ℕ) → is_atomic_pointer (context f) pointer ≡ false
+pub store_to_other : (f : FunctionText) (k : ℕ) (s : Handles) (i pointer value : ℕ) →
+    is_atomic_pointer (context f) pointer ≡ false
     → assignment_text f s i pointer value ≡ statement_text f k s i (simple (store pointer value))
 unfolding statement_text assignment_text
 store_to_other f k s i pointer value is =
     sym (ap (λ b. shape_lines f k s i (store_shape b pointer value) NoStatements) is
-    ∙ one_line (tree.Assign (as_reference (plain_form (naming f) (source f) s pointer)) (value_form (naming f) (source f) s value)) i)
+    ∙ one_line (tree.Assign (as_reference (plain_form (naming f) (source f) s pointer))
+    (value_form (naming f) (source f) s value)) i)
 
 -- ---- the handles of an Emit
 module _ (f : FunctionText) where
@@ -258,7 +276,9 @@ module _ (f : FunctionText) where
   lets_then : (k : ℕ) (hs : List ℕ) (s : Handles) (rest : Statements) (i : ℕ)
       → lines_text i (lets_at k hs s rest) ≡ lines_text i (lets_at k hs s NoStatements) ++ lines_text i rest
   lets_then k [] s rest i = refl
-  lets_then k (h ∷ hs) s rest i = by (binds (naming f).function h) (lets_then (named_after (naming f).function h k) hs (after_one (naming f) k h s) rest i)
+  lets_then k (h ∷ hs) s rest i =
+      by (binds (naming f).function h) (lets_then (named_after (naming f).function h k) hs
+      (after_one (naming f) k h s) rest i)
     where
       following : Statements → Statements
       following rest = lets_at (named_after (naming f).function h k) hs (after_one (naming f) k h s) rest
@@ -267,7 +287,8 @@ module _ (f : FunctionText) where
       line = let_line f k s h
 
       by : (b : Bool) → lines_text i (following rest) ≡ lines_text i (following NoStatements) ++ lines_text i rest
-          → lines_text i (then_if b line (following rest)) ≡ lines_text i (then_if b line (following NoStatements)) ++ lines_text i rest
+          → lines_text i (then_if b line (following rest))
+          ≡ lines_text i (then_if b line (following NoStatements)) ++ lines_text i rest
       by true more =
           then_text line (following rest) i
           ∙ (ap (λ t. line_text i line ++ t) more
@@ -275,18 +296,21 @@ module _ (f : FunctionText) where
           ∙ ap (λ t. t ++ lines_text i rest) (sym (then_text line (following NoStatements) i))))
       by false more = more
 
-  pub emit_row : (k : ℕ) (s : Handles) (i first last : ℕ) → lets_text f k s i (from first (last - first)) ≡ statement_text f k s i (simple (emit first last))
+  pub emit_row : (k : ℕ) (s : Handles) (i first last : ℕ) → lets_text f k s i (from first (last - first))
+      ≡ statement_text f k s i (simple (emit first last))
   unfolding lets_text statement_text
   emit_row k s i first last = refl
 
   -- a loop over a range: one more handle, and none
   pub lets_more : (k k1 : ℕ) (s s1 : Handles) (i index last handle : ℕ) → index < last → handle ≡ index
       → k1 ≡ named_after (naming f).function handle k → s1 ≡ after_one (naming f) k handle s
-      → lets_text f k s i (from index (last - index)) ≡ joined_texts (emitted_text f k s i handle) (lets_text f k1 s1 i (from (index + 1) (last - (index + 1))))
+      → lets_text f k s i (from index (last - index)) ≡ joined_texts (emitted_text f k s i handle)
+      (lets_text f k1 s1 i (from (index + 1) (last - (index + 1))))
   unfolding lets_text emitted_text let_text joined_texts
   lets_more k k1 s s1 i index last handle lt here given following =
       ap (λ hs. lets k hs s) (range_more index last lt ∙ ap (λ (h : ℕ). h ∷ rest) (sym here))
-      ∙ (by (binds (naming f).function handle) ∙ (λ j. emitted_text f k s i handle ++ lets (sym given j) rest (sym following j)))
+      ∙ (by (binds (naming f).function handle)
+      ∙ (λ j. emitted_text f k s i handle ++ lets (sym given j) rest (sym following j)))
     where
       rest : List ℕ
       rest = from (index + 1) (last - (index + 1))
@@ -297,35 +321,44 @@ module _ (f : FunctionText) where
       more : Statements
       more = lets_at (named_after (naming f).function handle k) rest (after_one (naming f) k handle s) NoStatements
 
-      by : (b : Bool) → lines_text i (then_if b (let_line f k s handle) more) ≡ cond b (line_text i (let_line f k s handle)) [] ++ lines_text i more
+      by : (b : Bool) → lines_text i (then_if b (let_line f k s handle) more)
+          ≡ cond b (line_text i (let_line f k s handle)) [] ++ lines_text i more
       by true = then_text (let_line f k s handle) more i
       by false = refl
 
-  pub lets_none : (k : ℕ) (s : Handles) (i index last : ℕ) → last ≤ index → lets_text f k s i (from index (last - index)) ≡ []
+  pub lets_none : (k : ℕ) (s : Handles) (i index last : ℕ) → last ≤ index →
+      lets_text f k s i (from index (last - index)) ≡ []
   unfolding lets_text
   lets_none k s i index last past = ap (lets_text f k s i) (range_none index last past)
 
   -- what is in scope after it, and how many names are given
   pub emitted_after : (k k1 : ℕ) (s s1 : Handles) (index last handle : ℕ) → index < last → handle ≡ index
       → k1 ≡ named_after (naming f).function handle k → s1 ≡ after_one (naming f) k handle s
-      → after_emit (naming f) k (from index (last - index)) s ≡ after_emit (naming f) k1 (from (index + 1) (last - (index + 1))) s1
+      → after_emit (naming f) k (from index (last - index)) s
+      ≡ after_emit (naming f) k1 (from (index + 1) (last - (index + 1))) s1
   emitted_after k k1 s s1 index last handle lt here given following =
       let rest = from (index + 1) (last - (index + 1)) in
-      ap (λ (hs : List ℕ). after_emit (naming f) k hs s) (range_more index last lt ∙ ap (λ (h : ℕ). h ∷ rest) (sym here))
+      ap (λ (hs : List ℕ). after_emit (naming f) k hs s)
+      (range_more index last lt ∙ ap (λ (h : ℕ). h ∷ rest) (sym here))
       ∙ (λ j. after_emit (naming f) (sym given j) rest (sym following j))
 
-  pub emitted_named : (k k1 index last handle : ℕ) → index < last → handle ≡ index → k1 ≡ named_after (naming f).function handle k
-      → named_after_all (naming f).function (from index (last - index)) k ≡ named_after_all (naming f).function (from (index + 1) (last - (index + 1))) k1
+  pub emitted_named : (k k1 index last handle : ℕ) → index < last → handle ≡ index →
+      k1 ≡ named_after (naming f).function handle k
+      → named_after_all (naming f).function (from index (last - index)) k ≡ named_after_all (naming f).function
+      (from (index + 1) (last - (index + 1))) k1
   emitted_named k k1 index last handle lt here given =
       let rest = from (index + 1) (last - (index + 1)) in
-      ap (λ (hs : List ℕ). named_after_all (naming f).function hs k) (range_more index last lt ∙ ap (λ (h : ℕ). h ∷ rest) (sym here))
+      ap (λ (hs : List ℕ). named_after_all (naming f).function hs k)
+      (range_more index last lt ∙ ap (λ (h : ℕ). h ∷ rest) (sym here))
       ∙ ap (named_after_all (naming f).function rest) (sym given)
 
   -- ---- statements in front of others
-  one_then : (line : tree.Statement) (rest : Statements) (i : ℕ) → lines_text i (Then line rest) ≡ lines_text i (Then line NoStatements) ++ lines_text i rest
+  one_then : (line : tree.Statement) (rest : Statements) (i : ℕ) → lines_text i (Then line rest)
+      ≡ lines_text i (Then line NoStatements) ++ lines_text i rest
   one_then line rest i = then_text line rest i ∙ ap (λ t. t ++ lines_text i rest) (sym (one_line line i))
 
-  barriers_then : (words : List (List ℕ)) (rest : Statements) (i : ℕ) → lines_text i (barrier_lines words rest) ≡ lines_text i (barrier_lines words NoStatements) ++ lines_text i rest
+  barriers_then : (words : List (List ℕ)) (rest : Statements) (i : ℕ) → lines_text i (barrier_lines words rest)
+      ≡ lines_text i (barrier_lines words NoStatements) ++ lines_text i rest
   barriers_then [] rest i = refl
   barriers_then (word ∷ words) rest i =
       let line = CallStatement (NamedType word) NoArguments in
@@ -334,11 +367,15 @@ module _ (f : FunctionText) where
       ∙ (sym (append_assoc (line_text i line) (lines_text i (barrier_lines words NoStatements)) (lines_text i rest))
       ∙ ap (λ t. t ++ lines_text i rest) (sym (then_text line (barrier_lines words NoStatements) i))))
 
-  shape_then : (k : ℕ) (shape : shapes.Statement) (s : Handles) (rest : Statements) (i : ℕ) → shape_lines f k s i shape rest ≡ shape_lines f k s i shape NoStatements ++ lines_text i rest
+  shape_then : (k : ℕ) (shape : shapes.Statement) (s : Handles) (rest : Statements) (i : ℕ) →
+      shape_lines f k s i shape rest ≡ shape_lines f k s i shape NoStatements ++ lines_text i rest
   shape_then k (shapes.Emit first count) s rest i = lets_then k (from first count) s rest i
-  shape_then k (shapes.Store pointer value) s rest i = one_then (tree.Assign (as_reference (plain_form (naming f) (source f) s pointer)) (value_form (naming f) (source f) s value)) rest i
+  shape_then k (shapes.Store pointer value) s rest i =
+      one_then (tree.Assign (as_reference (plain_form (naming f) (source f) s pointer))
+      (value_form (naming f) (source f) s value)) rest i
   shape_then k (shapes.Act action xs outcome) s rest i =
-      one_then (act_line (naming f) (let_annotation f) (word_of (naming f).names action) (operands (value_forms (plain_form (naming f) (source f) s) xs)) outcome) rest i
+      one_then (act_line (naming f) (let_annotation f) (word_of (naming f).names action)
+      (operands (value_forms (plain_form (naming f) (source f) s) xs)) outcome) rest i
   shape_then k (shapes.Barrier bits) s rest i = barriers_then (barrier_words bits) rest i
   shape_then k (shapes.Jumps j) s rest i = one_then (jump_form (naming f) (source f) s j) rest i
   shape_then k _ s rest i = refl
@@ -352,24 +389,31 @@ module _ (f : FunctionText) where
   abbrev line_at : ℕ → StatementTree → Handles → Statements → Statements
   line_at k st s rest = line_form (naming f) (let_annotation f) (source f) k st s rest
 
-  line_then : (k : ℕ) (st : StatementTree) (s : Handles) (rest : Statements) (i : ℕ) → lines_text i (line_at k st s rest) ≡ lines_text i (line_at k st s NoStatements) ++ lines_text i rest
+  line_then : (k : ℕ) (st : StatementTree) (s : Handles) (rest : Statements) (i : ℕ) →
+      lines_text i (line_at k st s rest) ≡ lines_text i (line_at k st s NoStatements) ++ lines_text i rest
   line_then k (simple st) s rest i = shape_then k (simple_shape (context f) st) s rest i
   line_then k (block b) s rest i = one_then (tree.Block (lines_at k b s)) rest i
   line_then k (branch condition accept reject) s rest i =
-      one_then (tree.If (operand_at s condition) (lines_at k accept s) (optional_form reject (lines_at (named_following f accept k) reject s))) rest i
-  line_then k (switch selector cases) s rest i = one_then (tree.Switch (operand_at s selector) (cases_form (naming f) (let_annotation f) (source f) k [] cases s)) rest i
+      one_then (tree.If (operand_at s condition) (lines_at k accept s)
+      (optional_form reject (lines_at (named_following f accept k) reject s))) rest i
+  line_then k (switch selector cases) s rest i =
+      one_then (tree.Switch (operand_at s selector)
+      (cases_form (naming f) (let_annotation f) (source f) k [] cases s)) rest i
   line_then k (loop body continuing break_if) s rest i =
       let following = named_following f body k in
       let inside = left_to_continuing f k body s in
       let last = left_to_continuing f following continuing inside in
-      one_then (loop_form (lines_at k body s) continuing (lines_at following continuing inside) (option_map (operand_at last) break_if)) rest i
+      one_then (loop_form (lines_at k body s) continuing (lines_at following continuing inside)
+      (option_map (operand_at last) break_if)) rest i
 
-  pub block_row : (k k1 : ℕ) (s s1 : Handles) (i : ℕ) (st : StatementTree) (rest : BlockTree) → k1 ≡ named_after_statement f st k → s1 ≡ after_statement f k st s
+  pub block_row : (k k1 : ℕ) (s s1 : Handles) (i : ℕ) (st : StatementTree) (rest : BlockTree) →
+      k1 ≡ named_after_statement f st k → s1 ≡ after_statement f k st s
       → block_text f k s i (statement st rest) ≡ joined_texts (statement_text f k s i st) (block_text f k1 s1 i rest)
   unfolding block_text statement_text joined_texts
   block_row k k1 s s1 i st rest given following =
       line_then k st s (lines_at (named_after_statement f st k) rest (after_statement f k st s)) i
-      ∙ (λ j. lines_text i (line_at k st s NoStatements) ++ lines_text i (lines_at (sym given j) rest (sym following j)))
+      ∙ (λ j. lines_text i (line_at k st s NoStatements) ++ lines_text i
+      (lines_at (sym given j) rest (sym following j)))
 
   pub no_lines : (k : ℕ) (s : Handles) (i : ℕ) → block_text f k s i no_statements ≡ []
   unfolding block_text
@@ -377,18 +421,25 @@ module _ (f : FunctionText) where
 
 -- ---- a loop over statements
 -- one more, and none
-pub lines_more : (f : FunctionText) (k k1 : ℕ) (s s1 : Handles) (i : ℕ) (items : List Statement) (n : ℕ) (item : Statement) → n < length items → item ≡ slice_index_or items n item
+pub lines_more : (f : FunctionText) (k k1 : ℕ) (s s1 : Handles) (i : ℕ) (items : List Statement) (n : ℕ)
+    (item : Statement) → n < length items → item ≡ slice_index_or items n item
     → k1 ≡ named_after_statement f (tree_of item) k → s1 ≡ after_statement f k (tree_of item) s
-    → block_text f k s i (block_of (drop n items)) ≡ joined_texts (statement_text f k s i (tree_of item)) (block_text f k1 s1 i (block_of (drop (n + 1) items)))
+    → block_text f k s i (block_of (drop n items)) ≡ joined_texts (statement_text f k s i (tree_of item))
+    (block_text f k1 s1 i (block_of (drop (n + 1) items)))
 lines_more f k k1 s s1 i items n item lt here given following =
-    ap (block_text f k s i) (first_of items n item lt here) ∙ block_row f k k1 s s1 i (tree_of item) (block_of (drop (n + 1) items)) given following
+    ap (block_text f k s i) (first_of items n item lt here) ∙ block_row f k k1 s s1 i (tree_of item)
+    (block_of (drop (n + 1) items)) given following
 
-pub lines_none : (f : FunctionText) (k : ℕ) (s : Handles) (i : ℕ) (items : List Statement) (n : ℕ) → length items ≤ n → block_text f k s i (block_of (drop n items)) ≡ []
-lines_none f k s i items n past = ap (λ (ss : List Statement). block_text f k s i (block_of ss)) (drop_all n items past) ∙ no_lines f k s i
+pub lines_none : (f : FunctionText) (k : ℕ) (s : Handles) (i : ℕ) (items : List Statement) (n : ℕ) →
+    length items ≤ n → block_text f k s i (block_of (drop n items)) ≡ []
+lines_none f k s i items n past = ap (λ (ss : List Statement). block_text f k s i (block_of ss))
+    (drop_all n items past) ∙ no_lines f k s i
 
 -- ---- what is in range
-pub emit_within : (callees expressions first last : ℕ) → IsTrue (statement_in_range callees expressions (simple (emit first last))) → last ≤ expressions
+pub emit_within : (callees expressions first last : ℕ) →
+    IsTrue (statement_in_range callees expressions (simple (emit first last))) → last ≤ expressions
 emit_within callees expressions first last range =
-    leb-true last expressions (and_parts (nat_le first expressions) (nat_le last expressions) (and_parts (named_in_range callees expressions (emit first last)) _ range).0).1
+    leb-true last expressions (and_parts (nat_le first expressions) (nat_le last expressions)
+    (and_parts (named_in_range callees expressions (emit first last)) _ range).0).1
 
 pub ruleset lines = (lines_more, lines_none, first_of)

@@ -36,11 +36,13 @@ use Rattle.naga_wgsl_fns.specs.declared.functions.FunctionText.{FunctionText}
 use Rattle.module_meaning.proofs.StatementRanges.{operands_below, result_below}
 
 -- ---- the handles of an `Emit`
-pub first_of : (P : ℕ → Type 0) (b : Bool) (h : ℕ) (hs : List ℕ) → AllByRecursion P (if b then h ∷ hs else hs) → IsTrue b → P h
+pub first_of : (P : ℕ → Type 0) (b : Bool) (h : ℕ) (hs : List ℕ) → AllByRecursion P (if b then h ∷ hs else hs) →
+    IsTrue b → P h
 first_of P true h hs are is = are.0
 first_of P false h hs are is = absurd cc
 
-pub others_of : (P : ℕ → Type 0) (b : Bool) (h : ℕ) (hs : List ℕ) → AllByRecursion P (if b then h ∷ hs else hs) → AllByRecursion P hs
+pub others_of : (P : ℕ → Type 0) (b : Bool) (h : ℕ) (hs : List ℕ) →
+    AllByRecursion P (if b then h ∷ hs else hs) → AllByRecursion P hs
 others_of P true h hs are = are.1
 others_of P false h hs are = are
 
@@ -87,14 +89,16 @@ module _ (binds : ℕ → Bool) (callees count : ℕ) where
   emitted_within first end zero e le = tt
   emitted_within first end (suc n) e le = ranged count first (suc n) (omega (arith, e, le))
 
-  line_within : (st : SimpleStatement) → IsTrue (statement_in_range callees count (simple st)) → AllWithin count (simple_roots binds st)
+  line_within : (st : SimpleStatement) → IsTrue (statement_in_range callees count (simple st)) →
+      AllWithin count (simple_roots binds st)
   line_within (emit first end) range =
       let le = emit_within callees count first end range in
       filtered count binds (from first (end - first)) (emitted_within first end (end - first) refl le)
   line_within st range = listed_within count (simple_operands st) (operands_below callees count st range)
 
   -- the result of a statement
-  pub result_within : (st : SimpleStatement) (h : ℕ) → IsTrue (statement_in_range callees count (simple st)) → simple_result st ≡ Some h → h < count
+  pub result_within : (st : SimpleStatement) (h : ℕ) → IsTrue (statement_in_range callees count (simple st)) →
+      simple_result st ≡ Some h → h < count
   result_within st h range is = by (simple_result st) (result_below callees count st range) is
     where
       by : (o : Option ℕ) → IsTrue (is_below count o) → o ≡ Some h → h < count
@@ -102,18 +106,23 @@ module _ (binds : ℕ → Bool) (callees count : ℕ) where
       by (Some r) below is = ltb-true h count (ap (λ o. is_below count o) (sym is) ∙ below)
 
   mutual
-    statement_within : (st : StatementTree) → IsTrue (statement_in_range callees count st) → AllWithin count (statement_roots binds st)
+    statement_within : (st : StatementTree) → IsTrue (statement_in_range callees count st) →
+        AllWithin count (statement_roots binds st)
     statement_within (simple st) range = line_within st range
     statement_within (block b) range = block_within b range
     statement_within (branch c a r) range =
         let one = and_parts (nat_lt c count) (block_in_range callees count a && block_in_range callees count r) range in
-        let two = and_parts (block_in_range callees count a) (block_in_range callees count r) one.1 in
-        (ltb-true c count one.0, both_within count (block_roots binds a) (block_roots binds r) (block_within a two.0) (block_within r two.1))
+        let two = and_parts (block_in_range callees count a) (block_in_range callees count r) one.1 in (
+          ltb-true c count one.0,
+          both_within count (block_roots binds a) (block_roots binds r)
+              (block_within a two.0) (block_within r two.1),
+        )
     statement_within (switch h cs) range =
         let one = and_parts (nat_lt h count) (cases_in_range callees count cs) range in
         (ltb-true h count one.0, cases_within cs one.1)
     statement_within (loop b c e) range =
-        let one = and_parts (block_in_range callees count b) (block_in_range callees count c && is_below count e) range in
+        let one = and_parts (block_in_range callees count b)
+        (block_in_range callees count c && is_below count e) range in
         let two = and_parts (block_in_range callees count c) (is_below count e) one.1 in
         both_within count (block_roots binds b) (block_roots binds c ++ option_to_list e) (block_within b one.0)
         (both_within count (block_roots binds c) (option_to_list e) (block_within c two.0) (some_within count e two.1))
@@ -122,12 +131,14 @@ module _ (binds : ℕ → Bool) (callees count : ℕ) where
     block_within no_statements range = tt
     block_within (statement st b) range =
         let ranges = and_parts (statement_in_range callees count st) (block_in_range callees count b) range in
-        both_within count (statement_roots binds st) (block_roots binds b) (statement_within st ranges.0) (block_within b ranges.1)
+        both_within count (statement_roots binds st) (block_roots binds b) (statement_within st ranges.0)
+        (block_within b ranges.1)
 
     cases_within : (cs : CaseTrees) → IsTrue (cases_in_range callees count cs) → AllWithin count (cases_roots binds cs)
     cases_within no_cases range = tt
     cases_within (case v b falls cs) range =
-        let one = and_parts (case_value_fits_32_bits v) (block_in_range callees count b && cases_in_range callees count cs) range in
+        let one = and_parts (case_value_fits_32_bits v)
+        (block_in_range callees count b && cases_in_range callees count cs) range in
         let two = and_parts (block_in_range callees count b) (cases_in_range callees count cs) one.1 in
         both_within count (block_roots binds b) (cases_roots binds cs) (block_within b two.0) (cases_within cs two.1)
 
@@ -161,15 +172,18 @@ module _ (t : FunctionText) (can : CanWrite t) where
       within (Some h) is = (ltb-true h (length t.function.now.expressions) is, tt)
 
 -- ---- results
-let_named : (binds : ℕ → Bool) (st : SimpleStatement) (h : ℕ) → simple_result st ≡ Some h → simple_lets binds st ≡ h ∷ []
+let_named : (binds : ℕ → Bool) (st : SimpleStatement) (h : ℕ) → simple_result st ≡ Some h → simple_lets binds st
+    ≡ h ∷ []
 let_named binds (emit first end) h is = absurd cc
 let_named binds _ h is = ap option_to_list is
 
 -- the result of a statement of a function is one of its expressions, and a `let` names it
 pub outcome_inside : (t : FunctionText) (st : StatementTree) (h : ℕ) → CanWriteStatement t st → own_result st ≡ Some h →
     (h < length t.function.now.expressions) × IsLet t h
-outcome_inside t (simple st) h w is =
-    (result_within (bound t) (callees t) (length t.function.now.expressions) st h w.in_range is, (subst (AreLets t) (let_named (bound t) st h is) w.lets).0)
+outcome_inside t (simple st) h w is = (
+  result_within (bound t) (callees t) (length t.function.now.expressions) st h w.in_range is,
+  (subst (AreLets t) (let_named (bound t) st h is) w.lets).0,
+)
 outcome_inside t _ h w is = absurd cc
 
 -- ---- the body

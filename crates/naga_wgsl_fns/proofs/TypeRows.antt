@@ -87,7 +87,8 @@ module _ (ps : List Segment) (t : List ℕ) (known : known_text ps ≡ Some t) w
       record { goes = (known_follows refuses before after before.want w.goes.0, w.goes.1) }
 
 -- a type that is told
-pub annotation_row : (f : FunctionText) (ty : TypeResolution) → annotation_text f ty ≡ joined_texts (codes ": ") (resolution_text f ty)
+pub annotation_row : (f : FunctionText) (ty : TypeResolution) → annotation_text f ty
+    ≡ joined_texts (codes ": ") (resolution_text f ty)
 unfolding annotation_text joined_texts
 annotation_row f ty = refl
 
@@ -102,7 +103,8 @@ pub formed_within : (types : List Type_) (ty : ℕ) → IsTrue (is_spelled types
 unfolding handle_key
 formed_within types ty is = by (slice_get types ty) refl is
   where
-    by : (o : Option Type_) → slice_get types ty ≡ o → is_some (found_key_by (key_within ty types) ty o) ≡ true → ty < length types
+    by : (o : Option Type_) → slice_get types ty ≡ o → is_some (found_key_by (key_within ty types) ty o)
+        ≡ true → ty < length types
     by None at is = absurd (cc)
     by (Some t) at is = slice_get_within types ty t at
 
@@ -112,7 +114,8 @@ all_sizes types names (size.Constant number) = refl
 all_sizes types names (size.Pending o) = refl
 all_sizes types names size.Dynamic = refl
 
-all_known : (types : List Type_) (names : NameMap) (it : TypeInner) → IsTrue (knows_override (names_context types names) it)
+all_known : (types : List Type_) (names : NameMap) (it : TypeInner) →
+    IsTrue (knows_override (names_context types names) it)
 all_known types names (inner.Array base l stride) = all_sizes types names l
 all_known types names (inner.BindingArray base l) = all_sizes types names l
 all_known types names _ = refl
@@ -126,7 +129,8 @@ module _ (m : Module) (can : CanWriteOf m) (names : NameMap) where
     known = λ h t at. all_known m.types names t.inner;
   }
 
-  pub resolution_within : (r : TypeResolution) → IsTrue (resolution_fits (length m.overrides) (length m.types) r) → FitsResolution (names_context m.types names) r
+  pub resolution_within : (r : TypeResolution) →
+      IsTrue (resolution_fits (length m.overrides) (length m.types) r) → FitsResolution (names_context m.types names) r
   resolution_within (resolution.Handle h) fits = ltb-true h (length m.types) fits
   resolution_within (resolution.Value it) fits = record {
     in_range = known_before m can.info can.accepted (resolution.Value it) fits it refl;
@@ -146,7 +150,8 @@ module _ (m : Module) (can : CanWriteOf m) (names : NameMap) where
         row_of m.types names r ∙ ap (option_map type_layout) (same ∙ t.1)
         ∙ ap (λ o. Some (type_layout (unwrap_or o (Named [])))) (sym t.1)
 
-    pub type_known : (ty : ℕ) → IsTrue (is_spelled m.types (resolution.Handle ty)) → known_text (type_segments (names_context m.types names) ty) ≡ Some (spelled_text m ty)
+    pub type_known : (ty : ℕ) → IsTrue (is_spelled m.types (resolution.Handle ty)) →
+        known_text (type_segments (names_context m.types names) ty) ≡ Some (spelled_text m ty)
     unfolding spelled_text
     type_known ty formed = formed_known (resolution.Handle ty) formed (λ it is. absurd (cc))
 

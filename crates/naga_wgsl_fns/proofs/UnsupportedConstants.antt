@@ -148,24 +148,29 @@ no_scalar m h (construct.ScalarType s) none = absurd cc
 no_scalar m h _ none = tt
 
 -- the scalar of a type
-pub of_type : (m : Module) (h ty : ℕ) (e : Expression) → slice_get m.global_expressions h ≡ Some e → made_type e ≡ Some ty →
+pub of_type : (m : Module) (h ty : ℕ) (e : Expression) → slice_get m.global_expressions h ≡ Some e →
+    made_type e ≡ Some ty →
     list_all (global_is_written m) (expression_operands e) ≡ true → (it : Construct) → CarriesOfType m (Handle ty) it →
     CarriesOfGlobal m h it
 of_type m h ty e at made all (construct.ScalarType s) lacks = LacksOfType h ty e at made all lacks
 of_type m h ty e at made all _ lacks = tt
 
 -- that of the first operand without a form
-pub of_operand : (m : Module) (h x : ℕ) (e : Expression) → slice_get m.global_expressions h ≡ Some e → is_operation e ≡ false →
-    find (λ x. not (global_is_written m x)) (expression_operands e) ≡ Some x → (it : Construct) → CarriesOfGlobal m x it →
+pub of_operand : (m : Module) (h x : ℕ) (e : Expression) → slice_get m.global_expressions h ≡ Some e →
+    is_operation e ≡ false →
+    find (λ x. not (global_is_written m x)) (expression_operands e) ≡ Some x → (it : Construct) →
+    CarriesOfGlobal m x it →
     CarriesOfGlobal m h it
 of_operand m h x e at made first (construct.ScalarType s) lacks = LacksOfOperand h x e at made first lacks
 of_operand m h x e at made first _ lacks = tt
 
 -- that of the initialiser of a constant without a name
-pub initialiser_carries : (m : Module) (h c : ℕ) (k : Constant) → slice_get m.global_expressions h ≡ Some (expression.Constant c) →
+pub initialiser_carries : (m : Module) (h c : ℕ) (k : Constant) → slice_get m.global_expressions h
+    ≡ Some (expression.Constant c) →
     slice_get m.constants c ≡ Some k → is_none k.name ≡ true → (it : Construct) → CarriesOfGlobal m k.init it →
     CarriesOfGlobal m h it
-initialiser_carries m h c k at there unnamed (construct.ScalarType s) lacks = LacksOfConstant h c k at there unnamed lacks
+initialiser_carries m h c k at there unnamed (construct.ScalarType s) lacks =
+    LacksOfConstant h c k at there unnamed lacks
 initialiser_carries m h c k at there unnamed _ lacks = tt
 
 pub constant_carries : (m : Module) (it : Construct) (c : ℕ) (k : Constant) → slice_get m.constants c ≡ Some k →

@@ -25,7 +25,7 @@ use Rattle.naga_ir.specs.Operands.{expression_operands}
 use Rattle.wgsl_text.specs.Expressions.{Expression, Name, AddressOf, Call, Dereference, Member}
 use Rattle.wgsl_text.specs.Expressions.{Unary, arguments_pieces, base_pieces, expression_pieces}
 use Rattle.module_meaning.specs.ExpressionShapes.{letter}
-use Rattle.module_meaning.specs.TypeIdentity.{vector_number}
+use Rattle.module_meaning.specs.TypeIdentity.{component_count}
 use Rattle.module_meaning.specs.TypeParts.{is_atomic}
 use Rattle.naga_ir.specs.declared.expression.SwizzleComponent.{SwizzleComponent}
 use Rattle.naga_ir.specs.declared.types.VectorSize.{VectorSize}
@@ -322,5 +322,5 @@ member_text f table handle word =
 -- the letter at a place of a swizzle, if it is chosen
 abbrev pub letter_at : VectorSize → List SwizzleComponent → (place : ℕ) → List ℕ
 letter_at size pattern place =
-    if nat_lt place (vector_number size) then option_map_or letter (slice_get pattern place) []
+    if nat_lt place (component_count size) then option_map_or letter (slice_get pattern place) []
     else []

@@ -81,7 +81,7 @@ fn write_formed<W: TextSink>(binding: Binding, out: &mut W) -> Result<(), Error>
 
 /// The attributes of an argument, a result or a member, by its binding, if it has one.
 #[tactic(auto, using(naga_words::proofs::Writing::writes_nothing, crate::proofs::AttributeRows::unbound_row))]
-pub fn write_passing<W: TextSink>(binding: Option<Binding>, out: &mut Output<'_, W>)
+pub fn write_optional_binding<W: TextSink>(binding: Option<Binding>, out: &mut Output<'_, W>)
     requires { IsTrue (passing_has_form binding) }
     ensures { Writes W.text W.failures out.old out.new
         (attributes_text (passing_attributes binding)) }

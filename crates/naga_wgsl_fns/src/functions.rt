@@ -30,7 +30,7 @@ ghost use Rattle.naga_wgsl_fns.specs.Functions.{next_argument_text, result_text,
 ghost use Rattle.naga_wgsl_fns.specs.Functions.{names_of, text_under};
 
 use crate::Error;
-use crate::bindings::write_passing;
+use crate::bindings::write_optional_binding;
 use crate::indent::Indent;
 use crate::lines::Position;
 use crate::refusals::error::error_of_want;
@@ -226,7 +226,7 @@ impl FunctionText<'_> {
         ensures { Writes W.text W.failures out.old out.new
             (argument_text self.now number argument.now) }
     {
-        write_passing(argument.binding, out);
+        write_optional_binding(argument.binding, out);
         self.write_argument_name(number as u32, out);
         out.put(": ");
         self.write_type(argument.ty, out);
@@ -253,7 +253,7 @@ impl FunctionText<'_> {
         ensures { Writes W.text W.failures out.old out.new (answer_text self.now answer.now) }
     {
         out.put(" -> ");
-        write_passing(answer.binding, out);
+        write_optional_binding(answer.binding, out);
         self.write_type(answer.ty, out);
     }
 

@@ -22,16 +22,26 @@ use Rattle.naga_wgsl_out.specs.Writing.{AppendsItsText, written_text}
 use Rattle.naga_wgsl_out.proofs.Faithful.{leaves_beginning}
 
 -- a sink that began empty and is too long now tells that the whole text is
-pub whole_is_longer : (flags : WriterFlags) (m : Module) (info : ModuleInfo) (bound : ℕ) (answer : Result Unit Error) (content now : List ℕ) → content ≡ [] →
+pub whole_is_longer : (flags : WriterFlags) (m : Module) (info : ModuleInfo) (bound : ℕ)
+    (answer : Result Unit Error) (content now : List ℕ) → content ≡ [] →
     AppendsItsText m info flags answer content now → OnErr answer (IsAfter content (written_text m info flags) now) →
     bound < length now → bound < length (written_text m info flags)
 whole_is_longer flags m info bound (Ok tt) content now empty appends following past =
     omega (arith, past, ap length appends, ap length empty, length-append content (written_text m info flags))
 whole_is_longer flags m info bound (Err error) content now empty appends following past =
-    omega (arith, past, ap length following.2, ap length following.3, ap length empty, length-append content following.0, length-append following.0 following.1)
+    omega (
+      arith,
+      past,
+      ap length following.2,
+      ap length following.3,
+      ap length empty,
+      length-append content following.0,
+      length-append following.0 following.1,
+    )
 
 -- all that is promised of a text, under other names of the same
-text_within : (m : Module) (info : ModuleInfo) (bound : ℕ) (own flags : WriterFlags) (content held text : List ℕ) → own ≡ flags → content ≡ [] → text ≡ held →
+text_within : (m : Module) (info : ModuleInfo) (bound : ℕ) (own flags : WriterFlags)
+    (content held text : List ℕ) → own ≡ flags → content ≡ [] → text ≡ held →
     FaithfulWriting own m info (Ok tt) content held 0 0 →
     EachReading content held (MatchesModule (annotates_types own) m info) →
     held ≡ content ++ written_text m info own → length text ≤ bound → IsTextWithin flags bound m info text
@@ -40,13 +50,18 @@ text_within m info bound own flags content held text same empty is faithful matc
     record {
       is = is ∙ appends ∙ (λ i. empty i ++ written_text m info (same i));
       within = within;
-      faithful = subst (λ t. FaithfulWriting flags m info (Ok tt) [] t 0 0) back (subst (λ f. FaithfulWriting f m info (Ok tt) [] held 0 0) same (subst (λ c. FaithfulWriting own m info (Ok tt) c held 0 0) empty faithful));
-      matches = subst (λ t. EachReading [] t (MatchesModule (annotates_types flags) m info)) back (subst (λ f. EachReading [] held (MatchesModule (annotates_types f) m info)) same (subst (λ c. EachReading c held (MatchesModule (annotates_types own) m info)) empty matches));
+      faithful = subst (λ t. FaithfulWriting flags m info (Ok tt) [] t 0 0) back
+          (subst (λ f. FaithfulWriting f m info (Ok tt) [] held 0 0) same
+          (subst (λ c. FaithfulWriting own m info (Ok tt) c held 0 0) empty faithful));
+      matches = subst (λ t. EachReading [] t (MatchesModule (annotates_types flags) m info)) back
+          (subst (λ f. EachReading [] held (MatchesModule (annotates_types f) m info)) same
+          (subst (λ c. EachReading c held (MatchesModule (annotates_types own) m info)) empty matches));
     }
 
 -- what is told of the writer's answer is so of the module: the writer had these flags, and its sink
 -- this content before and held this after
-pub answers_bounded : {Y : Type 0} (flags own : WriterFlags) (m : Module) (info : ModuleInfo) (bound : ℕ) (answer : Result Unit Error) (content held now : List ℕ) (before after : ℕ)
+pub answers_bounded : {Y : Type 0} (flags own : WriterFlags) (m : Module) (info : ModuleInfo) (bound : ℕ)
+    (answer : Result Unit Error) (content held now : List ℕ) (before after : ℕ)
     (result : Result (String Y) LimitedError) →
     own ≡ flags → content ≡ [] → before ≡ 0 → now ≡ held →
     FaithfulWriting own m info answer content held before after →
@@ -54,19 +69,24 @@ pub answers_bounded : {Y : Type 0} (flags own : WriterFlags) (m : Module) (info 
     AppendsItsText m info own answer content held →
     Leaves own m info answer content held before after →
     TellsBounded bound answer now result → AnswersBounded flags bound m info result
-answers_bounded flags own m info bound answer content held now before after (Ok text) same empty none taken faithful matches appends leaves tells =
+answers_bounded flags own m info bound answer content held now before after (Ok text) same empty none taken
+    faithful matches appends leaves tells =
     let P : Result Unit Error → Type 0 = λ a. FaithfulWriting own m info a content held before after in
     let f : FaithfulWriting own m info (Ok tt) content held before after = subst P tells.0 faithful in
-    let whole : FaithfulWriting own m info (Ok tt) content held 0 0 = record { refusals = f.refusals; reading = f.reading; interface = f.interface; runs = f.runs } in
+    let whole : FaithfulWriting own m info (Ok tt) content held 0 0 =
+    record { refusals = f.refusals; reading = f.reading; interface = f.interface; runs = f.runs } in
     let is : string_bytes text ≡ held = tells.1 ∙ taken in
     text_within m info bound own flags content held (string_bytes text) same empty is whole
     (subst (λ a. OnOk a (EachReading content held (MatchesModule (annotates_types own) m info))) tells.0 matches)
     (subst (λ a. AppendsItsText m info own a content held) tells.0 appends)
     (subst (λ t. length t ≤ bound) (sym tells.1) tells.2)
-answers_bounded flags own m info bound answer content held now before after (Err limited.TooLong) same empty none taken faithful matches appends leaves tells =
+answers_bounded flags own m info bound answer content held now before after (Err limited.TooLong) same empty
+    none taken faithful matches appends leaves tells =
     subst (λ f. bound < length (written_text m info f)) same
-    (whole_is_longer own m info bound answer content held empty appends (leaves_beginning own m info answer content held before after leaves) (omega (arith, tells, ap length taken)))
-answers_bounded flags own m info bound answer content held now before after (Err (limited.Refused error)) same empty none taken faithful matches appends leaves tells =
+    (whole_is_longer own m info bound answer content held empty appends
+    (leaves_beginning own m info answer content held before after leaves) (omega (arith, tells, ap length taken)))
+answers_bounded flags own m info bound answer content held now before after (Err (limited.Refused error)) same
+    empty none taken faithful matches appends leaves tells =
     record {
       beginning = held;
       failures = after;
@@ -82,11 +102,14 @@ answers_bounded flags own m info bound answer content held now before after (Err
           (subst (λ c. Leaves own m info (Err error) c held before after) empty
           (subst (λ a. Leaves own m info a content held before after) tells.0 leaves)));
     }
-answers_bounded flags own m info bound answer content held now before after (Err (limited.TooDeep nested)) same empty none taken faithful matches appends leaves tells = absurd tells
-answers_bounded flags own m info bound answer content held now before after (Err (limited.NotAccepted fault)) same empty none taken faithful matches appends leaves tells = absurd tells
+answers_bounded flags own m info bound answer content held now before after (Err (limited.TooDeep nested)) same
+    empty none taken faithful matches appends leaves tells = absurd tells
+answers_bounded flags own m info bound answer content held now before after (Err (limited.NotAccepted fault))
+    same empty none taken faithful matches appends leaves tells = absurd tells
 
 -- and so it is of one that was asked for first, and counted
-pub answers_within : {Y : Type 0} (flags : WriterFlags) (limits : Limits) (m : Module) (old new : ModuleInfo) (result : Result (String Y) LimitedError) →
+pub answers_within : {Y : Type 0} (flags : WriterFlags) (limits : Limits) (m : Module) (old new : ModuleInfo)
+    (result : Result (String Y) LimitedError) →
     nested_past limits.nesting m ≡ None → IsTrue (is_accepted m old) → IsCounted m old new →
     AnswersBounded flags limits.text m new result → AnswersWithin flags limits m old new result
 answers_within flags limits m old new (Ok text) flat accepted counted answers =

@@ -41,7 +41,8 @@ layout_row p =
     ∙ sym
     (append_assoc enables after_enables (declarations_of p ++ last)
     ∙ ap (λ t. enables ++ (after_enables ++ t))
-    (append_assoc structs ((constants ++ after_constants) ++ ((overrides ++ after_overrides) ++ (globals ++ after_globals))) last
+    (append_assoc structs ((constants ++ after_constants)
+    ++ ((overrides ++ after_overrides) ++ (globals ++ after_globals))) last
     ∙ ap (λ t. structs ++ t)
     (append_assoc (constants ++ after_constants) ((overrides ++ after_overrides) ++ (globals ++ after_globals)) last
     ∙ (append_assoc constants after_constants (((overrides ++ after_overrides) ++ (globals ++ after_globals)) ++ last)

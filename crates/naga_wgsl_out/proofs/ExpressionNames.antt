@@ -33,17 +33,21 @@ module _ (m : Module) where
       let one = one_function in
       append_assoc items front (labels_named_in m g) ∙ ap (λ ls. items ++ ls) one
     where
-      one_function : all_expression_labels (take g (all_functions m)) ++ labels_named_in m g ≡ all_expression_labels (take (g + 1) (all_functions m))
+      one_function : all_expression_labels (take g (all_functions m)) ++ labels_named_in m g
+          ≡ all_expression_labels (take (g + 1) (all_functions m))
       one_function = by (slice_get (all_functions m) g) refl
         where
           by : (o : Option Function) → slice_get (all_functions m) g ≡ o →
-              all_expression_labels (take g (all_functions m)) ++ option_map_or expression_labels o [] ≡ all_expression_labels (take (g + 1) (all_functions m))
+              all_expression_labels (take g (all_functions m)) ++ option_map_or expression_labels o []
+              ≡ all_expression_labels (take (g + 1) (all_functions m))
           by (Some f) at =
               let here = sym (get_or_from_slice_get (all_functions m) g f f at) in
               ap (λ ls. all_expression_labels (take g (all_functions m)) ++ ls) (sym (append-nil (expression_labels f)))
               ∙ (sym (flat_map-append expression_labels (take g (all_functions m)) (f ∷ []))
-              ∙ ap all_expression_labels (ap (λ q. take g (all_functions m) ++ q ∷ []) here ∙ sym (take_more (all_functions m) g f lt)))
-          by None at = absurd (none-some (element (all_functions m) g lt).0 (sym at ∙ (element (all_functions m) g lt).1))
+              ∙ ap all_expression_labels (ap (λ q. take g (all_functions m) ++ q ∷ []) here
+              ∙ sym (take_more (all_functions m) g f lt)))
+          by None at = absurd (none-some (element (all_functions m) g lt).0
+              (sym at ∙ (element (all_functions m) g lt).1))
 
   -- a plan with its names
   pub named_plan : (explicit : Bool) (info : ModuleInfo) (g : ℕ) (old new : Names)

@@ -99,17 +99,20 @@ pub refused : (flags : WriterFlags) (m : Module) (info : ModuleInfo) (error : Er
     (content now : List ℕ) (before after : ℕ) →
     IsRefusal (annotates_types flags) m info before after error →
     FaithfulWriting flags m info (Err error) content now before after
-refused flags m info error content now before after is = record { refusals = is; reading = tt; interface = tt; runs = tt }
+refused flags m info error content now before after is =
+    record { refusals = is; reading = tt; interface = tt; runs = tt }
 
 -- names that can't be told are a reason
-pub for_names : (explicit : Bool) (m : Module) (info : ModuleInfo) (error : Error) (before after : ℕ) → IsNamesRefusal m error → IsRefusal explicit m info before after error
+pub for_names : (explicit : Bool) (m : Module) (info : ModuleInfo) (error : Error) (before after : ℕ) →
+    IsNamesRefusal m error → IsRefusal explicit m info before after error
 for_names explicit m info (Custom message) before after (inl full) = inl (inl (full.0, inl full.1))
 for_names explicit m info (Custom message) before after (inr key) = inl (inr key)
 for_names explicit m info (Memory e) before after is = tt
 for_names explicit m info _ before after is = absurd is
 
 -- so are a sink that failed and want of memory
-pub for_want : (explicit : Bool) (m : Module) (info : ModuleInfo) (error : Error) (before after : ℕ) → IsWant before after error → IsRefusal explicit m info before after error
+pub for_want : (explicit : Bool) (m : Module) (info : ModuleInfo) (error : Error) (before after : ℕ) →
+    IsWant before after error → IsRefusal explicit m info before after error
 for_want explicit m info (FmtError e) before after is = is
 for_want explicit m info (Memory e) before after is = tt
 for_want explicit m info _ before after is = absurd is

@@ -112,8 +112,10 @@ module _ (m : Module) (info : ModuleInfo) (flags : WriterFlags)
       let same : known_of info g ≡ es = ap (known_of info) (sym here) ∙ known 0 es refl in
       let following = functions_pieces (functions_form flags (module_names m) m info (g + 1) fs ess) in
       let more = lines_of m info flags (enumerate_from (g + 1) fs) in
-      text-append (function_pieces (function_form flags (module_names m) (expression_name m g) m info g f es)) (LineEnd ∷ following)
-      ∙ (ap (λ rest. own_text g f es ++ (10 ∷ rest)) (functions_text (g + 1) fs ess (omega (arith, within)) (ap pred size) (later g ess es known))
+      text-append (function_pieces (function_form flags (module_names m) (expression_name m g) m info g f es))
+      (LineEnd ∷ following)
+      ∙ (ap (λ rest. own_text g f es ++ (10 ∷ rest))
+      (functions_text (g + 1) fs ess (omega (arith, within)) (ap pred size) (later g ess es known))
       ∙ (ap (λ ks. own_text g f ks ++ (10 ∷ more)) (sym same)
       ∙ (sym (append_assoc (own_text g f (known_of info g)) (codes "\n") more)
       ∙ ap (λ t. t ++ more) (sym (function_line g f (omega (arith, within)))))))
@@ -154,7 +156,8 @@ module _ (m : Module) (info : ModuleInfo) (flags : WriterFlags)
   points_text : (j : ℕ) (ps : List EntryPoint) (ess : List (List ExpressionInfo)) → length ps ≡ length ess →
       j + length ps ≡ length m.entry_points.items →
       ((i : ℕ) (p : EntryPoint) → slice_get ps i ≡ Some p → slice_get m.entry_points.items (j + i) ≡ Some p) →
-      ((i : ℕ) (es : List ExpressionInfo) → slice_get ess i ≡ Some es → known_of info (length m.functions + (j + i)) ≡ es) →
+      ((i : ℕ) (es : List ExpressionInfo) → slice_get ess i ≡ Some es →
+      known_of info (length m.functions + (j + i)) ≡ es) →
       text (entry_points_pieces
       (entry_points_form flags (module_names m) m info (length m.functions + j) ps ess)) ≡
       lines_of m info flags (enumerate_from (length m.functions + j) (entry_functions ps))
@@ -176,12 +179,15 @@ module _ (m : Module) (info : ModuleInfo) (flags : WriterFlags)
       let all : (j + 1) + length (q ∷ ps) ≡ length m.entry_points.items = omega (arith, counted) in
       let next : length m.functions + (j + 1) ≡ (length m.functions + j) + 1 = omega arith in
       let point = entry_point_pieces (entry_point_form flags (module_names m) m info (length m.functions + j) p es) in
-      let following : ℕ → List Piece = λ h. entry_points_pieces (entry_points_form flags (module_names m) m info h (q ∷ ps) (ks ∷ ess)) in
-      let rest : text (following ((length m.functions + j) + 1)) ≡ lines_of m info flags (enumerate_from ((length m.functions + j) + 1) (entry_functions (q ∷ ps))) =
+      let following : ℕ → List Piece =
+      λ h. entry_points_pieces (entry_points_form flags (module_names m) m info h (q ∷ ps) (ks ∷ ess)) in
+      let rest : text (following ((length m.functions + j) + 1))
+      ≡ lines_of m info flags (enumerate_from ((length m.functions + j) + 1) (entry_functions (q ∷ ps))) =
       subst
       (λ h. text (following h) ≡ lines_of m info flags (enumerate_from h (entry_functions (q ∷ ps)))) next
       (points_text (j + 1) (q ∷ ps) (ks ∷ ess) (ap pred size) all
-      (λ i r at. let moved : j + suc i ≡ (j + 1) + i = omega arith in ap (slice_get m.entry_points.items) (sym moved) ∙ there (suc i) r at)
+      (λ i r at. let moved : j + suc i ≡ (j + 1) + i = omega arith in ap (slice_get m.entry_points.items)
+      (sym moved) ∙ there (suc i) r at)
       (λ i rs at. let moved : length m.functions + (j + suc i) ≡ length m.functions + ((j + 1) + i) = omega arith in
       subst (λ h. known_of info h ≡ rs) moved (known (suc i) rs at))) in
       text-append point (LineEnd ∷ following ((length m.functions + j) + 1))
@@ -232,7 +238,9 @@ written_lines m info flags accepted =
         let none : length m.functions + 0 ≡ length m.functions = omega arith in
         let all : 0 + length m.entry_points.items ≡ length m.entry_points.items = omega arith in
         let from : length m.functions + 0 ≡ 0 + length m.functions = omega arith in
-        ap (λ g. text (entry_points_pieces (entry_points_form flags (module_names m) m info g m.entry_points.items info.entry_points.items))) (sym none)
+        ap (λ g. text (entry_points_pieces
+        (entry_points_form flags (module_names m) m info g m.entry_points.items info.entry_points.items)))
+        (sym none)
         ∙ (points_text m info flags accepted 0 m.entry_points.items info.entry_points.items
         (entry_points_counted m info accepted) all
         (λ i p at. let same : i ≡ 0 + i = omega arith in ap (slice_get m.entry_points.items) (sym same) ∙ at)
@@ -266,7 +274,8 @@ at_enumerated : (n : ℕ) (fs : List Function) (i : ℕ) (f : ℕ × Function) �
     i < length (enumerate_from n fs) → f ≡ get_or (enumerate_from n fs) i f → (f.0 ≡ n + i) ×
     (slice_get fs i ≡ Some f.1)
 at_enumerated n [] i f lt is = absurd (omega (arith, lt))
-at_enumerated n (x ∷ fs) zero f lt is = let first : n ≡ n + 0 = omega arith in (ap (λ p. p.0) is ∙ first, ap Some (sym (ap (λ p. p.1) is)))
+at_enumerated n (x ∷ fs) zero f lt is = let first : n ≡ n + 0 = omega arith in
+    (ap (λ p. p.0) is ∙ first, ap Some (sym (ap (λ p. p.1) is)))
 at_enumerated n (x ∷ fs) (suc i) f lt is =
     let rest = at_enumerated (n + 1) fs i f (omega (arith, lt)) is in
     let moved : (n + 1) + i ≡ n + suc i = omega arith in

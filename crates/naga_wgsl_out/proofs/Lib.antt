@@ -14,5 +14,5 @@ pub mod ItemRows
 pub mod Sizes
 pub mod StructRows
 pub mod VariableRows
-pub mod Places
+pub mod Positions
 pub mod Bounded

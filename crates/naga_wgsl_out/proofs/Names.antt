@@ -39,13 +39,15 @@ number_fits : (ty : FunctionType) (n : ℕ) → key_fits (argument_key ty n) ≡
 number_fits (item.Function h) n fits = fits
 number_fits (item.EntryPoint e) n fits = (and_parts (nat_lt e (2 ^ 16)) (nat_lt n (2 ^ 32)) fits).1
 
-module _ (m : Module) (before now : NameMap) (names : Names) (has : HasNamedItems wgsl_names before (labelled_items wgsl_names m) names now) where
+module _ (m : Module) (before now : NameMap) (names : Names)
+    (has : HasNamedItems wgsl_names before (labelled_items wgsl_names m) names now) where
   -- the map has an item's name
   function_is : (g : ℕ) (f : Function) → slice_get (all_functions m) g ≡ Some f →
       now (function_key (function_type m g)) ≡ Some (function_name m (module_names m) g)
   function_is g f found =
       let s = function_there m g f found in
-      named_there wgsl_names before m names now has (function_item m g f) s ∙ ap Some (sym (name_is m (function_item m g f) s))
+      named_there wgsl_names before m names now has (function_item m g f) s
+      ∙ ap Some (sym (name_is m (function_item m g f) s))
 
   pub has_names : HasNamesOf m now
   has_names = record {
@@ -61,11 +63,13 @@ module _ (m : Module) (before now : NameMap) (names : Names) (has : HasNamedItem
     arguments = λ g f found n lt.
         let a = element f.arguments.items n lt in
         let s = argument_there m g f n a.0 found a.1 in
-        named_there wgsl_names before m names now has (argument_item m g n a.0) s ∙ ap Some (sym (name_is m (argument_item m g n a.0) s));
+        named_there wgsl_names before m names now has (argument_item m g n a.0) s
+        ∙ ap Some (sym (name_is m (argument_item m g n a.0) s));
     locals = λ g f found l lt.
         let v = element f.local_variables l lt in
         let s = local_there m g f l v.0 found v.1 in
-        named_there wgsl_names before m names now has (local_item m g l v.0) s ∙ ap Some (sym (name_is m (local_item m g l v.0) s));
+        named_there wgsl_names before m names now has (local_item m g l v.0) s
+        ∙ ap Some (sym (name_is m (local_item m g l v.0) s));
     numbers = λ g f found. at_most (length f.arguments.items) (λ n lt.
         let a = element f.arguments.items n lt in
         let s = argument_there m g f n a.0 found a.1 in
@@ -96,7 +100,11 @@ module _ (m : Module) (before now : NameMap) (names : Names) (has : HasNamedItem
 
   -- and the namer has named the items' labels
   pub has_named : HasNamedBefore m 0 names
-  has_named = record { words = has.words; labels = subst (HasNamed names) (sym (append-nil (item_labels m))) has.labels }
+  has_named = record {
+    words = has.words;
+    labels = subst (HasNamed names) (sym (append-nil (item_labels m)))
+        has.labels;
+  }
 
 -- the words and prefixes of WGSL
 pub start_is : (reserved builtin caseless : Words) (prefixes : List (List ℕ)) →
@@ -122,20 +130,26 @@ no_error : false ≡ true → ⊥
 no_error e = cc
 
 -- what its answer says of the names
-pub names_after_reset : (answer : Result Unit NamerError) (m : Module) (start : Names) (before now : NameMap) (names : Names) → start ≡ wgsl_names
+pub names_after_reset : (answer : Result Unit NamerError) (m : Module) (start : Names) (before now : NameMap)
+    (names : Names) → start ≡ wgsl_names
     → OnOk answer (HasNamedItems start before (labelled_items start m) names now) →
     (SomeNameIsFull start (labelled_items start m) → IsErr answer) →
     (SomeKeyIsFull (labelled_items start m) → IsErr answer) → OnOk answer (HasAllNames m now)
-names_after_reset (Ok _) m start before now names is has full keys = after_reset m start before now names is has (λ reported. no_error (full reported)) (λ reported. no_error (keys reported))
+names_after_reset (Ok _) m start before now names is has full keys = after_reset m start before now names is has
+    (λ reported. no_error (full reported)) (λ reported. no_error (keys reported))
 names_after_reset (Err _) m start before now names is has full keys = tt
 
 -- of its uses
-pub namer_after_reset : (answer : Result Unit NamerError) (m : Module) (start : Names) (before now : NameMap) (names : Names) → start ≡ wgsl_names
-    → OnOk answer (HasNamedItems start before (labelled_items start m) names now) → OnOk answer (HasNamedBefore m 0 names)
-namer_after_reset (Ok _) m start before now names is has = has_named m before now names (subst (λ s. HasNamedItems s before (labelled_items s m) names now) is has)
+pub namer_after_reset : (answer : Result Unit NamerError) (m : Module) (start : Names) (before now : NameMap)
+    (names : Names) → start ≡ wgsl_names
+    → OnOk answer (HasNamedItems start before (labelled_items start m) names now) →
+    OnOk answer (HasNamedBefore m 0 names)
+namer_after_reset (Ok _) m start before now names is has =
+    has_named m before now names (subst (λ s. HasNamedItems s before (labelled_items s m) names now) is has)
 namer_after_reset (Err _) m start before now names is has = tt
 
 -- and of its reason
-pub refusal_of_reset : (answer : Result Unit NamerError) (m : Module) (start : Names) → start ≡ wgsl_names → IfErr answer (IsResetRefusal start m) → IfErr answer (IsResetRefusal wgsl_names m)
+pub refusal_of_reset : (answer : Result Unit NamerError) (m : Module) (start : Names) → start ≡ wgsl_names →
+    IfErr answer (IsResetRefusal start m) → IfErr answer (IsResetRefusal wgsl_names m)
 refusal_of_reset (Ok _) m start is reason = tt
 refusal_of_reset (Err e) m start is reason = subst (λ s. IsResetRefusal s m e) is reason

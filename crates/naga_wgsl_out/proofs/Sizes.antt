@@ -116,9 +116,12 @@ module _ (t : ModuleText) (can : CanDeclare t) (h : ℕ) (members : List StructM
         after_member (layout_in m) (span_of d.whole.inner) it.0.alignment (slice_get (members_of d.whole.inner) (suc i))
     after_same =
         ap (λ n. after_member (layout_in m) n whole.alignment (slice_get members (i + 1))) (sym d.takes)
-        ∙ (ap (λ a. after_member (layout_in m) (span_of d.whole.inner) a (slice_get members (i + 1))) (ap (λ l. l.alignment) it.2)
-        ∙ (ap (λ ms. after_member (layout_in m) (span_of d.whole.inner) it.0.alignment (slice_get ms (i + 1))) (sym d.has)
-        ∙ ap (λ n. after_member (layout_in m) (span_of d.whole.inner) it.0.alignment (slice_get (members_of d.whole.inner) n)) (add-one i)))
+        ∙ (ap (λ a. after_member (layout_in m) (span_of d.whole.inner) a (slice_get members (i + 1)))
+        (ap (λ l. l.alignment) it.2)
+        ∙ (ap (λ ms. after_member (layout_in m) (span_of d.whole.inner) it.0.alignment (slice_get ms (i + 1)))
+        (sym d.has)
+        ∙ ap (λ n. after_member (layout_in m) (span_of d.whole.inner) it.0.alignment
+        (slice_get (members_of d.whole.inner) n)) (add-one i)))
 
     -- and something stands after it,
     pub has_after : None ≡ after_member (layout_in m) span whole.alignment (slice_get members (i + 1)) → ⊥

@@ -131,7 +131,7 @@ StandsAt explicit m info (position.EntryPoint i at) it =
     StandsInFunction explicit m info (length m.functions + i) (it, at)
 
 abbrev pub StandsIn : (explicit : Bool) → Module → ModuleInfo → Refusal → Type 0
-StandsIn explicit m info refusal = StandsAt explicit m info refusal.place refusal.construct
+StandsIn explicit m info refusal = StandsAt explicit m info refusal.position refusal.construct
 
 -- ---- which one is told
 -- each declaration has a form, each item a name and a key that can be told, and each function and
@@ -154,20 +154,20 @@ IsFirst explicit m info (position.EntryPoint i at) =
 
 -- ---- on the way
 -- the place of this part of a function or an entry point
-abbrev pub place_at : FunctionType → FunctionPart → RefusalPosition
-place_at (item.Function h) at = position.Function h at
-place_at (item.EntryPoint i) at = position.EntryPoint i at
+abbrev pub position_at : FunctionType → FunctionPart → RefusalPosition
+position_at (item.Function h) at = position.Function h at
+position_at (item.EntryPoint i) at = position.EntryPoint i at
 
 -- that is found where it has no plan
 abbrev pub IsFoundOf : FunctionType → Unplanned → Option Refusal → Type 0
 IsFoundOf ty (unplanned.Refused it at) found =
-    found ≡ Some (record { construct = it; place = place_at ty at })
+    found ≡ Some (record { construct = it; position = position_at ty at })
 IsFoundOf ty (unplanned.Memory e) found = ⊥
 
 -- it is refused for this, which stands at a part of it
 abbrev pub IsRefusalOf : (explicit : Bool) → Module → ModuleInfo → FunctionType → Refusal → Type 0
 IsRefusalOf explicit m info ty refusal =
-    (at : FunctionPart) × (refusal.place ≡ place_at ty at)
+    (at : FunctionPart) × (refusal.position ≡ position_at ty at)
     × StandsInFunction explicit m info (function_number m ty) (refusal.construct, at)
 
 -- the function with this number has a plan, and the namer has named its labels after all in front of
@@ -183,7 +183,7 @@ pub record TellsFirst (explicit : Bool) (m : Module) (info : ModuleInfo)
     (error : Error) : Type 0 where
   pub refusal : Refusal
   pub stands : StandsIn explicit m info refusal
-  pub first : IsFirst explicit m info refusal.place
+  pub first : IsFirst explicit m info refusal.position
   pub told : IsToldAs refusal.construct error
 
 -- an error names a construct that stands in this function

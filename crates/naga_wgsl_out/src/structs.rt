@@ -17,7 +17,7 @@ use crate::declarations::write_typed;
 use naga_ir::{Handle, StructMember, Type_, TypeInner};
 use naga_names::NameKey;
 use naga_wgsl_fns::attributes::write_numbered;
-use naga_wgsl_fns::bindings::write_passing;
+use naga_wgsl_fns::bindings::write_optional_binding;
 use naga_wgsl_fns::module_text::ModuleText;
 use naga_words::{Output, TextSink};
 use std::alloc::Global;
@@ -117,7 +117,7 @@ fn write_member<W: TextSink>(
 {
     out.put("    ");
     write_size(size, out);
-    write_passing(member.binding, out);
+    write_optional_binding(member.binding, out);
     write_typed(
         alloc,
         text,

@@ -3,7 +3,7 @@
 ghost use Rattle.std.specs.Prelude.{◌≡◌, ◌<◌, IsTrue, length};
 ghost use Rattle.std.specs.Option.{option_map};
 ghost use Rattle.module_meaning.specs.acceptance.Ranges.{parts_stand_before};
-ghost use Rattle.naga_layout.specs.Types.{layout_at, told, told_rule};
+ghost use Rattle.naga_layout.specs.Types.{layout_at, told, user_rule};
 
 use naga_ir::{Handle, Type_, UniqueArena};
 pub use naga_layout::TypeLayout;
@@ -43,7 +43,7 @@ pub use naga_words::{SinkError, TextSink, TypeContext, TypeTextError, WriterType
 pub fn type_layout(types: &UniqueArena<Type_>, handle: Handle<Type_>) -> Option<TypeLayout>
     requires ordered { IsTrue (parts_stand_before types.now) }
     requires there { handle < length types.now }
-    ensures { result ≡ option_map told (layout_at told_rule types.now handle) }
+    ensures { result ≡ option_map told (layout_at user_rule types.now handle) }
 {
     naga_layout::type_layout(types, handle)
 }

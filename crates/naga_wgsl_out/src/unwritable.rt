@@ -10,7 +10,7 @@ ghost use Rattle.naga_names.specs.Keys.{names_in};
 ghost use Rattle.naga_scope.specs.Tables.{AreTablesOf};
 ghost use Rattle.naga_wgsl_out.specs.ModuleRefusals.{HasAllNames, HasNamedBefore, NothingIsRefused};
 ghost use Rattle.naga_wgsl_out.specs.Unwritable.{IsFirst, IsFoundOf, IsRefusalOf, IsWritable};
-ghost use Rattle.naga_wgsl_out.specs.Unwritable.{StandsIn, place_at};
+ghost use Rattle.naga_wgsl_out.specs.Unwritable.{StandsIn, position_at};
 
 use crate::writer::items_named;
 use naga_back::{FunctionType, WriterFlags};
@@ -42,7 +42,7 @@ pub enum RefusalPosition {
 #[derive(Clone, Copy, Debug, PartialEq, Eq)]
 pub struct Refusal {
     pub construct: Construct,
-    pub place: RefusalPosition,
+    pub position: RefusalPosition,
 }
 
 /// A construct for which a module is refused that is accepted with what is known of it, and where
@@ -77,13 +77,13 @@ pub fn unwritable(
         (NothingIsRefused (annotates_types flags) «module».now info.now)
         (StandsIn (annotates_types flags) «module».now info.now)) }
     ensures first { IfOk result (λ found. IfSome found (λ refusal.
-        IsFirst (annotates_types flags) «module».now info.now refusal.place)) }
+        IsFirst (annotates_types flags) «module».now info.now refusal.position)) }
 {
     let tables = ModuleTables::of(alloc, module)?;
-    if let Some((place, declaration)) = unsupported_declaration(module, &tables) {
+    if let Some((position, declaration)) = unsupported_declaration(module, &tables) {
         return Ok(Some(Refusal {
             construct: unsupported_construct(module, &tables, declaration),
-            place: RefusalPosition::Declaration(place),
+            position: RefusalPosition::Declaration(position),
         }));
     }
     match items_named(alloc, module) {
@@ -94,7 +94,7 @@ pub fn unwritable(
             let construct = construct_of_names(error)?;
             Ok(Some(Refusal {
                 construct,
-                place: RefusalPosition::Labels,
+                position: RefusalPosition::Labels,
             }))
         }
     }
@@ -120,7 +120,7 @@ fn unwritable_function(
         (NothingIsRefused (annotates_types flags) «module».now info.now)
         (StandsIn (annotates_types flags) «module».now info.now)) }
     ensures first { IfOk result (λ found. IfSome found (λ refusal.
-        IsFirst (annotates_types flags) «module».now info.now refusal.place)) }
+        IsFirst (annotates_types flags) «module».now info.now refusal.position)) }
 {
     for index in 0..module.functions.len() {
         let ty = FunctionType::Function(ItemIndex::from_index(index));
@@ -176,16 +176,19 @@ fn refusal_of(ty: FunctionType, unplanned: Unplanned) -> Result<Option<Refusal>,
 {
     match unplanned {
         Unplanned::Refused(construct, part) => {
-            let place = place_at(ty, part);
-            Ok(Some(Refusal { construct, place }))
+            let position = position_at(ty, part);
+            Ok(Some(Refusal {
+                construct,
+                position,
+            }))
         }
         Unplanned::Memory(error) => Err(error),
     }
 }
 
 /// The place of this part of a function or an entry point.
-fn place_at(ty: FunctionType, part: FunctionPart) -> RefusalPosition
-    ensures { result ≡ place_at ty part }
+fn position_at(ty: FunctionType, part: FunctionPart) -> RefusalPosition
+    ensures { result ≡ position_at ty part }
 {
     match ty {
         FunctionType::Function(handle) => RefusalPosition::Function(handle, part),

@@ -31,12 +31,15 @@ all_known c all overrides following found = record {
   known = λ handle t is. knows_each c all t.inner;
 }
 
-knows_size_within : (c : Context) (overrides : ℕ) → ((h : ℕ) → c.knows h ≡ size_within overrides (size.Pending h)) → (it : ArraySize) → IsTrue (size_within overrides it) → IsTrue (knows_size c it)
+knows_size_within : (c : Context) (overrides : ℕ) →
+    ((h : ℕ) → c.knows h ≡ size_within overrides (size.Pending h)) → (it : ArraySize) →
+    IsTrue (size_within overrides it) → IsTrue (knows_size c it)
 knows_size_within c overrides same (size.Constant number) k = refl
 knows_size_within c overrides same (size.Pending handle) k = rw (same handle) k
 knows_size_within c overrides same size.Dynamic k = refl
 
-knows_within : (c : Context) (overrides : ℕ) → ((h : ℕ) → c.knows h ≡ size_within overrides (size.Pending h)) → (it : TypeInner) → IsTrue (length_within overrides it) → IsTrue (knows_override c it)
+knows_within : (c : Context) (overrides : ℕ) → ((h : ℕ) → c.knows h ≡ size_within overrides (size.Pending h)) →
+    (it : TypeInner) → IsTrue (length_within overrides it) → IsTrue (knows_override c it)
 knows_within c overrides same (inner.Array base size stride) k = knows_size_within c overrides same size k
 knows_within c overrides same (inner.BindingArray base size) k = knows_size_within c overrides same size k
 knows_within c overrides same _ k = refl
@@ -54,7 +57,8 @@ so_many_known c overrides same following found = record {
 }
 
 -- one type more
-pub one_more : (types : List Type_) (n overrides : ℕ) (here : Type_) → slice_get types n ≡ Some here → StandsAfter n overrides here.inner →
+pub one_more : (types : List Type_) (n overrides : ℕ) (here : Type_) → slice_get types n ≡ Some here →
+    StandsAfter n overrides here.inner →
     ((handle : ℕ) → handle < n → (t : Type_) → slice_get types handle ≡ Some t → StandsAfter handle overrides t.inner) →
     (handle : ℕ) → handle < n + 1 → (t : Type_) → slice_get types handle ≡ Some t → StandsAfter handle overrides t.inner
 one_more types n overrides here at stands below =

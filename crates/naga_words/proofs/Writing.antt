@@ -16,7 +16,8 @@ after_first content text now more (taken, rest, whole, is) =
     (taken, rest ++ more, ap (λ t. t ++ more) whole ∙ append_assoc taken rest more, is)
 
 -- after the first text, a beginning of the second
-pub after_then : (content text middle more now : List ℕ) → middle ≡ content ++ text → IsAfter middle more now → IsAfter content (text ++ more) now
+pub after_then : (content text middle more now : List ℕ) → middle ≡ content ++ text → IsAfter middle more now →
+    IsAfter content (text ++ more) now
 after_then content text middle more now at (taken, rest, whole, is) = (
   text ++ taken,
   rest,
@@ -25,7 +26,8 @@ after_then content text middle more now at (taken, rest, whole, is) = (
 )
 
 -- the second text, where the first stands whole
-after_whole : (content : List ℕ) (failed : ℕ) (text middle more now : List ℕ) (among failures : ℕ) (want : Option TypeTextError) → middle ≡ content ++ text → among ≡ failed
+after_whole : (content : List ℕ) (failed : ℕ) (text middle more now : List ℕ) (among failures : ℕ)
+    (want : Option TypeTextError) → middle ≡ content ++ text → among ≡ failed
     → Lies middle among more now failures want →
     Lies content failed (text ++ more) now failures want
 after_whole content failed text middle more now among failures None at kept lies =
@@ -41,23 +43,31 @@ after_segment : (content : List ℕ) (failed : ℕ) (text more : List ℕ) (midd
 after_segment content failed text more middle after want lies is same =
     subst (λ (s : OutputView). Lies content failed (text ++ more) s.content s.failures s.want)
     (sym same)
-    (subst (λ w. Lies content failed (text ++ more) middle.content middle.failures w) (sym is) (after_first content text middle.content more lies.0, lies.1))
+    (subst (λ w. Lies content failed (text ++ more) middle.content middle.failures w) (sym is)
+    (after_first content text middle.content more lies.0, lies.1))
 
-pub writes_then : {before middle after : OutputView} {first more : List ℕ} → Wrote before middle first → Wrote middle after more → Wrote before after (joined_texts first more)
+pub writes_then : {before middle after : OutputView} {first more : List ℕ} → Wrote before middle first →
+    Wrote middle after more → Wrote before after (joined_texts first more)
 unfolding joined_texts Goes
-writes_then {before} {middle} {after} {first} {more} w v = record { goes = (by before.want refl w.goes.0, v.goes.1 ∙ w.goes.1) }
+writes_then {before} {middle} {after} {first} {more} w v =
+    record { goes = (by before.want refl w.goes.0, v.goes.1 ∙ w.goes.1) }
   where
-    on : (want : Option TypeTextError) → want ≡ middle.want → Lies before.content before.failures first middle.content middle.failures want → Follows want middle more after
+    on : (want : Option TypeTextError) → want ≡ middle.want →
+        Lies before.content before.failures first middle.content middle.failures want → Follows want middle more after
         → Lies before.content before.failures (first ++ more) after.content after.failures
         after.want
     on None is lies follows =
-        after_whole before.content before.failures first middle.content more after.content middle.failures after.failures after.want lies.0 lies.1 follows
-    on (Some want) is lies follows = after_segment before.content before.failures first more middle after want lies (sym is) follows
+        after_whole before.content before.failures first middle.content more after.content middle.failures
+        after.failures after.want lies.0 lies.1 follows
+    on (Some want) is lies follows = after_segment before.content before.failures first more middle after want
+        lies (sym is) follows
 
-    by : (want : Option TypeTextError) → want ≡ before.want → Follows want before first middle → Follows want before (first ++ more) after
+    by : (want : Option TypeTextError) → want ≡ before.want → Follows want before first middle →
+        Follows want before (first ++ more) after
     by None is follows = on middle.want refl follows v.goes.0
     by (Some want) is follows =
-        let stays : Follows (Some want) middle more after = subst (λ o. Follows o middle more after) (ap (λ (s : OutputView). s.want) follows ∙ sym is) v.goes.0 in
+        let stays : Follows (Some want) middle more after =
+        subst (λ o. Follows o middle more after) (ap (λ (s : OutputView). s.want) follows ∙ sym is) v.goes.0 in
         stays ∙ follows
 
 -- nothing is written
@@ -66,7 +76,8 @@ unfolding Goes
 writes_nothing before = record { goes = (by before.want refl, refl) }
   where
     by : (want : Option TypeTextError) → want ≡ before.want → Follows want before [] before
-    by None is = subst (λ o. Lies before.content before.failures [] before.content before.failures o) is (sym (append-nil before.content), refl)
+    by None is = subst (λ o. Lies before.content before.failures [] before.content before.failures o) is
+        (sym (append-nil before.content), refl)
     by (Some want) is = refl
 
 -- after a want every text is written
@@ -79,7 +90,8 @@ writes_no_more before text some = record { goes = (by before.want some, refl) }
     by (Some want) some = refl
 
 -- the same text said in another way
-pub writes_as : {before after : OutputView} {text same : List ℕ} → text ≡ same → Wrote before after text → Wrote before after same
+pub writes_as : {before after : OutputView} {text same : List ℕ} → text ≡ same → Wrote before after text →
+    Wrote before after same
 writes_as {before} {after} is w = subst (λ t. Wrote before after t) is w
 
 -- ---- loops: of the whole text, what is left is still to be written
@@ -90,28 +102,35 @@ pub leaves_start : (start : OutputView) (whole : List ℕ) → Leaves start star
 leaves_start start whole = record { with = λ after w. w }
 
 -- what is left, said in another way
-pub leaves_as : {start now : OutputView} {whole left same : List ℕ} → left ≡ same → Leaves start now whole left → Leaves start now whole same
+pub leaves_as : {start now : OutputView} {whole left same : List ℕ} → left ≡ same →
+    Leaves start now whole left → Leaves start now whole same
 leaves_as {start} {now} {whole} is leaves = subst (λ t. Leaves start now whole t) is leaves
 
-pub leaves_more : (start now next : OutputView) (whole left first more : List ℕ) → Leaves start now whole left → left ≡ joined_texts first more → Wrote now next first → Leaves start next whole more
+pub leaves_more : (start now next : OutputView) (whole left first more : List ℕ) → Leaves start now whole left →
+    left ≡ joined_texts first more → Wrote now next first → Leaves start next whole more
 leaves_more start now next whole left first more leaves is w =
     record { with = λ after v. leaves.with after (subst (λ t. Wrote now after t) (sym is) (writes_then w v)) }
 
 -- what is left is written by the last call
-pub leaves_last : (start now after : OutputView) (whole left : List ℕ) → Leaves start now whole left → Wrote now after left → Wrote start after whole
+pub leaves_last : (start now after : OutputView) (whole left : List ℕ) → Leaves start now whole left →
+    Wrote now after left → Wrote start after whole
 leaves_last start now after whole left leaves w = leaves.with after w
 
-pub leaves_none : (start now : OutputView) (whole left : List ℕ) → Leaves start now whole left → left ≡ [] → Wrote start now whole
-leaves_none start now whole left leaves none = leaves.with now (subst (λ t. Wrote now now t) (sym none) (writes_nothing now))
+pub leaves_none : (start now : OutputView) (whole left : List ℕ) → Leaves start now whole left → left ≡ [] →
+    Wrote start now whole
+leaves_none start now whole left leaves none =
+    leaves.with now (subst (λ t. Wrote now now t) (sym none) (writes_nothing now))
 
 -- after a want nothing is left to be done
-pub leaves_wanting : (start now : OutputView) (whole left : List ℕ) → Leaves start now whole left → is_some now.want ≡ true → Wrote start now whole
+pub leaves_wanting : (start now : OutputView) (whole left : List ℕ) → Leaves start now whole left →
+    is_some now.want ≡ true → Wrote start now whole
 leaves_wanting start now whole left leaves some = leaves.with now (writes_no_more now left some)
 
 pub ruleset loop_writes = (leaves_start, leaves_more, leaves_none, leaves_wanting)
 
 -- ---- an output that had no want at first
-from_fresh : (start now : OutputView) (text : List ℕ) → Wrote start now text → start.want ≡ None → (want : Option TypeTextError) → now.want ≡ want
+from_fresh : (start now : OutputView) (text : List ℕ) → Wrote start now text → start.want ≡ None →
+    (want : Option TypeTextError) → now.want ≡ want
     → Lies start.content start.failures text now.content now.failures want
 unfolding Goes
 from_fresh start now text w fresh want is =
@@ -122,17 +141,21 @@ pub same_sink : (start now : OutputView) (text : List ℕ) → Wrote start now t
 unfolding Goes
 same_sink start now text w = w.goes.1
 
-pub content_whole : (start now : OutputView) (text : List ℕ) → Wrote start now text → start.want ≡ None → now.want ≡ None → now.content ≡ start.content ++ text
+pub content_whole : (start now : OutputView) (text : List ℕ) → Wrote start now text → start.want ≡ None →
+    now.want ≡ None → now.content ≡ start.content ++ text
 content_whole start now text w fresh none = (from_fresh start now text w fresh None none).0
 
-pub never_failed : (start now : OutputView) (text : List ℕ) → Wrote start now text → start.want ≡ None → now.want ≡ None → now.failures ≡ start.failures
+pub never_failed : (start now : OutputView) (text : List ℕ) → Wrote start now text → start.want ≡ None →
+    now.want ≡ None → now.failures ≡ start.failures
 never_failed start now text w fresh none = (from_fresh start now text w fresh None none).1
 
-pub content_begun : (start now : OutputView) (text : List ℕ) (want : TypeTextError) → Wrote start now text → start.want ≡ None → now.want ≡ Some want → IsAfter start.content text now.content
+pub content_begun : (start now : OutputView) (text : List ℕ) (want : TypeTextError) → Wrote start now text →
+    start.want ≡ None → now.want ≡ Some want → IsAfter start.content text now.content
 content_begun start now text want w fresh some =
     (from_fresh start now text w fresh (Some want) some).0
 
-pub reason_known : (start now : OutputView) (text : List ℕ) (want : TypeTextError) → Wrote start now text → start.want ≡ None → now.want ≡ Some want → IsReason ⊥ start.failures now.failures want
+pub reason_known : (start now : OutputView) (text : List ℕ) (want : TypeTextError) → Wrote start now text →
+    start.want ≡ None → now.want ≡ Some want → IsReason ⊥ start.failures now.failures want
 reason_known start now text want w fresh some = (from_fresh start now text w fresh (Some want) some).1
 
 -- and no text lacks a form
@@ -144,12 +167,14 @@ never_unsupported start now text w fresh some = (from_fresh start now text w fre
 pub content_whole_as : (start now : OutputView) (text before after : List ℕ) →
     start.content ≡ before → now.content ≡ after → Wrote start now text → start.want ≡ None →
     now.want ≡ None → after ≡ before ++ text
-content_whole_as start now text before after first last w fresh none = sym last ∙ content_whole start now text w fresh none ∙ ap (λ h. h ++ text) first
+content_whole_as start now text before after first last w fresh none =
+    sym last ∙ content_whole start now text w fresh none ∙ ap (λ h. h ++ text) first
 
 pub content_begun_as : (start now : OutputView) (text before after : List ℕ)
     (want : TypeTextError) → start.content ≡ before → now.content ≡ after → Wrote start now text →
     start.want ≡ None → now.want ≡ Some want → IsAfter before text after
 content_begun_as start now text before after want first last w fresh some =
-    subst (λ h. IsAfter h text after) first (subst (λ h. IsAfter start.content text h) last (content_begun start now text want w fresh some))
+    subst (λ h. IsAfter h text after) first
+    (subst (λ h. IsAfter start.content text h) last (content_begun start now text want w fresh some))
 
 pub ruleset fresh_output = (same_sink, content_whole, never_failed)

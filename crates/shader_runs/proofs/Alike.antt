@@ -24,7 +24,8 @@ pub data Answers {A : Type 0} (R : A → Type 0) : ReachedOrHalted A → Reached
   mistyped_answer : {t : List Event} {q : ReachedOrHalted A} → Answers R (Halts Mistyped t) q
 
 -- P holds where both are done, Q where both continue, B where both break, R of what both return
-pub data Alike {S T : Type 0} (R : Option Value → Type 0) (P Q B : S → T → Type 0) : Outcome S → Outcome T → Type 0 where
+pub data Alike {S T : Type 0} (R : Option Value → Type 0) (P Q B : S → T → Type 0) : Outcome S → Outcome T →
+    Type 0 where
   done : {s : S} {t : T} {e : List Event} → P s t → Alike R P Q B (Done s e) (Done t e)
   continued : {s : S} {t : T} {e : List Event} → Q s t → Alike R P Q B (Continued s e) (Continued t e)
   broke : {s : S} {t : T} {e : List Event} → B s t → Alike R P Q B (Broke s e) (Broke t e)
@@ -66,7 +67,8 @@ continue_alike next (returned_alike r) = returned_alike r
 continue_alike next stopped = stopped
 continue_alike next mistyped = mistyped
 
-pub within_alike : {S T : Type 0} {R : Option Value → Type 0} {P Q B Q' B' : S → T → Type 0} {o : Outcome S} {o' : Outcome T} → Alike R P Q B o o' → Alike R P Q' B' (within o) (within o')
+pub within_alike : {S T : Type 0} {R : Option Value → Type 0} {P Q B Q' B' : S → T → Type 0} {o : Outcome S}
+    {o' : Outcome T} → Alike R P Q B o o' → Alike R P Q' B' (within o) (within o')
 within_alike (done h) = done h
 within_alike (continued h) = stopped
 within_alike (broke h) = stopped
@@ -85,7 +87,8 @@ again_alike next (returned_alike r) = returned_alike r
 again_alike next stopped = stopped
 again_alike next mistyped = mistyped
 
-pub turns_alike : {S T : Type 0} {R : Option Value → Type 0} {I P Q B : S → T → Type 0} {f : Next S} {g : Next T} → Steps R I I P I f g → (n : ℕ) → Steps R I I Q B (turns n f) (turns n g)
+pub turns_alike : {S T : Type 0} {R : Option Value → Type 0} {I P Q B : S → T → Type 0} {f : Next S}
+    {g : Next T} → Steps R I I P I f g → (n : ℕ) → Steps R I I Q B (turns n f) (turns n g)
 turns_alike once zero s t e i = stopped
 turns_alike once (suc n) s t e i = again_alike (turns_alike once n) (once s t e i)
 
@@ -109,7 +112,8 @@ pub data SameEnd {S : Type 0} : Outcome S → Outcome S → Type 0 where
   both_return : {v : Option Value} {e : List Event} → SameEnd (Returned v e) (Returned v e)
   both_stop : {x : Stop} {e : List Event} → SameEnd (Stopped x e) (Stopped x e)
 
-then_ends : {S : Type 0} (g g' : Next S) → ((s : S) (e : List Event) → SameEnd (g s e) (g' s e)) → (o : Outcome S) → SameEnd (and_then o g) (and_then o g')
+then_ends : {S : Type 0} (g g' : Next S) → ((s : S) (e : List Event) → SameEnd (g s e) (g' s e)) →
+    (o : Outcome S) → SameEnd (and_then o g) (and_then o g')
 then_ends g g' same (Done s e) = same s e
 then_ends g g' same (Continued s e) = both_continue
 then_ends g g' same (Broke s e) = both_break
@@ -125,13 +129,16 @@ closed_ends true s both_return = both_return
 closed_ends true s both_stop = both_stop
 
 -- lines end in a loop as they end elsewhere
-pub list_ends : (l : Words) (n : ℕ) (ls : Lines) (names : Scope) (t : List Event) → SameEnd (follow_in_loop l n ls names t) (follow_all l n ls names t)
+pub list_ends : (l : Words) (n : ℕ) (ls : Lines) (names : Scope) (t : List Event) →
+    SameEnd (follow_in_loop l n ls names t) (follow_all l n ls names t)
 list_ends l n last names t = both_end
 list_ends l n (before x ls) names t =
-    closed_ends (has_continue x) names (then_ends (follow_in_loop l n ls) (follow_all l n ls) (list_ends l n ls) (follow l n x names t))
+    closed_ends (has_continue x) names (then_ends (follow_in_loop l n ls) (follow_all l n ls) (list_ends l n ls)
+    (follow l n x names t))
 
 pub alike_ends : {S T : Type 0} {R : Option Value → Type 0} {P Q B : S → Type 0} {o : Outcome S} {o' o'' : Outcome T} →
-    SameEnd o' o'' → Alike R (λ s t. P s) (λ s t. Q s) (λ s t. B s) o o' → Alike R (λ s t. P s) (λ s t. Q s) (λ s t. B s) o o''
+    SameEnd o' o'' → Alike R (λ s t. P s) (λ s t. Q s) (λ s t. B s) o o' →
+    Alike R (λ s t. P s) (λ s t. Q s) (λ s t. B s) o o''
 alike_ends both_end (done h) = done h
 alike_ends both_continue (continued h) = continued h
 alike_ends both_break (broke h) = broke h
@@ -150,14 +157,16 @@ pub chosen_alike : {S T : Type 0} {R : Option Value → Type 0} {P Q B : S → T
     Type 0} {a b : Outcome S} {a' b' : Outcome T} → (v : Value) (e : List Event) →
     Alike R P Q B a a' → Alike R P Q B b b' →
     Alike R P Q B (branch_by v e a b) (branch_by v e a' b')
-chosen_alike {R = R} {P = P} {Q = Q} {B = B} {a = a} {b = b} {a' = a'} {b' = b'} v e h k = there_alike (truth_in v) e _ _ go
+chosen_alike {R = R} {P = P} {Q = Q} {B = B} {a = a} {b = b} {a' = a'} {b' = b'} v e h k =
+    there_alike (truth_in v) e _ _ go
   where
     go : (y : Bool) → Alike R P Q B (cond y a b) (cond y a' b')
     go true = h
     go false = k
 
 -- a `break` ends a switch
-pub switch_alike : {S T : Type 0} {R : Option Value → Type 0} {P Q B' : S → T → Type 0} {o : Outcome S} {o' : Outcome T} → Alike R P Q P o o' → Alike R P Q B' (after_switch o) (after_switch o')
+pub switch_alike : {S T : Type 0} {R : Option Value → Type 0} {P Q B' : S → T → Type 0} {o : Outcome S}
+    {o' : Outcome T} → Alike R P Q P o o' → Alike R P Q B' (after_switch o) (after_switch o')
 switch_alike (done h) = done h
 switch_alike (continued h) = continued h
 switch_alike (broke h) = done h
@@ -165,7 +174,8 @@ switch_alike (returned_alike r) = returned_alike r
 switch_alike stopped = stopped
 switch_alike mistyped = mistyped
 
-pub alike_answers : {S T : Type 0} {R : Option Value → Type 0} {P Q B : S → T → Type 0} {o : Outcome S} {o' : Outcome T} → R None → Alike R P Q B o o' → Answers R (answer o) (answer o')
+pub alike_answers : {S T : Type 0} {R : Option Value → Type 0} {P Q B : S → T → Type 0} {o : Outcome S}
+    {o' : Outcome T} → R None → Alike R P Q B o o' → Answers R (answer o) (answer o')
 alike_answers n (done h) = same_answer n
 alike_answers n (continued h) = same_answer tt
 alike_answers n (broke h) = same_answer tt
@@ -213,4 +223,5 @@ pub pointer_alike : {S T : Type 0} {R : Option Value → Type 0} {P Q B : S → 
     ((p : Place) → Alike R P Q B (f p) (g p t)) →
     Alike R P Q B (with_pointer o t f) (with_place r g)
 pointer_alike {R = R} {P = P} {Q = Q} {B = B} f g o t r e h =
-    subst (λ r. Alike R P Q B (with_pointer o t f) (with_place r g)) (sym e) (pointer_alike_at f g (option_and_then place_in o) t h)
+    subst (λ r. Alike R P Q B (with_pointer o t f) (with_place r g)) (sym e)
+    (pointer_alike_at f g (option_and_then place_in o) t h)

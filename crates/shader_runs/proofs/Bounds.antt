@@ -35,7 +35,8 @@ laps_cut each each' cut zero n le s = cut_off
 laps_cut each each' cut (suc j) zero le s = absurd (omega (arith, le))
 laps_cut each each' cut (suc j) (suc n) le s = cut_join (cut s) (go (laps_cut each each' cut j n (omega (arith, le))))
   where
-    go : ((s : KeptValues) → Cut (laps j each s) (laps n each' s)) → (x : Pause) → Cut (lap_on (laps j each) x) (lap_on (laps n each') x)
+    go : ((s : KeptValues) → Cut (laps j each s) (laps n each' s)) → (x : Pause) →
+        Cut (lap_on (laps j each) x) (lap_on (laps n each') x)
     go rest (DoneWith s) = rest s
     go rest (ContinuedWith s) = cut_stop
     go rest (BrokeWith s) = cut_pause
@@ -89,7 +90,8 @@ abbrev IsPause : ReachedOrHalted Pause → Type 0
 IsPause (Gives x e) = Unit {0}
 IsPause (Halts x e) = ⊥
 
-pause_stays : {c c' : Course} → Cut c c' → (t : List Event) {x : Pause} {e : List Event} → filled c t ≡ Gives x e → filled c' t ≡ Gives x e
+pause_stays : {c c' : Course} → Cut c c' → (t : List Event) {x : Pause} {e : List Event} →
+    filled c t ≡ Gives x e → filled c' t ≡ Gives x e
 pause_stays {c} {c'} cut t {x} {e} h = go (ends_cut cut t)
   where
     go : EndsCut (filled c t) (filled c' t) → filled c' t ≡ Gives x e
@@ -106,16 +108,19 @@ asks_with_more (cut_ask cut) now = now
 asks_with_more (cut_ask cut) (answered_then {y = y} a) = answered_then (asks_with_more (cut (default_value y)) a)
 asks_with_more {t = t} (cut_count cut) (counted_then a) = counted_then (asks_with_more (cut (entries t)) a)
 asks_with_more (cut_join cut cuts) (inside a) = inside (asks_with_more cut a)
-asks_with_more {t = t} (cut_join cut cuts) (following {x = x} h a) = following (pause_stays cut t h) (asks_with_more (cuts x) a)
+asks_with_more {t = t} (cut_join cut cuts) (following {x = x} h a) =
+    following (pause_stays cut t h) (asks_with_more (cuts x) a)
 
 -- what is asked before the run with fewer turns ends
-pub asks_with_fewer : {c c' : Course} {t u : List Event} {k : ValueType} → Cut c c' → AsksAt c' t u k → length u < events_made (filled c t) → AsksAt c t u k
+pub asks_with_fewer : {c c' : Course} {t u : List Event} {k : ValueType} → Cut c c' → AsksAt c' t u k →
+    length u < events_made (filled c t) → AsksAt c t u k
 asks_with_fewer cut_off a lt = absurd (omega (arith, asks_later a, lt))
 asks_with_fewer cut_pause a lt = a
 asks_with_fewer cut_stop a lt = a
 asks_with_fewer (cut_event cut) (made_then a) lt = made_then (asks_with_fewer cut a lt)
 asks_with_fewer (cut_ask cut) now lt = now
-asks_with_fewer (cut_ask cut) (answered_then {y = y} a) lt = answered_then (asks_with_fewer (cut (default_value y)) a lt)
+asks_with_fewer (cut_ask cut) (answered_then {y = y} a) lt =
+    answered_then (asks_with_fewer (cut (default_value y)) a lt)
 asks_with_fewer {t = t} (cut_count cut) (counted_then a) lt = counted_then (asks_with_fewer (cut (entries t)) a lt)
 asks_with_fewer {t = t} {u = u} {k = k} (cut_join {c = c} {c' = c'} {next = next} cut cuts) (inside a) lt =
     inside (asks_with_fewer cut a (go (ends_cut cut t)))
@@ -123,8 +128,14 @@ asks_with_fewer {t = t} {u = u} {k = k} (cut_join {c = c} {c' = c'} {next = next
     go : EndsCut (filled c t) (filled c' t) → length u < events_made (filled c t)
     go (inl same) = omega (arith, asks_before a, ap (λ q. events_made q) same)
     go (inr (e, stop, le)) =
-        omega (arith, lt, ap (λ q. events_made (resumed q (λ x e. filled (next x) e))) stop, ap (λ q. events_made q) stop)
-asks_with_fewer {t = t} {u = u} {k = k} (cut_join {c = c} {c' = c'} {next = next} cut cuts) (following {e = e} {x = x} h a) lt =
+        omega (
+          arith,
+          lt,
+          ap (λ q. events_made (resumed q (λ x e. filled (next x) e))) stop,
+          ap (λ q. events_made q) stop,
+        )
+asks_with_fewer {t = t} {u = u} {k = k} (cut_join {c = c} {c' = c'} {next = next} cut cuts)
+    (following {e = e} {x = x} h a) lt =
     go (ends_cut cut t) (asks_with_fewer (cuts x) a)
   where
     go : EndsCut (filled c t) (filled c' t) →
@@ -133,4 +144,11 @@ asks_with_fewer {t = t} {u = u} {k = k} (cut_join {c = c} {c' = c'} {next = next
     go (inl same) rest =
         following (same ∙ h) (rest (omega (arith, lt, ap (λ q. events_made q) (joined_from c next t (same ∙ h)))))
     go (inr (e1, stop, le)) rest =
-        absurd (omega (arith, lt, asks_later a, le, ap (λ q. events_made q) h, ap (λ q. events_made (resumed q (λ x e. filled (next x) e))) stop))
+        absurd (omega (
+          arith,
+          lt,
+          asks_later a,
+          le,
+          ap (λ q. events_made q) h,
+          ap (λ q. events_made (resumed q (λ x e. filled (next x) e))) stop,
+        ))

@@ -57,7 +57,8 @@ use Rattle.shader_runs.proofs.Names.{globals_at, held, length-names_from, length
 use Rattle.shader_runs.proofs.Names.{forms_named, length-form_functions}
 use Rattle.shader_runs.proofs.Names.{module_names_in_scope}
 
-pick_alike : {A : Type 0} (R : A → Type 0) (a b : Bool) (x x' y y' : ReachedOrHalted A) → a ≡ b → (b ≡ true → Answers R x x') → (b ≡ false → Answers R y y') → Answers R (cond b x y) (cond a x' y')
+pick_alike : {A : Type 0} (R : A → Type 0) (a b : Bool) (x x' y y' : ReachedOrHalted A) → a ≡ b →
+    (b ≡ true → Answers R x x') → (b ≡ false → Answers R y y') → Answers R (cond b x y) (cond a x' y')
 pick_alike R a true x x' y y' e h k = subst (λ a. Answers R x (cond a x' y')) (sym e) (h refl)
 pick_alike R a false x x' y y' e h k = subst (λ a. Answers R y (cond a x' y')) (sym e) (k refl)
 
@@ -68,13 +69,15 @@ called_alike : (R : Option Value → Type 0) (a b : Bool) (x x' : ReachedOrHalte
     (t : List Event) → a ≡ b → (b ≡ true → Answers R x x') →
     Answers R (run_if_arguments_fit b x t) (run_if_arguments_fit a x' t)
 called_alike R a true x x' t e h = subst (λ a. Answers R x (run_if_arguments_fit a x' t)) (sym e) (h refl)
-called_alike R a false x x' t e h = subst (λ a. Answers R (run_if_arguments_fit false x t) (run_if_arguments_fit a x' t)) (sym e) (same_answer tt)
+called_alike R a false x x' t e h =
+    subst (λ a. Answers R (run_if_arguments_fit false x t) (run_if_arguments_fit a x' t)) (sym e) (same_answer tt)
 
 pub numbered_within : (fs : List Function) (g : ℕ) (f : Function) → function_numbered fs g ≡ Some f → g < length fs
 numbered_within [] g f e = absurd (none-some f e)
 numbered_within (k ∷ fs) g f e = go (nat_eq g (length fs)) refl e (numbered_within fs g f)
   where
-    go : (b : Bool) → nat_eq g (length fs) ≡ b → cond b (Some k) (function_numbered fs g) ≡ Some f → (function_numbered fs g ≡ Some f → g < length fs) → g < suc (length fs)
+    go : (b : Bool) → nat_eq g (length fs) ≡ b → cond b (Some k) (function_numbered fs g) ≡ Some f →
+        (function_numbered fs g ≡ Some f → g < length fs) → g < suc (length fs)
     go true q e rest =
         let same : g ≡ length fs = eqb-true g (length fs) q in
         omega arith
@@ -94,7 +97,8 @@ abbrev reached_firsts : Option (List (Option Value)) → List Event → ReachedO
 reached_firsts None t = Halts Stuck t
 reached_firsts (Some firsts) t = Gives firsts t
 
-put_reached : (o : Option (List (Option Value))) (t : List Event) → put_first None (reached_firsts o t) ≡ reached_firsts (with_first (Some None) o) t
+put_reached : (o : Option (List (Option Value))) (t : List Event) → put_first None (reached_firsts o t)
+    ≡ reached_firsts (with_first (Some None) o) t
 put_reached None t = refl
 put_reached (Some firsts) t = refl
 
@@ -112,7 +116,8 @@ entered_alike : (R : Option Value → Type 0) (g g' : ℕ) (vs : List Value)
     Answers R (run_from_entry g vs o t body) (entered_by g' vs (reached_firsts o t) body')
 entered_alike R g g' vs None t body body' e h = same_answer tt
 entered_alike R g g' vs (Some firsts) t body body' e h =
-    subst (λ g'. Answers R (body (Entry g vs firsts ∷ t)) (body' (Entry g' vs firsts ∷ t))) (sym e) (h (Entry g vs firsts ∷ t))
+    subst (λ g'. Answers R (body (Entry g vs firsts ∷ t)) (body' (Entry g' vs firsts ∷ t))) (sym e)
+    (h (Entry g vs firsts ∷ t))
 
 -- what the start of a function's text asks of it
 pub record Starting (p : Module) (n : ModuleNames) (f : Naming) : Type 0 where
@@ -122,7 +127,8 @@ pub record Starting (p : Module) (n : ModuleNames) (f : Naming) : Type 0 where
   pub leaves : (h : ℕ) → LeafFits p f.function (handle_type f.function h) (expression_of f.function h)
   pub distinct : AreDistinct p f
 
-pub starting : (p : Module) (n : ModuleNames) (callees : List Function) (f : Naming) → FunctionFits p n callees f → Starting p n f
+pub starting : (p : Module) (n : ModuleNames) (callees : List Function) (f : Naming) →
+    FunctionFits p n callees f → Starting p n f
 starting p n callees f fit =
     record {
       outer = fit.outer;
@@ -139,7 +145,8 @@ before f i = record f { function = before_local f.function i }
 module _ (p : Module) (f : Naming) (i : ℕ) where
   fewer : local_count (before f i).function ≤ local_count f.function
   fewer =
-      let short : min i (length f.function.first_values) ≤ length f.function.first_values = min-le_right i (length f.function.first_values) in
+      let short : min i (length f.function.first_values) ≤ length f.function.first_values =
+      min-le_right i (length f.function.first_values) in
       subst (λ k. k ≤ length f.function.first_values) (sym (length-take i f.function.first_values)) short
 
   fixed_before : (x : FixedName) → IsFixedName p (before f i).function x → IsFixedName p f.function x
@@ -199,7 +206,8 @@ module _ (p : Module) (f : Naming) (i : ℕ) where
   word_before (Some _) w = tt
   word_before None w = tt
 
-  leaf_before : (k : ValueType) (e : Option Expression) → LeafFits p f.function k e → LeafFits p (before f i).function k e
+  leaf_before : (k : ValueType) (e : Option Expression) → LeafFits p f.function k e →
+      LeafFits p (before f i).function k e
   leaf_before k e l = l
 
   starting_before : (n : ModuleNames) → Starting p n f → Starting p n (before f i)
@@ -212,16 +220,20 @@ module _ (p : Module) (f : Naming) (i : ℕ) where
         distinct = λ a b ha hb e. s.distinct a b (name_before a ha) (name_before b hb) e;
       }
 
-  typed_before : (parts : PartTypes) (m : Meaning) → IsTypedIn parts p m f.function → IsTypedIn parts p m (before f i).function
+  typed_before : (parts : PartTypes) (m : Meaning) → IsTypedIn parts p m f.function →
+      IsTypedIn parts p m (before f i).function
   typed_before parts m t = record { constants = t.constants; operators = t.operators }
 
 -- what words do that are no function's names
 pub record UsesFit (p : Module) (n : ModuleNames) (uses : Bytes → WordUse) : Type 0 where
-  pub requests : (w : Bytes) → ((g : ℕ) → g < length p.functions → n.function g ≢ w) → IsTrue (n.vocabulary.is_request w) → uses w ≡ AsksForEvent
-  pub operators : (w : Bytes) → ((g : ℕ) → g < length p.functions → n.function g ≢ w) → n.vocabulary.is_request w ≡ false → IsTrue (n.vocabulary.is_operator w) → uses w ≡ Operates
+  pub requests : (w : Bytes) → ((g : ℕ) → g < length p.functions → n.function g ≢ w) →
+      IsTrue (n.vocabulary.is_request w) → uses w ≡ AsksForEvent
+  pub operators : (w : Bytes) → ((g : ℕ) → g < length p.functions → n.function g ≢ w) →
+      n.vocabulary.is_request w ≡ false → IsTrue (n.vocabulary.is_operator w) → uses w ≡ Operates
   pub functions : (g : ℕ) → g < length p.functions → is_operation (uses (n.function g)) ≡ false
 
-module _ (p : Module) (n : ModuleNames) (uses : Bytes → WordUse) (uses_fit : UsesFit p n uses) (env : Environment) (environment : EnvironmentFits p env) (w : World) (m : Meaning) (bound : ℕ) where
+module _ (p : Module) (n : ModuleNames) (uses : Bytes → WordUse) (uses_fit : UsesFit p n uses)
+    (env : Environment) (environment : EnvironmentFits p env) (w : World) (m : Meaning) (bound : ℕ) where
   -- what calls do by their numbers
   abbrev pub ByNumber : Type 0
   ByNumber = ℕ → List Value → List Event → ReachedOrHalted (Option Value)
@@ -323,7 +335,8 @@ module _ (p : Module) (n : ModuleNames) (uses : Bytes → WordUse) (uses_fit : U
     c = call_over callees calls f vs t
 
     -- a name of another function
-    no_function : (word : Bytes) → ((g : ℕ) → g < length p.functions → f.names.outer.function g ≢ word) → (g : ℕ) → g < length p.functions → n.function g ≢ word
+    no_function : (word : Bytes) → ((g : ℕ) → g < length p.functions → f.names.outer.function g ≢ word) →
+        (g : ℕ) → g < length p.functions → n.function g ≢ word
     no_function word other g lt e = other g lt (ap (λ n. n.function g) fit.outer ∙ e)
 
     reaches_use : (word : Bytes) →
@@ -340,16 +353,23 @@ module _ (p : Module) (n : ModuleNames) (uses : Bytes → WordUse) (uses_fit : U
     responds : Responds p c f.names d
     responds =
         record {
-          requests = λ word a. reaches_use word a.1.0 AsksForEvent (uses_fit.requests word (no_function word a.1.0) (ap (λ n. n.vocabulary.is_request word) (sym fit.outer) ∙ a.0));
-          operators = λ word a. reaches_use word a.2.0 Operates (uses_fit.operators word (no_function word a.2.0) (ap (λ n. n.vocabulary.is_request word) (sym fit.outer) ∙ a.0) (ap (λ n. n.vocabulary.is_operator word) (sym fit.outer) ∙ a.1));
+          requests = λ word a. reaches_use word a.1.0 AsksForEvent
+              (uses_fit.requests word (no_function word a.1.0)
+              (ap (λ n. n.vocabulary.is_request word) (sym fit.outer) ∙ a.0));
+          operators = λ word a. reaches_use word a.2.0 Operates
+              (uses_fit.operators word (no_function word a.2.0)
+              (ap (λ n. n.vocabulary.is_request word) (sym fit.outer) ∙ a.0)
+              (ap (λ n. n.vocabulary.is_operator word) (sym fit.outer) ∙ a.1));
           calls = λ g callee e vs h t. subst
               (λ n'. Answers (Returns env.parts callee)
               (calls g vs t) (d.1 (n'.function g) vs t))
               (sym fit.outer) (alike.called g callee e vs h t);
           asking = λ word a. ap (λ o. o word) alike.operates
-              ∙ ap is_operation (uses_fit.requests word (no_function word a.1.0) (ap (λ n. n.vocabulary.is_request word) (sym fit.outer) ∙ a.0));
+              ∙ ap is_operation (uses_fit.requests word (no_function word a.1.0)
+              (ap (λ n. n.vocabulary.is_request word) (sym fit.outer) ∙ a.0));
           calling = λ g callee e. ap (λ n'. d.0 (n'.function g)) fit.outer
-              ∙ ap (λ o. o (n.function g)) alike.operates ∙ uses_fit.functions g (callee_number g (numbered_within callees g callee e));
+              ∙ ap (λ o. o (n.function g)) alike.operates
+              ∙ uses_fit.functions g (callee_number g (numbered_within callees g callee e));
         }
 
     argument_same : (i k : ℕ) → FixedKey (ArgumentName i) ≡ FixedKey (ArgumentName k) → i ≡ k
@@ -382,7 +402,8 @@ module _ (p : Module) (n : ModuleNames) (uses : Bytes → WordUse) (uses_fit : U
     constant_global : (i k : ℕ) → FixedKey (ConstantName i) ≡ FixedKey (GlobalName k) → ⊥
     constant_global i k e = cc
 
-    start_fixed : length vs ≡ argument_count f.function → (x : FixedName) → IsHere c x → first_names f.names.outer f vs t (fixed_name f.names x) ≡ fixed_denoted c x
+    start_fixed : length vs ≡ argument_count f.function → (x : FixedName) → IsHere c x →
+        first_names f.names.outer f vs t (fixed_name f.names x) ≡ fixed_denoted c x
     start_fixed e (ArgumentName i) lt =
         let here : i ≡ i + 0 = omega arith in
         variable_other f (f.names.argument i) f.function.first_values 0 (entries t)
@@ -448,8 +469,10 @@ module _ (p : Module) (n : ModuleNames) (uses : Bytes → WordUse) (uses_fit : U
 
     start_words : (x : Bytes) → NoName c f.names x → first_names f.names.outer f vs t x ≡ None
     start_words x free =
-        variable_other f x f.function.first_values 0 (entries t) (λ a le la q. free.fixed (LocalName a) (omega arith) q) (parameter_names f.names.outer f vs)
-        ∙ parameter_other f.names.argument x (argument_count f.function) 0 (λ a le la q. free.fixed (ArgumentName a) (omega arith) q) vs _
+        variable_other f x f.function.first_values 0 (entries t)
+        (λ a le la q. free.fixed (LocalName a) (omega arith) q) (parameter_names f.names.outer f vs)
+        ∙ parameter_other f.names.argument x (argument_count f.function) 0
+        (λ a le la q. free.fixed (ArgumentName a) (omega arith) q) vs _
         ∙ parameter_other f.names.outer.constant x (length p.constant_types) 0
         (λ a le la q. let count =
         has_types_length env.parts p.constant_types env.constants environment.constants in
@@ -461,7 +484,8 @@ module _ (p : Module) (n : ModuleNames) (uses : Bytes → WordUse) (uses_fit : U
         free.fixed (GlobalName a) (subst (λ k. a < k) (sym count) here) q)
         (map held env.globals) no_names
 
-    starts_own : length vs ≡ argument_count f.function → Related c f.names (at_start f.function) (first_names f.names.outer f vs t) (constants_kept f.function env m)
+    starts_own : length vs ≡ argument_count f.function →
+        Related c f.names (at_start f.function) (first_names f.names.outer f vs t) (constants_kept f.function env m)
     starts_own e =
         record {
           availability = start_stands p c environment fit.ordered fit.leaves typed (first_names f.names.outer f vs t);
@@ -469,9 +493,11 @@ module _ (p : Module) (n : ModuleNames) (uses : Bytes → WordUse) (uses_fit : U
           words = start_words;
         }
 
-    pub starts : length vs ≡ argument_count f.function → Related c f.names (at_start f.function) (first_names n f vs t) (constants_kept f.function env m)
+    pub starts : length vs ≡ argument_count f.function →
+        Related c f.names (at_start f.function) (first_names n f vs t) (constants_kept f.function env m)
     starts e =
-        subst (λ n'. Related c f.names (at_start f.function) (first_names n' f vs t) (constants_kept f.function env m)) fit.outer (starts_own e)
+        subst (λ n'. Related c f.names (at_start f.function) (first_names n' f vs t)
+        (constants_kept f.function env m)) fit.outer (starts_own e)
 
     pub facts : IsTrue (has_types env.parts f.function.argument_types vs) → Facts p c f.names d
     facts k =
@@ -493,7 +519,8 @@ module _ (p : Module) (n : ModuleNames) (uses : Bytes → WordUse) (uses_fit : U
         (value_at f (at_start f.function) h) (first_names n f vs t) t1 ≡ reach
         (used_value c (constants_kept f.function env m) h) t1
     first_value_here k e h u t1 =
-        value_here p c f.names d (facts k) (at_start f.function) (first_names n f vs t) (constants_kept f.function env m) (starts e) h u t1
+        value_here p c f.names d (facts k) (at_start f.function) (first_names n f vs t)
+        (constants_kept f.function env m) (starts e) h u t1
 
   module _ (callees : List Function) (calls : ByNumber) (d : Respond) (alike : AreAlike callees calls d)
       (f : Naming) (start : Starting p n f) (regular : AreRegular p callees f f.function.body)
@@ -510,11 +537,14 @@ module _ (p : Module) (n : ModuleNames) (uses : Bytes → WordUse) (uses_fit : U
     abbrev names_before : ℕ → Scope
     names_before i = with_variables (variables_from f 0 (take i all)) (entries t) 0 (parameter_names n f vs)
 
-    next_names : (i : ℕ) (o : Option ℕ) → slice_get all i ≡ Some o → names_before (suc i) ≡ bind (names_before i) (f.names.local_ i) (variable_place f (entries t) i)
+    next_names : (i : ℕ) (o : Option ℕ) → slice_get all i ≡ Some o → names_before (suc i)
+        ≡ bind (names_before i) (f.names.local_ i) (variable_place f (entries t) i)
     next_names i o e =
         let lt = slice_get_within all i o e in
-        let count : length (take i all) + 0 ≡ i = ap (λ k. k + 0) (length-take-le i all (omega (arith, lt))) ∙ add-zero i in
-        ap (λ os. with_variables (variables_from f 0 os) (entries t) 0 (parameter_names n f vs)) (take_one_more all i o e)
+        let count : length (take i all) + 0 ≡ i = ap (λ k. k + 0) (length-take-le i all (omega (arith, lt)))
+        ∙ add-zero i in
+        ap (λ os. with_variables (variables_from f 0 os) (entries t) 0 (parameter_names n f vs))
+        (take_one_more all i o e)
         ∙ one_more_variable f (take i all) o 0 (entries t) (parameter_names n f vs)
         ∙ ap (λ k. bind (names_before i) (f.names.local_ k) (variable_place f (entries t) k)) count
 
@@ -537,7 +567,8 @@ module _ (p : Module) (n : ModuleNames) (uses : Bytes → WordUse) (uses_fit : U
     first_reached k e i None u names q os rest r t1 = ap (put_first None) (r t1) ∙ put_reached os t1
     first_reached k e i (Some h) u names q os rest r t1 =
         let fit1 = starting_before p f i n start in
-        let value = first_value_here callees calls d alike (before f i) fit1 (typed_before p f i env.parts m typed) vs t k e h u t1 in
+        let value = first_value_here callees calls d alike (before f i) fit1
+        (typed_before p f i env.parts m typed) vs t k e h u t1 in
         ap (λ z. first_followed (value_of spelled (value_at f (at_start f.function) h) z t1) rest) q
         ∙ ap (λ q. first_followed q rest) value
         ∙ followed_firsts (used_value own kept h) os t1 rest r
@@ -554,9 +585,11 @@ module _ (p : Module) (n : ModuleNames) (uses : Bytes → WordUse) (uses_fit : U
         let later = first_values_fit f.function (suc i) os in
         let there : slice_get all i ≡ Some o = ap (slice_get all) (sym (zero-add i)) ∙ sym (at 0) in
         let next = bind names (f.names.local_ i) (variable_place f (entries t) i) in
-        let known : next ≡ names_before (suc i) = ap (λ z. bind z (f.names.local_ i) (variable_place f (entries t) i)) q ∙ sym (next_names i o there) in
+        let known : next ≡ names_before (suc i) =
+        ap (λ z. bind z (f.names.local_ i) (variable_place f (entries t) i)) q ∙ sym (next_names i o there) in
         let rest = first_of_each spelled (variables_from f (suc i) os) (entries t) (suc i) next in
-        first_reached k e i o (and_left here later u) names q (first_used_all own kept os) rest (firsts_reached k e os (suc i) further (and_right here later u) next known) t1
+        first_reached k e i o (and_left here later u) names q (first_used_all own kept os) rest
+        (firsts_reached k e os (suc i) further (and_right here later u) next known) t1
       where
         further : (k : ℕ) → slice_get os k ≡ slice_get all (k + suc i)
         further k =
@@ -630,12 +663,15 @@ module _ (p : Module) (n : ModuleNames) (uses : Bytes → WordUse) (uses_fit : U
   calls_alike (f ∷ fs) within fits typed one g callee e vs h t =
       let own_name = f.names.outer.function f.names.earlier in
       let place : length (functions_of fs) ≡ length fs = length-functions_of fs in
-      let is_name : own_name ≡ n.function (length fs) = ap (λ n. n.function f.names.earlier) fits.0.outer ∙ ap n.function (fits.0.earlier ∙ place) in
+      let is_name : own_name ≡ n.function (length fs) = ap (λ n. n.function f.names.earlier) fits.0.outer
+      ∙ ap n.function (fits.0.earlier ∙ place) in
       let fewer : length fs ≤ length p.functions = omega (arith, within) in
       let earlier = calls_alike fs fewer fits.1 typed.1 (λ a b la lb q. one a b (omega arith) (omega arith) q) in
       let within : g < suc (length (functions_of fs)) = numbered_within (functions_of (f ∷ fs)) g callee e in
       let lt : g < suc (length fs) = subst (λ k. g < suc k) place within in
-      let test = same_test (n.function g) own_name g (length (functions_of fs)) (λ e. one g (length fs) lt (omega arith) (e ∙ is_name) ∙ sym place) (λ e. ap n.function (e ∙ place) ∙ sym is_name) in
+      let test = same_test (n.function g) own_name g (length (functions_of fs))
+      (λ e. one g (length fs) lt (omega arith) (e ∙ is_name) ∙ sym place)
+      (λ e. ap n.function (e ∙ place) ∙ sym is_name) in
       let calls = run_numbered (functions_of fs) in
       let c = call_over (functions_of fs) calls f vs t in
       let there = length (functions_of fs) in

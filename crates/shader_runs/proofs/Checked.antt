@@ -73,7 +73,8 @@ abbrev mutual
       FitsAll p c n k b s × FitsAll p c n k1 d s1 × IsTrue (usable_if c.function (after_all (naming c n) k1 d s1) e)
   Fits p c n k (Jumps (Return v)) s = IsTrue (usable_if c.function s v) × ReturnFits c.function v
   Fits p c n k (Barrier bits) s = EachAsks p (naming c n) (barrier_words bits)
-  Fits p c n k (Act a xs r) s = IsTrue (usable_all c.function s xs) × ActionFits p c.callees (naming c n) a xs r × MayGive c n r s
+  Fits p c n k (Act a xs r) s = IsTrue (usable_all c.function s xs) × ActionFits p c.callees (naming c n) a xs r
+      × MayGive c n r s
   Fits p c n k _ s = Unit {0}
 
   pub FitsAll : Module → Call → Names → ℕ → Statements → Handles → Type 0

@@ -32,7 +32,13 @@ no_letter a e = cc
 
 free : OperatesOutside pair_module pair_names pair_word
 free =
-    record { asks_nothing = refl; operates = refl; functions = λ g lt. no_letter 102; constants = constants; globals = λ i lt. no_letter 118 }
+    record {
+      asks_nothing = refl;
+      operates = refl;
+      functions = λ g lt. no_letter 102;
+      constants = constants;
+      globals = λ i lt. no_letter 118;
+    }
   where
     constants : (i : ℕ) → i < 3 → pair_names.constant i ≢ pair_word
     constants zero lt = no_letter 80
@@ -40,7 +46,8 @@ free =
     constants (suc (suc zero)) lt = no_letter 109
     constants (suc (suc (suc i))) lt = absurd (omega (arith, lt))
 
-initialisers : (i : ℕ) (e : ConstantTree) → slice_get pair_module.initialisers i ≡ Some e → InitialiserFits pair_module pair_names (λ i. 1 - i) i e
+initialisers : (i : ℕ) (e : ConstantTree) → slice_get pair_module.initialisers i ≡ Some e →
+    InitialiserFits pair_module pair_names (λ i. 1 - i) i e
 initialisers zero e q =
     subst (InitialiserFits pair_module pair_names (λ i. 1 - i) 0) (same_Some _ e q)
     (record {
@@ -52,7 +59,8 @@ initialisers zero e q =
           (λ lt. omega arith, (λ lt. absurd (omega (arith, lt)), tt));
     })
 initialisers (suc zero) e q =
-    subst (InitialiserFits pair_module pair_names (λ i. 1 - i) 1) (same_Some _ e q) (record { range = tt; type = refl; words = tt; before = tt })
+    subst (InitialiserFits pair_module pair_names (λ i. 1 - i) 1) (same_Some _ e q)
+    (record { range = tt; type = refl; words = tt; before = tt })
 initialisers (suc (suc i)) e q = absurd (none-some e q)
 
 pub constant_rows_hold : ConstantRowsHold

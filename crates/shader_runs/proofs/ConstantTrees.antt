@@ -28,7 +28,8 @@ use Rattle.shader_runs.specs.Outcome.{reach, unless, ReachedOrHalted, Gives}
 
 -- what holds of each leaf and of each named constant
 mutual
-  pub each_both : (L : Value → Type 0) (P Q : ℕ → Type 0) (e : ConstantTree) → EachLeaf L P e → EachLeaf (λ v. Unit {0}) Q e → EachLeaf L (λ i. P i × Q i) e
+  pub each_both : (L : Value → Type 0) (P Q : ℕ → Type 0) (e : ConstantTree) → EachLeaf L P e →
+      EachLeaf (λ v. Unit {0}) Q e → EachLeaf L (λ i. P i × Q i) e
   each_both L P Q (Fixed v) a b = a
   each_both L P Q (NamedConstant i) a b = (a, b)
   each_both L P Q (Constructed w ty es) a b = each_both_of L P Q es a b
@@ -36,7 +37,8 @@ mutual
   each_both L P Q (Picking x ty e) a b = each_both L P Q e a b
   each_both L P Q (Joining j ty l r) a b = (each_both L P Q l a.0 b.0, each_both L P Q r a.1 b.1)
 
-  each_both_of : (L : Value → Type 0) (P Q : ℕ → Type 0) (es : ConstantTrees) → EachLeafOf L P es → EachLeafOf (λ v. Unit {0}) Q es → EachLeafOf L (λ i. P i × Q i) es
+  each_both_of : (L : Value → Type 0) (P Q : ℕ → Type 0) (es : ConstantTrees) → EachLeafOf L P es →
+      EachLeafOf (λ v. Unit {0}) Q es → EachLeafOf L (λ i. P i × Q i) es
   each_both_of L P Q no_constant a b = tt
   each_both_of L P Q (constant e es) a b = (each_both L P Q e a.0 b.0, each_both_of L P Q es a.1 b.1)
 
@@ -47,9 +49,11 @@ literal_typed parts (Opaque s z) l = same_type_self (OtherType s)
 literal_typed parts (Pointer q) l = absurd l
 
 -- where what is known of the named constants has their types, so has the value of a tree
-module _ (parts : PartTypes) (p : Module) (known : ℕ → Option Value) (m : Meaning) (P : ℕ → Type 0) (typed : (i : ℕ) → P i → TypedValue parts (type_at p.constant_types i) (known i)) where
+module _ (parts : PartTypes) (p : Module) (known : ℕ → Option Value) (m : Meaning) (P : ℕ → Type 0)
+    (typed : (i : ℕ) → P i → TypedValue parts (type_at p.constant_types i) (known i)) where
   mutual
-    pub tree_typed : (e : ConstantTree) → EachLeaf IsLiteral P e → ConstantTyped parts p m e → TypedValue parts (constant_type p e) (tree_value known m e)
+    pub tree_typed : (e : ConstantTree) → EachLeaf IsLiteral P e → ConstantTyped parts p m e →
+        TypedValue parts (constant_type p e) (tree_value known m e)
     tree_typed (Fixed v) r t = (v, refl, literal_typed parts v r)
     tree_typed (NamedConstant i) r t = typed i r
     tree_typed (Constructed w ty es) r t =
@@ -86,11 +90,15 @@ module _ (parts : PartTypes) (p : Module) (known : ℕ → Option Value) (m : Me
     trees_typed no_constant r t = ([], refl, refl)
     trees_typed (constant e es) r t =
         let a = tree_typed e r.0 t.0 in
-        let b = trees_typed es r.1 t.1 in
-        (a.0 ∷ b.0, ap (λ o. also o (tree_values known m es)) a.1 ∙ ap (also (Some a.0)) b.1, and_both (has_type parts (constant_type p e) a.0) (has_types parts (constant_types_of p es) b.0) a.2 b.2)
+        let b = trees_typed es r.1 t.1 in (
+          a.0 ∷ b.0,
+          ap (λ o. also o (tree_values known m es)) a.1 ∙ ap (also (Some a.0)) b.1,
+          and_both (has_type parts (constant_type p e) a.0) (has_types parts (constant_types_of p es) b.0) a.2 b.2,
+        )
 
 -- where the same is known of the named constants, a tree has the same value
-module _ (known known' : ℕ → Option Value) (m : Meaning) (P : ℕ → Type 0) (same : (i : ℕ) → P i → known i ≡ known' i) where
+module _ (known known' : ℕ → Option Value) (m : Meaning) (P : ℕ → Type 0)
+    (same : (i : ℕ) → P i → known i ≡ known' i) where
   mutual
     pub tree_same : (e : ConstantTree) → EachLeaf IsLiteral P e → tree_value known m e ≡ tree_value known' m e
     tree_same (Fixed v) r = refl
@@ -114,7 +122,8 @@ indexed_denoted : (parts : PartTypes) (m : Meaning) (o q : Option Value) (t : Li
 indexed_denoted parts m None q t rest h = refl
 indexed_denoted parts m (Some v) q t rest h = by (place_in v)
   where
-    by_index : (q : Option Value) → index_reached m v (reach q t) ≡ denoted (option_and_then (λ z. Some (m IndexWord (v ∷ z ∷ []))) q) t
+    by_index : (q : Option Value) → index_reached m v (reach q t)
+        ≡ denoted (option_and_then (λ z. Some (m IndexWord (v ∷ z ∷ []))) q) t
     by_index None = refl
     by_index (Some z) = refl
 
@@ -125,7 +134,8 @@ indexed_denoted parts m (Some v) q t rest h = by (place_in v)
     by_none None = refl
     by_none (Some z) = refl
 
-    by : (o : Option Place) → unless o t (index_reached m v (rest t)) ≡ denoted (option_and_then (λ z. constant_part_by m IndexWord o (v ∷ z ∷ [])) q) t
+    by : (o : Option Place) → unless o t (index_reached m v (rest t))
+        ≡ denoted (option_and_then (λ z. constant_part_by m IndexWord o (v ∷ z ∷ [])) q) t
     by None = ap (index_reached m v) h ∙ by_index q
     by (Some p) = ap (λ o. denoted o t) (by_none q)
 
@@ -136,7 +146,8 @@ picked_denoted : (parts : PartTypes) (w : World) (m : Meaning) (x : Selector) (o
 picked_denoted parts w m x None t = refl
 picked_denoted parts w m x (Some v) t = by (place_in v)
   where
-    by : (o : Option Place) → unless o t (Gives (IsValue (m (PartWord x) (v ∷ []))) t) ≡ denoted (constant_part_by m (PartWord x) o (v ∷ [])) t
+    by : (o : Option Place) → unless o t (Gives (IsValue (m (PartWord x) (v ∷ []))) t)
+        ≡ denoted (constant_part_by m (PartWord x) o (v ∷ [])) t
     by None = refl
     by (Some p) = refl
 
@@ -147,11 +158,17 @@ joined_denoted : (m : Meaning) (j : ShortCircuit) (o q : Option Value) (t : List
 joined_denoted m j None q t rest h = refl
 joined_denoted m j (Some v) q t rest h = by (decides j v)
   where
-    undecided : (q : Option Value) → undecided_reached m j v (reach q t) ≡ denoted (option_map (undecided_value m j v) q) t
+    undecided : (q : Option Value) → undecided_reached m j v (reach q t)
+        ≡ denoted (option_map (undecided_value m j v) q) t
     undecided None = refl
     undecided (Some z) = refl
 
-    by : (b : Bool) → elim b as (λ _. ReachedOrHalted Denotation) [ true ↦ Gives (IsValue v) t | false ↦ undecided_reached m j v (rest t) ] ≡
+    by : (b : Bool) →
+        elim b as (λ _. ReachedOrHalted Denotation) [
+          | true ↦ Gives (IsValue v) t
+          | false ↦ undecided_reached m j
+              v (rest t)
+        ] ≡
         denoted (cond b (Some v) (option_map (undecided_value m j v) q)) t
     by true = refl
     by false = ap (undecided_reached m j v) h ∙ undecided q
@@ -172,7 +189,8 @@ module _ (l : Words) (names : Scope) (n : ModuleNames) (known : ℕ → Option V
       ap (read_value l.world) gives ∙ valued_denoted l.world (tree_value known l.meaning e) t
 
   mutual
-    pub tree_gives : (e : ConstantTree) → EachWord Q e → EachLeaf IsLiteral P e → (t : List Event) → evaluate l (constant_form n e) names t ≡ denoted (tree_value known l.meaning e) t
+    pub tree_gives : (e : ConstantTree) → EachWord Q e → EachLeaf IsLiteral P e → (t : List Event) →
+        evaluate l (constant_form n e) names t ≡ denoted (tree_value known l.meaning e) t
     tree_gives (Fixed v) w r t = refl
     tree_gives (NamedConstant i) w r t = ap (λ z. reach z t) (here i r)
     tree_gives (Constructed word ty es) w r t =
@@ -192,7 +210,8 @@ module _ (l : Words) (names : Scope) (n : ModuleNames) (known : ℕ → Option V
         ∙ joined_denoted l.meaning j (tree_value known l.meaning a) (tree_value known l.meaning b) t rest
         (valued b t (tree_gives b w.1 r.1 t))
 
-    pub trees_give : (es : ConstantTrees) → EachWordOf Q es → EachLeafOf IsLiteral P es → (t : List Event) → evaluate_all l (constant_forms n es) names t ≡ reach (tree_values known l.meaning es) t
+    pub trees_give : (es : ConstantTrees) → EachWordOf Q es → EachLeafOf IsLiteral P es → (t : List Event) →
+        evaluate_all l (constant_forms n es) names t ≡ reach (tree_values known l.meaning es) t
     trees_give no_constant w r t = refl
     trees_give (constant e es) w r t =
         let rest = evaluate_all l (constant_forms n es) names in

@@ -42,8 +42,10 @@ use Rattle.shader_runs.proofs.Names.{module_names_in_scope}
 use Rattle.shader_runs.proofs.Names.{no_name_among}
 
 -- a place in a list, or one past its end
-by_place : {X A : Type 0} (xs : List X) (i : ℕ) → ((x : X) → slice_get xs i ≡ Some x → i < length xs → A) → (length xs ≤ i → A) → A
-by_place xs i inside past = elim (slice_get_cases xs i).1 [ inl found ↦ inside found.0 found.2 found.1 | inr none ↦ past none.0 ]
+by_place : {X A : Type 0} (xs : List X) (i : ℕ) → ((x : X) → slice_get xs i ≡ Some x → i < length xs → A) →
+    (length xs ≤ i → A) → A
+by_place xs i inside past =
+    elim (slice_get_cases xs i).1 [ inl found ↦ inside found.0 found.2 found.1 | inr none ↦ past none.0 ]
 
 -- ---- what is found of the constants and the overrides
 found_length : (value : ConstantTree → Option Value) (es : List ConstantTree) (parts : PartTypes)
@@ -69,7 +71,8 @@ override_here value [] parts ts os i le lt h =
     subst (λ o. TypedValue parts (type_at ts i) o) (sym (known_some os i)) (has_type_at parts ts os h i lt)
 override_here value (e ∷ es) parts [] os i le lt h = absurd (omega (arith, lt))
 override_here value (e ∷ es) parts (t ∷ ts) os zero le lt h = absurd (omega (arith, le))
-override_here value (e ∷ es) parts (t ∷ ts) os (suc i) le lt h = override_here value es parts ts os i (omega (arith, le)) (omega (arith, lt)) h
+override_here value (e ∷ es) parts (t ∷ ts) os (suc i) le lt h =
+    override_here value es parts ts os i (omega (arith, le)) (omega (arith, lt)) h
 
 override_same : (value value' : ConstantTree → Option Value) (es : List ConstantTree)
     (os : List Value) (i : ℕ) → length es ≤ i → known_value (map value es ++ map Some os) i ≡
@@ -105,7 +108,8 @@ slice_get_drop (suc n) (x ∷ xs) i =
     slice_get_drop n xs i ∙ ap (slice_get (x ∷ xs)) same
 
 -- lists whose parts after n are the same have the same elements there
-following_same : {X : Type 0} (n : ℕ) (xs ys : List X) → drop n xs ≡ drop n ys → (i : ℕ) → n ≤ i → slice_get xs i ≡ slice_get ys i
+following_same : {X : Type 0} (n : ℕ) (xs ys : List X) → drop n xs ≡ drop n ys → (i : ℕ) → n ≤ i →
+    slice_get xs i ≡ slice_get ys i
 following_same n xs ys e i le =
     let there : i ≡ n + (i - n) = omega (arith, le) in
     ap (slice_get xs) there
@@ -119,9 +123,12 @@ all_found_some [] = refl
 all_found_some (v ∷ vs) = ap (also (Some v)) (all_found_some vs)
 
 -- after the constants stand the overrides
-values_after : (value : ConstantTree → Option Value) (es : List ConstantTree) (os vs : List Value) → map Some vs ≡ map value es ++ map Some os → drop (length es) vs ≡ os
+values_after : (value : ConstantTree → Option Value) (es : List ConstantTree) (os vs : List Value) →
+    map Some vs ≡ map value es ++ map Some os → drop (length es) vs ≡ os
 values_after value es os vs e =
-    same_Some (drop (length es) vs) os (sym (all_found_some (drop (length es) vs)) ∙ ap all_found (sym (drop-map Some (length es) vs) ∙ ap (drop (length es)) e ∙ following es) ∙ all_found_some os)
+    same_Some (drop (length es) vs) os (sym (all_found_some (drop (length es) vs))
+    ∙ ap all_found (sym (drop-map Some (length es) vs) ∙ ap (drop (length es)) e ∙ following es)
+    ∙ all_found_some os)
   where
     following : (es : List ConstantTree) → drop (length es) (map value es ++ map Some os) ≡ map Some os
     following [] = refl
@@ -148,7 +155,8 @@ constants_known n value value' [] j b k count os names eb ec each =
     ∙ parameters_known (names_from n.constant j count) os names
 constants_known n value value' (e ∷ es) j b k zero os names eb ec each = absurd (omega (arith, ec))
 constants_known n value value' (e ∷ es) j b k (suc count) os names eb ec each =
-    let rest = constants_known n value value' es (suc j) b k count os names (omega (arith, eb)) (omega (arith, ec)) (λ i d. each (suc i) d) in
+    let rest = constants_known n value value' es (suc j) b k count os names (omega (arith, eb))
+    (omega (arith, ec)) (λ i d. each (suc i) d) in
     let own = each zero e refl in
     λ i. bind (rest i) (n.constant j) (own i)
 
@@ -157,7 +165,8 @@ no_constant_called : (n : ModuleNames) (word : Bytes) (es : List ConstantTree) (
     list_any (λ c. same_bytes word c.name) (constants_from n j es) ≡ false
 no_constant_called n word [] j other = refl
 no_constant_called n word (e ∷ es) j other =
-    ap (λ b. b || list_any (λ c. same_bytes word c.name) (constants_from n (suc j) es)) (same_bytes_apart word (n.constant j) (λ q. other j (omega arith) (omega arith) (sym q)))
+    ap (λ b. b || list_any (λ c. same_bytes word c.name) (constants_from n (suc j) es))
+    (same_bytes_apart word (n.constant j) (λ q. other j (omega arith) (omega arith) (sym q)))
     ∙ no_constant_called n word es (suc j) (λ i le lt. other i (omega (arith, le)) (omega (arith, lt)))
 
 initialised_denoted : (o : Option Value) → initialised_name (denoted o []) ≡ as_denoted o
@@ -165,7 +174,8 @@ initialised_denoted None = refl
 initialised_denoted (Some v) = refl
 
 -- ---- the module's side
-module _ (p : Module) (n : ModuleNames) (fits : ConstantsFit p n) (s : Settings) (settings : SettingsFit p s) (m : Meaning) (typed : IsTyped p m) where
+module _ (p : Module) (n : ModuleNames) (fits : ConstantsFit p n) (s : Settings) (settings : SettingsFit p s)
+    (m : Meaning) (typed : IsTyped p m) where
   -- a constant's place among the ranks
   abbrev position : ℕ → ℕ
   position i = count_below fits.rank (constant_count p) (fits.rank i)
@@ -180,25 +190,34 @@ module _ (p : Module) (n : ModuleNames) (fits : ConstantsFit p n) (s : Settings)
   may_name : (i : ℕ) (e : ConstantTree) → slice_get p.initialisers i ≡ Some e → EachLeaf IsLiteral (MayName i) e
   may_name i e q =
       let f = fits.initialisers i e q in
-      each_both IsLiteral (λ k. k < length p.constant_types) (λ k. k < constant_count p → fits.rank k < fits.rank i) e f.range f.before
+      each_both IsLiteral (λ k. k < length p.constant_types)
+      (λ k. k < constant_count p → fits.rank k < fits.rank i) e f.range f.before
 
   -- it is a constant of an earlier place, or an override
-  by_kind : {A : Type 0} (i k : ℕ) → MayName i k → ((e : ConstantTree) → slice_get p.initialisers k ≡ Some e → position k < position i → A) → (constant_count p ≤ k → A) → A
+  by_kind : {A : Type 0} (i k : ℕ) → MayName i k →
+      ((e : ConstantTree) → slice_get p.initialisers k ≡ Some e → position k < position i → A) →
+      (constant_count p ≤ k → A) → A
   by_kind i k may constant override =
       by_place p.initialisers k (λ e q l. constant e q (earlier k i l (may.1 l))) override
 
   found_counted : (rounds : ℕ) → length (found_after p s m rounds) ≡ length p.constant_types
-  found_counted zero = found_length (λ e. None) p.initialisers p.parts p.constant_types s.overrides fits.counted settings.overrides
+  found_counted zero = found_length (λ e. None) p.initialisers p.parts p.constant_types s.overrides fits.counted
+      settings.overrides
   found_counted (suc r) =
-      found_length (tree_value (known_value (found_after p s m r)) m) p.initialisers p.parts p.constant_types s.overrides fits.counted settings.overrides
+      found_length (tree_value (known_value (found_after p s m r)) m) p.initialisers p.parts p.constant_types
+      s.overrides fits.counted settings.overrides
 
   -- the overrides have their values from the start
-  override_typed : (rounds i : ℕ) → constant_count p ≤ i → i < length p.constant_types → TypedValue p.parts (type_at p.constant_types i) (known_value (found_after p s m rounds) i)
-  override_typed zero i le lt = override_here (λ e. None) p.initialisers p.parts p.constant_types s.overrides i le lt settings.overrides
+  override_typed : (rounds i : ℕ) → constant_count p ≤ i → i < length p.constant_types →
+      TypedValue p.parts (type_at p.constant_types i) (known_value (found_after p s m rounds) i)
+  override_typed zero i le lt = override_here (λ e. None) p.initialisers p.parts p.constant_types s.overrides i
+      le lt settings.overrides
   override_typed (suc r) i le lt =
-      override_here (tree_value (known_value (found_after p s m r)) m) p.initialisers p.parts p.constant_types s.overrides i le lt settings.overrides
+      override_here (tree_value (known_value (found_after p s m r)) m) p.initialisers p.parts p.constant_types
+      s.overrides i le lt settings.overrides
 
-  override_first : (rounds i : ℕ) → constant_count p ≤ i → known_value (found_after p s m rounds) i ≡ known_value (found_after p s m 0) i
+  override_first : (rounds i : ℕ) → constant_count p ≤ i → known_value (found_after p s m rounds) i
+      ≡ known_value (found_after p s m 0) i
   override_first zero i le = refl
   override_first (suc r) i le =
       override_same (tree_value (known_value (found_after p s m r)) m) (λ e. None) p.initialisers s.overrides i le
@@ -212,8 +231,11 @@ module _ (p : Module) (n : ModuleNames) (fits : ConstantsFit p n) (s : Settings)
       let before = known_value (found_after p s m r) in
       let v = tree_typed p.parts p before m (MayName i)
       (λ k may. by_kind i k may (λ d at less. found_typed r k d at (omega (arith, lt, less)))
-      (λ l. override_typed r k l may.0)) e (may_name i e q) (typed.initialisers i e q) in
-      (v.0, found_here (tree_value before m) p.initialisers s.overrides i e q ∙ v.1, ap (λ k. has_type p.parts k v.0) (fits.initialisers i e q).type ∙ v.2)
+      (λ l. override_typed r k l may.0)) e (may_name i e q) (typed.initialisers i e q) in (
+        v.0,
+        found_here (tree_value before m) p.initialisers s.overrides i e q ∙ v.1,
+        ap (λ k. has_type p.parts k v.0) (fits.initialisers i e q).type ∙ v.2,
+      )
 
   -- and stays
   found_same : (rounds more i : ℕ) (e : ConstantTree) → slice_get p.initialisers i ≡ Some e →
@@ -237,9 +259,11 @@ module _ (p : Module) (n : ModuleNames) (fits : ConstantsFit p n) (s : Settings)
   abbrev all_rounds : List (Option Value)
   all_rounds = found_after p s m (constant_count p)
 
-  each_typed : (i : ℕ) → i < length p.constant_types → TypedValue p.parts (type_at p.constant_types i) (known_value all_rounds i)
+  each_typed : (i : ℕ) → i < length p.constant_types → TypedValue p.parts (type_at p.constant_types i)
+      (known_value all_rounds i)
   each_typed i lt =
-      by_place p.initialisers i (λ e q l. found_typed (constant_count p) i e q (position_small i e q)) (λ l. override_typed (constant_count p) i l lt)
+      by_place p.initialisers i (λ e q l. found_typed (constant_count p) i e q (position_small i e q))
+      (λ l. override_typed (constant_count p) i l lt)
 
   -- the values of all
   values : (vs : List Value) × (all_rounds ≡ map Some vs) × IsTrue (has_types p.parts p.constant_types vs)
@@ -263,7 +287,8 @@ module _ (p : Module) (n : ModuleNames) (fits : ConstantsFit p n) (s : Settings)
   known_is i =
       ap (λ os. known_value os i) values.1 ∙ known_some values.0 i ∙ ap (λ vs. slice_get vs i) (sym constants_are)
 
-  constant_is : (i : ℕ) (e : ConstantTree) → slice_get p.initialisers i ≡ Some e → slice_get env.constants i ≡ constant_value env m e
+  constant_is : (i : ℕ) (e : ConstantTree) → slice_get p.initialisers i ≡ Some e → slice_get env.constants i
+      ≡ constant_value env m e
   constant_is i e q =
       let small = position_small i e q in
       sym (known_is i)
@@ -274,19 +299,29 @@ module _ (p : Module) (n : ModuleNames) (fits : ConstantsFit p n) (s : Settings)
   -- the computed constants solve the module's equations
   pub solution : IsSolution p s m env
   solution =
-      record { initialisers = constant_is; overrides = ap (drop (constant_count p)) constants_are ∙ following (constant_count p) refl; globals = refl; parts = refl }
+      record {
+        initialisers = constant_is;
+        overrides = ap (drop (constant_count p)) constants_are
+            ∙ following (constant_count p) refl;
+        globals = refl;
+        parts = refl;
+      }
     where
       following : (rounds : ℕ) → rounds ≡ constant_count p → drop (constant_count p) values.0 ≡ s.overrides
-      following zero e = values_after (λ e. None) p.initialisers s.overrides values.0 (sym values.1 ∙ ap (found_after p s m) (sym e))
+      following zero e = values_after (λ e. None) p.initialisers s.overrides values.0
+          (sym values.1 ∙ ap (found_after p s m) (sym e))
       following (suc r) e =
-          values_after (tree_value (known_value (found_after p s m r)) m) p.initialisers s.overrides values.0 (sym values.1 ∙ ap (found_after p s m) (sym e))
+          values_after (tree_value (known_value (found_after p s m r)) m) p.initialisers s.overrides values.0
+          (sym values.1 ∙ ap (found_after p s m) (sym e))
 
   -- and nothing else does
   module _ (other : Environment) (solves : IsSolution p s m other) where
     override_agrees : (i : ℕ) → constant_count p ≤ i → slice_get other.constants i ≡ slice_get env.constants i
-    override_agrees = following_same (constant_count p) other.constants env.constants (solves.overrides ∙ sym solution.overrides)
+    override_agrees = following_same (constant_count p) other.constants env.constants
+        (solves.overrides ∙ sym solution.overrides)
 
-    constant_agrees : (bound i : ℕ) (e : ConstantTree) → slice_get p.initialisers i ≡ Some e → position i < bound → slice_get other.constants i ≡ slice_get env.constants i
+    constant_agrees : (bound i : ℕ) (e : ConstantTree) → slice_get p.initialisers i ≡ Some e →
+        position i < bound → slice_get other.constants i ≡ slice_get env.constants i
     constant_agrees zero i e q lt = absurd (omega (arith, lt))
     constant_agrees (suc r) i e q lt =
         solves.initialisers i e q
@@ -298,7 +333,8 @@ module _ (p : Module) (n : ModuleNames) (fits : ConstantsFit p n) (s : Settings)
 
     each_agrees : (i : ℕ) → slice_get other.constants i ≡ slice_get env.constants i
     each_agrees i =
-        by_place p.initialisers i (λ e q l. constant_agrees (constant_count p) i e q (position_small i e q)) (λ l. override_agrees i l)
+        by_place p.initialisers i (λ e q l. constant_agrees (constant_count p) i e q (position_small i e q))
+        (λ l. override_agrees i l)
 
     pub only_solution : other ≡ env
     only_solution =
@@ -306,7 +342,8 @@ module _ (p : Module) (n : ModuleNames) (fits : ConstantsFit p n) (s : Settings)
         λ i. record { constants = constants i; globals = solves.globals i; parts = solves.parts i }
 
   -- ---- the text's side
-  module _ (functions : List TextFunction) (all : AreNamed n functions) (within : length functions ≤ length p.functions) (w : World) where
+  module _ (functions : List TextFunction) (all : AreNamed n functions)
+      (within : length functions ≤ length p.functions) (w : World) where
     abbrev text : TextModule
     text = form_module_with p n functions
 
@@ -327,12 +364,16 @@ module _ (p : Module) (n : ModuleNames) (fits : ConstantsFit p n) (s : Settings)
         let parted : length p.constant_types ≡ constant_count p + length (override_types p) =
         sym (found_length value p.initialisers p.parts p.constant_types s.overrides fits.counted
         settings.overrides) ∙ counted value in
-        constants_known n value value' p.initialisers 0 (constant_count p) (length (override_types p)) (length p.constant_types) s.overrides outside (omega arith) parted each
+        constants_known n value value' p.initialisers 0 (constant_count p) (length (override_types p))
+        (length p.constant_types) s.overrides outside (omega arith) parted each
       where
-        counted : (value : ConstantTree → Option Value) → length (map value p.initialisers ++ map Some s.overrides) ≡ constant_count p + length (override_types p)
+        counted : (value : ConstantTree → Option Value) →
+            length (map value p.initialisers ++ map Some s.overrides) ≡ constant_count p + length (override_types p)
         counted value =
             length-append (map value p.initialisers) (map Some s.overrides)
-            ∙ ap₂ (λ a b. a + b) (length-map p.initialisers value) (length-map s.overrides Some ∙ has_types_length p.parts (override_types p) s.overrides settings.overrides)
+            ∙ ap₂ (λ a b. a + b) (length-map p.initialisers value)
+            (length-map s.overrides Some ∙ has_types_length p.parts (override_types p) s.overrides
+            settings.overrides)
 
     -- where the names stand for what is known, an operator's word is free and gives its value
     module _ (found : List (Option Value)) (counted : length found ≡ length p.constant_types) where
@@ -343,16 +384,20 @@ module _ (p : Module) (n : ModuleNames) (fits : ConstantsFit p n) (s : Settings)
       constant_here i lt =
           let at : i ≡ i + 0 = omega arith in
           ap (λ k. here (n.constant k)) at
-          ∙ known_at n.constant (length p.constant_types) 0 (λ a b la lb e. fits.distinct a b (omega (arith, la)) (omega (arith, lb)) e) found outside counted i lt
+          ∙ known_at n.constant (length p.constant_types) 0
+          (λ a b la lb e. fits.distinct a b (omega (arith, la)) (omega (arith, lb)) e) found outside counted i lt
 
       free : (word : Bytes) → OperatesOutside p n word → here word ≡ None
       free word o =
-          known_other n.constant word (length p.constant_types) 0 (λ i le lt e. o.constants i (omega (arith, lt)) e) found outside
+          known_other n.constant word (length p.constant_types) 0
+          (λ i le lt e. o.constants i (omega (arith, lt)) e) found outside
           ∙ globals_other n.global word p.globals 0 (λ i le lt e. o.globals i (omega (arith, lt)) e) s.globals no_names
 
       undeclared : (word : Bytes) → OperatesOutside p n word → is_declared text word ≡ false
       undeclared word o =
-          ap (λ b. b || names_function functions word) (no_constant_called n word p.initialisers 0 (λ i le lt e. let counted = fits.counted in o.constants i (omega (arith, lt, counted)) e))
+          ap (λ b. b || names_function functions word)
+          (no_constant_called n word p.initialisers 0
+          (λ i le lt e. let counted = fits.counted in o.constants i (omega (arith, lt, counted)) e))
           ∙ no_name_among p n functions within all word o.functions
 
       operates : (word : Bytes) → OperatesOutside p n word →
@@ -371,14 +416,17 @@ module _ (p : Module) (n : ModuleNames) (fits : ConstantsFit p n) (s : Settings)
               ap (λ b. refused b (n.vocabulary.is_request word) (n.vocabulary.is_operator word)) (undeclared word o)
               ∙ ap₂ (refused false) o.asks_nothing o.operates
 
-          operates_so : (os : Option (List Value)) → as_value (word_answer l word (reach os t)) ≡ denoted (operator_value m (Spelled word) os) t
+          operates_so : (os : Option (List Value)) → as_value (word_answer l word (reach os t))
+              ≡ denoted (operator_value m (Spelled word) os) t
           operates_so None = refl
-          operates_so (Some vs) = ap (λ b. as_value (cond b (Halts Stuck t) (Gives (Some (m (Spelled word) vs)) t))) tests
+          operates_so (Some vs) =
+              ap (λ b. as_value (cond b (Halts Stuck t) (Gives (Some (m (Spelled word) vs)) t))) tests
 
       pub gives : (e : ConstantTree) → EachWord (OperatesOutside p n) e → ConstantInRange p e →
           initialiser_value l here (constant_form n e) ≡ as_denoted (tree_value (known_value found) m e)
       gives e words range =
-          ap initialised_name (tree_gives l here n (known_value found) (λ k. k < length p.constant_types) constant_here (OperatesOutside p n) operates e words range [])
+          ap initialised_name (tree_gives l here n (known_value found) (λ k. k < length p.constant_types)
+          constant_here (OperatesOutside p n) operates e words range [])
           ∙ initialised_denoted (tree_value (known_value found) m e)
 
     -- each round of the text knows what the module's knows
@@ -401,7 +449,9 @@ module _ (p : Module) (n : ModuleNames) (fits : ConstantsFit p n) (s : Settings)
         ∙ ap (λ os. with_known names os outside) values.1
         ∙ sym (parameters_known names values.0 outside)
         ∙ ap (λ vs. with_parameters names vs outside) (sym constants_are)
-        ∙ ap (λ gs. with_parameters names env.constants (with_globals (globals_from n.global 0 p.globals) gs 0 no_names)) (sym (held_values p.parts p.globals s.globals settings.globals))
+        ∙ ap (λ gs. with_parameters names env.constants
+        (with_globals (globals_from n.global 0 p.globals) gs 0 no_names))
+        (sym (held_values p.parts p.globals s.globals settings.globals))
 
     -- and an initialiser has the module's value
     pub initialiser_is : (e : ConstantTree) → EachWord (OperatesOutside p n) e → ConstantInRange p e →
@@ -417,5 +467,8 @@ module _ (p : Module) (n : ModuleNames) (fits : ConstantsFit p n) (s : Settings)
         denoted_value (Some v) = refl
 
 pub constants_are_computed : ConstantsAreComputed
-constants_are_computed p n fits s settings m typed =
-    (environment_fits p n fits s settings m typed, solution p n fits s settings m typed, only_solution p n fits s settings m typed)
+constants_are_computed p n fits s settings m typed = (
+  environment_fits p n fits s settings m typed,
+  solution p n fits s settings m typed,
+  only_solution p n fits s settings m typed,
+)

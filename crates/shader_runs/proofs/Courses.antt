@@ -181,7 +181,8 @@ filled_grows (counts next) t = filled_grows (next (entries t)) t
 filled_grows (joins c next) t =
     resumed_grows t (filled c t) (λ x e. filled (next x) e) (filled_grows c t) (λ x e. filled_grows (next x) e)
 
-pub joined_grows : (c : Course) (next : Pause → Course) (t : List Event) → events_made (filled c t) ≤ events_made (filled (joins c next) t)
+pub joined_grows : (c : Course) (next : Pause → Course) (t : List Event) → events_made (filled c t)
+    ≤ events_made (filled (joins c next) t)
 joined_grows c next t = go (filled c t)
   where
     go : (q : ReachedOrHalted Pause) → events_made q ≤ events_made (resumed q (λ x e. filled (next x) e))
@@ -241,7 +242,8 @@ none_asked (comes_to x) t i le = refl
 none_asked (stops x sound) t i le = refl
 none_asked (makes e c) t i le = none_asked c (e ∷ t) i le
 none_asked (asks parts k r next) t i le =
-    let grown : suc (length t) ≤ events_made (filled (next (default_value k)) (r ∷ t)) = filled_grows (next (default_value k)) (r ∷ t) in
+    let grown : suc (length t) ≤ events_made (filled (next (default_value k)) (r ∷ t)) =
+    filled_grows (next (default_value k)) (r ∷ t) in
     ap (λ b. now_or b k (asked (next (default_value k)) (r ∷ t) i)) (nat_apart (length t) i (omega (arith, le, grown)))
     ∙ none_asked (next (default_value k)) (r ∷ t) i le
 none_asked (counts next) t i le = none_asked (next (entries t)) t i le
@@ -260,7 +262,8 @@ pub is_asked_at : {c : Course} {t u : List Event} {k : ValueType} → AsksAt c t
 is_asked_at (now {k = k} {r = r} {next = next} {t = t}) =
     ap (λ b. now_or b k (asked (next (default_value k)) (r ∷ t) (length t))) (eq-eqb (length t) (length t) refl)
 is_asked_at (answered_then {y = y} {r = r} {next = next} {t = t} {u = u} a) =
-    ap (λ b. now_or b y (asked (next (default_value y)) (r ∷ t) (length u))) (nat_apart (length t) (length u) (asks_later a))
+    ap (λ b. now_or b y (asked (next (default_value y)) (r ∷ t) (length u)))
+    (nat_apart (length t) (length u) (asks_later a))
     ∙ is_asked_at a
 is_asked_at (made_then a) = is_asked_at a
 is_asked_at (counted_then a) = is_asked_at a

@@ -43,13 +43,16 @@ use Rattle.shader_runs.proofs.Form.{place_here, all_here}
 use Rattle.shader_runs.proofs.Checked.{IsFresh, MayBind, MayEmitAll}
 use Rattle.std.proofs.lemmas.Option.{none-some}
 
-pub extends_update : (s : Handles) (h : ℕ) (st : Availability) → (IsTrue (is_present (s h)) → IsTrue (is_present st)) → Extends s (update s h st)
+pub extends_update : (s : Handles) (h : ℕ) (st : Availability) →
+    (IsTrue (is_present (s h)) → IsTrue (is_present st)) → Extends s (update s h st)
 extends_update s h st i k p =
     update_cases (λ z. IsTrue (is_present z)) s h st k (λ e. i (subst (λ k. IsTrue (is_present (s k))) e p)) (λ e. p)
 
-pub agree_update : (s : Handles) (kept : KeptValues) (h : ℕ) (o : Option Value) → (IsTrue (is_present (s h)) → o ≡ kept h) → Agree s kept (update kept h o)
+pub agree_update : (s : Handles) (kept : KeptValues) (h : ℕ) (o : Option Value) →
+    (IsTrue (is_present (s h)) → o ≡ kept h) → Agree s kept (update kept h o)
 agree_update s kept h o a k p =
-    update_cases (λ z. z ≡ kept k) kept h o k (λ e. a (subst (λ k. IsTrue (is_present (s k))) e p) ∙ ap kept (sym e)) (λ e. refl)
+    update_cases (λ z. z ≡ kept k) kept h o k
+    (λ e. a (subst (λ k. IsTrue (is_present (s k))) e p) ∙ ap kept (sym e)) (λ e. refl)
 
 -- an event's handle wasn't in scope, and an operator's has the value that it had
 pub new_event : (c : Call) (s : Handles) (names : Scope) (kept : KeptValues) (y : ValueType)
@@ -58,7 +61,9 @@ pub new_event : (c : Call) (s : Handles) (names : Scope) (kept : KeptValues) (y 
     IsTrue (is_new st) → Stands c s names kept y e o st → IsTrue (is_present st) → ⊥
 new_event c s names kept y e o f Absent i d p = true≢false (sym p)
 new_event c s names kept y e o f Barred i d p = true≢false (sym p)
-new_event c s names kept y e o f Everywhere i d p = no_value c.environment.parts y o d.1 (d.2 ∙ unwritten c.environment.parts c.meaning e f (used_values c kept (operands_of e)))
+new_event c s names kept y e o f Everywhere i d p =
+    no_value c.environment.parts y o d.1
+    (d.2 ∙ unwritten c.environment.parts c.meaning e f (used_values c kept (operands_of e)))
 new_event c s names kept y e o f Inline i d p = true≢false (sym i)
 new_event c s names kept y e o f (Bound x) i d p = true≢false (sym i)
 
@@ -88,18 +93,22 @@ related_new c n s names names' kept h st o r a i keeps same others d =
       words = λ w f. others w f ∙ r.words w f;
     }
   where
-    go : (k : ℕ) (b : Bool) → nat_eq k h ≡ b → Stands c (update s h st) names' (update kept h o) (handle_type c.function k) (expression_of c.function k) (cond b o (kept k)) (cond b st (s k))
-    go k true e = subst (λ k. Stands c (update s h st) names' (update kept h o) (handle_type c.function k) (expression_of c.function k) o st) (sym (eqb-true k h e)) d
+    go : (k : ℕ) (b : Bool) → nat_eq k h ≡ b → Stands c (update s h st) names' (update kept h o)
+        (handle_type c.function k) (expression_of c.function k) (cond b o (kept k)) (cond b st (s k))
+    go k true e = subst (λ k. Stands c (update s h st) names' (update kept h o) (handle_type c.function k)
+        (expression_of c.function k) o st) (sym (eqb-true k h e)) d
     go k false e =
         stands_on c s (update s h st) names names' kept (update kept h o) (extends_update s h st i)
         (agree_update s kept h o a) (handle_type c.function k) (expression_of c.function k)
         (kept k) (kept k) (s k) (λ p. refl) (keeps k) (r.availability k)
 
-keeps_fresh : (names : Scope) (x : Bytes) (d : Option Denotation) (st : Availability) → st ≢ Bound x → KeepsName names (bind names x d) st
+keeps_fresh : (names : Scope) (x : Bytes) (d : Option Denotation) (st : Availability) → st ≢ Bound x →
+    KeepsName names (bind names x d) st
 keeps_fresh names x d (Bound y) f = bind_other names x d y (λ e. f (ap Bound e))
 keeps_fresh names x d _ f = tt
 
-pub emitted_used : (c : Call) (e : Option Expression) (o : Option Value) → IsTrue (is_emittable e) → used_value_as c e o ≡ o
+pub emitted_used : (c : Call) (e : Option Expression) (o : Option Value) → IsTrue (is_emittable e) →
+    used_value_as c e o ≡ o
 emitted_used c (Some (Constant v)) o i = absurd (true≢false (sym i))
 emitted_used c (Some (Argument v)) o i = absurd (true≢false (sym i))
 emitted_used c (Some (Local v)) o i = absurd (true≢false (sym i))
@@ -171,25 +180,31 @@ barred_related c n s names kept h o r a = go (s h) refl
         keeps_present : IsTrue (is_present (s h)) → IsTrue (is_present st)
         keeps_present p = ap is_present (sym e) ∙ p
 
-        moved : (k : ℕ) → Stands c (update s h st) names (update kept h o) (handle_type c.function k) (expression_of c.function k) (update kept h o k) (s k)
+        moved : (k : ℕ) → Stands c (update s h st) names (update kept h o) (handle_type c.function k)
+            (expression_of c.function k) (update kept h o k) (s k)
         moved k =
             stands_on c s (update s h st) names names (update kept h o) (update kept h o)
             (extends_update s h st keeps_present) (agree_refl s (update kept h o))
             (handle_type c.function k) (expression_of c.function k) (update kept h o k)
             (update kept h o k) (s k) (λ p. refl) (keeps_all names (s k)) (there.availability k)
 
-    go : (st : Availability) → s h ≡ st → Related c n (update s h (availability_without_name false st)) names (update kept h o)
+    go : (st : Availability) → s h ≡ st → Related c n (update s h (availability_without_name false st)) names
+        (update kept h o)
     go Absent e =
-        related_new c n s names names kept h Barred o r a (λ p. absurd (true≢false (sym (ap is_present (sym e) ∙ p)))) (λ k. keeps_all names (s k)) (λ z here. refl) (λ w k. refl) tt
+        related_new c n s names names kept h Barred o r a
+        (λ p. absurd (true≢false (sym (ap is_present (sym e) ∙ p)))) (λ k. keeps_all names (s k))
+        (λ z here. refl) (λ w k. refl) tt
     go Barred e = same Barred e
     go Everywhere e = same Everywhere e
     go Inline e = same Inline e
     go (Bound x) e = same (Bound x) e
 
 -- what holds wherever both runs go on with this scope
-abbrev pub GoesOn : (c : Call) → Names → (R : Option Value → Type 0) → (P Q B : KeptValues → Scope → Type 0) → Handles → KeptValues → Handles → Next KeptValues → Next Scope → Type 0
+abbrev pub GoesOn : (c : Call) → Names → (R : Option Value → Type 0) → (P Q B : KeptValues → Scope → Type 0) →
+    Handles → KeptValues → Handles → Next KeptValues → Next Scope → Type 0
 GoesOn c n R P Q B s kept s1 f g =
-    (kept1 : KeptValues) (names1 : Scope) (t : List Event) → Related c n s1 names1 kept1 → Agree s kept kept1 → Alike R P Q B (f kept1 t) (g names1 t)
+    (kept1 : KeptValues) (names1 : Scope) (t : List Event) → Related c n s1 names1 kept1 → Agree s kept kept1 →
+    Alike R P Q B (f kept1 t) (g names1 t)
 
 -- a `let`
 abbrev pub bound_next : ReachedOrHalted Value → Bytes → Scope → Next Scope → Outcome Scope
@@ -280,7 +295,8 @@ module _ (p : Module) (c : Call) (n : Names) (d : Respond) (facts : Facts p c n 
         (follow_in_loop (words c d) bound tail) →
         Alike R P Q B (f (update kept h o) t) (follow_in_loop (words c d) bound tail names t)
     inline_at true u o un v e next =
-        next (update kept h o) names t (inline_related c n s names kept h o r un (u refl) (v refl) e) (agree_update s kept h o un)
+        next (update kept h o) names t (inline_related c n s names kept h o r un (u refl) (v refl) e)
+        (agree_update s kept h o un)
     inline_at false u o un v e next =
         next (update kept h o) names t (barred_related c n s names kept h o r un) (agree_update s kept h o un)
 
@@ -303,15 +319,18 @@ module _ (p : Module) (c : Call) (n : Names) (d : Respond) (facts : Facts p c n 
         IsTrue (usable_all c.function s (operands_of e)) →
         TypedValue c.environment.parts (handle_type c.function h) (computed_value c kept e)
     value_there e q =
-        subst (λ e. IsTrue (is_pure e) → IsTrue (usable_all c.function s (operands_of e)) → TypedValue c.environment.parts (handle_type c.function h) (computed_value c kept e)) q value_there_own
+        subst (λ e. IsTrue (is_pure e) → IsTrue (usable_all c.function s (operands_of e)) →
+        TypedValue c.environment.parts (handle_type c.function h) (computed_value c kept e)) q value_there_own
 
-    unchanged : (e : Option Expression) → expression_of c.function h ≡ e → IsTrue (is_present (s h)) → computed_value c kept e ≡ kept h
+    unchanged : (e : Option Expression) → expression_of c.function h ≡ e → IsTrue (is_present (s h)) →
+        computed_value c kept e ≡ kept h
     unchanged e q =
         subst (λ e. IsTrue (is_present (s h)) → computed_value c kept e ≡ kept h) q
         (new_operator c s names kept (handle_type c.function h) (expression_of c.function h)
         (kept h) (s h) a (r.availability h))
 
-    no_event : (e : Option Expression) → expression_of c.function h ≡ e → ((vs : List Value) → combined_value c.environment.parts c.meaning e vs ≡ None) → IsTrue (is_present (s h)) → ⊥
+    no_event : (e : Option Expression) → expression_of c.function h ≡ e →
+        ((vs : List Value) → combined_value c.environment.parts c.meaning e vs ≡ None) → IsTrue (is_present (s h)) → ⊥
     no_event e q g =
         new_event c s names kept (handle_type c.function h) (expression_of c.function h) (kept h)
         (subst (λ e. (vs : List Value) → combined_value c.environment.parts c.meaning e vs ≡ None) (sym q) g)
@@ -334,7 +353,9 @@ module _ (p : Module) (c : Call) (n : Names) (d : Respond) (facts : Facts p c n 
         let means = operator_there p c n d facts s names kept r (written_form (naming c n) s)
         (handle_type c.function h) e z y l (computed_value c kept e)
         v refl m.0 (all_here p c n d facts s names kept r (operands_of e) m.0) in
-        let_at m.1 next (computed_value c kept e) (unchanged e q) v (value_of (words c d) (value_form own) names t) (value_form_gives c d names own (computed_value c kept e) means t)
+        let_at m.1 next (computed_value c kept e) (unchanged e q) v
+        (value_of (words c d) (value_form own) names t)
+        (value_form_gives c d names own (computed_value c kept e) means t)
     emit_pure false e q z y l m next =
         inline_at (usable_all c.function s (operands_of e))
         (λ u. subst (λ e. IsTrue (usable_all c.function s (operands_of e))) (sym q) u)
@@ -403,18 +424,26 @@ module _ (p : Module) (c : Call) (n : Names) (d : Respond) (facts : Facts p c n 
         (follow_in_loop (words c d) bound
         (let_if (binds_as c.function h e) x
         (value_form (own_form (naming c n) (written_form (naming c n) s) e)) tail) names t)
-    emit_one_as (Some (Load q)) y i l e k m next = emit_load (no_event (Some (Load q)) e (λ vs. refl)) (is_counted c.function h) q m next
-    emit_one_as (Some (Request w xs es)) y i l e k m next = emit_request (no_event (Some (Request w xs es)) e (λ vs. refl)) (is_counted c.function h) w xs es y i l m next
-    emit_one_as (Some (Operator w xs)) y i l e k m next = emit_pure (is_counted c.function h) (Some (Operator w xs)) e refl y i m next
-    emit_one_as (Some (Access u v)) y i l e k m next = emit_pure (is_counted c.function h) (Some (Access u v)) e refl y i m next
-    emit_one_as (Some (AccessIndex u v)) y i l e k m next = emit_pure (is_counted c.function h) (Some (AccessIndex u v)) e refl y i m next
-    emit_one_as (Some (Logical j u v)) y i l e k m next = emit_pure (is_counted c.function h) (Some (Logical j u v)) e refl y i m next
-    emit_one_as (Some (Swizzle w v)) y i l e k m next = emit_pure (is_counted c.function h) (Some (Swizzle w v)) e refl y i m next
+    emit_one_as (Some (Load q)) y i l e k m next = emit_load (no_event (Some (Load q)) e (λ vs. refl))
+        (is_counted c.function h) q m next
+    emit_one_as (Some (Request w xs es)) y i l e k m next =
+        emit_request (no_event (Some (Request w xs es)) e (λ vs. refl)) (is_counted c.function h) w xs es y i l m next
+    emit_one_as (Some (Operator w xs)) y i l e k m next =
+        emit_pure (is_counted c.function h) (Some (Operator w xs)) e refl y i m next
+    emit_one_as (Some (Access u v)) y i l e k m next =
+        emit_pure (is_counted c.function h) (Some (Access u v)) e refl y i m next
+    emit_one_as (Some (AccessIndex u v)) y i l e k m next =
+        emit_pure (is_counted c.function h) (Some (AccessIndex u v)) e refl y i m next
+    emit_one_as (Some (Logical j u v)) y i l e k m next =
+        emit_pure (is_counted c.function h) (Some (Logical j u v)) e refl y i m next
+    emit_one_as (Some (Swizzle w v)) y i l e k m next =
+        emit_pure (is_counted c.function h) (Some (Swizzle w v)) e refl y i m next
     emit_one_as (Some _) y i l e k m next = absurd (true≢false (sym k))
     emit_one_as None y i l e k m next = absurd (true≢false (sym k))
 
 -- the scope only grows
-pub unbound_present : (u : Bool) (st : Availability) → IsTrue (is_present st) → IsTrue (is_present (availability_without_name u st))
+pub unbound_present : (u : Bool) (st : Availability) → IsTrue (is_present st) →
+    IsTrue (is_present (availability_without_name u st))
 unbound_present true st p = refl
 unbound_present false Absent p = absurd (true≢false (sym p))
 unbound_present false _ p = p
@@ -431,14 +460,16 @@ extends_one c n k h s = go (binds c.function h) (is_pure e) (usable_all c.functi
         (unbound_present u (s h))
     go false false u = extends_refl s
 
-pub extends_emit : (c : Call) (n : Names) (k : ℕ) (hs : List ℕ) (s : Handles) → Extends s (after_emit (naming c n) k hs s)
+pub extends_emit : (c : Call) (n : Names) (k : ℕ) (hs : List ℕ) (s : Handles) →
+    Extends s (after_emit (naming c n) k hs s)
 extends_emit c n k [] s = extends_refl s
 extends_emit c n k (h ∷ hs) s =
     let k1 = named_after c.function h k in
     let s1 = after_one (naming c n) k h s in
     extends_trans s s1 (after_emit (naming c n) k1 hs s1) (extends_one c n k h s) (extends_emit c n k1 hs s1)
 
-then_assoc : {S : Type 0} (o : Outcome S) (f g : Next S) → and_then (and_then o f) g ≡ and_then o (λ s t. and_then (f s t) g)
+then_assoc : {S : Type 0} (o : Outcome S) (f g : Next S) → and_then (and_then o f) g
+    ≡ and_then o (λ s t. and_then (f s t) g)
 then_assoc (Done s t) f g = refl
 then_assoc _ f g = refl
 
@@ -466,4 +497,5 @@ emit_alike p c n d facts R P Q B bound f tail k (h ∷ hs) s names kept t r m ne
     kept1 t1 r1 m.1
     (λ kept2 names2 t2 r2 a2. next kept2 names2 t2 r2
     (agree_trans s s1 kept kept1 kept2 x a1 a2))) in
-    subst (λ o. Alike R P Q B o (follow_in_loop (words c d) bound (lets (naming c n) k (h ∷ hs) s tail) names t)) (sym (then_assoc (emit_as c h (expression_of c.function h) kept t) (emit c hs) f)) there
+    subst (λ o. Alike R P Q B o (follow_in_loop (words c d) bound (lets (naming c n) k (h ∷ hs) s tail) names
+    t)) (sym (then_assoc (emit_as c h (expression_of c.function h) kept t) (emit c hs) f)) there

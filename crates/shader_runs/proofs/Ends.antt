@@ -28,11 +28,13 @@ not_early e = absurd (true≢false (sym e))
 module _ (c : Call) (n : ℕ) where
   abbrev EndsOf : Statements → Type 0
   EndsOf ss =
-      (kept : KeptValues) (t : List Event) → IsTrue (is_early (run_all c n ss kept t)) → EndsAt c n ss kept t (run_all c n ss kept t)
+      (kept : KeptValues) (t : List Event) → IsTrue (is_early (run_all c n ss kept t)) →
+      EndsAt c n ss kept t (run_all c n ss kept t)
 
   abbrev EndsOne : Statement → Type 0
   EndsOne st =
-      (ss : Statements) (kept : KeptValues) (t : List Event) → IsTrue (is_early (run c n st kept t)) → EndsAt c n (then st ss) kept t (run c n st kept t)
+      (ss : Statements) (kept : KeptValues) (t : List Event) → IsTrue (is_early (run c n st kept t)) →
+      EndsAt c n (then st ss) kept t (run c n st kept t)
 
   ends_after : (st : Statement) (ss : Statements) (kept kept1 : KeptValues) (t t1 : List Event)
       (o : Outcome KeptValues) → run c n st kept t ≡ Done kept1 t1 → EndsAt c n ss kept1 t1 o →
@@ -110,24 +112,29 @@ module _ (c : Call) (n : ℕ) where
   -- from the first case on, the run comes to a case that ends early
   abbrev OnTo : Cases → KeptValues → List Event → Outcome KeptValues → Type 0
   OnTo cs kept t o =
-      (i : ℕ) × (kept1 : KeptValues) × (t1 : List Event) × FallsTo c n cs i kept t kept1 t1 × EndsAt c n (body_at cs i) kept1 t1 o
+      (i : ℕ) × (kept1 : KeptValues) × (t1 : List Event) × FallsTo c n cs i kept t kept1 t1
+      × EndsAt c n (body_at cs i) kept1 t1 o
 
   abbrev EndsOn : Cases → Type 0
-  EndsOn cs = (kept : KeptValues) (t : List Event) → IsTrue (is_early (run_on c n cs kept t)) → OnTo cs kept t (run_on c n cs kept t)
+  EndsOn cs = (kept : KeptValues) (t : List Event) → IsTrue (is_early (run_on c n cs kept t)) →
+      OnTo cs kept t (run_on c n cs kept t)
 
   -- the same for a case value
   abbrev ForTo : CaseValue → Cases → KeptValues → List Event → Outcome KeptValues → Type 0
   ForTo x cs kept t o =
-      (i : ℕ) × (kept1 : KeptValues) × (t1 : List Event) × ComesToCase c n x cs i kept t kept1 t1 × EndsAt c n (body_at cs i) kept1 t1 o
+      (i : ℕ) × (kept1 : KeptValues) × (t1 : List Event) × ComesToCase c n x cs i kept t kept1 t1
+      × EndsAt c n (body_at cs i) kept1 t1 o
 
   abbrev EndsFor : Cases → Type 0
   EndsFor cs =
-      (x : CaseValue) (kept : KeptValues) (t : List Event) → IsTrue (is_early (run_cases c n cs x kept t)) → ForTo x cs kept t (run_cases c n cs x kept t)
+      (x : CaseValue) (kept : KeptValues) (t : List Event) → IsTrue (is_early (run_cases c n cs x kept t)) →
+      ForTo x cs kept t (run_cases c n cs x kept t)
 
   abbrev Goes_on : Bool → Cases → Next KeptValues
   Goes_on falls cs kept t = cond falls (run_on c n cs kept t) (Done kept t)
 
-  on_ends : (l : CaseValue) (b : Statements) (falls : Bool) (cs : Cases) → EndsOf b → EndsOn cs → EndsOn (case l b falls cs)
+  on_ends : (l : CaseValue) (b : Statements) (falls : Bool) (cs : Cases) → EndsOf b → EndsOn cs →
+      EndsOn (case l b falls cs)
   on_ends l b falls cs in_b on kept t = go falls (run_all c n b kept t) refl (in_b kept t)
     where
       go : (falls : Bool) (o : Outcome KeptValues) → run_all c n b kept t ≡ o →
@@ -143,7 +150,8 @@ module _ (c : Call) (n : ℕ) where
       go falls (Returned v t1) e own early = (0, kept, t, this_case, own early)
       go falls (Stopped x t1) e own early = (0, kept, t, this_case, own early)
 
-  for_ends : (l : CaseValue) (b : Statements) (falls : Bool) (cs : Cases) → EndsOn (case l b falls cs) → EndsFor cs → EndsFor (case l b falls cs)
+  for_ends : (l : CaseValue) (b : Statements) (falls : Bool) (cs : Cases) → EndsOn (case l b falls cs) →
+      EndsFor cs → EndsFor (case l b falls cs)
   for_ends l b falls cs on others x kept t = go (same_case_value x l) refl
     where
       go : (here : Bool) → same_case_value x l ≡ here →
@@ -159,7 +167,8 @@ module _ (c : Call) (n : ℕ) where
           (suc w.0, w.1, w.2, other_case e w.3, w.4)
 
   -- a switch keeps an early end, but for a break
-  switch_keeps : (o : Outcome KeptValues) → IsTrue (is_early (after_switch o)) → (after_switch o ≡ o) × IsTrue (is_early o)
+  switch_keeps : (o : Outcome KeptValues) → IsTrue (is_early (after_switch o)) → (after_switch o ≡ o)
+      × IsTrue (is_early o)
   switch_keeps (Broke k t) early = not_early early
   switch_keeps _ early = (refl, early)
 
@@ -180,7 +189,8 @@ module _ (c : Call) (n : ℕ) where
           let x = case_value_if (has_case_value (Numbered z) cs) z in
           let keeps = switch_keeps (run_cases c n cs x kept t) early in
           let w = cases x kept t keeps.1 in
-          subst (λ o. EndsAt c n (then (Switch h cs) ss) kept t o) (sym keeps.0) (ends_inside (Switch h cs) _ ss kept w.1 t w.2 (run_cases c n cs x kept t) (into_case e w.3) w.4)
+          subst (λ o. EndsAt c n (then (Switch h cs) ss) kept t o) (sym keeps.0)
+          (ends_inside (Switch h cs) _ ss kept w.1 t w.2 (run_cases c n cs x kept t) (into_case e w.3) w.4)
       go _ e early = not_early early
 
   -- what ends a loop early
@@ -192,9 +202,11 @@ module _ (c : Call) (n : ℕ) where
   -- the turn that ends the loop
   abbrev LastTurn : Next KeptValues → ℕ → KeptValues → List Event → Outcome KeptValues → Type 0
   LastTurn once m kept t o =
-      (j : ℕ) × (kept1 : KeptValues) × (t1 : List Event) × (j < m) × (after_turns once j kept t ≡ Done kept1 t1) × IsTrue (ends_loop (once kept1 t1)) × (o ≡ once kept1 t1)
+      (j : ℕ) × (kept1 : KeptValues) × (t1 : List Event) × (j < m) × (after_turns once j kept t ≡ Done kept1 t1)
+      × IsTrue (ends_loop (once kept1 t1)) × (o ≡ once kept1 t1)
 
-  last_turn : (once : Next KeptValues) (m : ℕ) (kept : KeptValues) (t : List Event) → IsTrue (is_early (turns m once kept t)) → LastTurn once m kept t (turns m once kept t)
+  last_turn : (once : Next KeptValues) (m : ℕ) (kept : KeptValues) (t : List Event) →
+      IsTrue (is_early (turns m once kept t)) → LastTurn once m kept t (turns m once kept t)
   last_turn once zero kept t early = not_early early
   last_turn once (suc m) kept t early = go (once kept t) refl (last_turn once m) early
     where
@@ -233,14 +245,17 @@ module _ (c : Call) (n : ℕ) where
         Ends (and_then (within (run_all c n d k t2)) (leave c e))
     continuing_ends k t2 q = go (run_all c n d k t2) (in_d k t2)
       where
-        go : (o : Outcome KeptValues) → (IsTrue (is_early o) → EndsAt c n d k t2 o) → IsTrue (ends_loop (and_then (within o) (leave c e))) → Ends (and_then (within o) (leave c e))
+        go : (o : Outcome KeptValues) → (IsTrue (is_early o) → EndsAt c n d k t2 o) →
+            IsTrue (ends_loop (and_then (within o) (leave c e))) → Ends (and_then (within o) (leave c e))
         go (Done k1 t3) own early = absurd (leave_never e k1 t3 early)
         go (Continued k1 t3) own early = not_early early
         go (Broke k1 t3) own early = not_early early
         go (Returned v t3) own early =
-            ends_inside (Loop b d e) (Continuing j) ss kept k t t2 (Returned v t3) (into_loop (to_continuing (to_body less done) q)) (own early)
+            ends_inside (Loop b d e) (Continuing j) ss kept k t t2 (Returned v t3)
+            (into_loop (to_continuing (to_body less done) q)) (own early)
         go (Stopped x t3) own early =
-            ends_inside (Loop b d e) (Continuing j) ss kept k t t2 (Stopped x t3) (into_loop (to_continuing (to_body less done) q)) (own early)
+            ends_inside (Loop b d e) (Continuing j) ss kept k t t2 (Stopped x t3)
+            (into_loop (to_continuing (to_body less done) q)) (own early)
 
     turn_ends : IsTrue (ends_loop (module_turn c n b d e kept1 t1)) → Ends (module_turn c n b d e kept1 t1)
     turn_ends = go (run_all c n b kept1 t1) refl (in_b kept1 t1)
@@ -254,19 +269,23 @@ module _ (c : Call) (n : ℕ) where
         go (Continued k t2) q own early = continuing_ends k t2 (ap (λ o. and_continue o (λ s t. Done s t)) q) early
         go (Broke k t2) q own early = not_early early
         go (Returned v t2) q own early =
-            ends_inside (Loop b d e) (LoopBody j) ss kept kept1 t t1 (Returned v t2) (into_loop (to_body less done)) (own early)
+            ends_inside (Loop b d e) (LoopBody j) ss kept kept1 t t1 (Returned v t2)
+            (into_loop (to_body less done)) (own early)
         go (Stopped x t2) q own early =
-            ends_inside (Loop b d e) (LoopBody j) ss kept kept1 t t1 (Stopped x t2) (into_loop (to_body less done)) (own early)
+            ends_inside (Loop b d e) (LoopBody j) ss kept kept1 t t1 (Stopped x t2)
+            (into_loop (to_body less done)) (own early)
 
   loop_ends : (b d : Statements) (e : Option ℕ) → EndsOf b → EndsOf d → EndsOne (Loop b d e)
   loop_ends b d e in_b in_d ss kept t early =
       let w = last_turn (module_turn c n b d e) n kept t early in
-      subst (λ o. EndsAt c n (then (Loop b d e) ss) kept t o) (sym w.6) (turn_ends b d e ss in_b in_d kept w.1 t w.2 w.0 w.3 w.4 w.5)
+      subst (λ o. EndsAt c n (then (Loop b d e) ss) kept t o) (sym w.6)
+      (turn_ends b d e ss in_b in_d kept w.1 t w.2 w.0 w.3 w.4 w.5)
 
   mutual
     one_ends : (st : Statement) → EndsOne st
     one_ends (Block b) =
-        λ ss kept t early. ends_inside (Block b) Inner ss kept kept t t (run_all c n b kept t) into_block (all_ends b kept t early)
+        λ ss kept t early. ends_inside (Block b) Inner ss kept kept t t (run_all c n b kept t) into_block
+        (all_ends b kept t early)
     one_ends (If h a b) = if_ends h a b (all_ends a) (all_ends b)
     one_ends (Switch h cs) = switch_ends h cs (cases_end cs).1
     one_ends (Loop b d e) = loop_ends b d e (all_ends b) (all_ends d)
@@ -283,9 +302,11 @@ module _ (c : Call) (n : ℕ) where
         let on = on_ends l b falls cs (all_ends b) rest.0 in
         (on, for_ends l b falls cs on rest.1)
 
-  end_passed : (ss : Statements) (kept kept1 : KeptValues) (t t1 : List Event) → run_all c n ss kept t ≡ Done kept1 t1 → Passes c n ss (end_of ss) kept t kept1 t1
+  end_passed : (ss : Statements) (kept kept1 : KeptValues) (t t1 : List Event) → run_all c n ss kept t
+      ≡ Done kept1 t1 → Passes c n ss (end_of ss) kept t kept1 t1
   end_passed end kept kept1 t t1 e =
-      subst (λ k. Passes c n end here kept t k t1) (same_state kept kept1 t t1 e) (subst (λ x. Passes c n end here kept t kept x) (same_events kept kept1 t t1 e) is_here)
+      subst (λ k. Passes c n end here kept t k t1) (same_state kept kept1 t t1 e)
+      (subst (λ x. Passes c n end here kept t kept x) (same_events kept kept1 t t1 e) is_here)
   end_passed (then st ss) kept kept1 t t1 e =
       let parts = then_parts (run c n st kept t) (run_all c n ss) kept1 t1 e in
       goes_after parts.2 (end_passed ss parts.0 kept1 parts.1 t1 parts.3)

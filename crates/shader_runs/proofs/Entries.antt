@@ -87,11 +87,13 @@ module _ (calls : ℕ → List Value → Course) where
     chosen_enters true p q h k = h
     chosen_enters false p q h k = k
 
-    then_enters : (next : KeptValues → Process) → ((s : KeptValues) → Enters (next s)) → (x : Pause) → Enters (then_on next x)
+    then_enters : (next : KeptValues → Process) → ((s : KeptValues) → Enters (next s)) → (x : Pause) →
+        Enters (then_on next x)
     then_enters next h (DoneWith s) t = h s t
     then_enters next h _ t = tt
 
-    continue_enters : (next : KeptValues → Process) → ((s : KeptValues) → Enters (next s)) → (x : Pause) → Enters (continue_on next x)
+    continue_enters : (next : KeptValues → Process) → ((s : KeptValues) → Enters (next s)) → (x : Pause) →
+        Enters (continue_on next x)
     continue_enters next h (DoneWith s) t = h s t
     continue_enters next h (ContinuedWith s) t = h s t
     continue_enters next h (BrokeWith s) t = tt
@@ -114,15 +116,19 @@ module _ (calls : ℕ → List Value → Course) where
     result_enters (Some h) kept None t = tt
     result_enters (Some h) kept (Some v) t = tt
 
-    keeping_enters : (parts : PartTypes) (k : ValueType) (h : ℕ) (r : Event) (kept : KeptValues) → IsNoEntry r → Enters (keeping parts k h r kept)
+    keeping_enters : (parts : PartTypes) (k : ValueType) (h : ℕ) (r : Event) (kept : KeptValues) → IsNoEntry r →
+        Enters (keeping parts k h r kept)
     keeping_enters parts k h r kept apart t = (apart, λ v. tt)
 
-    load_enters : (parts : PartTypes) (k : ValueType) (h : ℕ) (kept : KeptValues) (o : Option Value) → Enters (load_process parts k h kept o)
+    load_enters : (parts : PartTypes) (k : ValueType) (h : ℕ) (kept : KeptValues) (o : Option Value) →
+        Enters (load_process parts k h kept o)
     load_enters parts k h kept None t = tt
     load_enters parts k h kept (Some v) t =
-        there_enters (place_in v) (λ p. keeping parts k h (Read p) kept) (λ p. keeping_enters parts k h (Read p) kept tt) t
+        there_enters (place_in v) (λ p. keeping parts k h (Read p) kept)
+        (λ p. keeping_enters parts k h (Read p) kept tt) t
 
-    ask_enters : (parts : PartTypes) (k : ValueType) (h : ℕ) (word : Bytes) (kept : KeptValues) (o : Option (List Value)) → Enters (ask_process parts k h word kept o)
+    ask_enters : (parts : PartTypes) (k : ValueType) (h : ℕ) (word : Bytes) (kept : KeptValues)
+        (o : Option (List Value)) → Enters (ask_process parts k h word kept o)
     ask_enters parts k h word kept None t = tt
     ask_enters parts k h word kept (Some vs) t = keeping_enters parts k h (Ask word vs) kept tt t
 
@@ -131,17 +137,20 @@ module _ (calls : ℕ → List Value → Course) where
     asks_enter (word ∷ words) kept t = (tt, asks_enter words kept (Ask word [] ∷ t))
 
     -- a body's statements, where the calls of callees enter so
-    module _ (c : Call) (callees : ℕ → List Value → Process) (each : (g : ℕ) (vs : List Value) → Enters (callees g vs)) where
+    module _ (c : Call) (callees : ℕ → List Value → Process)
+        (each : (g : ℕ) (vs : List Value) → Enters (callees g vs)) where
       one_enters : (h : ℕ) (o : Option Expression) (kept : KeptValues) → Enters (emit_one c callees h o kept)
       one_enters h (Some (Load p)) kept =
           let parts = c.environment.parts in
           let k = handle_type c.function h in
-          chosen_enters (is_counted c.function h) (load_process parts k h kept (used_value c kept p)) (gives (DoneWith kept)) (load_enters parts k h kept (used_value c kept p)) (λ t. tt)
+          chosen_enters (is_counted c.function h) (load_process parts k h kept (used_value c kept p))
+          (gives (DoneWith kept)) (load_enters parts k h kept (used_value c kept p)) (λ t. tt)
       one_enters h (Some (Request w xs es)) kept =
           let parts = c.environment.parts in
           let k = handle_type c.function h in
           let o = joined_values (used_values c kept xs) (constant_values c.environment c.meaning es) in
-          chosen_enters (is_counted c.function h) (ask_process parts k h w kept o) (gives (DoneWith kept)) (ask_enters parts k h w kept o) (λ t. tt)
+          chosen_enters (is_counted c.function h) (ask_process parts k h w kept o) (gives (DoneWith kept))
+          (ask_enters parts k h w kept o) (λ t. tt)
       one_enters h _ kept = λ t. tt
 
       emit_enters : (hs : List ℕ) (kept : KeptValues) → Enters (emit_process c callees hs kept)
@@ -149,7 +158,8 @@ module _ (calls : ℕ → List Value → Course) where
       emit_enters (h ∷ hs) kept t =
           (one_enters h (expression_of c.function h) kept t, then_enters (emit_process c callees hs) (emit_enters hs))
 
-      act_enters : (a : Action) (r : Option ℕ) (kept : KeptValues) (vs : List Value) → Enters (act_process c callees a r kept vs)
+      act_enters : (a : Action) (r : Option ℕ) (kept : KeptValues) (vs : List Value) →
+          Enters (act_process c callees a r kept vs)
       act_enters (Asked word) None kept vs t = (tt, tt)
       act_enters (Asked word) (Some h) kept vs t =
           keeping_enters c.environment.parts (handle_type c.function h) h (Ask word vs) kept tt t
@@ -200,7 +210,8 @@ module _ (calls : ℕ → List Value → Course) where
         statement_enters (Jumps (Return o)) kept = return_enters o kept
         statement_enters (Jumps _) kept = λ t. (tt, tt)
         statement_enters (Barrier bits) kept = asks_enter (barrier_words bits) kept
-        statement_enters (Act a xs r) kept = there_enters (used_values c kept xs) (act_process c callees a r kept) (act_enters a r kept)
+        statement_enters (Act a xs r) kept =
+            there_enters (used_values c kept xs) (act_process c callees a r kept) (act_enters a r kept)
 
         list_enters : (ss : Statements) (kept : KeptValues) → Enters (list_process c callees ss kept)
         list_enters end kept t = tt
@@ -214,7 +225,8 @@ module _ (calls : ℕ → List Value → Course) where
             (λ t. (
               list_enters b kept t,
               then_enters (λ s. if_true falls (on_process c callees ks s) (gives (DoneWith s)))
-                  (λ s. chosen_enters falls (on_process c callees ks s) (gives (DoneWith s)) (on_enters ks s) (λ t. tt)),
+                  (λ s. chosen_enters falls (on_process c callees ks s) (gives (DoneWith s)) (on_enters ks s)
+                  (λ t. tt)),
             )) (cases_enter ks x kept)
 
         on_enters : (ks : Cases) (kept : KeptValues) → Enters (on_process c callees ks kept)
@@ -237,7 +249,8 @@ module _ (env : Environment) (m : Meaning) (functions : List Function) (n : ℕ)
 
   fewer_last : (f : Function) (fs : List Function) → AreLast (f ∷ fs) → AreLast fs
   fewer_last f fs last g lt vs =
-      last g (omega (arith, lt)) vs ∙ ap (λ b. if_true b own (call_process env m fs g vs)) (ne_eqb g (length fs) (λ e. omega (arith, lt, e)))
+      last g (omega (arith, lt)) vs ∙ ap (λ b. if_true b own (call_process env m fs g vs))
+      (ne_eqb g (length fs) (λ e. omega (arith, lt, e)))
     where
       own : Process
       own =
@@ -245,7 +258,8 @@ module _ (env : Environment) (m : Meaning) (functions : List Function) (n : ℕ)
           (body_process (call_alone f fs env m vs frame) (call_process env m fs) (length fs) vs)
           stuck)
 
-  calls_enter : (fs : List Function) → AreLast fs → (g : ℕ) (vs : List Value) (t : List Event) → Entered call_course (course n (call_process env m fs g vs)) t
+  calls_enter : (fs : List Function) → AreLast fs → (g : ℕ) (vs : List Value) (t : List Event) →
+      Entered call_course (course n (call_process env m fs g vs)) t
   calls_enter [] last g vs t = tt
   calls_enter (f ∷ fs) last g vs t =
       chosen_enters call_course n (nat_eq g (length fs)) _ (call_process env m fs g vs)
@@ -282,7 +296,8 @@ module _ (env : Environment) (m : Meaning) (functions : List Function) (n : ℕ)
       entry t (Some firsts) h at rest = (
         at ∙ ap (λ o. course n (entry_process (length fs) vs o (lines t))) h,
         (
-          list_enters call_course n (call t) (call_process env m fs) rest f.body (constants_kept f env m) (Entry (length fs) vs firsts ∷ t),
+          list_enters call_course n (call t) (call_process env m fs) rest f.body (constants_kept f env m)
+              (Entry (length fs) vs firsts ∷ t),
           answers_enter call_course n,
         ),
       )
@@ -292,7 +307,8 @@ module _ (env : Environment) (m : Meaning) (functions : List Function) (n : ℕ)
           Entered call_course (course n (call_process env m fs g vs)) t) →
           Entered call_course (course n (if_true b (body t) stuck)) t
       own t true e rest =
-          entry t (first_used_all (call t) (constants_kept f env m) f.first_values) refl (begins t ∙ ap (λ b. course n (if_true b (body t) stuck)) e) rest
+          entry t (first_used_all (call t) (constants_kept f env m) f.first_values) refl
+          (begins t ∙ ap (λ b. course n (if_true b (body t) stuck)) e) rest
       own t false e rest = tt
 
   -- each entry of a call's course is where a call begins
@@ -306,7 +322,8 @@ IsOpening (makes (Entry g vs firsts) c) = Unit {0}
 IsOpening (counts next) = (i : ℕ) → IsOpening (next i)
 IsOpening _ = ⊥
 
-pub call_opens : (env : Environment) (m : Meaning) (fs : List Function) (n g : ℕ) (vs : List Value) → IsOpening (course n (call_process env m fs g vs))
+pub call_opens : (env : Environment) (m : Meaning) (fs : List Function) (n g : ℕ) (vs : List Value) →
+    IsOpening (course n (call_process env m fs g vs))
 call_opens env m [] n g vs = tt
 call_opens env m (f ∷ fs) n g vs = go (nat_eq g (length fs)) (call_opens env m fs n g vs)
   where
@@ -314,11 +331,14 @@ call_opens env m (f ∷ fs) n g vs = go (nat_eq g (length fs)) (call_opens env m
     entry None p = tt
     entry (Some firsts) p = tt
 
-    own : (b : Bool) (frame : ℕ) → IsOpening (course n (if_true b (body_process (call_alone f fs env m vs frame) (call_process env m fs) (length fs) vs) stuck))
+    own : (b : Bool) (frame : ℕ) →
+        IsOpening (course n
+        (if_true b (body_process (call_alone f fs env m vs frame) (call_process env m fs) (length fs) vs) stuck))
     own true frame =
         let c = call_alone f fs env m vs frame in
         let kept = constants_kept f env m in
-        entry (first_used_all c kept f.first_values) (sequence (list_process c (call_process env m fs) f.body kept) answers_call)
+        entry (first_used_all c kept f.first_values)
+        (sequence (list_process c (call_process env m fs) f.body kept) answers_call)
     own false frame = tt
 
     go : (b : Bool) → IsOpening (course n (call_process env m fs g vs)) →

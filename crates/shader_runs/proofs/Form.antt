@@ -63,11 +63,14 @@ pub record Facts (p : Module) (c : Call) (n : Names) (d : Respond) : Type 0 wher
 pub no_value : (parts : PartTypes) (y : ValueType) (o : Option Value) → TypedValue parts y o → o ≡ None → ⊥
 no_value parts y o v e = none-some v.0 (sym e ∙ v.1)
 
-pub unwritten : (parts : PartTypes) (m : Meaning) (e : Option Expression) → ((vs : List Value) → combined_value parts m e vs ≡ None) → (os : Option (List Value)) → gathered_value parts m e os ≡ None
+pub unwritten : (parts : PartTypes) (m : Meaning) (e : Option Expression) →
+    ((vs : List Value) → combined_value parts m e vs ≡ None) → (os : Option (List Value)) →
+    gathered_value parts m e os ≡ None
 unwritten parts m e h None = refl
 unwritten parts m e h (Some vs) = h vs
 
-pub has_type_at : (parts : PartTypes) (ts : List ValueType) (vs : List Value) → IsTrue (has_types parts ts vs) → (i : ℕ) → i < length ts → TypedValue parts (type_at ts i) (slice_get vs i)
+pub has_type_at : (parts : PartTypes) (ts : List ValueType) (vs : List Value) → IsTrue (has_types parts ts vs) →
+    (i : ℕ) → i < length ts → TypedValue parts (type_at ts i) (slice_get vs i)
 has_type_at parts [] [] h i lt = absurd (omega arith)
 has_type_at parts [] (v ∷ vs) h i lt = absurd (omega arith)
 has_type_at parts (t ∷ ts) [] h i lt = absurd (true≢false (sym h))
@@ -90,7 +93,8 @@ global_at parts (t ∷ ts) (v ∷ vs) h zero lt =
 global_at parts (t ∷ ts) (v ∷ vs) h (suc i) lt =
     global_at parts ts vs (and_right (global_fits parts t v) (globals_fit parts ts vs) h) i (omega arith)
 
-pub globals_length : (parts : PartTypes) (ts : List VariableShape) (gs : List GlobalValue) → IsTrue (globals_fit parts ts gs) → length gs ≡ length ts
+pub globals_length : (parts : PartTypes) (ts : List VariableShape) (gs : List GlobalValue) →
+    IsTrue (globals_fit parts ts gs) → length gs ≡ length ts
 globals_length parts [] [] e = refl
 globals_length parts [] (v ∷ vs) e = absurd (true≢false (sym e))
 globals_length parts (t ∷ ts) [] e = absurd (true≢false (sym e))
@@ -98,14 +102,17 @@ globals_length parts (t ∷ ts) (v ∷ vs) e =
     ap suc (globals_length parts ts vs (and_right (global_fits parts t v) (globals_fit parts ts vs) e))
 
 -- the names that are there from the start are the module's and the function's
-pub in_range : (p : Module) (c : Call) → EnvironmentFits p c.environment → (y : FixedName) → IsHere c y → IsFixedName p c.function y
+pub in_range : (p : Module) (c : Call) → EnvironmentFits p c.environment → (y : FixedName) → IsHere c y →
+    IsFixedName p c.function y
 in_range p c fits (ArgumentName i) h = h
 in_range p c fits (LocalName i) h = h
 in_range p c fits (ConstantName i) h =
     subst (λ k. i < k) (has_types_length c.environment.parts p.constant_types c.environment.constants fits.constants) h
-in_range p c fits (GlobalName i) h = subst (λ k. i < k) (globals_length c.environment.parts p.globals c.environment.globals fits.globals) h
+in_range p c fits (GlobalName i) h =
+    subst (λ k. i < k) (globals_length c.environment.parts p.globals c.environment.globals fits.globals) h
 
-pub no_name : (p : Module) (c : Call) (n : Names) → EnvironmentFits p c.environment → (w : Bytes) → IsNoName p (naming c n) w → NoName c n w
+pub no_name : (p : Module) (c : Call) (n : Names) → EnvironmentFits p c.environment → (w : Bytes) →
+    IsNoName p (naming c n) w → NoName c n w
 no_name p c n fits w f =
     record {
       fixed = λ x here. f (FixedKey x) (in_range p c fits x here);
@@ -113,7 +120,8 @@ no_name p c n fits w f =
       named = λ k lt. f (NamedKey k) lt;
     }
 
-held_typed : (parts : PartTypes) (x : VariableShape) (i : ℕ) (g : GlobalValue) → IsTrue (global_fits parts x g) → TypedValue parts (variable_type x) (global_value i (Some g))
+held_typed : (parts : PartTypes) (x : VariableShape) (i : ℕ) (g : GlobalValue) →
+    IsTrue (global_fits parts x g) → TypedValue parts (variable_type x) (global_value i (Some g))
 held_typed parts (AtPlace s) i (Stored q) h = (Pointer (Rooted (GlobalRoot q i)), refl, h)
 held_typed parts (AtPlace s) i (InHandleSpace o) h = absurd (true≢false (sym h))
 held_typed parts (Held k) i (Stored q) h = absurd (true≢false (sym h))
@@ -122,27 +130,34 @@ held_typed parts (Held k) i (InHandleSpace (Some v)) h = (v, refl, h)
 
 -- the values of trees over constants have their types
 module _ (p : Module) (env : Environment) (fits : EnvironmentFits p env) (m : Meaning) where
-  pub constant_typed : (e : ConstantTree) → ConstantInRange p e → ConstantTyped env.parts p m e → TypedValue env.parts (constant_type p e) (constant_value env m e)
+  pub constant_typed : (e : ConstantTree) → ConstantInRange p e → ConstantTyped env.parts p m e →
+      TypedValue env.parts (constant_type p e) (constant_value env m e)
   constant_typed =
-      tree_typed env.parts p (slice_get env.constants) m (λ i. i < length p.constant_types) (has_type_at env.parts p.constant_types env.constants fits.constants)
+      tree_typed env.parts p (slice_get env.constants) m (λ i. i < length p.constant_types)
+      (has_type_at env.parts p.constant_types env.constants fits.constants)
 
   pub constants_typed : (es : ConstantTrees) → ConstantsInRange p es →
       ConstantsTyped env.parts p m es → (vs : List Value) × (constant_values env m es ≡ Some vs) ×
       IsTrue (has_types env.parts (constant_types_of p es) vs)
   constants_typed =
-      trees_typed env.parts p (slice_get env.constants) m (λ i. i < length p.constant_types) (has_type_at env.parts p.constant_types env.constants fits.constants)
+      trees_typed env.parts p (slice_get env.constants) m (λ i. i < length p.constant_types)
+      (has_type_at env.parts p.constant_types env.constants fits.constants)
 
-retyped : (parts : PartTypes) (k k' : ValueType) (o : Option Value) → k ≡ k' → TypedValue parts k' o → TypedValue parts k o
+retyped : (parts : PartTypes) (k k' : ValueType) (o : Option Value) → k ≡ k' → TypedValue parts k' o →
+    TypedValue parts k o
 retyped parts k k' o e v = (v.0, v.1, ap (λ k. has_type parts k v.0) e ∙ v.2)
 
 -- a handle in scope has a value of its type, if what is kept for it has it
-module _ (p : Module) (c : Call) (arguments : IsTrue (has_types c.environment.parts c.function.argument_types c.arguments)) (environment : EnvironmentFits p c.environment) where
+module _ (p : Module) (c : Call)
+    (arguments : IsTrue (has_types c.environment.parts c.function.argument_types c.arguments))
+    (environment : EnvironmentFits p c.environment) where
   pub used_typed : (k : ValueType) (e : Option Expression) → LeafFits p c.function k e →
       LeafTyped c.environment.parts p c.meaning e → (o : Option Value) (st : Availability) →
       (IsTrue (is_present st) → TypedValue c.environment.parts k o) →
       IsTrue (usable_as c.function e st) → TypedValue c.environment.parts k (used_value_as c e o)
   used_typed k (Some (Constant e)) l m o st v u =
-      retyped c.environment.parts k (constant_type p e) (constant_value c.environment c.meaning e) l.1 (constant_typed p c.environment environment c.meaning e l.0 m)
+      retyped c.environment.parts k (constant_type p e) (constant_value c.environment c.meaning e) l.1
+      (constant_typed p c.environment environment c.meaning e l.0 m)
   used_typed k (Some (Argument i)) l m o st v u =
       retyped c.environment.parts k (type_at c.function.argument_types i) (slice_get c.arguments i)
       l (has_type_at c.environment.parts c.function.argument_types c.arguments arguments i
@@ -150,10 +165,13 @@ module _ (p : Module) (c : Call) (arguments : IsTrue (has_types c.environment.pa
   used_typed k (Some (Local i)) l m o st v u =
       let pointer = local_pointer c.function i in
       let place = Pointer (Rooted (LocalRoot pointer c.frame i)) in
-      retyped c.environment.parts k (PointerType pointer) (Some place) l (place, refl, same_type_self (PointerType pointer))
-  used_typed k (Some (Global held i)) l m o st v u = go (global_at c.environment.parts p.globals c.environment.globals environment.globals i l.0)
+      retyped c.environment.parts k (PointerType pointer) (Some place) l
+      (place, refl, same_type_self (PointerType pointer))
+  used_typed k (Some (Global held i)) l m o st v u =
+      go (global_at c.environment.parts p.globals c.environment.globals environment.globals i l.0)
     where
-      go : GlobalThere c.environment.parts (variable_shape_at p.globals i) (slice_get c.environment.globals i) → TypedValue c.environment.parts k (global_value i (slice_get c.environment.globals i))
+      go : GlobalThere c.environment.parts (variable_shape_at p.globals i) (slice_get c.environment.globals i) →
+          TypedValue c.environment.parts k (global_value i (slice_get c.environment.globals i))
       go (global_there g e h) =
           let x = variable_shape_at p.globals i in
           retyped c.environment.parts k (variable_type x)
@@ -166,10 +184,12 @@ module _ (p : Module) (c : Call) (arguments : IsTrue (has_types c.environment.pa
 
 -- each handle in scope has a value of its type
 abbrev pub UsesTyped : Call → Handles → KeptValues → Type 0
-UsesTyped c s kept = (h : ℕ) → IsTrue (usable c.function s h) → TypedValue c.environment.parts (handle_type c.function h) (used_value c kept h)
+UsesTyped c s kept = (h : ℕ) → IsTrue (usable c.function s h) →
+    TypedValue c.environment.parts (handle_type c.function h) (used_value c kept h)
 
 module _ (p : Module) (c : Call) (s : Handles) (kept : KeptValues) (each : UsesTyped c s kept) where
-  pub all_typed : (xs : List ℕ) → IsTrue (usable_all c.function s xs) → (vs : List Value) × (used_values c kept xs ≡ Some vs) × IsTrue (has_types c.environment.parts (handle_types c.function xs) vs)
+  pub all_typed : (xs : List ℕ) → IsTrue (usable_all c.function s xs) → (vs : List Value)
+      × (used_values c kept xs ≡ Some vs) × IsTrue (has_types c.environment.parts (handle_types c.function xs) vs)
   all_typed [] u = ([], refl, refl)
   all_typed (x ∷ xs) u =
       let a = each x (and_left (usable c.function s x) (usable_all c.function s xs) u) in
@@ -199,10 +219,14 @@ module _ (p : Module) (c : Call) (s : Handles) (kept : KeptValues) (each : UsesT
       (joined_values (used_values c kept xs) (constant_values c.environment c.meaning es) ≡ Some vs)
   request_there environment xs es i k u =
       let a = all_typed xs u in
-      let b = constants_typed p c.environment environment c.meaning es i k in
-      (a.0 ++ b.0, ap (λ o. joined_values o (constant_values c.environment c.meaning es)) a.1 ∙ ap (joined_values (Some a.0)) b.1)
+      let b = constants_typed p c.environment environment c.meaning es i k in (
+        a.0 ++ b.0,
+        ap (λ o. joined_values o (constant_values c.environment c.meaning es)) a.1
+            ∙ ap (joined_values (Some a.0)) b.1,
+      )
 
-module _ (p : Module) (c : Call) (n : Names) (d : Respond) (facts : Facts p c n d) (s : Handles) (names : Scope) (kept : KeptValues) (r : Related c n s names kept) where
+module _ (p : Module) (c : Call) (n : Names) (d : Respond) (facts : Facts p c n d) (s : Handles) (names : Scope)
+    (kept : KeptValues) (r : Related c n s names kept) where
   typed_value_as : (k : ValueType) (e : Option Expression) → LeafFits p c.function k e →
       LeafTyped c.environment.parts p c.meaning e → (o : Option Value) (st : Availability) →
       Stands c s names kept k e o st → IsTrue (usable_as c.function e st) →
@@ -216,11 +240,14 @@ module _ (p : Module) (c : Call) (n : Names) (d : Respond) (facts : Facts p c n 
   typed_value_as k e l m o Barred q u =
       used_typed p c facts.arguments facts.environment k e l m o Barred (λ i. absurd (true≢false (sym i))) u
 
-  pub typed_value : (h : ℕ) → IsTrue (usable c.function s h) → TypedValue c.environment.parts (handle_type c.function h) (used_value c kept h)
+  pub typed_value : (h : ℕ) → IsTrue (usable c.function s h) →
+      TypedValue c.environment.parts (handle_type c.function h) (used_value c kept h)
   typed_value h u =
-      typed_value_as (handle_type c.function h) (expression_of c.function h) (facts.leaves h) (facts.typed.constants h) (kept h) (s h) (r.availability h) u
+      typed_value_as (handle_type c.function h) (expression_of c.function h) (facts.leaves h)
+      (facts.typed.constants h) (kept h) (s h) (r.availability h) u
 
-  pub values_here : (xs : List ℕ) → IsTrue (usable_all c.function s xs) → (vs : List Value) × (used_values c kept xs ≡ Some vs) × IsTrue (has_types c.environment.parts (handle_types c.function xs) vs)
+  pub values_here : (xs : List ℕ) → IsTrue (usable_all c.function s xs) → (vs : List Value)
+      × (used_values c kept xs ≡ Some vs) × IsTrue (has_types c.environment.parts (handle_types c.function xs) vs)
   values_here xs u = all_typed p c s kept typed_value xs u
 
   -- no variable hides a word of the function
@@ -228,9 +255,13 @@ module _ (p : Module) (c : Call) (n : Names) (d : Respond) (facts : Facts p c n 
   free w f = r.words w (no_name p c n facts.environment w f)
 
   -- a named constant's name stands for its value
-  constant_here : (i : ℕ) → i < length p.constant_types → names (n.outer.constant i) ≡ as_denoted (slice_get c.environment.constants i)
+  constant_here : (i : ℕ) → i < length p.constant_types → names (n.outer.constant i)
+      ≡ as_denoted (slice_get c.environment.constants i)
   constant_here i lt =
-      r.fixed (ConstantName i) (subst (λ k. i < k) (sym (has_types_length c.environment.parts p.constant_types c.environment.constants facts.environment.constants)) lt)
+      r.fixed (ConstantName i)
+      (subst (λ k. i
+      < k) (sym (has_types_length c.environment.parts p.constant_types c.environment.constants
+      facts.environment.constants)) lt)
 
   operator_here : (w : Bytes) → OperatesBy p (naming c n) w →
       (os : Option (List Value)) (t : List Event) →
@@ -242,20 +273,23 @@ module _ (p : Module) (c : Call) (n : Names) (d : Respond) (facts : Facts p c n 
       (t : List Event) → evaluate (words c d) (constant_form n.outer e) names t ≡ denoted
       (constant_value c.environment c.meaning e) t
   constant_gives =
-      tree_gives (words c d) names n.outer (slice_get c.environment.constants) (λ i. i < length p.constant_types) constant_here (OperatesBy p (naming c n)) operator_here
+      tree_gives (words c d) names n.outer (slice_get c.environment.constants)
+      (λ i. i < length p.constant_types) constant_here (OperatesBy p (naming c n)) operator_here
 
   pub constants_give : (es : ConstantTrees) → ConstantsWords p (naming c n) es →
       ConstantsInRange p es →
       (t : List Event) → evaluate_all (words c d) (constant_forms n.outer es) names t ≡ reach
       (constant_values c.environment c.meaning es) t
   constants_give =
-      trees_give (words c d) names n.outer (slice_get c.environment.constants) (λ i. i < length p.constant_types) constant_here (OperatesBy p (naming c n)) operator_here
+      trees_give (words c d) names n.outer (slice_get c.environment.constants)
+      (λ i. i < length p.constant_types) constant_here (OperatesBy p (naming c n)) operator_here
 
   joined_none : (o : Option (List Value)) → joined_values (Some []) o ≡ o
   joined_none None = refl
   joined_none (Some vs) = refl
 
-  joined_also : (o : Option Value) (os us : Option (List Value)) → also o (joined_values os us) ≡ joined_values (also o os) us
+  joined_also : (o : Option Value) (os us : Option (List Value)) → also o (joined_values os us)
+      ≡ joined_values (also o os) us
   joined_also None os us = refl
   joined_also (Some v) None us = refl
   joined_also (Some v) (Some vs) None = refl
@@ -273,7 +307,8 @@ module _ (p : Module) (c : Call) (n : Names) (d : Respond) (facts : Facts p c n 
       let rest = evaluate_all (words c d) (value_forms_then operand xs (constant_forms n.outer es)) names in
       let us = constant_values c.environment c.meaning es in
       ap (λ r. followed_by r rest) (value_form_gives c d names (operand x) (used_value c kept x) m.0 t)
-      ∙ followed_reached (used_value c kept x) (joined_values (used_values c kept xs) us) t rest (request_forms_give operand xs es w i m.1)
+      ∙ followed_reached (used_value c kept x) (joined_values (used_values c kept xs) us) t rest
+      (request_forms_give operand xs es w i m.1)
       ∙ ap (λ o. reach o t) (joined_also (used_value c kept x) (used_values c kept xs) us)
 
   pub request_values : (xs : List ℕ) (es : ConstantTrees) → ConstantsInRange p es →
@@ -282,13 +317,19 @@ module _ (p : Module) (c : Call) (n : Names) (d : Respond) (facts : Facts p c n 
       (joined_values (used_values c kept xs) (constant_values c.environment c.meaning es) ≡ Some vs)
   request_values xs es i k u = request_there p c s kept typed_value facts.environment xs es i k u
 
-  argument_means : (i : ℕ) → IsTrue (nat_lt i (argument_count c.function)) → Means c d names (AsValue (Name (n.argument i))) (slice_get c.arguments i)
+  argument_means : (i : ℕ) → IsTrue (nat_lt i (argument_count c.function)) →
+      Means c d names (AsValue (Name (n.argument i))) (slice_get c.arguments i)
   argument_means i u t =
       ap (λ z. reach z t) (r.fixed (ArgumentName i) (ltb-true i (argument_count c.function) u))
 
-  local_means : (i : ℕ) → IsTrue (nat_lt i (local_count c.function)) → Means c d names (AsPlace (Name (n.local_ i))) (Some (Pointer (Rooted (LocalRoot (local_pointer c.function i) c.frame i))))
-  local_means i u =
-      (Rooted (LocalRoot (local_pointer c.function i) c.frame i), refl, λ t. ap (λ z. reach z t) (r.fixed (LocalName i) (ltb-true i (local_count c.function) u)))
+  local_means : (i : ℕ) → IsTrue (nat_lt i (local_count c.function)) →
+      Means c d names (AsPlace (Name (n.local_ i)))
+      (Some (Pointer (Rooted (LocalRoot (local_pointer c.function i) c.frame i))))
+  local_means i u = (
+    Rooted (LocalRoot (local_pointer c.function i) c.frame i),
+    refl,
+    λ t. ap (λ z. reach z t) (r.fixed (LocalName i) (ltb-true i (local_count c.function) u)),
+  )
 
   global_as_means : (x : VariableShape) (i : ℕ) (g : GlobalValue) →
       names (n.outer.global i) ≡ stored_denoted i g →
@@ -304,17 +345,20 @@ module _ (p : Module) (c : Call) (n : Names) (d : Respond) (facts : Facts p c n 
       held ≡ is_held (variable_shape_at p.globals i) →
       Means c d names (global_form held (Name (n.outer.global i)))
       (global_value i (slice_get c.environment.globals i))
-  global_means held i lt q = go (global_at c.environment.parts p.globals c.environment.globals facts.environment.globals i lt)
+  global_means held i lt q =
+      go (global_at c.environment.parts p.globals c.environment.globals facts.environment.globals i lt)
     where
       here : i < length c.environment.globals
-      here = subst (λ k. i < k) (sym (globals_length c.environment.parts p.globals c.environment.globals facts.environment.globals)) lt
+      here = subst (λ k. i
+          < k) (sym (globals_length c.environment.parts p.globals c.environment.globals facts.environment.globals)) lt
 
       go : GlobalThere c.environment.parts (variable_shape_at p.globals i) (slice_get c.environment.globals i) →
           Means c d names (global_form held (Name (n.outer.global i)))
           (global_value i (slice_get c.environment.globals i))
       go (global_there g e h) =
           let x = variable_shape_at p.globals i in
-          subst (λ b. Means c d names (global_form b (Name (n.outer.global i))) (global_value i (slice_get c.environment.globals i)))
+          subst (λ b. Means c d names (global_form b (Name (n.outer.global i)))
+          (global_value i (slice_get c.environment.globals i)))
           (sym q)
           (subst (λ o. Means c d names (global_form (is_held x) (Name (n.outer.global i))) (global_value i o))
           (sym e) (global_as_means x i g (r.fixed (GlobalName i) here ∙ ap (global_as i) e) h))
@@ -325,11 +369,13 @@ module _ (p : Module) (c : Call) (n : Names) (d : Respond) (facts : Facts p c n 
         AllMean c d names kept operand xs →
         Means c d names (own_form (naming c n) operand (Some (Operator w xs))) o
     operator_means w xs f o e m t =
-        ap (λ q. as_value (unless (names w) t (word_answer (words c d) w q))) (value_forms_give c d names kept operand xs m t)
+        ap (λ q. as_value (unless (names w) t (word_answer (words c d) w q)))
+        (value_forms_give c d names kept operand xs m t)
         ∙ applied_reached p c n d facts.responds w f (names w) (free w f.2.1) (used_values c kept xs) t
         ∙ ap (λ o. denoted o t) (applied_gathered (used_values c kept xs) ∙ sym e)
       where
-        applied_gathered : (os : Option (List Value)) → operator_value c.meaning (Spelled w) os ≡ gathered_value c.environment.parts c.meaning (Some (Operator w xs)) os
+        applied_gathered : (os : Option (List Value)) → operator_value c.meaning (Spelled w) os
+            ≡ gathered_value c.environment.parts c.meaning (Some (Operator w xs)) os
         applied_gathered None = refl
         applied_gathered (Some vs) = refl
 
@@ -337,19 +383,23 @@ module _ (p : Module) (c : Call) (n : Names) (d : Respond) (facts : Facts p c n 
     at_value : (q : Plain) (o o' : Option Value) → o ≡ o' → Means c d names q o → Means c d names q o'
     at_value q o o' e m = subst (λ o. Means c d names q o) e m
 
-    base_typed : (b : ℕ) (x : Value) → IsTrue (usable c.function s b) → used_value c kept b ≡ Some x → IsTrue (has_type c.environment.parts (handle_type c.function b) x)
+    base_typed : (b : ℕ) (x : Value) → IsTrue (usable c.function s b) → used_value c kept b ≡ Some x →
+        IsTrue (has_type c.environment.parts (handle_type c.function b) x)
     base_typed b x u e =
         let z = typed_value b u in
-        subst (λ x. IsTrue (has_type c.environment.parts (handle_type c.function b) x)) (same_Some z.0 x (sym z.1 ∙ e)) z.2
+        subst (λ x. IsTrue (has_type c.environment.parts (handle_type c.function b) x))
+        (same_Some z.0 x (sym z.1 ∙ e)) z.2
 
     index_there : (b i : ℕ) (o : Option Value) (y : ValueType) →
         TypedValue c.environment.parts y o → o ≡ computed_value c kept (Some (Access b i)) →
         IsTrue (usable c.function s b) → AllMean c d names kept operand (b ∷ i ∷ []) →
         Means c d names (own_form (naming c n) operand (Some (Access b i))) o
     index_there b i o y v e u m =
-        go (two_there c.environment.parts c.meaning (Some (Access b i)) (used_value c kept b) (used_value c kept i) v.0 (sym e ∙ v.1))
+        go (two_there c.environment.parts c.meaning (Some (Access b i)) (used_value c kept b)
+        (used_value c kept i) v.0 (sym e ∙ v.1))
       where
-        go : TwoOf c.environment.parts c.meaning (Some (Access b i)) (used_value c kept b) (used_value c kept i) v.0 → Means c d names (own_form (naming c n) operand (Some (Access b i))) o
+        go : TwoOf c.environment.parts c.meaning (Some (Access b i)) (used_value c kept b)
+            (used_value c kept i) v.0 → Means c d names (own_form (naming c n) operand (Some (Access b i))) o
         go (two_of x j eb ei ev) =
             at_value (own_form (naming c n) operand (Some (Access b i))) (Some v.0) o (sym v.1)
             (access_means c d names (handle_type c.function b) (operand b) (operand i) x j v.0
@@ -361,9 +411,11 @@ module _ (p : Module) (c : Call) (n : Names) (d : Respond) (facts : Facts p c n 
         TypedValue c.environment.parts y o → o ≡ computed_value c kept (Some (AccessIndex x b)) →
         IsTrue (usable c.function s b) → AllMean c d names kept operand (b ∷ []) →
         Means c d names (own_form (naming c n) operand (Some (AccessIndex x b))) o
-    part_there x b o y v e u m = go (one_there c.environment.parts c.meaning (Some (AccessIndex x b)) (used_value c kept b) v.0 (sym e ∙ v.1))
+    part_there x b o y v e u m = go (one_there c.environment.parts c.meaning (Some (AccessIndex x b))
+        (used_value c kept b) v.0 (sym e ∙ v.1))
       where
-        go : OneOf c.environment.parts c.meaning (Some (AccessIndex x b)) (used_value c kept b) v.0 → Means c d names (own_form (naming c n) operand (Some (AccessIndex x b))) o
+        go : OneOf c.environment.parts c.meaning (Some (AccessIndex x b)) (used_value c kept b) v.0 →
+            Means c d names (own_form (naming c n) operand (Some (AccessIndex x b))) o
         go (one_of z eb ev) =
             at_value (own_form (naming c n) operand (Some (AccessIndex x b))) (Some v.0) o
             (sym v.1) (part_means c d names (handle_type c.function b) x (operand b) z v.0
@@ -378,7 +430,8 @@ module _ (p : Module) (c : Call) (n : Names) (d : Respond) (facts : Facts p c n 
     swizzle_there letters b o y l v e u m =
         go (one_there c.environment.parts c.meaning (Some (Swizzle letters b)) (used_value c kept b) v.0 (sym e ∙ v.1))
       where
-        go : OneOf c.environment.parts c.meaning (Some (Swizzle letters b)) (used_value c kept b) v.0 → Means c d names (own_form (naming c n) operand (Some (Swizzle letters b))) o
+        go : OneOf c.environment.parts c.meaning (Some (Swizzle letters b)) (used_value c kept b) v.0 →
+            Means c d names (own_form (naming c n) operand (Some (Swizzle letters b))) o
         go (one_of z eb ev) =
             at_value (own_form (naming c n) operand (Some (Swizzle letters b))) (Some v.0) o
             (sym v.1) (swizzle_means c d names (handle_type c.function b) letters
@@ -391,9 +444,11 @@ module _ (p : Module) (c : Call) (n : Names) (d : Respond) (facts : Facts p c n 
         AllMean c d names kept operand (a ∷ b ∷ []) →
         Means c d names (own_form (naming c n) operand (Some (Logical j a b))) o
     logical_there j a b o y v e m =
-        go (two_there c.environment.parts c.meaning (Some (Logical j a b)) (used_value c kept a) (used_value c kept b) v.0 (sym e ∙ v.1))
+        go (two_there c.environment.parts c.meaning (Some (Logical j a b)) (used_value c kept a)
+        (used_value c kept b) v.0 (sym e ∙ v.1))
       where
-        go : TwoOf c.environment.parts c.meaning (Some (Logical j a b)) (used_value c kept a) (used_value c kept b) v.0 → Means c d names (own_form (naming c n) operand (Some (Logical j a b))) o
+        go : TwoOf c.environment.parts c.meaning (Some (Logical j a b)) (used_value c kept a)
+            (used_value c kept b) v.0 → Means c d names (own_form (naming c n) operand (Some (Logical j a b))) o
         go (two_of l z ea eb ev) =
             at_value (own_form (naming c n) operand (Some (Logical j a b))) _ o (ev ∙ sym v.1)
             (logical_means c d names j (operand a) (operand b) l z
@@ -428,12 +483,19 @@ module _ (p : Module) (c : Call) (n : Names) (d : Respond) (facts : Facts p c n 
     inline_there k (Some (Argument i)) f l o u us v q m = argument_means i u
     inline_there k (Some (Local i)) f l o u us v q m = local_means i u
     inline_there k (Some (Global held i)) f l o u us v q m = global_means held i l.0 l.1
-    inline_there k (Some (Load x)) f l o u us v q m = absurd (no_value c.environment.parts k o v (q ∙ unwritten c.environment.parts c.meaning (Some (Load x)) (λ vs. refl) (used_values c kept (x ∷ []))))
-    inline_there k (Some (Request w xs es)) f l o u us v q m = absurd (no_value c.environment.parts k o v (q ∙ unwritten c.environment.parts c.meaning (Some (Request w xs es)) (λ vs. refl) (used_values c kept xs)))
-    inline_there k (Some Result) f l o u us v q m = absurd (no_value c.environment.parts k o v (q ∙ unwritten c.environment.parts c.meaning (Some Result) (λ vs. refl) (used_values c kept [])))
+    inline_there k (Some (Load x)) f l o u us v q m =
+        absurd (no_value c.environment.parts k o v
+        (q ∙ unwritten c.environment.parts c.meaning (Some (Load x)) (λ vs. refl) (used_values c kept (x ∷ []))))
+    inline_there k (Some (Request w xs es)) f l o u us v q m =
+        absurd (no_value c.environment.parts k o v
+        (q ∙ unwritten c.environment.parts c.meaning (Some (Request w xs es)) (λ vs. refl) (used_values c kept xs)))
+    inline_there k (Some Result) f l o u us v q m =
+        absurd (no_value c.environment.parts k o v
+        (q ∙ unwritten c.environment.parts c.meaning (Some Result) (λ vs. refl) (used_values c kept [])))
     inline_there k (Some (Operator w xs)) f l o u us v q m = operator_there k (Some (Operator w xs)) refl f l o v q us m
     inline_there k (Some (Access b i)) f l o u us v q m = operator_there k (Some (Access b i)) refl f l o v q us m
-    inline_there k (Some (AccessIndex x b)) f l o u us v q m = operator_there k (Some (AccessIndex x b)) refl f l o v q us m
+    inline_there k (Some (AccessIndex x b)) f l o u us v q m =
+        operator_there k (Some (AccessIndex x b)) refl f l o v q us m
     inline_there k (Some (Logical j a b)) f l o u us v q m = operator_there k (Some (Logical j a b)) refl f l o v q us m
     inline_there k (Some (Swizzle w b)) f l o u us v q m = operator_there k (Some (Swizzle w b)) refl f l o v q us m
     inline_there k None f l o u us v q m = absurd (true≢false (sym u))
@@ -449,7 +511,8 @@ module _ (p : Module) (c : Call) (n : Names) (d : Respond) (facts : Facts p c n 
     leaf_there k None f l o u = absurd (true≢false (sym u))
     leaf_there k (Some _) f l o u = absurd (true≢false (sym u))
 
-    usable_inline : (e : Option Expression) (st : Availability) → IsTrue (usable_as c.function e st) → IsTrue (usable_as c.function e Inline)
+    usable_inline : (e : Option Expression) (st : Availability) → IsTrue (usable_as c.function e st) →
+        IsTrue (usable_as c.function e Inline)
     usable_inline (Some (Constant e)) st u = u
     usable_inline (Some (Argument i)) st u = u
     usable_inline (Some (Local i)) st u = u
@@ -457,7 +520,8 @@ module _ (p : Module) (c : Call) (n : Names) (d : Respond) (facts : Facts p c n 
     usable_inline (Some _) st u = refl
     usable_inline None st u = u
 
-    usable_barred : (e : Option Expression) → IsTrue (usable_as c.function e Barred) → IsTrue (usable_as c.function e Absent)
+    usable_barred : (e : Option Expression) → IsTrue (usable_as c.function e Barred) →
+        IsTrue (usable_as c.function e Absent)
     usable_barred None u = u
     usable_barred (Some (Constant e)) u = u
     usable_barred (Some _) u = u
@@ -481,10 +545,13 @@ module _ (p : Module) (c : Call) (n : Names) (d : Respond) (facts : Facts p c n 
       (xs : List ℕ) → AllBelow h xs → IsTrue (usable_all c.function s xs) →
       AllMean c d names kept (written_below (naming c n) s bound) xs
   all_below bound h le f [] b u = tt
-  all_below bound h le f (x ∷ xs) b u =
-      (f x (omega (arith, b.0)) (and_left (usable c.function s x) (usable_all c.function s xs) u), all_below bound h le f xs b.1 (and_right (usable c.function s x) (usable_all c.function s xs) u))
+  all_below bound h le f (x ∷ xs) b u = (
+    f x (omega (arith, b.0)) (and_left (usable c.function s x) (usable_all c.function s xs) u),
+    all_below bound h le f xs b.1 (and_right (usable c.function s x) (usable_all c.function s xs) u),
+  )
 
-  written_below_means : (bound : ℕ) (h : ℕ) → h < bound → IsTrue (usable c.function s h) → Means c d names (written_below (naming c n) s bound h) (used_value c kept h)
+  written_below_means : (bound : ℕ) (h : ℕ) → h < bound → IsTrue (usable c.function s h) →
+      Means c d names (written_below (naming c n) s bound h) (used_value c kept h)
   written_below_means zero h lt u = absurd (omega arith)
   written_below_means (suc bound) h lt u =
       own_means (written_below (naming c n) s bound) (handle_type c.function h)
@@ -495,21 +562,28 @@ module _ (p : Module) (c : Call) (n : Names) (d : Respond) (facts : Facts p c n 
   usable_within : (h : ℕ) → IsTrue (usable c.function s h) → h < length c.function.expressions
   usable_within h u = go (slice_get c.function.expressions h) refl u
     where
-      go : (e : Option Expression) → slice_get c.function.expressions h ≡ e → IsTrue (usable_as c.function e (s h)) → h < length c.function.expressions
+      go : (e : Option Expression) → slice_get c.function.expressions h ≡ e →
+          IsTrue (usable_as c.function e (s h)) → h < length c.function.expressions
       go None e u = absurd (true≢false (sym u))
       go (Some x) e u = slice_get_within c.function.expressions h x e
 
   -- a handle in scope, wherever it is written
-  pub written_means : (h : ℕ) → IsTrue (usable c.function s h) → Means c d names (written_form (naming c n) s h) (used_value c kept h)
+  pub written_means : (h : ℕ) → IsTrue (usable c.function s h) → Means c d names (written_form (naming c n) s h)
+      (used_value c kept h)
   written_means h u = written_below_means (length c.function.expressions) h (usable_within h u) u
 
-  pub all_here : (xs : List ℕ) → IsTrue (usable_all c.function s xs) → AllMean c d names kept (written_form (naming c n) s) xs
+  pub all_here : (xs : List ℕ) → IsTrue (usable_all c.function s xs) →
+      AllMean c d names kept (written_form (naming c n) s) xs
   all_here [] u = tt
-  all_here (x ∷ xs) u =
-      (written_means x (and_left (usable c.function s x) (usable_all c.function s xs) u), all_here xs (and_right (usable c.function s x) (usable_all c.function s xs) u))
+  all_here (x ∷ xs) u = (
+    written_means x (and_left (usable c.function s x) (usable_all c.function s xs) u),
+    all_here xs (and_right (usable c.function s x) (usable_all c.function s xs) u),
+  )
 
-  pub value_here : (h : ℕ) → IsTrue (usable c.function s h) → (t : List Event) → value_of (words c d) (value_form (written_form (naming c n) s h)) names t ≡ reach (used_value c kept h) t
+  pub value_here : (h : ℕ) → IsTrue (usable c.function s h) → (t : List Event) →
+      value_of (words c d) (value_form (written_form (naming c n) s h)) names t ≡ reach (used_value c kept h) t
   value_here h u = value_form_gives c d names (written_form (naming c n) s h) (used_value c kept h) (written_means h u)
 
-  pub place_here : (h : ℕ) → IsTrue (usable c.function s h) → (t : List Event) → evaluate (words c d) (place_form (written_form (naming c n) s h)) names t ≡ placed (used_value c kept h) t
+  pub place_here : (h : ℕ) → IsTrue (usable c.function s h) → (t : List Event) →
+      evaluate (words c d) (place_form (written_form (naming c n) s h)) names t ≡ placed (used_value c kept h) t
   place_here h u = place_form_gives c d names (written_form (naming c n) s h) (used_value c kept h) (written_means h u)

@@ -32,11 +32,13 @@ use Rattle.shader_runs.proofs.Checked.{FitsCases, joins_next}
 not_bound : (st : Availability) (x : Bytes) → IsTrue (is_new st) → st ≡ Bound x → ⊥
 not_bound st x i e = true≢false (sym i ∙ ap is_new e)
 
-module _ (p : Module) (c : Call) (n : Names) (environment : EnvironmentFits p c.environment) (distinct : AreDistinct p (naming c n)) where
+module _ (p : Module) (c : Call) (n : Names) (environment : EnvironmentFits p c.environment)
+    (distinct : AreDistinct p (naming c n)) where
   abbrev Total : ℕ
   Total = named_by_all c.function c.function.body 0
 
-  fresh_numbered : (k : ℕ) (s : Handles) (h : ℕ) → k ≤ Total → Sources (naming c n) k s → IsTrue (is_new (s h)) → IsFresh c n s (n.numbered h)
+  fresh_numbered : (k : ℕ) (s : Handles) (h : ℕ) → k ≤ Total → Sources (naming c n) k s →
+      IsTrue (is_new (s h)) → IsFresh c n s (n.numbered h)
   fresh_numbered k s h le d i =
       record {
         handles = λ h1 e. ⊎_elim
@@ -45,7 +47,8 @@ module _ (p : Module) (c : Call) (n : Names) (environment : EnvironmentFits p c.
             (λ g. let less : g.0 < Total = omega (arith, g.1) in
             numbered_named h g.0 (distinct (NumberedKey h) (NamedKey g.0) tt less g.2))
             (d h1 (n.numbered h) e);
-        fixed = λ y here e. fixed_numbered y h (distinct (FixedKey y) (NumberedKey h) (in_range p c environment y here) tt e);
+        fixed = λ y here e. fixed_numbered y h
+            (distinct (FixedKey y) (NumberedKey h) (in_range p c environment y here) tt e);
         words = λ w f e. f.numbered h (sym e);
       }
 
@@ -61,7 +64,8 @@ module _ (p : Module) (c : Call) (n : Names) (environment : EnvironmentFits p c.
         words = λ w f e. f.named k lt (sym e);
       }
 
-  fresh_bound : (k : ℕ) (s : Handles) (h : ℕ) → named_after c.function h k ≤ Total → Sources (naming c n) k s → IsTrue (is_new (s h)) → IsFresh c n s (bound_name (naming c n) k h)
+  fresh_bound : (k : ℕ) (s : Handles) (h : ℕ) → named_after c.function h k ≤ Total → Sources (naming c n) k s →
+      IsTrue (is_new (s h)) → IsFresh c n s (bound_name (naming c n) k h)
   fresh_bound k s h le d i = go (is_named c.function h) le
     where
       go : (b : Bool) → cond b (suc k) k ≤ Total → IsFresh c n s (cond b (n.named k) (n.numbered h))
@@ -75,7 +79,8 @@ module _ (p : Module) (c : Call) (n : Names) (environment : EnvironmentFits p c.
   bind_fresh true k h s e le d i m = (m, fresh_bound k s h le d i)
   bind_fresh false k h s e le d i m = tt
 
-  emit_fresh : (k : ℕ) (hs : List ℕ) (s : Handles) → named_after_all c.function hs k ≤ Total → Sources (naming c n) k s → IsTrue (may_emit_all (naming c n) k hs s) → MayEmitAll c n k hs s
+  emit_fresh : (k : ℕ) (hs : List ℕ) (s : Handles) → named_after_all c.function hs k ≤ Total →
+      Sources (naming c n) k s → IsTrue (may_emit_all (naming c n) k hs s) → MayEmitAll c n k hs s
   emit_fresh k [] s le d m = tt
   emit_fresh k (h ∷ hs) s le d m =
       let e = expression_of c.function h in
@@ -97,7 +102,8 @@ module _ (p : Module) (c : Call) (n : Names) (environment : EnvironmentFits p c.
             (and_right (may_emit c.function h s) rest m),
       )
 
-  result_fresh : (k : ℕ) (r : Option ℕ) (s : Handles) → k ≤ Total → Sources (naming c n) k s → ResultFits c.function r → IsTrue (may_give r s) → MayGive c n r s
+  result_fresh : (k : ℕ) (r : Option ℕ) (s : Handles) → k ≤ Total → Sources (naming c n) k s →
+      ResultFits c.function r → IsTrue (may_give r s) → MayGive c n r s
   result_fresh k None s le d w m = tt
   result_fresh k (Some h) s le d w m = record { new = m; kind = w; fresh = fresh_numbered k s h le d m }
 
@@ -106,8 +112,11 @@ module _ (p : Module) (c : Call) (n : Names) (environment : EnvironmentFits p c.
         Sources (naming c n) k s → IsRegular p c.callees (naming c n) st → OnlyEmptyFalls st →
         IsTrue (fits (naming c n) k st s) → Fits p c n k st s
     fits_fresh (Emit first count) k s le d w o m = emit_fresh k (from first count) s le d m
-    fits_fresh (Store q v) k s le d w o m =
-        (and_left (usable c.function s q) (usable c.function s v) m, and_right (usable c.function s q) (usable c.function s v) m)
+    fits_fresh (Store q v) k s le d w o m = (
+      and_left (usable c.function s q) (usable c.function s v) m,
+      and_right (usable c.function s q)
+          (usable c.function s v) m,
+    )
     fits_fresh (Block b) k s le d w o m = all_fresh b k s le d w o m
     fits_fresh (If x a b) k s le d w o m =
         let k1 = named_by_all c.function a k in
@@ -132,8 +141,11 @@ module _ (p : Module) (c : Call) (n : Names) (environment : EnvironmentFits p c.
         let fd = fits_all (naming c n) k1 b2 s1 in
         let u = usable_if c.function (after_all (naming c n) k1 b2 s1) e in
         let more = list_more (naming c n) b2 k1 in
-        let both = and_right fb (fd && u) m in
-        (all_fresh b k s (omega (arith, le, more)) d w.0 o.0 (and_left fb (fd && u) m), all_fresh b2 k1 s1 le (sources_all (naming c n) k b s d) w.1 o.1 (and_left fd u both), and_right fd u both)
+        let both = and_right fb (fd && u) m in (
+          all_fresh b k s (omega (arith, le, more)) d w.0 o.0 (and_left fb (fd && u) m),
+          all_fresh b2 k1 s1 le (sources_all (naming c n) k b s d) w.1 o.1 (and_left fd u both),
+          and_right fd u both,
+        )
     fits_fresh (Jumps (Return v)) k s le d w o m = (m, w)
     fits_fresh (Jumps _) k s le d w o m = tt
     fits_fresh (Barrier bits) k s le d w o m = w
@@ -150,8 +162,10 @@ module _ (p : Module) (c : Call) (n : Names) (environment : EnvironmentFits p c.
         let s1 = after (naming c n) k st s in
         let fa = fits (naming c n) k st s in
         let fb = fits_all (naming c n) k1 ss s1 in
-        let more = list_more (naming c n) ss k1 in
-        (fits_fresh st k s (omega (arith, le, more)) d w.0 o.0 (and_left fa fb m), all_fresh ss k1 s1 le (sources_after (naming c n) k st s d) w.1 o.1 (and_right fa fb m))
+        let more = list_more (naming c n) ss k1 in (
+          fits_fresh st k s (omega (arith, le, more)) d w.0 o.0 (and_left fa fb m),
+          all_fresh ss k1 s1 le (sources_after (naming c n) k st s d) w.1 o.1 (and_right fa fb m),
+        )
 
     cases_fresh : (cs : Cases) (k : ℕ) (s : Handles) → named_by_cases c.function cs k ≤ Total →
         Sources (naming c n) k s → CasesAreRegular p c.callees (naming c n) cs →
@@ -162,8 +176,12 @@ module _ (p : Module) (c : Call) (n : Names) (environment : EnvironmentFits p c.
         let k1 = named_by_all c.function b k in
         let fa = fits_all (naming c n) k b s in
         let fb = fits_cases (naming c n) k1 cs s in
-        let more = cases_more (naming c n) cs k1 in
-        (joins_next falls b cs w.0 o.0, all_fresh b k s (omega (arith, le, more)) d w.1 o.1 (and_left fa fb m), cases_fresh cs k1 s le (sources_more (naming c n) k k1 s (list_more (naming c n) b k) d) w.2 o.2 (and_right fa fb m))
+        let more = cases_more (naming c n) cs k1 in (
+          joins_next falls b cs w.0 o.0,
+          all_fresh b k s (omega (arith, le, more)) d w.1 o.1 (and_left fa fb m),
+          cases_fresh cs k1 s le (sources_more (naming c n) k k1 s (list_more (naming c n) b k) d) w.2 o.2
+              (and_right fa fb m),
+        )
 
   pub start_sources : Sources (naming c n) 0 (at_start c.function)
   start_sources = sources.start_sources (naming c n)

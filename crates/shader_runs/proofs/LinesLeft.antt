@@ -33,24 +33,28 @@ falls_continue (then st ss) falls = absurd falls
 
 module _ (f : Naming) where
   mutual
-    line_continues : (k : ℕ) (st : Statement) (s : Handles) (tail : Lines) → OnlyEmptyFalls st → some_continue (form f k st s tail) ≡ (holds_continue st || some_continue tail)
+    line_continues : (k : ℕ) (st : Statement) (s : Handles) (tail : Lines) → OnlyEmptyFalls st →
+        some_continue (form f k st s tail) ≡ (holds_continue st || some_continue tail)
     line_continues k (Emit first count) s tail only = lets_continue f k (from first count) s tail
     line_continues k (Block b) s tail only = ap (λ c. c || some_continue tail) (lines_continue k b s only)
     line_continues k (If c a b) s tail only =
-        λ i. (lines_continue k a s only.0 i || lines_continue (named_by_all f.function a k) b s only.1 i) || some_continue tail
+        λ i. (lines_continue k a s only.0 i || lines_continue (named_by_all f.function a k) b s only.1 i)
+        || some_continue tail
     line_continues k (Switch h cs) s tail only = ap (λ c. c || some_continue tail) (groups_continue k [] cs s only)
     line_continues k (Barrier bits) s tail only = performs_continue (barrier_words bits) tail
     line_continues k (Act a xs None) s tail only = refl
     line_continues k (Jumps j) s tail only = ap (λ c. c || some_continue tail) (told_continues (value_if f s) j)
     line_continues k _ s tail only = refl
 
-    lines_continue : (k : ℕ) (ss : Statements) (s : Handles) → OnlyEmptyFallIn ss → some_continue (form_all f k ss s) ≡ any_continue ss
+    lines_continue : (k : ℕ) (ss : Statements) (s : Handles) → OnlyEmptyFallIn ss →
+        some_continue (form_all f k ss s) ≡ any_continue ss
     lines_continue k end s only = refl
     lines_continue k (then st ss) s only =
         line_continues k st s (form_all f (named_by f.function st k) ss (after f k st s)) only.0
         ∙ ap (λ c. holds_continue st || c) (lines_continue (named_by f.function st k) ss (after f k st s) only.1)
 
-    groups_continue : (k : ℕ) (labels : List CaseValue) (cs : Cases) (s : Handles) → OnlyEmptyCasesFall cs → some_group_continues (form_cases f k labels cs s) ≡ some_case_continues cs
+    groups_continue : (k : ℕ) (labels : List CaseValue) (cs : Cases) (s : Handles) → OnlyEmptyCasesFall cs →
+        some_group_continues (form_cases f k labels cs s) ≡ some_case_continues cs
     groups_continue k labels no_case s only = refl
     groups_continue k labels (case label b true cs) s only =
         groups_continue (named_by_all f.function b k) (labels ++ label ∷ []) cs s only.2
@@ -82,11 +86,13 @@ module _ (f : Naming) where
   abbrev pub list_names : (k l : ℕ) → Statements → Lookup → Lookup
   list_names k l end names = names
   list_names k l (then st ss) names =
-      cond (holds_continue st) names (list_names (named_by f.function st k) (lets_by f.function st l) ss (names_by k l st names))
+      cond (holds_continue st) names (list_names (named_by f.function st k) (lets_by f.function st l) ss
+      (names_by k l st names))
 
   -- ---- what a statement's lines leave
   -- how many `let`s there are
-  pub lets_counted : (k l : ℕ) (hs : List ℕ) (s : Handles) (tail : Lines) → lets_following_all l (lets f k hs s tail) ≡ lets_following_all (lets_after_all f.function hs l) tail
+  pub lets_counted : (k l : ℕ) (hs : List ℕ) (s : Handles) (tail : Lines) →
+      lets_following_all l (lets f k hs s tail) ≡ lets_following_all (lets_after_all f.function hs l) tail
   lets_counted k l [] s tail = refl
   lets_counted k l (h ∷ hs) s tail =
       by (binds f.function h) (λ l1. lets_counted (named_after f.function h k) l1 hs (after_one f k h s) tail)
@@ -104,12 +110,14 @@ module _ (f : Naming) where
       by true further = further (suc l)
       by false further = further l
 
-  pub performs_counted : (l : ℕ) (ws : List Bytes) (tail : Lines) → lets_following_all l (perform_each ws tail) ≡ lets_following_all l tail
+  pub performs_counted : (l : ℕ) (ws : List Bytes) (tail : Lines) → lets_following_all l (perform_each ws tail)
+      ≡ lets_following_all l tail
   performs_counted l [] tail = refl
   performs_counted l (w ∷ ws) tail = performs_counted l ws tail
 
   mutual
-    pub line_counted : (k l : ℕ) (st : Statement) (s : Handles) (tail : Lines) → lets_following_all l (form f k st s tail) ≡ lets_following_all (lets_by f.function st l) tail
+    pub line_counted : (k l : ℕ) (st : Statement) (s : Handles) (tail : Lines) →
+        lets_following_all l (form f k st s tail) ≡ lets_following_all (lets_by f.function st l) tail
     line_counted k l (Emit first count) s tail = lets_counted k l (from first count) s tail
     line_counted k l (Block b) s tail = ap (λ n. lets_following_all n tail) (lines_counted k l b s)
     line_counted k l (If c a b) s tail =
@@ -127,15 +135,18 @@ module _ (f : Naming) where
     line_counted k l (Act a xs (Some h)) s tail = refl
     line_counted k l _ s tail = refl
 
-    pub lines_counted : (k l : ℕ) (ss : Statements) (s : Handles) → lets_following_all l (form_all f k ss s) ≡ lets_by_all f.function ss l
+    pub lines_counted : (k l : ℕ) (ss : Statements) (s : Handles) → lets_following_all l (form_all f k ss s)
+        ≡ lets_by_all f.function ss l
     lines_counted k l end s = refl
     lines_counted k l (then st ss) s =
         line_counted k l st s (form_all f (named_by f.function st k) ss (after f k st s))
         ∙ lines_counted (named_by f.function st k) (lets_by f.function st l) ss (after f k st s)
 
-    pub groups_counted : (k l : ℕ) (labels : List CaseValue) (cs : Cases) (s : Handles) → lets_following_groups l (form_cases f k labels cs s) ≡ lets_by_cases f.function cs l
+    pub groups_counted : (k l : ℕ) (labels : List CaseValue) (cs : Cases) (s : Handles) →
+        lets_following_groups l (form_cases f k labels cs s) ≡ lets_by_cases f.function cs l
     groups_counted k l labels no_case s = refl
-    groups_counted k l labels (case label b true cs) s = groups_counted (named_by_all f.function b k) l (labels ++ label ∷ []) cs s
+    groups_counted k l labels (case label b true cs) s = groups_counted (named_by_all f.function b k) l
+        (labels ++ label ∷ []) cs s
     groups_counted k l labels (case label b false cs) s =
         ap (λ n. lets_following_groups n (form_cases f (named_by_all f.function b k) [] cs s)) (lines_counted k l b s)
         ∙ groups_counted (named_by_all f.function b k) (lets_by_all f.function b l) [] cs s
@@ -146,7 +157,8 @@ module _ (f : Naming) where
       (names_after_all k l hs names)
   lets_leave k l [] s tail names = refl
   lets_leave k l (h ∷ hs) s tail names =
-      by (binds f.function h) (λ l1 names1. lets_leave (named_after f.function h k) l1 hs (after_one f k h s) tail names1)
+      by (binds f.function h) (λ l1 names1. lets_leave (named_after f.function h k) l1 hs
+      (after_one f k h s) tail names1)
     where
       e : Tree
       e = value_form (own_form f (written_form f s) (expression_of f.function h))
@@ -154,7 +166,9 @@ module _ (f : Naming) where
       rest : Lines
       rest = lets f (named_after f.function h k) hs (after_one f k h s) tail
 
-      by : (b : Bool) → ((l1 : ℕ) (names1 : Lookup) → names_left l1 rest names1 ≡ names_left (lets_after_all f.function hs l1) tail (names_after_all (named_after f.function h k) l1 hs names1))
+      by : (b : Bool) → ((l1 : ℕ) (names1 : Lookup) → names_left l1 rest names1
+          ≡ names_left (lets_after_all f.function hs l1) tail
+          (names_after_all (named_after f.function h k) l1 hs names1))
           → names_left l (let_if b (bound_name f k h) e rest) names ≡ names_left
           (lets_after_all f.function hs (cond b (suc l) l)) tail
           (names_after_all (named_after f.function h k) (cond b (suc l) l) hs
@@ -162,7 +176,8 @@ module _ (f : Naming) where
       by true further = further (suc l) (bind names (bound_name f k h) (Some (LetTarget l)))
       by false further = further l names
 
-  pub performs_leave : (l : ℕ) (ws : List Bytes) (tail : Lines) (names : Lookup) → names_left l (perform_each ws tail) names ≡ names_left l tail names
+  pub performs_leave : (l : ℕ) (ws : List Bytes) (tail : Lines) (names : Lookup) →
+      names_left l (perform_each ws tail) names ≡ names_left l tail names
   performs_leave l [] tail names = refl
   performs_leave l (w ∷ ws) tail names = performs_leave l ws tail names
 
@@ -176,20 +191,26 @@ module _ (f : Naming) where
   line_leaves k l (If c a b) s tail names only =
       let k1 = named_by_all f.function a k in
       λ i. cond (lines_continue f k a s only.0 i || lines_continue f k1 b s only.1 i) names
-      (names_left ((ap (λ n. lets_following_all n (form_all f k1 b s)) (lines_counted k l a s) ∙ lines_counted k1 (lets_by_all f.function a l) b s) i) tail names)
+      (names_left ((ap (λ n. lets_following_all n (form_all f k1 b s)) (lines_counted k l a s)
+      ∙ lines_counted k1 (lets_by_all f.function a l) b s) i) tail names)
   line_leaves k l (Switch h cs) s tail names only =
       λ i. cond (groups_continue f k [] cs s only i) names (names_left (groups_counted k l [] cs s i) tail names)
   line_leaves k l (Loop b d e) s tail names only =
       let k1 = named_by_all f.function b k in
       let s1 = after_all f k b s in
-      λ i. names_left ((ap (λ n. lets_following_all n (form_all f k1 d s1)) (lines_counted k l b s) ∙ lines_counted k1 (lets_by_all f.function b l) d s1) i) tail names
+      λ i. names_left
+      ((ap (λ n. lets_following_all n (form_all f k1 d s1)) (lines_counted k l b s)
+      ∙ lines_counted k1 (lets_by_all f.function b l) d s1) i) tail names
   line_leaves k l (Jumps Continue) s tail names only = refl
   line_leaves k l (Barrier bits) s tail names only = performs_leave l (barrier_words bits) tail names
   line_leaves k l (Act a xs None) s tail names only = refl
   line_leaves k l _ s tail names only = refl
 
-  pub lines_leave : (k l : ℕ) (ss : Statements) (s : Handles) (names : Lookup) → OnlyEmptyFallIn ss → names_left l (form_all f k ss s) names ≡ list_names k l ss names
+  pub lines_leave : (k l : ℕ) (ss : Statements) (s : Handles) (names : Lookup) → OnlyEmptyFallIn ss →
+      names_left l (form_all f k ss s) names ≡ list_names k l ss names
   lines_leave k l end s names only = refl
   lines_leave k l (then st ss) s names only =
       line_leaves k l st s (form_all f (named_by f.function st k) ss (after f k st s)) names only.0
-      ∙ ap (cond (holds_continue st) names) (lines_leave (named_by f.function st k) (lets_by f.function st l) ss (after f k st s) (names_by k l st names) only.1)
+      ∙ ap (cond (holds_continue st) names)
+      (lines_leave (named_by f.function st k) (lets_by f.function st l) ss (after f k st s)
+      (names_by k l st names) only.1)

@@ -50,10 +50,12 @@ use Rattle.shader_runs.proofs.LinesLeft.{list_names, names_after, names_after_al
 use Rattle.shader_runs.proofs.LinesLeft.{names_after_result, names_by}
 
 -- what is below a bound is not among others from it on
-pub family_other : (target : ℕ → Target) (name : ℕ → Bytes) (x : Bytes) (n j : ℕ) → NotAmong name j n x → (names : Lookup) → with_items target j (names_from name j n) names x ≡ names x
+pub family_other : (target : ℕ → Target) (name : ℕ → Bytes) (x : Bytes) (n j : ℕ) → NotAmong name j n x →
+    (names : Lookup) → with_items target j (names_from name j n) names x ≡ names x
 family_other target name x zero j other names = refl
 family_other target name x (suc n) j other names =
-    bind_other (with_items target (suc j) (names_from name (suc j) n) names) (name j) (Some (target j)) x (λ e. other j (omega arith) (omega arith) (sym e))
+    bind_other (with_items target (suc j) (names_from name (suc j) n) names) (name j) (Some (target j)) x
+    (λ e. other j (omega arith) (omega arith) (sym e))
     ∙ family_other target name x n (suc j) (λ i le lt. other i (omega arith) (omega arith)) names
 
 pub family_found : (target : ℕ → Target) (name : ℕ → Bytes) (n j : ℕ) → AllDifferent name j n →
@@ -61,9 +63,11 @@ pub family_found : (target : ℕ → Target) (name : ℕ → Bytes) (n j : ℕ) 
     with_items target j (names_from name j n) names (name i) ≡ Some (target i)
 family_found target name zero j one names i le lt = absurd (omega arith)
 family_found target name (suc n) j one names i le lt =
-    bind_cases (λ o. o ≡ Some (target i)) (with_items target (suc j) (names_from name (suc j) n) names) (name j) (Some (target j)) (name i)
+    bind_cases (λ o. o ≡ Some (target i)) (with_items target (suc j) (names_from name (suc j) n) names) (name j)
+    (Some (target j)) (name i)
     (λ e. ap (λ k. Some (target k)) (one j i (omega arith) lt (sym e)))
-    (λ other. family_found target name n (suc j) (λ a b la lb e. one a b (omega arith) (omega arith) e) names i (further (λ e. other (ap name e))) (omega arith))
+    (λ other. family_found target name n (suc j) (λ a b la lb e. one a b (omega arith) (omega arith) e) names i
+    (further (λ e. other (ap name e))) (omega arith))
   where
     further : i ≢ j → suc j ≤ i
     further apart = omega arith
@@ -83,15 +87,18 @@ module _ (p : Module) (f : Naming) (distinct : AreDistinct p f) where
 
   -- what the names in scope stand for, but for `let`s
   pub record Knows (declared : ℕ) (names : Lookup) : Type 0 where
-    pub fixed : (y : FixedName) → IsFixedName p f.function y → IsDeclared declared y → names (fixed_name f.names y) ≡ Some (fixed_target y)
-    pub functions : (g : ℕ) → g < length p.functions → IsNoName p f (f.names.outer.function g) → names (f.names.outer.function g) ≡ Some (FunctionTarget g)
+    pub fixed : (y : FixedName) → IsFixedName p f.function y → IsDeclared declared y →
+        names (fixed_name f.names y) ≡ Some (fixed_target y)
+    pub functions : (g : ℕ) → g < length p.functions → IsNoName p f (f.names.outer.function g) →
+        names (f.names.outer.function g) ≡ Some (FunctionTarget g)
     pub free : (w : Bytes) → StandsFree p f w → names w ≡ None
 
   -- what the names of the module's items stand for
   pub record KnowsItems (names : Lookup) : Type 0 where
     pub constants : (i : ℕ) → i < length p.constant_types → names (f.names.outer.constant i) ≡ Some (ConstantTarget i)
     pub globals : (i : ℕ) → i < length p.globals → names (f.names.outer.global i) ≡ Some (GlobalTarget i)
-    pub functions : (g : ℕ) → g < length p.functions → IsNoName p f (f.names.outer.function g) → names (f.names.outer.function g) ≡ Some (FunctionTarget g)
+    pub functions : (g : ℕ) → g < length p.functions → IsNoName p f (f.names.outer.function g) →
+        names (f.names.outer.function g) ≡ Some (FunctionTarget g)
     pub free : (w : Bytes) → StandsFree p f w → names w ≡ None
 
   -- at a function's entry its arguments are in scope too
@@ -106,15 +113,19 @@ module _ (p : Module) (f : Naming) (distinct : AreDistinct p f) where
   LetsKnown s numbers names = (h : ℕ) (x : Bytes) → s h ≡ Bound x → names x ≡ Some (LetTarget (numbers h))
 
   pub knows_more : (key : NameKey) → IsName p f.function key → (declared next : ℕ) (target : Target) (names : Lookup)
-      → ((y : FixedName) → IsFixedName p f.function y → IsDeclared next y → (FixedKey y ≡ key) → Some target ≡ Some (fixed_target y))
+      → ((y : FixedName) → IsFixedName p f.function y → IsDeclared next y → (FixedKey y ≡ key) →
+      Some target ≡ Some (fixed_target y))
       → ((y : FixedName) → IsDeclared next y → (FixedKey y ≡ key → ⊥) → IsDeclared declared y)
       → Knows declared names → Knows next (bind names (name_at f.names key) (Some target))
   knows_more key is declared next target names same earlier knows = record {
-    fixed = λ y here stands. bind_cases (λ o. o ≡ Some (fixed_target y)) names (name_at f.names key) (Some target) (fixed_name f.names y)
+    fixed = λ y here stands. bind_cases (λ o. o ≡ Some (fixed_target y)) names (name_at f.names key)
+        (Some target) (fixed_name f.names y)
         (λ e. same y here stands (distinct (FixedKey y) key here is e))
         (λ other. knows.fixed y here (earlier y stands (λ e. other (ap (name_at f.names) e))));
-    functions = λ g lt no_name. bind_other names (name_at f.names key) (Some target) (f.names.outer.function g) (λ e. no_name key is (sym e)) ∙ knows.functions g lt no_name;
-    free = λ w stands. bind_other names (name_at f.names key) (Some target) w (λ e. stands.1 key is (sym e)) ∙ knows.free w stands;
+    functions = λ g lt no_name. bind_other names (name_at f.names key) (Some target) (f.names.outer.function g)
+        (λ e. no_name key is (sym e)) ∙ knows.functions g lt no_name;
+    free = λ w stands. bind_other names (name_at f.names key) (Some target) w (λ e. stands.1 key is (sym e))
+        ∙ knows.free w stands;
   }
 
   -- how many names are given in all
@@ -126,7 +137,8 @@ module _ (p : Module) (f : Naming) (distinct : AreDistinct p f) where
       (declared l : ℕ) (names : Lookup) → Knows declared names →
       Knows declared (bind names (name_at f.names key) (Some (LetTarget l)))
   let_known key is no_fixed declared l names knows =
-      knows_more key is declared declared (LetTarget l) names (λ y here stands e. absurd (no_fixed y e)) (λ y stands e. stands) knows
+      knows_more key is declared declared (LetTarget l) names (λ y here stands e. absurd (no_fixed y e))
+      (λ y stands e. stands) knows
 
   lets_known : (key : NameKey) → IsName p f.function key →
       (k h l : ℕ) (s : Handles) (numbers : LetNumbers) (names : Lookup) → Sources f k s →
@@ -139,29 +151,35 @@ module _ (p : Module) (f : Naming) (distinct : AreDistinct p f) where
       named : Lookup
       named = bind names (name_at f.names key) (Some (LetTarget l))
 
-      by : (b : Bool) → nat_eq j h ≡ b → cond b (Bound (name_at f.names key)) (s j) ≡ Bound x → named x ≡ Some (LetTarget (cond b l (numbers j)))
-      by true here e = subst (λ y. named y ≡ Some (LetTarget l)) (same_name (name_at f.names key) x e) (bind_same names (name_at f.names key) (Some (LetTarget l)))
+      by : (b : Bool) → nat_eq j h ≡ b → cond b (Bound (name_at f.names key)) (s j) ≡ Bound x →
+          named x ≡ Some (LetTarget (cond b l (numbers j)))
+      by true here e = subst (λ y. named y ≡ Some (LetTarget l)) (same_name (name_at f.names key) x e)
+          (bind_same names (name_at f.names key) (Some (LetTarget l)))
       by false there e = bind_other names (name_at f.names key) (Some (LetTarget l)) x apart ∙ known j x e
         where
           apart : x ≢ name_at f.names key
           apart q =
               ⊎_elim (λ own. no_number j (eqb-false j h there) (distinct key (NumberedKey j) is tt (sym q ∙ own)))
-              (λ g. let less : g.0 < total = omega (arith, g.1, le) in no_named g.0 g.1 (distinct key (NamedKey g.0) is less (sym q ∙ g.2)))
+              (λ g. let less : g.0 < total = omega (arith, g.1, le) in no_named g.0 g.1
+              (distinct key (NamedKey g.0) is less (sym q ∙ g.2)))
               (sources j x e)
 
   -- ---- a function, whose words and leaves are such
-  module _ (words : (h : ℕ) → WordFits p f (expression_of f.function h)) (leaves : (h : ℕ) → LeafFits p f.function (handle_type f.function h) (expression_of f.function h)) where
+  module _ (words : (h : ℕ) → WordFits p f (expression_of f.function h))
+      (leaves : (h : ℕ) → LeafFits p f.function (handle_type f.function h) (expression_of f.function h)) where
     pub constant_named : (declared : ℕ) (names : Lookup) → Knows declared names →
         (e : ConstantTree) → ConstantInRange p e → ConstantWords p f e →
         tree_targets names (constant_form f.names.outer e) ≡ map Some (constant_targets e)
     constant_named declared names knows =
-        constant_resolves f.names.outer names (length p.constant_types) (λ i lt. knows.fixed (ConstantName i) lt tt) (OperatesBy p f) (λ w o. knows.free w o.2)
+        constant_resolves f.names.outer names (length p.constant_types)
+        (λ i lt. knows.fixed (ConstantName i) lt tt) (OperatesBy p f) (λ w o. knows.free w o.2)
 
     pub constants_named : (declared : ℕ) (names : Lookup) → Knows declared names →
         (es : ConstantTrees) → ConstantsInRange p es → ConstantsWords p f es →
         trees_targets names (constant_forms f.names.outer es) ≡ map Some (constants_targets es)
     constants_named declared names knows =
-        constants_resolve f.names.outer names (length p.constant_types) (λ i lt. knows.fixed (ConstantName i) lt tt) (OperatesBy p f) (λ w o. knows.free w o.2)
+        constants_resolve f.names.outer names (length p.constant_types)
+        (λ i lt. knows.fixed (ConstantName i) lt tt) (OperatesBy p f) (λ w o. knows.free w o.2)
 
     -- ---- first values
     -- no handle has a name at the start
@@ -194,17 +212,22 @@ module _ (p : Module) (f : Naming) (distinct : AreDistinct p f) where
       tree_named test k (Some (Swizzle letters v)) is fits leaf = (tt, is)
       tree_named test k _ is fits leaf = absurd (true≢false (sym is))
 
-      each_constant : (n : ℕ) → ((h : ℕ) → IsTrue (is_constant n h) → AtStart n h) → (xs : List ℕ) → IsTrue (all_constant (is_constant n) xs) → EachOf (AtStart n) xs
+      each_constant : (n : ℕ) → ((h : ℕ) → IsTrue (is_constant n h) → AtStart n h) → (xs : List ℕ) →
+          IsTrue (all_constant (is_constant n) xs) → EachOf (AtStart n) xs
       each_constant n one [] all = tt
-      each_constant n one (x ∷ xs) all =
-          (one x (and_left (is_constant n x) (all_constant (is_constant n) xs) all), each_constant n one xs (and_right (is_constant n x) (all_constant (is_constant n) xs) all))
+      each_constant n one (x ∷ xs) all = (
+        one x (and_left (is_constant n x) (all_constant (is_constant n) xs) all),
+        each_constant n one xs (and_right (is_constant n x) (all_constant (is_constant n) xs) all),
+      )
 
       -- a tree over constants names nothing but constants
       constant_below : (n h : ℕ) → IsTrue (is_constant n h) → AtStart n h
       constant_below zero h is = refl
       constant_below (suc n) h is =
-          let tree = tree_named (is_constant n) (handle_type f.function h) (expression_of f.function h) is (words h) (leaves h) in
-          one_below f names (at_start f.function) no_numbers (none_at_start names) n h tree.0 (each_constant n (constant_below n) (operands_of (expression_of f.function h)) tree.1)
+          let tree = tree_named (is_constant n) (handle_type f.function h) (expression_of f.function h) is
+          (words h) (leaves h) in
+          one_below f names (at_start f.function) no_numbers (none_at_start names) n h tree.0
+          (each_constant n (constant_below n) (operands_of (expression_of f.function h)) tree.1)
 
       present_true : (b : Bool) → IsTrue (is_present (start_availability b)) → IsTrue b
       present_true true is = refl
@@ -215,7 +238,8 @@ module _ (p : Module) (f : Naming) (distinct : AreDistinct p f) where
       taken_below X [] (suc n) i lt = absurd (omega arith)
       taken_below X (x ∷ xs) zero i lt = absurd (omega arith)
       taken_below X (x ∷ xs) (suc n) zero lt = (omega arith, omega arith)
-      taken_below X (x ∷ xs) (suc n) (suc i) lt = let rest = taken_below X xs n i (omega arith) in (omega arith, omega arith)
+      taken_below X (x ∷ xs) (suc n) (suc i) lt = let rest = taken_below X xs n i (omega arith) in
+          (omega arith, omega arith)
 
       -- what may be used in front of the declaration of the next variable
       first_named : (n : ℕ) (k : ValueType) (e : Option Expression) →
@@ -224,17 +248,25 @@ module _ (p : Module) (f : Naming) (distinct : AreDistinct p f) where
           LeafFits p f.function k e → IsNamed f names e ×
           IsTrue (all_constant (is_constant n) (operands_of e))
       first_named n k (Some (Constant e)) is fits leaf = (constant_named declared names knows e leaf.0 fits, refl)
-      first_named n k (Some (Argument i)) is fits leaf = (knows.fixed (ArgumentName i) (ltb-true i (argument_count f.function) is) tt, refl)
+      first_named n k (Some (Argument i)) is fits leaf =
+          (knows.fixed (ArgumentName i) (ltb-true i (argument_count f.function) is) tt, refl)
       first_named n k (Some (Local i)) is fits leaf =
-          let within = taken_below (Option ℕ) f.function.first_values declared i (ltb-true i (local_count (before_local f.function declared)) is) in
+          let within = taken_below (Option ℕ) f.function.first_values declared i
+          (ltb-true i (local_count (before_local f.function declared)) is) in
           (knows.fixed (LocalName i) within.1 within.0, refl)
       first_named n k (Some (Global held i)) is fits leaf = (knows.fixed (GlobalName i) leaf.0 tt, refl)
       first_named n k None is fits leaf = absurd (true≢false (sym is))
-      first_named n k (Some (Operator word xs)) is fits leaf = tree_named (is_constant n) k (Some (Operator word xs)) (present_true (all_constant (is_constant n) xs) is) fits leaf
-      first_named n k (Some (Access b i)) is fits leaf = (tt, present_true (all_constant (is_constant n) (b ∷ i ∷ [])) is)
-      first_named n k (Some (AccessIndex x b)) is fits leaf = (tt, present_true (all_constant (is_constant n) (b ∷ [])) is)
-      first_named n k (Some (Logical j a b)) is fits leaf = (tt, present_true (all_constant (is_constant n) (a ∷ b ∷ [])) is)
-      first_named n k (Some (Swizzle letters v)) is fits leaf = (tt, present_true (all_constant (is_constant n) (v ∷ [])) is)
+      first_named n k (Some (Operator word xs)) is fits leaf =
+          tree_named (is_constant n) k (Some (Operator word xs))
+          (present_true (all_constant (is_constant n) xs) is) fits leaf
+      first_named n k (Some (Access b i)) is fits leaf =
+          (tt, present_true (all_constant (is_constant n) (b ∷ i ∷ [])) is)
+      first_named n k (Some (AccessIndex x b)) is fits leaf =
+          (tt, present_true (all_constant (is_constant n) (b ∷ [])) is)
+      first_named n k (Some (Logical j a b)) is fits leaf =
+          (tt, present_true (all_constant (is_constant n) (a ∷ b ∷ [])) is)
+      first_named n k (Some (Swizzle letters v)) is fits leaf =
+          (tt, present_true (all_constant (is_constant n) (v ∷ [])) is)
       first_named n k (Some _) is fits leaf = absurd (true≢false (sym is))
 
       first_below : (n h : ℕ) →
@@ -244,7 +276,8 @@ module _ (p : Module) (f : Naming) (distinct : AreDistinct p f) where
       first_below zero h is = refl
       first_below (suc n) h is =
           let first = first_named n (handle_type f.function h) (expression_of f.function h) is (words h) (leaves h) in
-          one_below f names (at_start f.function) no_numbers (none_at_start names) n h first.0 (each_constant n (constant_below n) (operands_of (expression_of f.function h)) first.1)
+          one_below f names (at_start f.function) no_numbers (none_at_start names) n h first.0
+          (each_constant n (constant_below n) (operands_of (expression_of f.function h)) first.1)
 
       pub first_resolves : (o : Option ℕ) →
           IsTrue (usable_if (before_local f.function declared) (at_start f.function) o) →
@@ -252,7 +285,8 @@ module _ (p : Module) (f : Naming) (distinct : AreDistinct p f) where
           (value_targets_if f.function (at_start f.function) no_numbers o)
       first_resolves None is = refl
       first_resolves (Some h) is =
-          value_targets_of names (written_form f (at_start f.function) h) ∙ first_below (length f.function.expressions) h is
+          value_targets_of names (written_form f (at_start f.function) h)
+          ∙ first_below (length f.function.expressions) h is
 
   -- what is known at a point of the body
   pub record InScope (k : ℕ) (s : Handles) (numbers : LetNumbers) (names : Lookup) : Type 0 where
@@ -266,15 +300,20 @@ module _ (p : Module) (f : Naming) (distinct : AreDistinct p f) where
       (numbers_after f.function l h numbers) (names_after f k l h names)
   scope_one k l h s numbers names le scope = record {
     items = items (binds f.function h);
-    lets = lets_by_binding (binds f.function h) (is_pure (expression_of f.function h)) (usable_all f.function s (operands_of (expression_of f.function h)));
+    lets = lets_by_binding (binds f.function h) (is_pure (expression_of f.function h))
+        (usable_all f.function s (operands_of (expression_of f.function h)));
     sources = sources_one f k h s scope.sources;
   }
     where
-      new_items : (b : Bool) → cond b (suc k) k ≤ total → Knows (local_count f.function) (bind names (cond b (f.names.named k) (f.names.numbered h)) (Some (LetTarget l)))
+      new_items : (b : Bool) → cond b (suc k) k ≤ total →
+          Knows (local_count f.function) (bind names (cond b (f.names.named k) (f.names.numbered h))
+          (Some (LetTarget l)))
       new_items true le = let_known (NamedKey k) le (λ y. fixed_named y k) (local_count f.function) l names scope.items
-      new_items false le = let_known (NumberedKey h) tt (λ y. fixed_numbered y h) (local_count f.function) l names scope.items
+      new_items false le = let_known (NumberedKey h) tt (λ y. fixed_numbered y h)
+          (local_count f.function) l names scope.items
 
-      items : (b : Bool) → Knows (local_count f.function) (cond b (bind names (bound_name f k h) (Some (LetTarget l))) names)
+      items : (b : Bool) →
+          Knows (local_count f.function) (cond b (bind names (bound_name f k h) (Some (LetTarget l))) names)
       items true = new_items (is_named f.function h) le
       items false = scope.items
 
@@ -287,7 +326,8 @@ module _ (p : Module) (f : Naming) (distinct : AreDistinct p f) where
           (λ j other e. numbered_named j k (sym e)) (λ j lt e. let same : k ≡ j =
           named_same k j e in omega (arith, lt, same)) scope.lets
       new_let false le =
-          lets_known (NumberedKey h) tt k h l s numbers names scope.sources le (λ j other e. other (sym (numbered_same h j e))) (λ j lt e. numbered_named h j e) scope.lets
+          lets_known (NumberedKey h) tt k h l s numbers names scope.sources le
+          (λ j other e. other (sym (numbered_same h j e))) (λ j lt e. numbered_named h j e) scope.lets
 
       lets_by_binding : (b o u : Bool) →
           LetsKnown (with_emitted_handle b o u (bound_name f k h) s h)
@@ -295,7 +335,8 @@ module _ (p : Module) (f : Naming) (distinct : AreDistinct p f) where
           (cond b (bind names (bound_name f k h) (Some (LetTarget l))) names)
       lets_by_binding true o u = new_let (is_named f.function h) le
       lets_by_binding false true u = λ j x.
-          update_cases (λ z. z ≡ Bound x → names x ≡ Some (LetTarget (numbers j))) s h (availability_without_name u (s h)) j
+          update_cases (λ z. z ≡ Bound x → names x ≡ Some (LetTarget (numbers j))) s h
+          (availability_without_name u (s h)) j
           (λ same e. scope.lets j x (ap s same ∙ nameless_bound u (s h) x e)) (λ other e. scope.lets j x e)
       lets_by_binding false false u = scope.lets
 
@@ -305,7 +346,8 @@ module _ (p : Module) (f : Naming) (distinct : AreDistinct p f) where
       (numbers_after_all f.function l hs numbers) (names_after_all f k l hs names)
   scope_emit k l [] s numbers names le scope = scope
   scope_emit k l (h ∷ hs) s numbers names le scope =
-      let here : named_after f.function h k ≤ total = omega (arith, le, named_all_more f hs (named_after f.function h k)) in
+      let here : named_after f.function h k ≤ total =
+      omega (arith, le, named_all_more f hs (named_after f.function h k)) in
       scope_emit (named_after f.function h k) (lets_after f.function h l) hs (after_one f k h s)
       (numbers_after f.function l h numbers) (names_after f k l h names) le
       (scope_one k l h s numbers names here scope)
@@ -317,12 +359,14 @@ module _ (p : Module) (f : Naming) (distinct : AreDistinct p f) where
   scope_result k l None s numbers names le scope = scope
   scope_result k l (Some h) s numbers names le scope = record {
     items = let_known (NumberedKey h) tt (λ y. fixed_numbered y h) (local_count f.function) l names scope.items;
-    lets = lets_known (NumberedKey h) tt k h l s numbers names scope.sources le (λ j other e. other (sym (numbered_same h j e))) (λ j lt e. numbered_named h j e) scope.lets;
+    lets = lets_known (NumberedKey h) tt k h l s numbers names scope.sources le
+        (λ j other e. other (sym (numbered_same h j e))) (λ j lt e. numbered_named h j e) scope.lets;
     sources = sources_after f k (Act (Asked []) [] (Some h)) s scope.sources;
   }
 
   -- more names may have been given
-  pub scope_more : (k next : ℕ) (s : Handles) (numbers : LetNumbers) (names : Lookup) → k ≤ next → InScope k s numbers names → InScope next s numbers names
+  pub scope_more : (k next : ℕ) (s : Handles) (numbers : LetNumbers) (names : Lookup) → k ≤ next →
+      InScope k s numbers names → InScope next s numbers names
   scope_more k next s numbers names le scope =
       record { items = scope.items; lets = scope.lets; sources = sources_more f k next s le scope.sources }
 
@@ -334,8 +378,10 @@ module _ (p : Module) (f : Naming) (distinct : AreDistinct p f) where
   scope_by k l (Act a xs r) s numbers names le scope = scope_result k l r s numbers names le scope
   scope_by k l (Block b) s numbers names le scope = scope_more k _ s numbers names (named_by_more f (Block b) k) scope
   scope_by k l (If c a b) s numbers names le scope = scope_more k _ s numbers names (named_by_more f (If c a b) k) scope
-  scope_by k l (Switch h cs) s numbers names le scope = scope_more k _ s numbers names (named_by_more f (Switch h cs) k) scope
-  scope_by k l (Loop b d e) s numbers names le scope = scope_more k _ s numbers names (named_by_more f (Loop b d e) k) scope
+  scope_by k l (Switch h cs) s numbers names le scope =
+      scope_more k _ s numbers names (named_by_more f (Switch h cs) k) scope
+  scope_by k l (Loop b d e) s numbers names le scope =
+      scope_more k _ s numbers names (named_by_more f (Loop b d e) k) scope
   scope_by k l _ s numbers names le scope = scope
 
   -- nothing that was named in between is in scope after a `continue`
@@ -359,5 +405,7 @@ module _ (p : Module) (f : Naming) (distinct : AreDistinct p f) where
   scope_left k l (then st ss) s numbers names le scope =
       let k1 = named_by f.function st k in
       let here : k1 ≤ total = omega (arith, le, list_more f ss k1) in
-      scope_forgotten (holds_continue st) k (named_by_all f.function ss k1) s _ numbers _ names _ (list_more f (then st ss) k) scope
-      (scope_left k1 (lets_by f.function st l) ss (after f k st s) (numbers_by f.function l st numbers) (names_by f k l st names) le (scope_by k l st s numbers names here scope))
+      scope_forgotten (holds_continue st) k (named_by_all f.function ss k1) s _ numbers _ names _
+      (list_more f (then st ss) k) scope
+      (scope_left k1 (lets_by f.function st l) ss (after f k st s) (numbers_by f.function l st numbers)
+      (names_by f k l st names) le (scope_by k l st s numbers names here scope))

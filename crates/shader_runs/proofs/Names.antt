@@ -40,7 +40,8 @@ with_known [] os names = names
 with_known (x ∷ xs) [] names = names
 with_known (x ∷ xs) (o ∷ os) names = bind (with_known xs os names) x (as_denoted o)
 
-pub known_other : (name : ℕ → Bytes) (x : Bytes) (n j : ℕ) → NotAmong name j n x → (os : List (Option Value)) (names : Scope) → with_known (names_from name j n) os names x ≡ names x
+pub known_other : (name : ℕ → Bytes) (x : Bytes) (n j : ℕ) → NotAmong name j n x →
+    (os : List (Option Value)) (names : Scope) → with_known (names_from name j n) os names x ≡ names x
 known_other name x zero j f os names = refl
 known_other name x (suc n) j f [] names = refl
 known_other name x (suc n) j f (o ∷ os) names =
@@ -63,11 +64,14 @@ known_at name (suc n) j one (o ∷ os) names e (suc i) lt =
     let apart : i + suc j ≢ j = omega arith in
     let rest = with_known (names_from name (suc j) n) os names in
     ap (λ k. bind rest (name j) (as_denoted o) (name k)) there
-    ∙ bind_other rest (name j) (as_denoted o) (name (i + suc j)) (λ e. apart (one (i + suc j) j (omega arith) (omega arith) e))
-    ∙ known_at name n (suc j) (λ a b la lb q. one a b (omega arith) (omega arith) q) os names (omega arith) i (omega arith)
+    ∙ bind_other rest (name j) (as_denoted o) (name (i + suc j))
+    (λ e. apart (one (i + suc j) j (omega arith) (omega arith) e))
+    ∙ known_at name n (suc j) (λ a b la lb q. one a b (omega arith) (omega arith) q) os names (omega arith) i
+    (omega arith)
 
 -- parameters are names of which all is known
-pub parameters_known : (xs : List Bytes) (vs : List Value) (names : Scope) → with_parameters xs vs names ≡ with_known xs (map Some vs) names
+pub parameters_known : (xs : List Bytes) (vs : List Value) (names : Scope) → with_parameters xs vs names
+    ≡ with_known xs (map Some vs) names
 parameters_known [] vs names = refl
 parameters_known (x ∷ xs) [] names = refl
 parameters_known (x ∷ xs) (v ∷ vs) names = ap (λ f. bind f x (Some (IsValue v))) (parameters_known xs vs names)
@@ -77,9 +81,11 @@ known_some [] i = refl
 known_some (v ∷ vs) zero = refl
 known_some (v ∷ vs) (suc i) = known_some vs i
 
-pub parameter_other : (name : ℕ → Bytes) (x : Bytes) (n j : ℕ) → NotAmong name j n x → (vs : List Value) (names : Scope) → with_parameters (names_from name j n) vs names x ≡ names x
+pub parameter_other : (name : ℕ → Bytes) (x : Bytes) (n j : ℕ) → NotAmong name j n x →
+    (vs : List Value) (names : Scope) → with_parameters (names_from name j n) vs names x ≡ names x
 parameter_other name x n j f vs names =
-    ap (λ scope. scope x) (parameters_known (names_from name j n) vs names) ∙ known_other name x n j f (map Some vs) names
+    ap (λ scope. scope x) (parameters_known (names_from name j n) vs names)
+    ∙ known_other name x n j f (map Some vs) names
 
 pub parameter_at : (name : ℕ → Bytes) (n j : ℕ) → AllDifferent name j n →
     (vs : List Value) (names : Scope) → length vs ≡ n →
@@ -100,7 +106,8 @@ pub variable_other : (f : Naming) (x : Bytes) (os : List (Option ℕ)) (j k : �
 variable_other f x [] j k apart names = refl
 variable_other f x (o ∷ os) j k apart names =
     let name = f.names.local_ in
-    variable_other f x os (suc j) k (λ i le lt. apart i (omega arith) (omega arith)) (bind names (name j) (variable_place f k j))
+    variable_other f x os (suc j) k (λ i le lt. apart i (omega arith) (omega arith))
+    (bind names (name j) (variable_place f k j))
     ∙ bind_other names (name j) (variable_place f k j) x (λ e. apart j (omega arith) (omega arith) (sym e))
 
 pub variable_at : (f : Naming) (os : List (Option ℕ)) (j k : ℕ) →
@@ -137,9 +144,11 @@ one_more_variable f (x ∷ os) o j k names =
     let there : length os + suc j ≡ suc (length os) + j = omega arith in
     let first = bind names (f.names.local_ j) (variable_place f k j) in
     one_more_variable f os o (suc j) k first
-    ∙ ap (λ m. bind (with_variables (variables_from f (suc j) os) k (suc j) first) (f.names.local_ m) (variable_place f k m)) there
+    ∙ ap (λ m. bind (with_variables (variables_from f (suc j) os) k (suc j) first) (f.names.local_ m)
+    (variable_place f k m)) there
 
-pub take_one_more : {A : Type 0} (xs : List A) (i : ℕ) (x : A) → slice_get xs i ≡ Some x → take (suc i) xs ≡ take i xs ++ x ∷ []
+pub take_one_more : {A : Type 0} (xs : List A) (i : ℕ) (x : A) → slice_get xs i ≡ Some x → take (suc i) xs
+    ≡ take i xs ++ x ∷ []
 take_one_more [] i x e = absurd (none-some x e)
 take_one_more (y ∷ xs) zero x e = ap (λ z. z ∷ []) (same_Some y x e)
 take_one_more (y ∷ xs) (suc i) x e = ap (λ zs. y ∷ zs) (take_one_more xs i x e)
@@ -150,12 +159,14 @@ held (Stored pointer) = None
 held (InHandleSpace o) = o
 
 -- what is chosen for one variable is what is held of it
-chosen_held : (parts : PartTypes) (x : VariableShape) (o : Option Value) → IsTrue (choice_fits parts x o) → held (global_value_by x o) ≡ o
+chosen_held : (parts : PartTypes) (x : VariableShape) (o : Option Value) → IsTrue (choice_fits parts x o) →
+    held (global_value_by x o) ≡ o
 chosen_held parts (AtPlace s) None h = refl
 chosen_held parts (AtPlace s) (Some v) h = absurd (true≢false (sym h))
 chosen_held parts (Held k) o h = refl
 
-pub held_values : (parts : PartTypes) (xs : List VariableShape) (gs : List (Option Value)) → IsTrue (choices_fit parts xs gs) → map held (global_values xs gs) ≡ gs
+pub held_values : (parts : PartTypes) (xs : List VariableShape) (gs : List (Option Value)) →
+    IsTrue (choices_fit parts xs gs) → map held (global_values xs gs) ≡ gs
 held_values parts [] [] e = refl
 held_values parts [] (g ∷ gs) e = absurd (true≢false (sym e))
 held_values parts (x ∷ xs) [] e = absurd (true≢false (sym e))
@@ -165,12 +176,14 @@ held_values parts (x ∷ xs) (g ∷ gs) e =
     λ i. chosen_held parts x g here i ∷ held_values parts xs gs there i
 
 -- a variable whose choice fits stands for what its space says
-choice_stands : (parts : PartTypes) (x : VariableShape) (o : Option Value) → IsTrue (choice_fits parts x o) → IsTrue (global_fits parts x (global_value_by x o))
+choice_stands : (parts : PartTypes) (x : VariableShape) (o : Option Value) → IsTrue (choice_fits parts x o) →
+    IsTrue (global_fits parts x (global_value_by x o))
 choice_stands parts (AtPlace s) o h = same_type_self (PointerType s)
 choice_stands parts (Held k) None h = h
 choice_stands parts (Held k) (Some v) h = h
 
-pub choices_stand : (parts : PartTypes) (xs : List VariableShape) (gs : List (Option Value)) → IsTrue (choices_fit parts xs gs) → IsTrue (globals_fit parts xs (global_values xs gs))
+pub choices_stand : (parts : PartTypes) (xs : List VariableShape) (gs : List (Option Value)) →
+    IsTrue (choices_fit parts xs gs) → IsTrue (globals_fit parts xs (global_values xs gs))
 choices_stand parts [] [] e = refl
 choices_stand parts [] (g ∷ gs) e = absurd (true≢false (sym e))
 choices_stand parts (x ∷ xs) [] e = absurd (true≢false (sym e))
@@ -180,8 +193,10 @@ choices_stand parts (x ∷ xs) (g ∷ gs) e =
     (choices_stand parts xs gs (and_right (choice_fits parts x g) (choices_fit parts xs gs) e))
 
 -- a variable of the module stands for what its declaration says
-declared_denoted : (parts : PartTypes) (x : VariableShape) (b : ℕ) (g : GlobalValue) → IsTrue (global_fits parts x g) → global_denoted (pointer_to x) b (held g) ≡ stored_denoted b g
-declared_denoted parts (AtPlace s) b (Stored q) h = ap (λ s. Some (IsPlace (Rooted (GlobalRoot s b)))) (same_bytes_true s q h)
+declared_denoted : (parts : PartTypes) (x : VariableShape) (b : ℕ) (g : GlobalValue) →
+    IsTrue (global_fits parts x g) → global_denoted (pointer_to x) b (held g) ≡ stored_denoted b g
+declared_denoted parts (AtPlace s) b (Stored q) h = ap (λ s. Some (IsPlace (Rooted (GlobalRoot s b))))
+    (same_bytes_true s q h)
 declared_denoted parts (AtPlace s) b (InHandleSpace o) h = absurd (true≢false (sym h))
 declared_denoted parts (Held k) b (Stored q) h = absurd (true≢false (sym h))
 declared_denoted parts (Held k) b (InHandleSpace o) h = refl
@@ -209,7 +224,8 @@ globals_at parts name (k ∷ ks) j one (g ∷ gs) names e (suc i) lt =
     let denoted = global_denoted (pointer_to k) j (held g) in
     ap (λ m. bind rest (name j) denoted (name m)) there
     ∙ bind_other rest (name j) denoted (name (i + suc j)) (λ e. apart (one (i + suc j) j (omega arith) (omega arith) e))
-    ∙ globals_at parts name ks (suc j) (λ a b la lb q. one a b (omega arith) (omega arith) q) gs names (and_right (global_fits parts k g) (globals_fit parts ks gs) e) i (omega arith)
+    ∙ globals_at parts name ks (suc j) (λ a b la lb q. one a b (omega arith) (omega arith) q) gs names
+    (and_right (global_fits parts k g) (globals_fit parts ks gs) e) i (omega arith)
     ∙ ap (λ b. global_as b (slice_get gs i)) (sym there)
 
 pub globals_other : (name : ℕ → Bytes) (x : Bytes) (ks : List VariableShape) (j : ℕ) →
@@ -218,7 +234,8 @@ pub globals_other : (name : ℕ → Bytes) (x : Bytes) (ks : List VariableShape)
 globals_other name x [] j f gs names = refl
 globals_other name x (k ∷ ks) j f [] names = refl
 globals_other name x (k ∷ ks) j f (g ∷ gs) names =
-    bind_other (with_globals (globals_from name (suc j) ks) gs (suc j) names) (name j) (global_denoted (pointer_to k) j g) x (λ e. f j (omega arith) (omega arith) (sym e))
+    bind_other (with_globals (globals_from name (suc j) ks) gs (suc j) names) (name j)
+    (global_denoted (pointer_to k) j g) x (λ e. f j (omega arith) (omega arith) (sym e))
     ∙ globals_other name x ks (suc j) (λ i le lt. f i (omega arith) (omega arith)) gs names
 
 pub length-names_from : (name : ℕ → Bytes) (j n : ℕ) → length (names_from name j n) ≡ n
@@ -228,7 +245,8 @@ length-names_from name j (suc n) = ap suc (length-names_from name (suc j) n)
 -- the names of a module whose constants and overrides have these values
 abbrev pub module_names_in_scope : Module → ModuleNames → Environment → Scope
 module_names_in_scope p n env =
-    with_parameters (names_from n.constant 0 (length p.constant_types)) env.constants (with_globals (globals_from n.global 0 p.globals) (map held env.globals) 0 no_names)
+    with_parameters (names_from n.constant 0 (length p.constant_types)) env.constants
+    (with_globals (globals_from n.global 0 p.globals) (map held env.globals) 0 no_names)
 
 pub length-functions_of : (fs : List Naming) → length (functions_of fs) ≡ length fs
 length-functions_of [] = refl
@@ -242,8 +260,11 @@ length-form_functions (f ∷ fs) = ap suc (length-form_functions fs)
 pub forms_named : (p : Module) (n : ModuleNames) (fs : List Naming) → AllFit p n fs → AreNamed n (form_functions fs)
 forms_named p n [] fits = tt
 forms_named p n (f ∷ fs) fits =
-    let count : length (functions_of fs) ≡ length (form_functions fs) = length-functions_of fs ∙ sym (length-form_functions fs) in
-    (ap (λ m. m.function f.names.earlier) fits.0.outer ∙ ap n.function (fits.0.earlier ∙ count), forms_named p n fs fits.1)
+    let count : length (functions_of fs) ≡ length (form_functions fs) = length-functions_of fs
+    ∙ sym (length-form_functions fs) in (
+      ap (λ m. m.function f.names.earlier) fits.0.outer ∙ ap n.function (fits.0.earlier ∙ count),
+      forms_named p n fs fits.1,
+    )
 
 -- what is asked of a module whose functions fit is asked of its items
 pub items_fit : (p : Module) (n : ModuleNames) (fs : List Naming) → ModuleFits p n fs → ItemsFit p n (form_functions fs)
@@ -262,6 +283,7 @@ pub no_name_among : (p : Module) (n : ModuleNames) (fs : List TextFunction) →
     names_function fs word ≡ false
 no_name_among p n [] within named word other = refl
 no_name_among p n (f ∷ fs) within named word other =
-    let apart : same_bytes word f.name ≡ false = same_bytes_apart word f.name (λ e. other (length fs) (omega (arith, within)) (sym (e ∙ named.0))) in
+    let apart : same_bytes word f.name ≡ false =
+    same_bytes_apart word f.name (λ e. other (length fs) (omega (arith, within)) (sym (e ∙ named.0))) in
     let fewer : length fs ≤ length p.functions = omega (arith, within) in
     ap (λ b. b || names_function fs word) apart ∙ no_name_among p n fs fewer named.1 word other

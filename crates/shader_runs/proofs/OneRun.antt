@@ -58,7 +58,8 @@ answers_same R q q' k (same_answer h) = refl
 answers_same R q q' k mistyped_answer = absurd k
 
 -- a function's name is one in the text
-name_among : (n : ModuleNames) (fs : List TextFunction) → AreNamed n fs → (g : ℕ) → g < length fs → names_function fs (n.function g) ≡ true
+name_among : (n : ModuleNames) (fs : List TextFunction) → AreNamed n fs → (g : ℕ) → g < length fs →
+    names_function fs (n.function g) ≡ true
 name_among n [] named g lt = absurd (omega (arith, lt))
 name_among n (f ∷ fs) named g lt = by (nat_eq g (length fs)) refl (name_among n fs named.1 g)
   where
@@ -70,15 +71,19 @@ name_among n (f ∷ fs) named g lt = by (nat_eq g (length fs)) refl (name_among 
         names_function (f ∷ fs) (n.function g) ≡ true
     by true e later =
         let own : n.function g ≡ f.name = ap n.function (eqb-true g (length fs) e) ∙ sym named.0 in
-        ap (λ b. b || names_function fs (n.function g)) (ap (same_bytes (n.function g)) (sym own) ∙ same_bytes_self (n.function g))
+        ap (λ b. b || names_function fs (n.function g))
+        (ap (same_bytes (n.function g)) (sym own) ∙ same_bytes_self (n.function g))
     by false e later =
         let apart = eqb-false g (length fs) e in
         in_rest (same_bytes (n.function g) f.name) (later (omega (arith, lt, apart)))
 
-pub uses_fit : (p : Module) (n : ModuleNames) (functions : List TextFunction) → length functions ≡ length p.functions → AreNamed n functions → UsesFit p n (word_use functions n.vocabulary)
+pub uses_fit : (p : Module) (n : ModuleNames) (functions : List TextFunction) → length functions
+    ≡ length p.functions → AreNamed n functions → UsesFit p n (word_use functions n.vocabulary)
 uses_fit p n functions counted are =
     record {
-      functions = λ g lt. ap (λ b. is_operation (cond b NamesFunction (cond (n.vocabulary.is_request (n.function g)) AsksForEvent (unasked (n.function g)))))
+      functions = λ g lt. ap
+          (λ b. is_operation (cond b NamesFunction
+          (cond (n.vocabulary.is_request (n.function g)) AsksForEvent (unasked (n.function g)))))
           (name_among n functions are g (omega (arith, counted, lt)));
       requests = λ word other q. named word other ∙ ap (λ b. cond b AsksForEvent (unasked word)) q;
       operators = λ word other q r.
@@ -92,7 +97,8 @@ uses_fit p n functions counted are =
     named : (word : Bytes) → ((g : ℕ) → g < length p.functions → n.function g ≢ word) →
         word_use functions n.vocabulary word ≡ cond (n.vocabulary.is_request word) AsksForEvent (unasked word)
     named word other =
-        ap (λ b. cond b NamesFunction (cond (n.vocabulary.is_request word) AsksForEvent (unasked word))) (no_name_among p n functions (omega (arith, counted)) are word other)
+        ap (λ b. cond b NamesFunction (cond (n.vocabulary.is_request word) AsksForEvent (unasked word)))
+        (no_name_among p n functions (omega (arith, counted)) are word other)
 
 -- ---- the first functions of a module
 -- a call of one of them, by its number
@@ -101,16 +107,19 @@ run_among_first : (env : Environment) (w : World) (m : Meaning) (turns : ℕ)
     run_call env w m turns (others ++ fs) g vs t ≡ run_call env w m turns fs g vs t
 run_among_first env w m turns [] fs g lt vs t = refl
 run_among_first env w m turns (f ∷ others) fs g lt vs t =
-    skipped (nat_eq g (length (others ++ fs))) (number_apart others fs g lt) _ (run_call env w m turns (others ++ fs) g vs t)
+    skipped (nat_eq g (length (others ++ fs))) (number_apart others fs g lt) _
+    (run_call env w m turns (others ++ fs) g vs t)
     ∙ run_among_first env w m turns others fs g lt vs t
 
-pub first_numbered : (others fs : List Function) (g : ℕ) → g < length fs → function_numbered (others ++ fs) g ≡ function_numbered fs g
+pub first_numbered : (others fs : List Function) (g : ℕ) → g < length fs → function_numbered (others ++ fs) g
+    ≡ function_numbered fs g
 first_numbered [] fs g lt = refl
 first_numbered (f ∷ others) fs g lt =
     ap (λ b. cond b (Some f) (function_numbered (others ++ fs) g)) (number_apart others fs g lt)
     ∙ first_numbered others fs g lt
 
-pub first_typed : (parts : PartTypes) (p : Module) (m : Meaning) (others fs : List Function) → AllTypedIn parts p m (others ++ fs) → AllTypedIn parts p m fs
+pub first_typed : (parts : PartTypes) (p : Module) (m : Meaning) (others fs : List Function) →
+    AllTypedIn parts p m (others ++ fs) → AllTypedIn parts p m fs
 first_typed parts p m [] fs typed = typed
 first_typed parts p m (f ∷ others) fs typed = first_typed parts p m others fs typed.1
 
@@ -132,8 +141,10 @@ followed_among_first parts outer w m uses turns p n distinct (f ∷ later) funct
     distinct.functions g place (omega (arith, within, counted, lt)) (omega (arith, within))
     (e ∙ named.0) in
     omega (arith, same, counted, lt)) in
-    skipped (same_bytes (n.function g) f.name) apart _ (follow_call parts outer w m uses turns (later ++ functions) (n.function g) vs t)
-    ∙ followed_among_first parts outer w m uses turns p n distinct later functions named.1 (omega (arith, within)) g lt vs t
+    skipped (same_bytes (n.function g) f.name) apart _
+    (follow_call parts outer w m uses turns (later ++ functions) (n.function g) vs t)
+    ∙ followed_among_first parts outer w m uses turns p n distinct later functions named.1
+    (omega (arith, within)) g lt vs t
 
 -- in an environment of the module's types
 environment_alike : (p : Module) (n : ModuleNames) (later : List TextFunction) (f : Naming)
@@ -264,7 +275,8 @@ environment_alike p n later f between callees fits env environment m typed vs h 
         ∙ (run_among_first env w m turns fits.others (f.function ∷ before) g (omega (arith, number)) vs t
         ∙ (taken (nat_eq g (length before)) (eq-eqb g (length before) number) _ _
         ∙ ap (λ r. run_if_arguments_fit (nat_eq (length vs) (argument_count f.function)) r t)
-        (body_runs (own_call before) (functions_of callees) f.function.body turns (λ kept t. refl) (length before) vs t)))
+        (body_runs (own_call before) (functions_of callees) f.function.body turns (λ kept t. refl)
+        (length before) vs t)))
 
     alike : text_call p n uses known env environment w m turns responses (length rest) f vs t ≡
         run_if_arguments_fit (nat_eq (length vs) (argument_count f.function))
@@ -293,7 +305,8 @@ initialisers_are_alike p n functions fits s settings m typed w =
 pub one_runs_alike : OneRunsAlike
 one_runs_alike p n later f between callees fits s settings m typed vs h w turns t keeps =
     let functions = later ++ (form_function f ∷ (between ++ form_functions callees)) in
-    ap (λ names. follow_call p.parts names w m (word_use functions n.vocabulary) turns functions (n.function f.names.earlier) vs t)
+    ap (λ names. follow_call p.parts names w m (word_use functions n.vocabulary) turns functions
+    (n.function f.names.earlier) vs t)
     (names_are p n functions fits.items s settings m typed w)
     ∙ environment_alike p n later f between callees fits (environment_of p s m)
     (environment_fits p n fits.items.constants s settings m typed) m typed vs h w turns t keeps
@@ -330,8 +343,10 @@ runs_alike p n fs fits s settings m typed g f e vs h w turns t keeps =
             let is : x.function ≡ f =
             same_Some x.function f
             (ap (λ b. cond b (Some x.function) (function_numbered (functions_of gs) g)) (sym same) ∙ e) in
-            ap (λ functions. follow_module (form_module_with p n functions) p.parts s w m n.vocabulary turns (n.function g) vs t) (sym texts)
-            ∙ (ap (λ k. follow_module (form_module_with p n (later ++ (form_function x ∷ form_functions gs))) p.parts s w m n.vocabulary turns (n.function k) vs t) number
+            ap (λ functions. follow_module (form_module_with p n functions) p.parts s w m n.vocabulary turns
+            (n.function g) vs t) (sym texts)
+            ∙ (ap (λ k. follow_module (form_module_with p n (later ++ (form_function x ∷ form_functions gs)))
+            p.parts s w m n.vocabulary turns (n.function k) vs t) number
             ∙ (one_runs_alike p n later x [] gs
             (record {
               items = subst (ItemsFit p n) (sym texts) (items_fit p n fs fits);

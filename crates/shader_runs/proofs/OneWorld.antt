@@ -71,7 +71,8 @@ module _ (env : Environment) (m : Meaning) (functions : List Function) where
       events_made (filled c (e ∷ t)) ≤ i → wanted i (e ∷ t) ≡ wanted i t
   event_leaves i (Entry g vs firsts) c t begins le =
       let call = call_to i g vs in
-      let same : filled call t ≡ filled c (Entry g vs firsts ∷ t) = sym (opened_filled call t) ∙ ap (λ c. filled c t) begins in
+      let same : filled call t ≡ filled c (Entry g vs firsts ∷ t) = sym (opened_filled call t)
+      ∙ ap (λ c. filled c t) begins in
       ap (λ o. or_else o (wanted i t)) (none_asked call t i (omega (arith, le, ap (λ q. events_made q) same)))
   event_leaves i _ c t begins le = refl
 
@@ -82,9 +83,11 @@ module _ (env : Environment) (m : Meaning) (functions : List Function) where
       from_before i t (e ∷ t) (filled c (e ∷ t)) (event_leaves i e c t begins) (leaves_wanted i c (e ∷ t) en)
   leaves_wanted i (asks parts k r next) t (apart, en) =
       let v = default_value k in
-      from_before i t (r ∷ t) (filled (next v) (r ∷ t)) (λ le. no_entry i r t apart) (leaves_wanted i (next v) (r ∷ t) (en v))
+      from_before i t (r ∷ t) (filled (next v) (r ∷ t)) (λ le. no_entry i r t apart)
+      (leaves_wanted i (next v) (r ∷ t) (en v))
   leaves_wanted i (counts next) t en = leaves_wanted i (next (entries t)) t en
-  leaves_wanted i (joins c next) t (en, rest) = go (filled c t) (leaves_wanted i c t en) (λ x e. leaves_wanted i (next x) e (rest x e))
+  leaves_wanted i (joins c next) t (en, rest) =
+      go (filled c t) (leaves_wanted i c t en) (λ x e. leaves_wanted i (next x) e (rest x e))
     where
       go : (q : ReachedOrHalted Pause) → LeavesWanted i t q →
           ((x : Pause) (e : List Event) → LeavesWanted i e (filled (next x) e)) →
@@ -110,7 +113,8 @@ module _ (env : Environment) (m : Meaning) (functions : List Function) where
   event_wanted _ c t begins a h = h
 
   -- what is wanted where the course asks is told by the history there, if it was so before
-  asks_wanted : {c : Course} {t u : List Event} {k : ValueType} → AsksAt c t u k → Entered (call_to (length u)) c t → wanted (length u) t ≡ Some k → wanted (length u) u ≡ Some k
+  asks_wanted : {c : Course} {t u : List Event} {k : ValueType} → AsksAt c t u k →
+      Entered (call_to (length u)) c t → wanted (length u) t ≡ Some k → wanted (length u) u ≡ Some k
   asks_wanted now en h = h
   asks_wanted (answered_then {y = y} {r = r} {t = t} {u = u} a) (apart, en) h =
       asks_wanted a (en (default_value y)) (no_entry (length u) r t apart ∙ h)
@@ -118,10 +122,12 @@ module _ (env : Environment) (m : Meaning) (functions : List Function) where
   asks_wanted (counted_then a) en h = asks_wanted a en h
   asks_wanted (inside a) (en, rest) h = asks_wanted a en h
   asks_wanted (following {c = c} {t = t} {u = u} {e = e} {x = x} given a) (en, rest) h =
-      asks_wanted a (rest x e) (subst (LeavesWanted (length u) t) given (leaves_wanted (length u) c t en) (asks_later a) ∙ h)
+      asks_wanted a (rest x e) (subst (LeavesWanted (length u) t) given (leaves_wanted (length u) c t en)
+      (asks_later a) ∙ h)
 
   -- nothing need be so before a call
-  opening_wanted : {c : Course} {t u : List Event} {k : ValueType} → AsksAt c t u k → Entered (call_to (length u)) c t → IsOpening c → wanted (length u) u ≡ Some k
+  opening_wanted : {c : Course} {t u : List Event} {k : ValueType} → AsksAt c t u k →
+      Entered (call_to (length u)) c t → IsOpening c → wanted (length u) u ≡ Some k
   opening_wanted now en o = absurd o
   opening_wanted (answered_then a) en o = absurd o
   opening_wanted (made_then {e = Entry g vs firsts} {c = c} {t = t} a) (begins, en) o =
@@ -134,9 +140,11 @@ module _ (env : Environment) (m : Meaning) (functions : List Function) where
   opening_wanted (inside a) en o = absurd o
   opening_wanted (following h a) en o = absurd o
 
-  call_wanted : (g : ℕ) (vs : List Value) {t u : List Event} {k : ValueType} → AsksAt (call_to (length u) g vs) t u k → wanted (length u) u ≡ Some k
+  call_wanted : (g : ℕ) (vs : List Value) {t u : List Event} {k : ValueType} →
+      AsksAt (call_to (length u) g vs) t u k → wanted (length u) u ≡ Some k
   call_wanted g vs {t} {u} a =
-      opening_wanted a (call_enters env m functions (suc (length u)) g vs t) (call_opens env m functions (suc (length u)) g vs)
+      opening_wanted a (call_enters env m functions (suc (length u)) g vs t)
+      (call_opens env m functions (suc (length u)) g vs)
 
 call_events : (q : ReachedOrHalted Pause) → events_made (call_outcome q) ≡ events_made q
 call_events (Gives x e) = refl
@@ -157,11 +165,13 @@ module _ (p : Module) (n : ModuleNames) (fs : List Naming) (fits : ModuleFits p 
   abbrev call : ℕ → Course
   call j = call_course env m p.functions j g vs
 
-  module _ (w : World) (j : ℕ) (right : (u : List Event) (k : ValueType) → AsksAt (call j) past u k → (r : Event) → w u r ≡ default_value k) where
+  module _ (w : World) (j : ℕ) (right : (u : List Event) (k : ValueType) → AsksAt (call j) past u k →
+      (r : Event) → w u r ≡ default_value k) where
     run_is_filled : run_module p settings w m j g vs past ≡ call_outcome (filled (call j) past)
     run_is_filled =
         call_performed env w m j p.functions g vs past
-        ∙ ap call_outcome (process_runs w j (call_process env m p.functions g vs) past ∙ run_filled w (call j) past right)
+        ∙ ap call_outcome (process_runs w j (call_process env m p.functions g vs) past
+        ∙ run_filled w (call j) past right)
 
     run_keeps : KeepsTypes (run_module p settings w m j g vs past)
     run_keeps = subst KeepsTypes (sym run_is_filled) (right_keeps (filled (call j) past) (filled_right (call j) past))
@@ -203,7 +213,8 @@ module _ (p : Module) (n : ModuleNames) (fs : List Naming) (fits : ModuleFits p 
       go (inr l) = inr (omega (arith, l, as_many world j fewer))
 
   -- what is asked after i events is asked with i + 1 turns
-  asked_in_time : (j : ℕ) {u : List Event} {k : ValueType} → AsksAt (call j) past u k → AsksAt (call (suc (length u))) past u k
+  asked_in_time : (j : ℕ) {u : List Event} {k : ValueType} → AsksAt (call j) past u k →
+      AsksAt (call (suc (length u))) past u k
   asked_in_time j {u} {k} a = go (cases_lt j (suc (length u)))
     where
       process : Process
@@ -211,7 +222,8 @@ module _ (p : Module) (n : ModuleNames) (fs : List Naming) (fits : ModuleFits p 
 
       go : ((j < suc (length u)) ⊎ (suc (length u) ≤ j)) → AsksAt (call (suc (length u))) past u k
       go (inl le) = asks_with_more (course_cut j (suc (length u)) (omega (arith, le)) process) a
-      go (inr le) = asks_with_fewer (course_cut (suc (length u)) j le process) a (in_time (filled_settles (suc (length u)) j le))
+      go (inr le) = asks_with_fewer (course_cut (suc (length u)) j le process) a
+          (in_time (filled_settles (suc (length u)) j le))
         where
           in_time : ((events_made (filled (call (suc (length u))) past) ≡ events_made (filled (call j) past)) ⊎
               (suc (length u) + length past ≤ events_made (filled (call (suc (length u))) past))) →

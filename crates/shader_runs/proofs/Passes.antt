@@ -87,22 +87,26 @@ then_done (Done s t) = refl
 then_done _ = refl
 
 -- what is done in two steps
-pub then_parts : {S : Type 0} (o : Outcome S) (g : Next S) (s : S) (t : List Event) → and_then o g ≡ Done s t → (s1 : S) × (t1 : List Event) × (o ≡ Done s1 t1) × (g s1 t1 ≡ Done s t)
+pub then_parts : {S : Type 0} (o : Outcome S) (g : Next S) (s : S) (t : List Event) → and_then o g ≡ Done s t →
+    (s1 : S) × (t1 : List Event) × (o ≡ Done s1 t1) × (g s1 t1 ≡ Done s t)
 then_parts (Done s1 t1) g s t q = (s1, t1, refl, q)
 then_parts (Continued s1 t1) g s t q = absurd (not_continued s1 s t1 t q)
 then_parts (Broke s1 t1) g s t q = absurd (not_broke s1 s t1 t q)
 then_parts (Returned v t1) g s t q = absurd (not_returned v s t1 t q)
 then_parts (Stopped x t1) g s t q = absurd (not_stopped x s t1 t q)
 
-pub one_more_turn : {S : Type 0} (once : Next S) (j : ℕ) (s s1 : S) (t t1 : List Event) (o : Outcome S) → once s t ≡ Done s1 t1 → after_turns once j s1 t1 ≡ o → after_turns once (suc j) s t ≡ o
+pub one_more_turn : {S : Type 0} (once : Next S) (j : ℕ) (s s1 : S) (t t1 : List Event) (o : Outcome S) →
+    once s t ≡ Done s1 t1 → after_turns once j s1 t1 ≡ o → after_turns once (suc j) s t ≡ o
 one_more_turn once j s s1 t t1 o e rest = ap (λ o. and_then o (after_turns once j)) e ∙ rest
 
-one_more_line : (b : Bool) (m : ℕ) (q : Point) → after_lines (cond b 1 0) (after_lines m q) ≡ after_lines (cond b (suc m) m) q
+one_more_line : (b : Bool) (m : ℕ) (q : Point) → after_lines (cond b 1 0) (after_lines m q)
+    ≡ after_lines (cond b (suc m) m) q
 one_more_line true m q = refl
 one_more_line false m q = refl
 
 -- what closes its names leaves them, with or without a `continue` in it
-closed_again : {S : Type 0} (b : Bool) (s : S) (o : Outcome S) → closed_if b s (and_then (closed_outcome s o) (λ s t. Done s t)) ≡ closed_outcome s o
+closed_again : {S : Type 0} (b : Bool) (s : S) (o : Outcome S) →
+    closed_if b s (and_then (closed_outcome s o) (λ s t. Done s t)) ≡ closed_outcome s o
 closed_again true s (Done s1 t) = refl
 closed_again true s (Continued s1 t) = refl
 closed_again true s (Broke s1 t) = refl
@@ -126,7 +130,8 @@ closed_value_again true s (Halts x t) g = refl
 closed_value_again false s (Halts x t) g = refl
 closed_value_again b s (Gives v t) g = closed_again b s (g v t)
 
-closed_value_done : {S : Type 0} (s s1 : S) (t : List Event) (r : ReachedOrHalted Value) (g : Value → List Event → Outcome S) → with_value r (λ v t. closed_outcome s (g v t)) ≡ Done s1 t → s1 ≡ s
+closed_value_done : {S : Type 0} (s s1 : S) (t : List Event) (r : ReachedOrHalted Value)
+    (g : Value → List Event → Outcome S) → with_value r (λ v t. closed_outcome s (g v t)) ≡ Done s1 t → s1 ≡ s
 closed_value_done s s1 t (Halts x e) g q = absurd (not_stopped x s1 e t q)
 closed_value_done s s1 t (Gives v e) g q = closed_done s s1 t (g v e) q
 
@@ -140,7 +145,8 @@ module _ (p : Module) (c : Call) (n : Names) (d : Respond) (facts : Facts p c n 
   -- each point after these lines is one of the longer list
   abbrev Leads : Lines → (Point → Point) → Scope → List Event → Lines → Scope → List Event → Type 0
   Leads ls way names t tail names1 t1 =
-      (q : Point) (names2 : Scope) (t2 : List Event) → Text tail q names1 t1 names2 t2 → Text ls (way q) names t names2 t2
+      (q : Point) (names2 : Scope) (t2 : List Event) → Text tail q names1 t1 names2 t2 →
+      Text ls (way q) names t names2 t2
 
   -- the text's run is after a statement
   abbrev Following : ℕ → Statement → Handles → Scope → List Event → KeptValues → List Event → Type 0
@@ -170,14 +176,16 @@ module _ (p : Module) (c : Call) (n : Names) (d : Respond) (facts : Facts p c n 
       ((tail : Lines) → Leads (before x tail) (λ q. following q) names t tail names1 t1)
   one_line x s1 names kept1 t t1 none w =
       let whole = and_then (follow (words c d) bound x names t) (λ s t. Done s t) in
-      let there : closed_if false names whole ≡ Done w.0 t1 = subst (λ b. closed_if b names whole ≡ Done w.0 t1) none w.1 in
+      let there : closed_if false names whole ≡ Done w.0 t1 =
+      subst (λ b. closed_if b names whole ≡ Done w.0 t1) none w.1 in
       let own = sym (then_done (follow (words c d) bound x names t)) ∙ there in
       (w.0, w.2, λ tail q names2 t2 h. goes_after_line own h)
 
   -- a line that leaves the names as they were, with or without a `continue` in it
   abbrev Closes : Line → Scope → List Event → Type 0
   Closes x names t =
-      (closed_if (has_continue x) names (and_then (follow (words c d) bound x names t) (λ s t. Done s t)) ≡ follow (words c d) bound x names t)
+      (closed_if (has_continue x) names (and_then (follow (words c d) bound x names t) (λ s t. Done s t))
+      ≡ follow (words c d) bound x names t)
       × ((names1 : Scope) (t1 : List Event) → follow (words c d) bound x names t ≡ Done names1 t1 → names1 ≡ names)
 
   closes : (x : Line) (names : Scope) (t : List Event) (r : ReachedOrHalted Value) (g : Value →
@@ -198,7 +206,8 @@ module _ (p : Module) (c : Call) (n : Names) (d : Respond) (facts : Facts p c n 
   if_closes : (e : Tree) (a b : Lines) (names : Scope) (t : List Event) → Closes (IfElse e a b) names t
   if_closes e a b names t =
       let run = follow_all (words c d) bound in
-      closes (IfElse e a b) names t (value_of (words c d) e names t) (λ v t1. branch_by v t1 (run a names t1) (run b names t1)) refl
+      closes (IfElse e a b) names t (value_of (words c d) e names t)
+      (λ v t1. branch_by v t1 (run a names t1) (run b names t1)) refl
 
   switch_closes : (e : Tree) (gs : Groups) (names : Scope) (t : List Event) → Closes (SwitchOn e gs) names t
   switch_closes e gs names t =
@@ -214,8 +223,12 @@ module _ (p : Module) (c : Call) (n : Names) (d : Respond) (facts : Facts p c n 
       (names1 : Scope) × Related c n s names1 kept1 ×
       ((tail : Lines) → Leads (before x tail) (λ q. following q) names t tail names1 t1)
   closing_line x s names kept kept1 t t1 z r w =
-      let own : follow (words c d) bound x names t ≡ Done w.0 t1 = sym z.0 ∙ w.1 in
-      (w.0, subst (λ l. Related c n s l kept1) (sym (z.1 w.0 t1 own)) (related_agree c n s names kept kept1 w.2 r), λ tail q names2 t2 h. goes_after_line own h)
+      let own : follow (words c d) bound x names t ≡ Done w.0 t1 = sym z.0 ∙ w.1 in (
+        w.0,
+        subst (λ l. Related c n s l kept1) (sym (z.1 w.0 t1 own))
+            (related_agree c n s names kept kept1 w.2 r),
+        λ tail q names2 t2 h. goes_after_line own h,
+      )
 
   -- a line for each handle that is bound
   emits_one : (k h : ℕ) (s : Handles) (names : Scope) (kept kept1 : KeptValues)
@@ -242,9 +255,11 @@ module _ (p : Module) (c : Call) (n : Names) (d : Respond) (facts : Facts p c n 
       go : (b : Bool) (tail : Lines) (names1 : Scope) →
           follow_in_loop (words c d) bound (let_if b x own last) names t ≡ Done names1 t1 →
           Leads (let_if b x own tail) (after_lines (cond b 1 0)) names t tail names1 t1
-      go true tail names1 e q names2 t2 h = goes_after_line (sym (then_done (follow (words c d) bound (Let x own) names t)) ∙ e) h
+      go true tail names1 e q names2 t2 h =
+          goes_after_line (sym (then_done (follow (words c d) bound (Let x own) names t)) ∙ e) h
       go false tail names1 e q names2 t2 h =
-          subst (λ l. Text tail q l t names2 t2) (sym (same_state names names1 t t1 e)) (subst (λ e. Text tail q names1 e names2 t2) (sym (same_events names names1 t t1 e)) h)
+          subst (λ l. Text tail q l t names2 t2) (sym (same_state names names1 t t1 e))
+          (subst (λ e. Text tail q names1 e names2 t2) (sym (same_events names names1 t t1 e)) h)
 
   emits_all : (k : ℕ) (hs : List ℕ) (s : Handles) (names : Scope) (kept kept1 : KeptValues)
       (t t1 : List Event) → Related c n s names kept → MayEmitAll c n k hs s →
@@ -253,13 +268,17 @@ module _ (p : Module) (c : Call) (n : Names) (d : Respond) (facts : Facts p c n 
       ((tail : Lines) →
       Leads (lets (naming c n) k hs s tail) (after_lines (let_count c.function hs)) names t tail
       names1 t1)
-  emits_all k [] s names kept kept1 t t1 r m e =
-      (names, subst (λ k. Related c n s names k) (same_state kept kept1 t t1 e) r, λ tail q names2 t2 h. subst (λ e. Text tail q names e names2 t2) (sym (same_events kept kept1 t t1 e)) h)
+  emits_all k [] s names kept kept1 t t1 r m e = (
+    names,
+    subst (λ k. Related c n s names k) (same_state kept kept1 t t1 e) r,
+    λ tail q names2 t2 h. subst (λ e. Text tail q names e names2 t2) (sym (same_events kept kept1 t t1 e)) h,
+  )
   emits_all k (h ∷ hs) s names kept kept1 t t1 r m e =
       let k1 = named_after c.function h k in
       let s1 = after_one (naming c n) k h s in
       let parts = then_parts (emit_as c h (expression_of c.function h) kept t) (emit c hs) kept1 t1 e in
-      let one = emits_one k h s names kept parts.0 t parts.1 r (m.0, tt) (then_done (emit_as c h (expression_of c.function h) kept t) ∙ parts.2) in
+      let one = emits_one k h s names kept parts.0 t parts.1 r (m.0, tt)
+      (then_done (emit_as c h (expression_of c.function h) kept t) ∙ parts.2) in
       let rest = emits_all k1 hs s1 one.0 parts.0 kept1 parts.1 t1 one.1 m.1 parts.3 in (
         rest.0,
         rest.1,
@@ -276,18 +295,28 @@ module _ (p : Module) (c : Call) (n : Names) (d : Respond) (facts : Facts p c n 
       ask_each ws kept t ≡ Done kept1 t1 → (kept1 ≡ kept) ×
       ((tail : Lines) → Leads (perform_each ws tail) (after_lines (length ws)) names t tail names
       t1)
-  asks_all [] s names kept kept1 t t1 r m e =
-      (sym (same_state kept kept1 t t1 e), λ tail q names2 t2 h. subst (λ e. Text tail q names e names2 t2) (sym (same_events kept kept1 t t1 e)) h)
+  asks_all [] s names kept kept1 t t1 r m e = (
+    sym (same_state kept kept1 t t1 e),
+    λ tail q names2 t2 h. subst (λ e. Text tail q names e names2 t2)
+        (sym (same_events kept kept1 t t1 e)) h,
+  )
   asks_all (w ∷ ws) s names kept kept1 t t1 r m e =
       let rest = asks_all ws s names kept kept1 (Ask w [] ∷ t) t1 r m.1 e in
-      let asked = ap (λ o. unless o t (d.1 w [] t)) (free p c n d facts s names kept r w m.0.1.1) ∙ request_responds p c n d facts.responds w m.0 [] t in
-      (rest.0, λ tail q names2 t2 h. goes_after_line (ap (λ q. perform_outcome (d.0 w) names q) asked ∙ ap (λ b. perform_outcome b names (respond_by_use AsksForEvent c.world c.meaning w [] t)) (facts.responds.asking w m.0)) (rest.1 tail q names2 t2 h))
+      let asked = ap (λ o. unless o t (d.1 w [] t)) (free p c n d facts s names kept r w m.0.1.1)
+      ∙ request_responds p c n d facts.responds w m.0 [] t in (
+        rest.0,
+        λ tail q names2 t2 h. goes_after_line
+            (ap (λ q. perform_outcome (d.0 w) names q) asked
+            ∙ ap (λ b. perform_outcome b names (respond_by_use AsksForEvent c.world c.meaning w [] t))
+            (facts.responds.asking w m.0)) (rest.1 tail q names2 t2 h),
+      )
 
   -- the text's run gets after each statement that the module's run gets after
   goes_on : (st : Statement) (k : ℕ) (s : Handles) (names : Scope) (kept kept1 : KeptValues)
       (t t1 : List Event) → Related c n s names kept → Fits p c n k st s →
       run c bound st kept t ≡ Done kept1 t1 → Following k st s names t kept1 t1
-  goes_on (Emit first count) k s names kept kept1 t t1 r m e = emits_all k (from first count) s names kept kept1 t t1 r m e
+  goes_on (Emit first count) k s names kept kept1 t t1 r m e =
+      emits_all k (from first count) s names kept kept1 t t1 r m e
   goes_on (Barrier bits) k s names kept kept1 t t1 r m e =
       let w = asks_all (barrier_words bits) s names kept kept1 t t1 r m e in
       (names, subst (λ k. Related c n s names k) (sym w.0) r, w.1)
@@ -308,10 +337,13 @@ module _ (p : Module) (c : Call) (n : Names) (d : Respond) (facts : Facts p c n 
       closing_line _ s names kept kept1 t t1 (braces_close (form_all (naming c n) k b s) names t) r (w.0, w.1, w.2.1)
   goes_on (If h a b) k s names kept kept1 t t1 r m e =
       let w = own_lines (If h a b) k s names kept kept1 t t1 r m e in
-      closing_line _ s names kept kept1 t t1 (if_closes (value_at (naming c n) s h) (form_all (naming c n) k a s) (form_all (naming c n) (named_by_all c.function a k) b s) names t) r (w.0, w.1, w.2.1)
+      closing_line _ s names kept kept1 t t1
+      (if_closes (value_at (naming c n) s h) (form_all (naming c n) k a s)
+      (form_all (naming c n) (named_by_all c.function a k) b s) names t) r (w.0, w.1, w.2.1)
   goes_on (Switch h cs) k s names kept kept1 t t1 r m e =
       let w = own_lines (Switch h cs) k s names kept kept1 t t1 r m e in
-      closing_line _ s names kept kept1 t t1 (switch_closes (value_at (naming c n) s h) (form_cases (naming c n) k [] cs s) names t) r (w.0, w.1, w.2.1)
+      closing_line _ s names kept kept1 t t1
+      (switch_closes (value_at (naming c n) s h) (form_cases (naming c n) k [] cs s) names t) r (w.0, w.1, w.2.1)
   goes_on (Jumps Break) k s names kept kept1 t t1 r m e = absurd (not_broke kept kept1 t t1 e)
   goes_on (Jumps Continue) k s names kept kept1 t t1 r m e = absurd (not_continued kept kept1 t t1 e)
   goes_on (Jumps (Return None)) k s names kept kept1 t t1 r m e = absurd (not_returned None kept1 t t1 e)
@@ -338,10 +370,12 @@ module _ (p : Module) (c : Call) (n : Names) (d : Respond) (facts : Facts p c n 
       Text (form (naming c n) k st s tail) (inside (region_in_text st g) q) names t names2 t2)
 
   -- nothing but its beginning is a point of no lines
-  from_none : (ls : Lines) (q : Point) (names names1 : Scope) (t t1 : List Event) → Text last q names t names1 t1 → Text ls q names t names1 t1
+  from_none : (ls : Lines) (q : Point) (names names1 : Scope) (t t1 : List Event) →
+      Text last q names t names1 t1 → Text ls q names t names1 t1
   from_none ls q names names1 t t1 h = go h refl
     where
-      go : {ls1 : Lines} {q : Point} {names names1 : Scope} {t t1 : List Event} → Text ls1 q names t names1 t1 → ls1 ≡ last → Text ls q names t names1 t1
+      go : {ls1 : Lines} {q : Point} {names names1 : Scope} {t t1 : List Event} → Text ls1 q names t names1 t1 →
+          ls1 ≡ last → Text ls q names t names1 t1
       go is_here_in_text e = is_here_in_text
       go (goes_after_line {x = x} {ls = rest} a b) e = absurd (some_line x rest e)
       go (goes_inside_line {x = x} {ls = rest} a b) e = absurd (some_line x rest e)
@@ -358,7 +392,8 @@ module _ (p : Module) (c : Call) (n : Names) (d : Respond) (facts : Facts p c n 
   Awaited x labels no_case = ⊥
   Awaited x labels (case l b falls cs) = IsTrue (among x (labels ++ l ∷ []))
 
-  awaited_more : (x : CaseValue) (labels : List CaseValue) (b : Statements) (cs : Cases) → JoinsNext true b cs → IsTrue (among x labels) → Awaited x labels cs
+  awaited_more : (x : CaseValue) (labels : List CaseValue) (b : Statements) (cs : Cases) → JoinsNext true b cs →
+      IsTrue (among x labels) → Awaited x labels cs
   awaited_more x labels b (case l b1 falls cs) m e =
       among_append x labels l ∙ or_left (among x labels) (same_case_value x l) e
   awaited_more x labels end no_case m e = absurd m
@@ -383,19 +418,24 @@ module _ (p : Module) (c : Call) (n : Names) (d : Respond) (facts : Facts p c n 
   waiting (case l b false cs) k labels s x w e m =
       own_group (among_append x labels l ∙ or_left (among x labels) (same_case_value x l) e)
   waiting (case l end true cs) k labels s x w e m =
-      waiting cs k (labels ++ l ∷ []) s x (falls_followed (labels ++ l ∷ []) cs m.0) (among_append x labels l ∙ or_left (among x labels) (same_case_value x l) e) m.2
+      waiting cs k (labels ++ l ∷ []) s x (falls_followed (labels ++ l ∷ []) cs m.0)
+      (among_append x labels l ∙ or_left (among x labels) (same_case_value x l) e) m.2
   waiting (case l (then st ss) true cs) k labels s x w e m = absurd m.0
 
   found_here : (l : CaseValue) (b : Statements) (falls : Bool) (cs : Cases) (k : ℕ)
       (labels : List CaseValue) (s : Handles) (x : CaseValue) → IsTrue (among x (labels ++ l ∷ [])) →
       FitsCases p c n k (case l b falls cs) s → Found k labels (case l b falls cs) s x 0
   found_here l b false cs k labels s x e m = (own_group e, m.1, λ q names names1 t t1 h. h)
-  found_here l end true cs k labels s x e m =
-      (waiting cs k (labels ++ l ∷ []) s x (falls_followed (labels ++ l ∷ []) cs m.0) e m.2, tt, λ q names names1 t t1 h. from_none _ q names names1 t t1 h)
+  found_here l end true cs k labels s x e m = (
+    waiting cs k (labels ++ l ∷ []) s x (falls_followed (labels ++ l ∷ []) cs m.0) e m.2,
+    tt,
+    λ q names names1 t t1 h. from_none _ q names names1 t t1 h,
+  )
   found_here l (then st ss) true cs k labels s x e m = absurd m.0
 
   -- a case that falls through is empty
-  nothing_done : (b : Statements) (cs : Cases) (kept kept1 : KeptValues) (t t1 : List Event) → JoinsNext true b cs → run_all c bound b kept t ≡ Done kept1 t1 → (kept1 ≡ kept) × (t1 ≡ t)
+  nothing_done : (b : Statements) (cs : Cases) (kept kept1 : KeptValues) (t t1 : List Event) →
+      JoinsNext true b cs → run_all c bound b kept t ≡ Done kept1 t1 → (kept1 ≡ kept) × (t1 ≡ t)
   nothing_done end cs kept kept1 t t1 m e = (sym (same_state kept kept1 t t1 e), sym (same_events kept kept1 t t1 e))
   nothing_done (then st ss) cs kept kept1 t t1 m e = absurd m
 
@@ -405,9 +445,11 @@ module _ (p : Module) (c : Call) (n : Names) (d : Respond) (facts : Facts p c n 
       FitsCases p c n k cs s → Found k labels cs s x i × (kept1 ≡ kept) × (t1 ≡ t)
   falls_to (this_case {l = l} {b = b} {falls = falls} {cs = cs}) k labels s x e m =
       (found_here l b falls cs k labels s x e m, refl, refl)
-  falls_to (next_case {l = l} {b = b} {cs = cs} {kept = kept} {kept1 = kept1} {t = t} {t1 = t1} q rest) k labels s x e m =
+  falls_to (next_case {l = l} {b = b} {cs = cs} {kept = kept} {kept1 = kept1} {t = t} {t1 = t1} q rest) k labels
+      s x e m =
       let first = nothing_done b cs kept kept1 t t1 m.0 q in
-      let w = falls_to rest (named_by_all c.function b k) (labels ++ l ∷ []) s x (awaited_more x (labels ++ l ∷ []) b cs m.0 e) m.2 in
+      let w = falls_to rest (named_by_all c.function b k) (labels ++ l ∷ []) s x
+      (awaited_more x (labels ++ l ∷ []) b cs m.0 e) m.2 in
       (w.0, w.1 ∙ first.0, w.2 ∙ first.1)
 
   comes_to : {x : CaseValue} {cs : Cases} {i : ℕ} {kept kept1 : KeptValues} {t t1 : List Event} →
@@ -420,10 +462,12 @@ module _ (p : Module) (c : Call) (n : Names) (d : Respond) (facts : Facts p c n 
       let w = comes_to rest (named_by_all c.function b k) [] s refl m.2 in
       ((other_group (among_append x labels l ∙ ap (λ a. a || same_case_value x l) e ∙ q) w.0.0, w.0.1, w.0.2), w.1, w.2)
   comes_to {x} (other_case {l = l} {b = b} {falls = true} q rest) k labels s e m =
-      comes_to rest (named_by_all c.function b k) (labels ++ l ∷ []) s (among_append x labels l ∙ ap (λ a. a || same_case_value x l) e ∙ q) m.2
+      comes_to rest (named_by_all c.function b k) (labels ++ l ∷ []) s
+      (among_append x labels l ∙ ap (λ a. a || same_case_value x l) e ∙ q) m.2
 
   -- the same state and events, of the text's run
-  same_from : (ls : Lines) (q : Point) (names names2 : Scope) (t t1 t2 : List Event) → t1 ≡ t → Text ls q names t1 names2 t2 → Text ls q names t names2 t2
+  same_from : (ls : Lines) (q : Point) (names names2 : Scope) (t t1 t2 : List Event) → t1 ≡ t →
+      Text ls q names t1 names2 t2 → Text ls q names t names2 t2
   same_from ls q names names2 t t1 t2 e h = subst (λ t. Text ls q names t names2 t2) e h
 
   -- a loop
@@ -453,10 +497,15 @@ module _ (p : Module) (c : Call) (n : Names) (d : Respond) (facts : Facts p c n 
         Related c n s names kept → after_turns (module_turn c bound b b2 e) j kept t ≡
         Done kept1 t1 → (names1 : Scope) × (after_turns Turn j names t ≡ Done names1 t1) ×
         Related c n s names1 kept1
-    turns_go zero names kept kept1 t t1 r q =
-        (names, ap (λ e. Done names e) (same_events kept kept1 t t1 q), subst (λ k. Related c n s names k) (same_state kept kept1 t t1 q) r)
+    turns_go zero names kept kept1 t t1 r q = (
+      names,
+      ap (λ e. Done names e) (same_events kept kept1 t t1 q),
+      subst (λ k. Related c n s names k)
+          (same_state kept kept1 t t1 q) r,
+    )
     turns_go (suc j) names kept kept1 t t1 r q =
-        let parts = then_parts (module_turn c bound b b2 e kept t) (after_turns (module_turn c bound b b2 e) j) kept1 t1 q in
+        let parts = then_parts (module_turn c bound b b2 e kept t) (after_turns (module_turn c bound b b2 e) j)
+        kept1 t1 q in
         let keep = turns_keep p c n d facts bound s S1 S2 (any_continue b) (any_continue b2)
         (run_all c bound b) (run_all c bound b2) (follow_in_loop (words c d) bound Body_lines)
         (follow_in_loop (words c d) bound Continuing_lines) e (extends_all c n k b s) m.2
@@ -474,8 +523,10 @@ module _ (p : Module) (c : Call) (n : Names) (d : Respond) (facts : Facts p c n 
         Done names1 t1) × Related c n S1 names1 kept1
     body_goes names kept kept1 t t1 r q =
         let same = same_all p c n d facts bound b k s names kept t r m.0 in
-        let both = weaker {P' = λ k l. Related c n S1 l k} {Q' = λ k l. Related c n S1 l k} (λ k l a. a.0) (λ k l a. a.0) (λ k l a. a) same in
-        both_done (continue_alike {P' = λ k l. Related c n S1 l k} {Q' = λ k l. Unit {0}} (λ k l t a. done a) both) kept1 t1 q
+        let both = weaker {P' = λ k l. Related c n S1 l k} {Q' = λ k l. Related c n S1 l k} (λ k l a. a.0)
+        (λ k l a. a.0) (λ k l a. a) same in
+        both_done (continue_alike {P' = λ k l. Related c n S1 l k} {Q' = λ k l. Unit {0}}
+        (λ k l t a. done a) both) kept1 t1 q
 
     -- the end of `continuing`
     continuing_goes : (names : Scope) (kept kept1 : KeptValues) (t t1 : List Event) →
@@ -514,13 +565,25 @@ module _ (p : Module) (c : Call) (n : Names) (d : Respond) (facts : Facts p c n 
       Related c n s names kept → Fits p c n k st s → Enters k st g s names t kept1 t1
   enters into_block k s names r m =
       (names, r, m, λ tail q names2 t2 h. goes_inside_line into_braces h)
-  enters (into_accept {h = x} {kept = kept} {t = t} e) k s names r m =
-      (names, r, m.1, λ tail q names2 t2 h. goes_inside_line (into_then (value_there s names kept t x (Truth true) r m.0 e)) h)
-  enters (into_reject {h = x} {kept = kept} {t = t} e) k s names r m =
-      (names, r, m.2, λ tail q names2 t2 h. goes_inside_line (into_else (value_there s names kept t x (Truth false) r m.0 e)) h)
-  enters (into_case {h = x} {i = i} {cases = cs} {spelling = spelling} {z = z} {kept = kept} {kept1 = kept1} {t = t} {t1 = t1} e to) k s names r m =
+  enters (into_accept {h = x} {kept = kept} {t = t} e) k s names r m = (
+    names,
+    r,
+    m.1,
+    λ tail q names2 t2 h. goes_inside_line
+        (into_then (value_there s names kept t x (Truth true) r m.0 e)) h,
+  )
+  enters (into_reject {h = x} {kept = kept} {t = t} e) k s names r m = (
+    names,
+    r,
+    m.2,
+    λ tail q names2 t2 h. goes_inside_line
+        (into_else (value_there s names kept t x (Truth false) r m.0 e)) h,
+  )
+  enters (into_case {h = x} {i = i} {cases = cs} {spelling = spelling} {z = z} {kept = kept} {kept1 = kept1}
+      {t = t} {t1 = t1} e to) k s names r m =
       let w = comes_to to k [] s refl m.1 in
-      let goes = subst (λ b. GoesToGroup (case_value_if b z) (form_cases (naming c n) k [] cs s) (group_of cs i)) (sym (has_all_cases p c n k cs s m.1 (Numbered z))) w.0.0 in (
+      let goes = subst (λ b. GoesToGroup (case_value_if b z) (form_cases (naming c n) k [] cs s)
+      (group_of cs i)) (sym (has_all_cases p c n k cs s m.1 (Numbered z))) w.0.0 in (
         names,
         subst (λ k. Related c n s names k) (sym w.1) r,
         w.0.1,
@@ -530,8 +593,13 @@ module _ (p : Module) (c : Call) (n : Names) (d : Respond) (facts : Facts p c n 
             t1 t2 w.2 (w.0.2 q names names2 t1 t2 h)),
       )
   enters {t1 = t1} (into_loop {b = b} {d = b2} {e = e} {g = g} turn) k s names r m =
-      let w = in_turn b b2 e k s m turn names r in
-      (w.0, w.2, w.3, λ tail q names2 t2 h. goes_inside_line (into_loop_line w.1) (subst (λ ls. Text ls q w.0 t1 names2 t2) w.4 h))
+      let w = in_turn b b2 e k s m turn names r in (
+        w.0,
+        w.2,
+        w.3,
+        λ tail q names2 t2 h. goes_inside_line (into_loop_line w.1)
+            (subst (λ ls. Text ls q w.0 t1 names2 t2) w.4 h),
+      )
 
   -- some first handles of an Emit
   emits_some : (i count first k : ℕ) (s : Handles) (names : Scope) (kept kept1 : KeptValues)
@@ -543,11 +611,16 @@ module _ (p : Module) (c : Call) (n : Names) (d : Respond) (facts : Facts p c n 
   emits_some i count first k s names kept kept1 t t1 tail le r m e =
       let hs = from (first + i) (count - i) in
       let split = from_split i count first le in
-      let w = emits_all k (from first i) s names kept kept1 t t1 r (may_emit_some (from first i) hs k s (subst (λ hs. MayEmitAll c n k hs s) split m)) e in
+      let w = emits_all k (from first i) s names kept kept1 t t1 r
+      (may_emit_some (from first i) hs k s (subst (λ hs. MayEmitAll c n k hs s) split m)) e in
       let f = naming c n in
       let rest = lets f (named_after_all c.function (from first i) k) hs (after_emit f k (from first i) s) tail in
-      let lines = ap (λ hs. lets f k hs s tail) split ∙ lets_append (from first i) hs k s tail in
-      (w.0, subst (λ ls. Text ls (after_lines (let_count c.function (from first i)) here) names t w.0 t1) (sym lines) (w.2 rest here w.0 t1 is_here_in_text), w.1)
+      let lines = ap (λ hs. lets f k hs s tail) split ∙ lets_append (from first i) hs k s tail in (
+        w.0,
+        subst (λ ls. Text ls (after_lines (let_count c.function (from first i)) here) names t w.0 t1)
+            (sym lines) (w.2 rest here w.0 t1 is_here_in_text),
+        w.1,
+      )
     where
       may_emit_some : (xs ys : List ℕ) (k : ℕ) (s : Handles) → MayEmitAll c n k (xs ++ ys) s → MayEmitAll c n k xs s
       may_emit_some [] ys k s m = tt
@@ -570,7 +643,8 @@ module _ (p : Module) (c : Call) (n : Names) (d : Respond) (facts : Facts p c n 
       (names1 : Scope) × Text (form_all (naming c n) k ss s) (point_in_text c.function ss q) names t
       names1 t1 × Related c n (handles_at (naming c n) k ss q s) names1 kept1
   passes is_here k s names r m = (names, is_here_in_text, r)
-  passes (goes_after {st = st} {ss = ss} {q = q} {kept = kept} {kept1 = kept1} {t = t} {t1 = t1} {t2 = t2} e rest) k s names r m =
+  passes (goes_after {st = st} {ss = ss} {q = q} {kept = kept} {kept1 = kept1} {t = t} {t1 = t1}
+      {t2 = t2} e rest) k s names r m =
       let k1 = named_by c.function st k in
       let s1 = after (naming c n) k st s in
       let w = goes_on st k s names kept kept1 t t1 r m.0 e in
@@ -581,6 +655,8 @@ module _ (p : Module) (c : Call) (n : Names) (d : Respond) (facts : Facts p c n 
       let w = enters to k s names r m.0 in
       let w1 = passes rest (named_in c.function st g k) (handles_in (naming c n) k st g s) w.0 w.1 w.2 in
       (w1.0, w.3 tail (point_in_text c.function (statements_in st g) q) w1.0 t2 w1.1, w1.2)
-  passes (emits {first = first} {count = count} {i = i} {ss = ss} {kept = kept} {kept1 = kept1} {t = t} {t1 = t1} le e) k s names r m =
+  passes (emits {first = first} {count = count} {i = i} {ss = ss} {kept = kept} {kept1 = kept1} {t = t}
+      {t1 = t1} le e) k s names r m =
       let st = Emit first count in
-      emits_some i count first k s names kept kept1 t t1 (form_all (naming c n) (named_by c.function st k) ss (after (naming c n) k st s)) le r m.0 e
+      emits_some i count first k s names kept kept1 t t1
+      (form_all (naming c n) (named_by c.function st k) ss (after (naming c n) k st s)) le r m.0 e

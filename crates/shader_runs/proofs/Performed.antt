@@ -64,7 +64,8 @@ module _ (w : World) (n : ℕ) where
       and_then o f ≡ outcome (perform w n (sequence p (then_on next)) t)
   then_performed o p t f next e h = ap (λ o. and_then o f) e ∙ go (perform w n p t)
     where
-      go : (q : ReachedOrHalted Pause) → and_then (outcome q) f ≡ outcome (resumed q (λ x e. perform w n (then_on next x) e))
+      go : (q : ReachedOrHalted Pause) → and_then (outcome q) f
+          ≡ outcome (resumed q (λ x e. perform w n (then_on next x) e))
       go (Gives (DoneWith s) e) = h s e
       go (Gives (ContinuedWith s) e) = refl
       go (Gives (BrokeWith s) e) = refl
@@ -76,14 +77,16 @@ module _ (w : World) (n : ℕ) where
       and_continue o f ≡ outcome (perform w n (sequence p (continue_on next)) t)
   continue_performed o p t f next e h = ap (λ o. and_continue o f) e ∙ go (perform w n p t)
     where
-      go : (q : ReachedOrHalted Pause) → and_continue (outcome q) f ≡ outcome (resumed q (λ x e. perform w n (continue_on next x) e))
+      go : (q : ReachedOrHalted Pause) → and_continue (outcome q) f
+          ≡ outcome (resumed q (λ x e. perform w n (continue_on next x) e))
       go (Gives (DoneWith s) e) = h s e
       go (Gives (ContinuedWith s) e) = h s e
       go (Gives (BrokeWith s) e) = refl
       go (Gives (ReturnedWith v) e) = refl
       go (Halts x e) = refl
 
-  within_performed : (o : Outcome KeptValues) (p : Process) (t : List Event) → o ≡ outcome (perform w n p t) → within o ≡ outcome (perform w n (sequence p inside) t)
+  within_performed : (o : Outcome KeptValues) (p : Process) (t : List Event) → o ≡ outcome (perform w n p t) →
+      within o ≡ outcome (perform w n (sequence p inside) t)
   within_performed o p t e = ap within e ∙ go (perform w n p t)
     where
       go : (q : ReachedOrHalted Pause) → within (outcome q) ≡ outcome (resumed q (λ x e. perform w n (inside x) e))
@@ -93,10 +96,12 @@ module _ (w : World) (n : ℕ) where
       go (Gives (ReturnedWith v) e) = refl
       go (Halts x e) = refl
 
-  switch_performed : (o : Outcome KeptValues) (p : Process) (t : List Event) → o ≡ outcome (perform w n p t) → after_switch o ≡ outcome (perform w n (sequence p following_switch) t)
+  switch_performed : (o : Outcome KeptValues) (p : Process) (t : List Event) → o ≡ outcome (perform w n p t) →
+      after_switch o ≡ outcome (perform w n (sequence p following_switch) t)
   switch_performed o p t e = ap after_switch e ∙ go (perform w n p t)
     where
-      go : (q : ReachedOrHalted Pause) → after_switch (outcome q) ≡ outcome (resumed q (λ x e. perform w n (following_switch x) e))
+      go : (q : ReachedOrHalted Pause) → after_switch (outcome q)
+          ≡ outcome (resumed q (λ x e. perform w n (following_switch x) e))
       go (Gives (DoneWith s) e) = refl
       go (Gives (ContinuedWith s) e) = refl
       go (Gives (BrokeWith s) e) = refl
@@ -147,7 +152,8 @@ module _ (w : World) (n : ℕ) where
       (perform w n (keeping parts k h r kept) t)
   keeping_performed parts k h r kept t = go (has_type parts k (w t r))
     where
-      go : (b : Bool) → if_typed b (r ∷ t) (Done (update kept h (Some (w t r))) (r ∷ t)) ≡ outcome (answered b (r ∷ t) (Gives (DoneWith (update kept h (Some (w t r)))) (r ∷ t)))
+      go : (b : Bool) → if_typed b (r ∷ t) (Done (update kept h (Some (w t r))) (r ∷ t))
+          ≡ outcome (answered b (r ∷ t) (Gives (DoneWith (update kept h (Some (w t r)))) (r ∷ t)))
       go true = refl
       go false = refl
 
@@ -156,7 +162,8 @@ module _ (w : World) (n : ℕ) where
       after_load parts k w h o kept t ≡ outcome (perform w n (load_process parts k h kept o) t)
   load_performed parts k h kept t None = refl
   load_performed parts k h kept t (Some v) =
-      there_performed (place_in v) (place_in v) t _ (λ p. keeping parts k h (Read p) kept) refl (λ p. keeping_performed parts k h (Read p) kept t)
+      there_performed (place_in v) (place_in v) t _ (λ p. keeping parts k h (Read p) kept) refl
+      (λ p. keeping_performed parts k h (Read p) kept t)
 
   ask_performed : (parts : PartTypes) (k : ValueType) (h : ℕ) (word : Bytes) (kept : KeptValues)
       (t : List Event) (o : Option (List Value)) →
@@ -171,7 +178,8 @@ module _ (w : World) (n : ℕ) where
   counted_performed true f kept t p h = h
   counted_performed false f kept t p h = refl
 
-  asks_performed : (words : List Bytes) (kept : KeptValues) (t : List Event) → ask_each words kept t ≡ outcome (perform w n (asks_process words kept) t)
+  asks_performed : (words : List Bytes) (kept : KeptValues) (t : List Event) → ask_each words kept t
+      ≡ outcome (perform w n (asks_process words kept) t)
   asks_performed [] kept t = refl
   asks_performed (word ∷ words) kept t = asks_performed words kept (Ask word [] ∷ t)
 
@@ -197,11 +205,13 @@ module _ (w : World) (n : ℕ) where
     used_all_alone kept [] = refl
     used_all_alone kept (x ∷ xs) = ap₂ also (used_alone kept x) (used_all_alone kept xs)
 
-    computed_performed : (h : ℕ) (e : Option Expression) (kept : KeptValues) (t : List Event) → Done (update kept h (computed_value c kept e)) t ≡ Done (update kept h (computed_value alone kept e)) t
+    computed_performed : (h : ℕ) (e : Option Expression) (kept : KeptValues) (t : List Event) →
+        Done (update kept h (computed_value c kept e)) t ≡ Done (update kept h (computed_value alone kept e)) t
     computed_performed h e kept t =
         ap (λ o. Done (update kept h (gathered_value env.parts m e o)) t) (used_all_alone kept (operands_of e))
 
-    one_performed : (h : ℕ) (e : Option Expression) (kept : KeptValues) (t : List Event) → emit_as c h e kept t ≡ outcome (perform w n (emit_one alone callees h e kept) t)
+    one_performed : (h : ℕ) (e : Option Expression) (kept : KeptValues) (t : List Event) → emit_as c h e kept t
+        ≡ outcome (perform w n (emit_one alone callees h e kept) t)
     one_performed h (Some (Load p)) kept t =
         counted_performed (is_counted f h)
         (after_load env.parts (handle_type f h) w h (used_value c kept p)) kept t
@@ -242,12 +252,14 @@ module _ (w : World) (n : ℕ) where
     act_performed (Called g) r kept us t =
         ap (with_result env.parts f (Called g) r kept) (calls_performed g us t) ∙ go r (perform w n (callees g us) t)
       where
-        ended : (r : Option ℕ) (v : Option Value) (e : List Event) → with_result env.parts f (Called g) r kept (Gives v e) ≡ outcome (perform w n (result_process r kept v) e)
+        ended : (r : Option ℕ) (v : Option Value) (e : List Event) →
+            with_result env.parts f (Called g) r kept (Gives v e) ≡ outcome (perform w n (result_process r kept v) e)
         ended None v e = refl
         ended (Some h) None e = refl
         ended (Some h) (Some v) e = refl
 
-        halted : (r : Option ℕ) (x : _) (e : List Event) → with_result env.parts f (Called g) r kept (Halts x e) ≡ Stopped x e
+        halted : (r : Option ℕ) (x : _) (e : List Event) → with_result env.parts f (Called g) r kept (Halts x e)
+            ≡ Stopped x e
         halted None x e = refl
         halted (Some h) x e = refl
 
@@ -269,7 +281,8 @@ module _ (w : World) (n : ℕ) where
     return_performed : (o : Option ℕ) → NextPerformed (return_outcome c o) (return_process alone callees o)
     return_performed None kept t = refl
     return_performed (Some h) kept t =
-        there_performed (used_value c kept h) (used_value alone kept h) t (λ v. Returned (Some v) t) (λ v. gives (ReturnedWith (Some v))) (used_alone kept h) (λ v. refl)
+        there_performed (used_value c kept h) (used_value alone kept h) t (λ v. Returned (Some v) t)
+        (λ v. gives (ReturnedWith (Some v))) (used_alone kept h) (λ v. refl)
 
     mutual
       statement_performed : (st : Statement) → NextPerformed (run c n st) (statement_process alone callees st)
@@ -339,9 +352,11 @@ module _ (w : World) (n : ℕ) where
       list_performed : (ss : Statements) → NextPerformed (run_all c n ss) (list_process alone callees ss)
       list_performed end kept t = refl
       list_performed (then st ss) kept t =
-          then_performed (run c n st kept t) (statement_process alone callees st kept) t (run_all c n ss) (list_process alone callees ss) (statement_performed st kept t) (list_performed ss)
+          then_performed (run c n st kept t) (statement_process alone callees st kept) t (run_all c n ss)
+          (list_process alone callees ss) (statement_performed st kept t) (list_performed ss)
 
-      cases_performed : (ks : Cases) (x : CaseValue) → NextPerformed (run_cases c n ks x) (cases_process alone callees ks x)
+      cases_performed : (ks : Cases) (x : CaseValue) →
+          NextPerformed (run_cases c n ks x) (cases_process alone callees ks x)
       cases_performed no_case x kept t = refl
       cases_performed (case l b falls ks) x kept t =
           if_performed (same_case_value x l) t
@@ -376,14 +391,16 @@ module _ (w : World) (n : ℕ) where
     firsts_alone kept [] = refl
     firsts_alone kept (o ∷ os) = ap₂ with_first (first_alone kept o) (firsts_alone kept os)
 
-    body_performed : (g : ℕ) (t : List Event) → run_body c n g vs t ≡ call_outcome (perform w n (body_process alone callees g vs) t)
+    body_performed : (g : ℕ) (t : List Event) → run_body c n g vs t
+        ≡ call_outcome (perform w n (body_process alone callees g vs) t)
     body_performed g t =
         ap (λ o. run_from_entry g vs o t
         (λ t1. answer (run_all c n f.body (constants_kept f env m) t1)))
         (firsts_alone (constants_kept f env m) f.first_values)
         ∙ go (first_used_all alone (constants_kept f env m) f.first_values)
       where
-        answers : (q : ReachedOrHalted Pause) → answer (outcome q) ≡ call_outcome (resumed q (λ x e. perform w n (answers_call x) e))
+        answers : (q : ReachedOrHalted Pause) → answer (outcome q)
+            ≡ call_outcome (resumed q (λ x e. perform w n (answers_call x) e))
         answers (Gives (DoneWith s) e) = refl
         answers (Gives (ContinuedWith s) e) = refl
         answers (Gives (BrokeWith s) e) = refl

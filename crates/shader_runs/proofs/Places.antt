@@ -29,20 +29,24 @@ pub from_split : (i count first : ℕ) → i ≤ count → from first count ≡ 
 from_split zero count first le = ap₂ (λ a b. from a b) (omega arith) (omega arith)
 from_split (suc i) zero first le = absurd (omega arith)
 from_split (suc i) (suc count) first le =
-    ap (λ hs. first ∷ hs) (from_split i count (suc first) (omega arith) ∙ ap₂ (λ a b. from (suc first) i ++ from a b) (omega arith) (omega arith))
+    ap (λ hs. first ∷ hs) (from_split i count (suc first) (omega arith)
+    ∙ ap₂ (λ a b. from (suc first) i ++ from a b) (omega arith) (omega arith))
 
 module _ (f : Naming) where
-  let_after : (b : Bool) (x : Bytes) (e : Tree) (tail : Lines) (m : ℕ) (q : Point) → lines_after (let_if b x e tail) (after_lines (cond b (suc m) m) q) ≡ lines_after tail (after_lines m q)
+  let_after : (b : Bool) (x : Bytes) (e : Tree) (tail : Lines) (m : ℕ) (q : Point) →
+      lines_after (let_if b x e tail) (after_lines (cond b (suc m) m) q) ≡ lines_after tail (after_lines m q)
   let_after true x e tail m q = refl
   let_after false x e tail m q = refl
 
-  lets_following : (hs : List ℕ) (k : ℕ) (s : Handles) (tail : Lines) (q : Point) → lines_after (lets f k hs s tail) (after_lines (let_count f.function hs) q) ≡ lines_after tail q
+  lets_following : (hs : List ℕ) (k : ℕ) (s : Handles) (tail : Lines) (q : Point) →
+      lines_after (lets f k hs s tail) (after_lines (let_count f.function hs) q) ≡ lines_after tail q
   lets_following [] k s tail q = refl
   lets_following (h ∷ hs) k s tail q =
       let k1 = named_after f.function h k in
       let s1 = after_one f k h s in
       let_after (binds f.function h) (bound_name f k h)
-      (value_form (own_form f (written_form f s) (expression_of f.function h))) (lets f k1 hs s1 tail) (let_count f.function hs) q
+      (value_form (own_form f (written_form f s) (expression_of f.function h))) (lets f k1 hs s1 tail)
+      (let_count f.function hs) q
       ∙ lets_following hs k1 s1 tail q
 
   -- after some first handles of an Emit
@@ -60,14 +64,17 @@ module _ (f : Naming) where
       let s1 = after_one f k h s in
       let hs = xs ++ ys in
       let rest = lets f k1 hs s1 (form_all f (named_after_all f.function hs k1) ss (after_emit f k1 hs s1)) in
-      let_after (binds f.function h) (bound_name f k h) (value_form (own_form f (written_form f s) (expression_of f.function h))) rest (let_count f.function xs) here
+      let_after (binds f.function h) (bound_name f k h)
+      (value_form (own_form f (written_form f s) (expression_of f.function h))) rest (let_count f.function xs) here
       ∙ some_after xs ys k1 s1 ss
 
-  performs_after : (ws : List Bytes) (tail : Lines) (q : Point) → lines_after (perform_each ws tail) (after_lines (length ws) q) ≡ lines_after tail q
+  performs_after : (ws : List Bytes) (tail : Lines) (q : Point) →
+      lines_after (perform_each ws tail) (after_lines (length ws) q) ≡ lines_after tail q
   performs_after [] tail q = refl
   performs_after (w ∷ ws) tail q = performs_after ws tail q
 
-  after_form : (st : Statement) (k : ℕ) (s : Handles) (tail : Lines) (q : Point) → lines_after (form f k st s tail) (after_lines (line_count f.function st) q) ≡ lines_after tail q
+  after_form : (st : Statement) (k : ℕ) (s : Handles) (tail : Lines) (q : Point) →
+      lines_after (form f k st s tail) (after_lines (line_count f.function st) q) ≡ lines_after tail q
   after_form (Emit first count) k s tail q = lets_following (from first count) k s tail q
   after_form (Barrier bits) k s tail q = performs_after (barrier_words bits) tail q
   after_form _ k s tail q = refl
@@ -112,6 +119,8 @@ module _ (f : Naming) where
         inside_form to k s tail (point_in_text f.function (statements_in st g) q) apart.0
         ∙ lines_there rest (named_in f.function st g k) (handles_in f k st g s) apart.1
     lines_there (emits {first = first} {count = count} {i = i} {ss = ss} less there) k s e =
-        let f_lines = λ (hs : List ℕ). lets f k hs s (form_all f (named_after_all f.function hs k) ss (after_emit f k hs s)) in
-        ap (λ hs. lines_after (f_lines hs) (after_lines (let_count f.function (from first i)) here)) (from_split i count first less)
+        let f_lines = λ (hs : List ℕ). lets f k hs s (form_all f (named_after_all f.function hs k) ss
+        (after_emit f k hs s)) in
+        ap (λ hs. lines_after (f_lines hs) (after_lines (let_count f.function (from first i)) here))
+        (from_split i count first less)
         ∙ some_after (from first i) (from (first + i) (count - i)) k s ss

@@ -34,7 +34,8 @@ facts_hold p c n d facts s names kept r =
       named = λ h x e. let q =
           subst (λ st. Stands c s names kept (handle_type c.function h) (expression_of c.function h)
           (kept h) st) e (r.availability h) in (q.0.0, q.0.1, q.1 ∙ ap as_denoted q.0.1);
-      written = λ h u. let v = typed_value p c n d facts s names kept r h u in (v.0, v.1, λ t. value_here p c n d facts s names kept r h u t ∙ ap (λ o. reach o t) v.1);
+      written = λ h u. let v = typed_value p c n d facts s names kept r h u in
+          (v.0, v.1, λ t. value_here p c n d facts s names kept r h u t ∙ ap (λ o. reach o t) v.1);
     }
 
 -- what holds of all functions holds of the first ones
@@ -42,7 +43,8 @@ fit_after : (p : Module) (n : ModuleNames) (later fs : List Naming) → AllFit p
 fit_after p n [] fs fits = fits
 fit_after p n (g ∷ later) fs fits = fit_after p n later fs fits.1
 
-typed_after : (parts : PartTypes) (p : Module) (m : Meaning) (later fs : List Naming) → AllTypedIn parts p m (functions_of (later ++ fs)) → AllTypedIn parts p m (functions_of fs)
+typed_after : (parts : PartTypes) (p : Module) (m : Meaning) (later fs : List Naming) →
+    AllTypedIn parts p m (functions_of (later ++ fs)) → AllTypedIn parts p m (functions_of fs)
 typed_after parts p m [] fs typed = typed
 typed_after parts p m (g ∷ later) fs typed = typed_after parts p m later fs typed.1
 
@@ -92,7 +94,8 @@ points_agree p n later f fs fits s settings m typed vs h w turns before_entry t 
         let uses = word_use (form_functions every) n.vocabulary in
         let known = uses_fit p n (form_functions every) items.counted items.named in
         let fit = fit_after p n later (f ∷ fs) fits.all in
-        let all = typed_after env.parts p m later (f ∷ fs) (subst (λ l. AllTypedIn env.parts p m l) (sym fits.functions) typed.functions) in
+        let all = typed_after env.parts p m later (f ∷ fs)
+        (subst (λ l. AllTypedIn env.parts p m l) (sym fits.functions) typed.functions) in
         let earlier = calls_alike p n uses known env environment w m turns fs within fit.1 all.1 one in
         let l = words_of p.parts (module_names_in_scope p n env) n every w m turns fs in
         let d : Respond = (l.operates, l.respond) in
@@ -100,8 +103,16 @@ points_agree p n later f fs fits s settings m typed vs h w turns before_entry t 
         let callees = functions_of fs in
         let calls = run_call env w m turns callees in
         let first = starting p n callees f fit.0 in
-        let facts = facts p n uses known env environment w m turns callees calls d alike f first all.0 vs before_entry h in
-        let start = starts p n uses known env environment w m turns callees calls d alike f first all.0 vs before_entry (has_types_length env.parts f.function.argument_types vs h) in
-        let body = body_fits p n uses known env environment w m turns callees calls d alike f first fit.0.regular fit.0.cases fit.0.scope all.0 vs before_entry in
-        let there = passes p c f.names d facts turns passed 0 (at_start f.function) _ start body in
-        (there.0, there.1, (λ e. lines_there f c turns passed 0 (at_start f.function) e), facts_hold p c f.names d facts (handles_at f 0 f.function.body q (at_start f.function)) there.0 kept there.2)
+        let facts = facts p n uses known env environment w m turns callees calls d alike f first all.0 vs
+        before_entry h in
+        let start = starts p n uses known env environment w m turns callees calls d alike f first all.0 vs
+        before_entry (has_types_length env.parts f.function.argument_types vs h) in
+        let body = body_fits p n uses known env environment w m turns callees calls d alike f first
+        fit.0.regular fit.0.cases fit.0.scope all.0 vs before_entry in
+        let there = passes p c f.names d facts turns passed 0 (at_start f.function) _ start body in (
+          there.0,
+          there.1,
+          (λ e. lines_there f c turns passed 0 (at_start f.function) e),
+          facts_hold p c f.names d facts (handles_at f 0 f.function.body q (at_start f.function)) there.0 kept
+              there.2,
+        )

@@ -69,7 +69,8 @@ again next (ContinuedWith s) t = Halts Stuck t
 again next (BrokeWith s) t = Gives (DoneWith s) t
 again next (ReturnedWith v) t = Gives (ReturnedWith v) t
 
-abbrev pub rounds : ℕ → (KeptValues → List Event → ReachedOrHalted Pause) → KeptValues → List Event → ReachedOrHalted Pause
+abbrev pub rounds : ℕ → (KeptValues → List Event → ReachedOrHalted Pause) → KeptValues → List Event →
+    ReachedOrHalted Pause
 rounds zero once s t = Halts OutOfTurns t
 rounds (suc n) once s t = resumed (once s t) (again (rounds n once))
 
@@ -160,16 +161,20 @@ entry_process g vs (Some firsts) p = tells (Entry g vs firsts) p
 module _ (c : Call) (calls : ℕ → List Value → Process) where
   abbrev pub emit_one : ℕ → Option Expression → KeptValues → Process
   emit_one h (Some (Load p)) kept =
-      if_true (is_counted c.function h) (load_process c.environment.parts (handle_type c.function h) h kept (used_value c kept p)) (gives (DoneWith kept))
+      if_true (is_counted c.function h) (load_process c.environment.parts (handle_type c.function h) h kept
+      (used_value c kept p)) (gives (DoneWith kept))
   emit_one h (Some (Request w xs es)) kept =
       if_true (is_counted c.function h)
       (ask_process c.environment.parts (handle_type c.function h) h w kept
       (joined_values (used_values c kept xs) (constant_values c.environment c.meaning es)))
       (gives (DoneWith kept))
-  emit_one h (Some (Operator w xs)) kept = gives (DoneWith (update kept h (computed_value c kept (Some (Operator w xs)))))
+  emit_one h (Some (Operator w xs)) kept =
+      gives (DoneWith (update kept h (computed_value c kept (Some (Operator w xs)))))
   emit_one h (Some (Access b i)) kept = gives (DoneWith (update kept h (computed_value c kept (Some (Access b i)))))
-  emit_one h (Some (AccessIndex x b)) kept = gives (DoneWith (update kept h (computed_value c kept (Some (AccessIndex x b)))))
-  emit_one h (Some (Logical j l r)) kept = gives (DoneWith (update kept h (computed_value c kept (Some (Logical j l r)))))
+  emit_one h (Some (AccessIndex x b)) kept =
+      gives (DoneWith (update kept h (computed_value c kept (Some (AccessIndex x b)))))
+  emit_one h (Some (Logical j l r)) kept =
+      gives (DoneWith (update kept h (computed_value c kept (Some (Logical j l r)))))
   emit_one h (Some (Swizzle l r)) kept = gives (DoneWith (update kept h (computed_value c kept (Some (Swizzle l r)))))
   emit_one h _ kept = gives (DoneWith kept)
 
@@ -179,7 +184,8 @@ module _ (c : Call) (calls : ℕ → List Value → Process) where
 
   abbrev pub act_process : Action → Option ℕ → KeptValues → List Value → Process
   act_process (Asked word) None kept vs = tells (Ask word vs) (gives (DoneWith kept))
-  act_process (Asked word) (Some h) kept vs = keeping c.environment.parts (handle_type c.function h) h (Ask word vs) kept
+  act_process (Asked word) (Some h) kept vs = keeping c.environment.parts (handle_type c.function h) h
+      (Ask word vs) kept
   act_process (Called g) r kept vs = sequence (calls g vs) (λ x. result_process r kept (answer_back x))
 
   abbrev pub leave_process : Option ℕ → KeptValues → Process
@@ -201,14 +207,17 @@ module _ (c : Call) (calls : ℕ → List Value → Process) where
     pub statement_process : Statement → KeptValues → Process
     statement_process (Emit first count) kept = emit_process (from first count) kept
     statement_process (Store p v) kept =
-        on_there (option_and_then place_in (used_value c kept p)) (λ place. on_there (used_value c kept v) (λ value. tells (Write place value) (gives (DoneWith kept))))
+        on_there (option_and_then place_in (used_value c kept p))
+        (λ place. on_there (used_value c kept v) (λ value. tells (Write place value) (gives (DoneWith kept))))
     statement_process (Block b) kept = list_process b kept
     statement_process (If h a b) kept =
         on_there (used_value c kept h) (λ v. on_truth v (list_process a kept) (list_process b kept))
     statement_process (Switch h ks) kept =
-        on_there (used_value c kept h) (λ v. on_there (integer_in v) (λ z. sequence (cases_process ks (case_value_if (has_case_value (Numbered z) ks) z) kept) following_switch))
+        on_there (used_value c kept h) (λ v. on_there (integer_in v)
+        (λ z. sequence (cases_process ks (case_value_if (has_case_value (Numbered z) ks) z) kept) following_switch))
     statement_process (Loop b d o) kept =
-        repeats (λ s. sequence (list_process b s) (continue_on (λ s1. sequence (sequence (list_process d s1) inside) (then_on (leave_process o))))) kept
+        repeats (λ s. sequence (list_process b s)
+        (continue_on (λ s1. sequence (sequence (list_process d s1) inside) (then_on (leave_process o))))) kept
     statement_process (Jumps j) kept = jump_process j kept
     statement_process (Barrier bits) kept = asks_process (barrier_words bits) kept
     statement_process (Act a xs r) kept = on_there (used_values c kept xs) (act_process a r kept)
@@ -220,7 +229,8 @@ module _ (c : Call) (calls : ℕ → List Value → Process) where
     pub cases_process : Cases → CaseValue → KeptValues → Process
     cases_process no_case x kept = gives (DoneWith kept)
     cases_process (case l b falls ks) x kept =
-        if_true (same_case_value x l) (sequence (list_process b kept) (then_on (λ s. if_true falls (on_process ks s) (gives (DoneWith s))))) (cases_process ks x kept)
+        if_true (same_case_value x l) (sequence (list_process b kept)
+        (then_on (λ s. if_true falls (on_process ks s) (gives (DoneWith s))))) (cases_process ks x kept)
 
     pub on_process : Cases → KeptValues → Process
     on_process no_case kept = gives (DoneWith kept)
@@ -230,12 +240,23 @@ module _ (c : Call) (calls : ℕ → List Value → Process) where
   abbrev pub body_process : ℕ → List Value → Process
   body_process g vs =
       let kept = constants_kept c.function c.environment c.meaning in
-      entry_process g vs (first_used_all c kept c.function.first_values) (sequence (list_process c.function.body kept) answers_call)
+      entry_process g vs (first_used_all c kept c.function.first_values)
+      (sequence (list_process c.function.body kept) answers_call)
 
 -- a call in a world, or in none
-abbrev pub call_in : Function → List Function → Environment → Meaning → List Value → ℕ → World → (ℕ → List Value → List Event → ReachedOrHalted (Option Value)) → Call
+abbrev pub call_in : Function → List Function → Environment → Meaning → List Value → ℕ → World →
+    (ℕ → List Value → List Event → ReachedOrHalted (Option Value)) → Call
 call_in f fs env m vs frame w calls =
-    record { function = f; callees = fs; environment = env; world = w; meaning = m; arguments = vs; frame = frame; calls = calls }
+    record {
+      function = f;
+      callees = fs;
+      environment = env;
+      world = w;
+      meaning = m;
+      arguments = vs;
+      frame = frame;
+      calls = calls;
+    }
 
 abbrev pub call_alone : Function → List Function → Environment → Meaning → List Value → ℕ → Call
 call_alone f fs env m vs frame = call_in f fs env m vs frame (λ t r. Truth false) (λ g us t. Halts Stuck t)

@@ -1,19 +1,17 @@
 -- No run of a module is stuck: at each point of it, each handle in scope has a value of its type.
-use Rattle.std.proofs.Common.{◌≡◌, ℕ, zero, suc, min, Bool, true, false, cond, nat_eq, List, []}
+use Rattle.std.proofs.Common.{◌≡◌, ℕ, suc, min, Bool, true, false, cond, nat_eq, List, []}
 use Rattle.std.proofs.Common.{◌∷◌, length, Option, Some, None, ◌||◌, refl, sym, ap, ◌∙◌, subst}
-use Rattle.std.proofs.Common.{true≢false, arith, eqb-true, eq-eqb, option_map}
-use Rattle.std.specs.Prelude.{IsTrue, ℤ}
+use Rattle.std.proofs.Common.{true≢false, arith, eq-eqb, option_map}
+use Rattle.std.specs.Prelude.{IsTrue}
 use Rattle.std.proofs.Math.Nat.{min-le_right}
 use Rattle.std.proofs.lemmas.Bool.{ltb-true, lt-ltb}
 use Rattle.std.proofs.lemmas.List.{length-take}
-use Rattle.shader_runs.specs.Value.{Bytes, PartTypes, Place, ValueType, has_type, has_types, Value}
-use Rattle.shader_runs.specs.Value.{Pointer}
+use Rattle.shader_runs.specs.Value.{Bytes, ValueType, has_type, has_types, Value}
 use Rattle.shader_runs.specs.World.{Event, Entry, Ask, Read, World, Meaning, Environment, update}
-use Rattle.shader_runs.specs.Outcome.{Stop, Outcome, Done, Continued, Broke, Returned, Stopped}
+use Rattle.shader_runs.specs.Outcome.{Outcome, Done}
 use Rattle.shader_runs.specs.Outcome.{ReachedOrHalted, Gives, Halts, answer, Next, and_then}
-use Rattle.shader_runs.specs.Outcome.{and_continue}
-use Rattle.shader_runs.specs.Outcome.{within, and_again, turn, turns, after_switch, branch_by}
-use Rattle.shader_runs.specs.Outcome.{with_integer, or_stuck}
+use Rattle.shader_runs.specs.Outcome.{within, turn, turns, branch_by}
+use Rattle.shader_runs.specs.Outcome.{or_stuck}
 use Rattle.shader_runs.specs.Program.{ConstantTrees, Expression, Local, Load, Operator}
 use Rattle.shader_runs.specs.Program.{Access, AccessIndex, Logical, Swizzle, Request, Action, Asked}
 use Rattle.shader_runs.specs.Program.{Called, CaseValue, Numbered, Statement, Emit, Store, Block}
@@ -27,7 +25,7 @@ use Rattle.shader_runs.specs.Program.{Module}
 use Rattle.shader_runs.specs.Program.{is_pure, is_emittable, Jumps}
 use Rattle.shader_runs.specs.ProgramRun.{Call, KeptValues, constant_values, used_value, used_values}
 use Rattle.shader_runs.specs.ProgramRun.{joined_values, computed_value, if_typed, after_load}
-use Rattle.shader_runs.specs.ProgramRun.{after_request, if_counted, emit_as, emit, with_pointer}
+use Rattle.shader_runs.specs.ProgramRun.{after_request, if_counted, emit_as, emit}
 use Rattle.shader_runs.specs.ProgramRun.{leave, return_outcome, action_answer, with_result}
 use Rattle.shader_runs.specs.ProgramRun.{barrier_words, ask_each, same_case_value, has_case_value}
 use Rattle.shader_runs.specs.ProgramRun.{case_value_if}
@@ -43,7 +41,7 @@ use Rattle.shader_runs.specs.Scope.{before_local, usable, usable_as}
 use Rattle.shader_runs.specs.Scope.{usable_all, usable_if, availability_without_name}
 use Rattle.shader_runs.specs.Scope.{with_emitted_handle, after_one, named_after}
 use Rattle.shader_runs.specs.Scope.{named_by, named_by_all, after_emit, after_result, after}
-use Rattle.shader_runs.specs.Scope.{after_all, forgotten_handles, forgotten_one, forgotten_if}
+use Rattle.shader_runs.specs.Scope.{after_all, forgotten_handles, forgotten_if}
 use Rattle.shader_runs.specs.Scope.{start_availability, at_start, first_values_fit, fits_all}
 use Rattle.shader_runs.specs.Form.{functions_of}
 use Rattle.shader_runs.specs.Points.{call_of}
@@ -52,12 +50,12 @@ use Rattle.shader_runs.specs.Premises.{IsTypedIn, EnvironmentFits, handle_types,
 use Rattle.shader_runs.specs.Premises.{ActionFits, ReturnFits, FunctionFits, AllFit, AllTypedIn}
 use Rattle.shader_runs.specs.Progress.{IsPointer, IsInteger, IsBoolean, LoadFits, BreakIfFits}
 use Rattle.shader_runs.specs.Progress.{IsWellFormed, AreWellFormed, CasesAreWellFormed}
-use Rattle.shader_runs.specs.Progress.{FunctionIsWellFormed, AllWellFormed, NotStuck, IsNotStuck}
+use Rattle.shader_runs.specs.Progress.{FunctionIsWellFormed, AllWellFormed, IsNotStuck}
 use Rattle.shader_runs.specs.Progress.{RunsAreNotStuck}
 use Rattle.shader_runs.proofs.Update.{and_left, and_right, update_cases, has_types_length}
 use Rattle.shader_runs.proofs.Relation.{TypedValue, ResultTyped, Returns, Stands, Extends}
 use Rattle.shader_runs.proofs.Relation.{extends_trans, extends_forgotten, usable_all_more}
-use Rattle.shader_runs.proofs.Evaluation.{naming, pointer_typed, integer_typed, truth_typed}
+use Rattle.shader_runs.proofs.Evaluation.{naming}
 use Rattle.shader_runs.proofs.Form.{used_typed, UsesTyped, all_typed, operator_typed, request_there}
 use Rattle.shader_runs.proofs.Checked.{MayBind, MayEmitAll, Fits, FitsAll, FitsCases}
 use Rattle.shader_runs.proofs.Emission.{extends_update, unbound_present}
@@ -70,208 +68,48 @@ use Rattle.shader_runs.proofs.OneRun.{runs_alike}
 use Rattle.shader_runs.specs.Constants.{environment_of}
 use Rattle.shader_runs.proofs.Constants.{environment_fits}
 use Rattle.std.proofs.lemmas.Option.{same_Some, none-some}
-
--- a run that isn't stuck: P holds where it is done, Q where it continues, B where it breaks, R of
--- what it returns
-pub data Proceeds {S : Type 0} (R : Option Value → Type 0) (P Q B : S → Type 0) : Outcome S → Type 0 where
-  done : {s : S} {t : List Event} → P s → Proceeds R P Q B (Done s t)
-  continued : {s : S} {t : List Event} → Q s → Proceeds R P Q B (Continued s t)
-  broke : {s : S} {t : List Event} → B s → Proceeds R P Q B (Broke s t)
-  returns : {v : Option Value} {t : List Event} → R v → Proceeds R P Q B (Returned v t)
-  stops : {x : Stop} {t : List Event} → NotStuck x → Proceeds R P Q B (Stopped x t)
-
--- the same of a call
-abbrev pub Answered : (Option Value → Type 0) → ReachedOrHalted (Option Value) → Type 0
-Answered R (Gives v t) = R v
-Answered R (Halts x t) = NotStuck x
-
-weaker : {S : Type 0} {R : Option Value → Type 0} {P Q B P' Q' B' : S → Type 0} {o : Outcome S} →
-    ((s : S) → P s → P' s) → ((s : S) → Q s → Q' s) → ((s : S) → B s → B' s) → Proceeds R P Q B o →
-    Proceeds R P' Q' B' o
-weaker p q b (done {s = s} h) = done (p s h)
-weaker p q b (continued {s = s} h) = continued (q s h)
-weaker p q b (broke {s = s} h) = broke (b s h)
-weaker p q b (returns r) = returns r
-weaker p q b (stops n) = stops n
-
-then_proceeds : {S : Type 0} {R : Option Value → Type 0} {P Q B P' : S → Type 0} {f : Next S}
-    {o : Outcome S} → ((s : S) (t : List Event) → P s → Proceeds R P' Q B (f s t)) →
-    Proceeds R P Q B o → Proceeds R P' Q B (and_then o f)
-then_proceeds next (done {s = s} {t = t} h) = next s t h
-then_proceeds next (continued h) = continued h
-then_proceeds next (broke h) = broke h
-then_proceeds next (returns r) = returns r
-then_proceeds next (stops n) = stops n
-
-continue_proceeds : {S : Type 0} {R : Option Value → Type 0} {P B P' Q' : S → Type 0} {f : Next S}
-    {o : Outcome S} → ((s : S) (t : List Event) → P s → Proceeds R P' Q' B (f s t)) →
-    Proceeds R P P B o → Proceeds R P' Q' B (and_continue o f)
-continue_proceeds next (done {s = s} {t = t} h) = next s t h
-continue_proceeds next (continued {s = s} {t = t} h) = next s t h
-continue_proceeds next (broke h) = broke h
-continue_proceeds next (returns r) = returns r
-continue_proceeds next (stops n) = stops n
-
--- a `continuing` neither continues nor breaks
-within_proceeds : {S : Type 0} {R : Option Value → Type 0} {P Q B Q' B' : S → Type 0} {o : Outcome S} → ((s : S) → Q s → ⊥) → ((s : S) → B s → ⊥) → Proceeds R P Q B o → Proceeds R P Q' B' (within o)
-within_proceeds q b (done h) = done h
-within_proceeds q b (continued {s = s} h) = absurd (q s h)
-within_proceeds q b (broke {s = s} h) = absurd (b s h)
-within_proceeds q b (returns r) = returns r
-within_proceeds q b (stops n) = stops n
-
-again_proceeds : {S : Type 0} {R : Option Value → Type 0} {I Q B : S → Type 0} {f : Next S}
-    {o : Outcome S} → ((s : S) (t : List Event) → I s → Proceeds R I Q B (f s t)) →
-    Proceeds R I (λ s. ⊥) I o → Proceeds R I Q B (and_again o f)
-again_proceeds next (done {s = s} {t = t} h) = next s t h
-again_proceeds next (continued h) = absurd h
-again_proceeds next (broke h) = done h
-again_proceeds next (returns r) = returns r
-again_proceeds next (stops n) = stops n
-
-turns_proceed : {S : Type 0} {R : Option Value → Type 0} {I Q B : S → Type 0} {once : Next S} →
-    ((s : S) (t : List Event) → I s → Proceeds R I (λ s. ⊥) I (once s t)) →
-    (n : ℕ) (s : S) (t : List Event) → I s → Proceeds R I Q B (turns n once s t)
-turns_proceed each zero s t i = stops tt
-turns_proceed each (suc n) s t i = again_proceeds (turns_proceed each n) (each s t i)
-
-switch_proceeds : {S : Type 0} {R : Option Value → Type 0} {P Q B' : S → Type 0} {o : Outcome S} → Proceeds R P Q P o → Proceeds R P Q B' (after_switch o)
-switch_proceeds (done h) = done h
-switch_proceeds (continued h) = continued h
-switch_proceeds (broke h) = done h
-switch_proceeds (returns r) = returns r
-switch_proceeds (stops n) = stops n
-
--- a body leaves no loop but its own
-pub answer_proceeds : {S : Type 0} {R : Option Value → Type 0} {P Q B : S → Type 0} {o : Outcome S} → R None → ((s : S) → Q s → ⊥) → ((s : S) → B s → ⊥) → Proceeds R P Q B o → Answered R (answer o)
-answer_proceeds n q b (done h) = n
-answer_proceeds n q b (continued {s = s} h) = absurd (q s h)
-answer_proceeds n q b (broke {s = s} h) = absurd (b s h)
-answer_proceeds n q b (returns r) = r
-answer_proceeds n q b (stops k) = k
-
-pointer_there : (parts : PartTypes) (k : ValueType) → IsPointer k → (o : Option Value) → TypedValue parts k o → (p : Place) × (o ≡ Some (Pointer p))
-pointer_there parts k i o v =
-    let q = pointer_typed parts k i v.0 v.2 in
-    (q.0, v.1 ∙ ap Some q.1)
-
-chosen_proceeds : {S : Type 0} {R : Option Value → Type 0} {P Q B : S → Type 0} {a b : Outcome S}
-    (parts : PartTypes) (k : ValueType) → IsBoolean k → (v : Value) → IsTrue (has_type parts k v) →
-    (t : List Event) → Proceeds R P Q B a → Proceeds R P Q B b →
-    Proceeds R P Q B (branch_by v t a b)
-chosen_proceeds {R = R} {P = P} {Q = Q} {B = B} {a = a} {b = b} parts k i v h t x y =
-    let q = truth_typed parts k i v h in
-    subst (λ o. Proceeds R P Q B (or_stuck o t (λ z. cond z a b))) (sym q.1) (go q.0)
-  where
-    go : (z : Bool) → Proceeds R P Q B (cond z a b)
-    go true = x
-    go false = y
-
-integer_proceeds : {S : Type 0} {R : Option Value → Type 0} {P Q B : S → Type 0} (parts : PartTypes)
-    (k : ValueType) → IsInteger k → (v : Value) → IsTrue (has_type parts k v) →
-    (t : List Event) (go : ℤ → Outcome S) → ((z : ℤ) → Proceeds R P Q B (go z)) →
-    Proceeds R P Q B (with_integer v t go)
-integer_proceeds {R = R} {P = P} {Q = Q} {B = B} parts k i v h t go each =
-    let q = integer_typed parts k i v h in
-    subst (λ o. Proceeds R P Q B (or_stuck o t go)) (sym q.1) (each q.0)
-
-used_proceeds : {S : Type 0} {R : Option Value → Type 0} {P Q B : S → Type 0} (parts : PartTypes)
-    (k : ValueType) (o : Option Value) (t : List Event) (go : Value → Outcome S) →
-    TypedValue parts k o → ((v : Value) → IsTrue (has_type parts k v) → Proceeds R P Q B (go v)) →
-    Proceeds R P Q B (or_stuck o t go)
-used_proceeds {R = R} {P = P} {Q = Q} {B = B} parts k o t go v each =
-    subst (λ o. Proceeds R P Q B (or_stuck o t go)) (sym v.1) (each v.0 v.2)
-
-pointer_proceeds : {S : Type 0} {R : Option Value → Type 0} {P Q B : S → Type 0} (parts : PartTypes)
-    (k : ValueType) → IsPointer k → (o : Option Value) (t : List Event) (go : Place → Outcome S) →
-    TypedValue parts k o → ((p : Place) → Proceeds R P Q B (go p)) →
-    Proceeds R P Q B (with_pointer o t go)
-pointer_proceeds {R = R} {P = P} {Q = Q} {B = B} parts k i o t go v each =
-    let q = pointer_there parts k i o v in
-    subst (λ o. Proceeds R P Q B (with_pointer o t go)) (sym q.1) (each q.0)
-
--- an answer of a wrong type ends the run
-typed_proceeds : {S : Type 0} {R : Option Value → Type 0} {P Q B : S → Type 0} (b : Bool) (t : List Event) (o : Outcome S) → (b ≡ true → Proceeds R P Q B o) → Proceeds R P Q B (if_typed b t o)
-typed_proceeds true t o h = h refl
-typed_proceeds false t o h = stops tt
-
--- what a function and its call owe to the run
-pub record Sound (p : Module) (c : Call) : Type 0 where
-  pub arguments : IsTrue (has_types c.environment.parts c.function.argument_types c.arguments)
-  pub environment : EnvironmentFits p c.environment
-  pub leaves : (h : ℕ) → LeafFits p c.function (handle_type c.function h) (expression_of c.function h)
-  pub typed : IsTypedIn c.environment.parts p c.meaning c.function
-  pub loads : (h : ℕ) → LoadFits c.function (expression_of c.function h)
-  pub calls : (g : ℕ) (callee : Function) → function_numbered c.callees g ≡ Some callee →
-      (vs : List Value) → IsTrue (has_types c.environment.parts callee.argument_types vs) →
-      (t : List Event) → Answered (Returns c.environment.parts callee) (c.calls g vs t)
-
--- each handle in scope has a value of its type
-abbrev pub Typed : Call → Handles → KeptValues → Type 0
-Typed c s kept = (h : ℕ) → IsTrue (is_present (s h)) → TypedValue c.environment.parts (handle_type c.function h) (kept h)
-
--- a constant tree that wasn't emitted has its operands in scope
-abbrev pub Rooted : Call → Handles → Type 0
-Rooted c s = (h : ℕ) → s h ≡ Everywhere → IsTrue (usable_all c.function s (operands_of (expression_of c.function h)))
-
-typed_less : (c : Call) (s s2 : Handles) (kept : KeptValues) → Extends s s2 → Typed c s2 kept → Typed c s kept
-typed_less c s s2 kept x y h p = y h (x h p)
-
-typed_update : (c : Call) (s : Handles) (kept : KeptValues) (h : ℕ) (st : Availability)
-    (o : Option Value) →
-    (IsTrue (is_present st) → TypedValue c.environment.parts (handle_type c.function h) o) →
-    Typed c s kept → Typed c (update s h st) (update kept h o)
-typed_update c s kept h st o v y k = go (nat_eq k h) refl
-  where
-    go : (b : Bool) → nat_eq k h ≡ b → IsTrue (is_present (cond b st (s k))) → TypedValue c.environment.parts (handle_type c.function k) (cond b o (kept k))
-    go true e p = subst (λ k. TypedValue c.environment.parts (handle_type c.function k) o) (sym (eqb-true k h e)) (v p)
-    go false e p = y k p
-
-forgotten_present : (st now : Availability) → IsTrue (is_present (forgotten_one st now)) → IsTrue (is_present st)
-forgotten_present Everywhere now p = refl
-forgotten_present _ now p = p
-
-typed_forgotten : (c : Call) (s now : Handles) (kept : KeptValues) → Typed c s kept → Typed c (forgotten_handles s now) kept
-typed_forgotten c s now kept y h p = y h (forgotten_present (s h) (now h) p)
-
-bound_everywhere : (x : Bytes) → Bound x ≡ Everywhere → ⊥
-bound_everywhere x e = cc
-
-unbound_everywhere : (u : Bool) (st : Availability) → availability_without_name u st ≡ Everywhere → st ≡ Everywhere
-unbound_everywhere true st e = absurd (inline e)
-  where
-    inline : Inline ≡ Everywhere → ⊥
-    inline e = cc
-unbound_everywhere false Absent e = absurd (barred e)
-  where
-    barred : Barred ≡ Everywhere → ⊥
-    barred e = cc
-unbound_everywhere false _ e = e
+use Rattle.shader_runs.proofs.Proceeding.{Proceeds, Answered, weaker, then_proceeds}
+use Rattle.shader_runs.proofs.Proceeding.{continue_proceeds, within_proceeds, turns_proceed}
+use Rattle.shader_runs.proofs.Proceeding.{switch_proceeds, answer_proceeds, pointer_there}
+use Rattle.shader_runs.proofs.Proceeding.{chosen_proceeds, integer_proceeds, pointer_proceeds}
+use Rattle.shader_runs.proofs.Proceeding.{typed_proceeds, Sound, Typed, Rooted, typed_less}
+use Rattle.shader_runs.proofs.Proceeding.{typed_update, typed_forgotten, bound_everywhere}
+use Rattle.shader_runs.proofs.Proceeding.{unbound_everywhere, done, continued, broke, returns}
+use Rattle.shader_runs.proofs.Proceeding.{stops, used_proceeds}
 
 module _ (c : Call) (n : Names) where
-  rooted_update : (s : Handles) (h : ℕ) (st : Availability) → (IsTrue (is_present (s h)) → IsTrue (is_present st)) → (st ≡ Everywhere → s h ≡ Everywhere) → Rooted c s → Rooted c (update s h st)
+  rooted_update : (s : Handles) (h : ℕ) (st : Availability) →
+      (IsTrue (is_present (s h)) → IsTrue (is_present st)) → (st ≡ Everywhere → s h ≡ Everywhere) → Rooted c s →
+      Rooted c (update s h st)
   rooted_update s h st i e r k =
-      update_cases (λ z. z ≡ Everywhere → IsTrue (usable_all c.function (update s h st) (operands_of (expression_of c.function k)))) s h st k (λ same q. more (ap s same ∙ e q)) (λ other q. more q)
+      update_cases (λ z. z ≡ Everywhere →
+      IsTrue (usable_all c.function (update s h st) (operands_of (expression_of c.function k)))) s h st k
+      (λ same q. more (ap s same ∙ e q)) (λ other q. more q)
     where
-      more : s k ≡ Everywhere → IsTrue (usable_all c.function (update s h st) (operands_of (expression_of c.function k)))
+      more : s k ≡ Everywhere →
+          IsTrue (usable_all c.function (update s h st) (operands_of (expression_of c.function k)))
       more q =
-          usable_all_more c.function s (update s h st) (extends_update s h st i) (operands_of (expression_of c.function k)) (r k q)
+          usable_all_more c.function s (update s h st) (extends_update s h st i)
+          (operands_of (expression_of c.function k)) (r k q)
 
   rooted_one : (k h : ℕ) (s : Handles) → Rooted c s → Rooted c (after_one (naming c n) k h s)
   rooted_one k h s r =
-      go (bound_name (naming c n) k h) (is_counted_as h) (is_pure (expression_of c.function h)) (usable_all c.function s (operands_of (expression_of c.function h)))
+      go (bound_name (naming c n) k h) (is_counted_as h) (is_pure (expression_of c.function h))
+      (usable_all c.function s (operands_of (expression_of c.function h)))
     where
       is_counted_as : ℕ → Bool
       is_counted_as h = binds_as c.function h (expression_of c.function h)
 
       go : (x : Bytes) (b o u : Bool) → Rooted c (with_emitted_handle b o u x s h)
       go x true o u = rooted_update s h (Bound x) (λ p. refl) (λ e. absurd (bound_everywhere x e)) r
-      go x false true u = rooted_update s h (availability_without_name u (s h)) (unbound_present u (s h)) (unbound_everywhere u (s h)) r
+      go x false true u = rooted_update s h (availability_without_name u (s h)) (unbound_present u (s h))
+          (unbound_everywhere u (s h)) r
       go x false false u = r
 
   rooted_emit : (k : ℕ) (hs : List ℕ) (s : Handles) → Rooted c s → Rooted c (after_emit (naming c n) k hs s)
   rooted_emit k [] s r = r
-  rooted_emit k (h ∷ hs) s r = rooted_emit (named_after c.function h k) hs (after_one (naming c n) k h s) (rooted_one k h s r)
+  rooted_emit k (h ∷ hs) s r = rooted_emit (named_after c.function h k) hs (after_one (naming c n) k h s)
+      (rooted_one k h s r)
 
   rooted_after : (k : ℕ) (st : Statement) (s : Handles) → Rooted c s → Rooted c (after (naming c n) k st s)
   rooted_after k (Emit first count) s r = rooted_emit k (from first count) s r
@@ -282,7 +120,8 @@ module _ (c : Call) (n : Names) where
 
   rooted_if : (b : Bool) (s s2 : Handles) → Rooted c s → Rooted c s2 → Rooted c (forgotten_if b s s2)
   rooted_if true s s2 r r2 h e =
-      usable_all_more c.function s (forgotten_handles s s2) (extends_forgotten s s2) (operands_of (expression_of c.function h)) (r h (everywhere_forgotten (s h) (s2 h) e))
+      usable_all_more c.function s (forgotten_handles s s2) (extends_forgotten s s2)
+      (operands_of (expression_of c.function h)) (r h (everywhere_forgotten (s h) (s2 h) e))
   rooted_if false s s2 r r2 h e = r2 h e
 
   rooted_all : (k : ℕ) (ss : Statements) (s : Handles) → Rooted c s → Rooted c (after_all (naming c n) k ss s)
@@ -293,7 +132,8 @@ module _ (c : Call) (n : Names) where
       rooted_if (holds_continue st) s (after_all (naming c n) k1 ss s1) r (rooted_all k1 ss s1 (rooted_after k st s r))
 
 -- a handle that is emitted again was in scope everywhere
-new_everywhere : (st : Availability) → IsTrue (is_new st) → IsTrue (is_present (availability_without_name false st)) → st ≡ Everywhere
+new_everywhere : (st : Availability) → IsTrue (is_new st) →
+    IsTrue (is_present (availability_without_name false st)) → st ≡ Everywhere
 new_everywhere Everywhere i p = refl
 new_everywhere Absent i p = absurd (true≢false (sym p))
 new_everywhere Barred i p = absurd (true≢false (sym p))
@@ -303,15 +143,19 @@ new_everywhere (Bound x) i p = absurd (true≢false (sym i))
 module _ (p : Module) (c : Call) (n : Names) (sound : Sound p c) where
   uses : (s : Handles) (kept : KeptValues) → Typed c s kept → UsesTyped c s kept
   uses s kept y h u =
-      used_typed p c sound.arguments sound.environment (handle_type c.function h) (expression_of c.function h) (sound.leaves h) (sound.typed.constants h) (kept h) (s h) (y h) u
+      used_typed p c sound.arguments sound.environment (handle_type c.function h) (expression_of c.function h)
+      (sound.leaves h) (sound.typed.constants h) (kept h) (s h) (y h) u
 
   -- what a run from an Emit is, where it leaves this scope
   abbrev Emits : Handles → Outcome KeptValues → Type 0
   Emits s = Proceeds (Returns c.environment.parts c.function) (Typed c s) (λ k. ⊥) (λ k. ⊥)
 
-  module _ (s : Handles) (kept : KeptValues) (t : List Event) (r : Rooted c s) (y : Typed c s kept) (h : ℕ) (x : Bytes) (new : IsTrue (is_new (s h))) where
+  module _ (s : Handles) (kept : KeptValues) (t : List Event) (r : Rooted c s) (y : Typed c s kept) (h : ℕ)
+      (x : Bytes) (new : IsTrue (is_new (s h))) where
     -- an answer is kept under a name
-    answer_kept : (v : Value) (e : Event) → Emits (update s h (Bound x)) (if_typed (has_type c.environment.parts (handle_type c.function h) v) (e ∷ t) (Done (update kept h (Some v)) (e ∷ t)))
+    answer_kept : (v : Value) (e : Event) →
+        Emits (update s h (Bound x)) (if_typed (has_type c.environment.parts (handle_type c.function h) v)
+        (e ∷ t) (Done (update kept h (Some v)) (e ∷ t)))
     answer_kept v e =
         typed_proceeds (has_type c.environment.parts (handle_type c.function h) v) (e ∷ t)
         (Done (update kept h (Some v)) (e ∷ t))
@@ -323,8 +167,11 @@ module _ (p : Module) (c : Call) (n : Names) (sound : Sound p c) where
         (if_counted b (after_load c.environment.parts (handle_type c.function h) c.world h
         (used_value c kept q)) kept t)
     emit_load true u q l m =
-        let place = pointer_there c.environment.parts (handle_type c.function q) l (used_value c kept q) (uses s kept y q (and_left (usable c.function s q) true m.0)) in
-        subst (λ o. Emits (update s h (Bound x)) (after_load c.environment.parts (handle_type c.function h) c.world h o kept t)) (sym place.1) (answer_kept (c.world t (Read place.0)) (Read place.0))
+        let place = pointer_there c.environment.parts (handle_type c.function q) l (used_value c kept q)
+        (uses s kept y q (and_left (usable c.function s q) true m.0)) in
+        subst (λ o. Emits (update s h (Bound x))
+        (after_load c.environment.parts (handle_type c.function h) c.world h o kept t)) (sym place.1)
+        (answer_kept (c.world t (Read place.0)) (Read place.0))
     emit_load false u q l m = done y
 
     emit_request : (b u : Bool) (w : Bytes) (xs : List ℕ) (es : ConstantTrees) →
@@ -336,7 +183,9 @@ module _ (p : Module) (c : Call) (n : Names) (sound : Sound p c) where
         t)
     emit_request true u w xs es i k m =
         let vs = request_there p c s kept (uses s kept y) sound.environment xs es i k m.0 in
-        subst (λ os. Emits (update s h (Bound x)) (after_request c.environment.parts (handle_type c.function h) c.world h w os kept t)) (sym vs.1) (answer_kept (c.world t (Ask w vs.0)) (Ask w vs.0))
+        subst (λ os. Emits (update s h (Bound x))
+        (after_request c.environment.parts (handle_type c.function h) c.world h w os kept t)) (sym vs.1)
+        (answer_kept (c.world t (Ask w vs.0)) (Ask w vs.0))
     emit_request false u w xs es i k m = done y
 
     value : (e : Option Expression) → expression_of c.function h ≡ e → IsTrue (is_pure e) →
@@ -354,14 +203,17 @@ module _ (p : Module) (c : Call) (n : Names) (sound : Sound p c) where
     emit_pure true e q z m = done (typed_update c s kept h (Bound x) (computed_value c kept e) (λ i. value e q z m.0) y)
     emit_pure false e q z m = go (usable_all c.function s (operands_of e)) refl
       where
-        operands_here : IsTrue (is_present (availability_without_name false (s h))) → IsTrue (usable_all c.function s (operands_of e))
+        operands_here : IsTrue (is_present (availability_without_name false (s h))) →
+            IsTrue (usable_all c.function s (operands_of e))
         operands_here i =
             subst (λ e. IsTrue (usable_all c.function s (operands_of e))) q (r h (new_everywhere (s h) new i))
 
-        go : (u : Bool) → usable_all c.function s (operands_of e) ≡ u → Emits (update s h (availability_without_name u (s h))) (Done (update kept h (computed_value c kept e)) t)
+        go : (u : Bool) → usable_all c.function s (operands_of e) ≡ u →
+            Emits (update s h (availability_without_name u (s h))) (Done (update kept h (computed_value c kept e)) t)
         go true k = done (typed_update c s kept h Inline (computed_value c kept e) (λ i. value e q z k) y)
         go false k =
-            done (typed_update c s kept h (availability_without_name false (s h)) (computed_value c kept e) (λ i. value e q z (operands_here i)) y)
+            done (typed_update c s kept h (availability_without_name false (s h)) (computed_value c kept e)
+            (λ i. value e q z (operands_here i)) y)
 
     emit_as_proceeds : (e : Option Expression) → expression_of c.function h ≡ e →
         LoadFits c.function e → LeafFits p c.function (handle_type c.function h) e →
@@ -369,8 +221,10 @@ module _ (p : Module) (c : Call) (n : Names) (sound : Sound p c) where
         MayBind c n (binds_as c.function h e) s x e →
         Emits (with_emitted_handle (binds_as c.function h e) (is_pure e)
         (usable_all c.function s (operands_of e)) x s h) (emit_as c h e kept t)
-    emit_as_proceeds (Some (Load q)) e l i k z m = emit_load (is_counted c.function h) (usable_all c.function s (q ∷ [])) q l m
-    emit_as_proceeds (Some (Request w xs es)) e l i k z m = emit_request (is_counted c.function h) (usable_all c.function s xs) w xs es i k m
+    emit_as_proceeds (Some (Load q)) e l i k z m =
+        emit_load (is_counted c.function h) (usable_all c.function s (q ∷ [])) q l m
+    emit_as_proceeds (Some (Request w xs es)) e l i k z m =
+        emit_request (is_counted c.function h) (usable_all c.function s xs) w xs es i k m
     emit_as_proceeds (Some (Operator w xs)) e l i k z m = emit_pure _ (Some (Operator w xs)) e refl m
     emit_as_proceeds (Some (Access a b)) e l i k z m = emit_pure _ (Some (Access a b)) e refl m
     emit_as_proceeds (Some (AccessIndex a b)) e l i k z m = emit_pure _ (Some (AccessIndex a b)) e refl m
@@ -397,7 +251,8 @@ module _ (p : Module) (c : Call) (n : Names) (sound : Sound p c) (bound : ℕ) w
   -- `continue`, and breaks and continues whether one may stand here
   abbrev Runs : (s s2 at_continue : Handles) → (breaks continues held : Bool) → Outcome KeptValues → Type 0
   Runs s s2 at_continue breaks continues held =
-      Proceeds (Returns c.environment.parts c.function) (Typed c s2) (λ k. Typed c at_continue k × IsTrue held × IsTrue continues) (λ k. Typed c s k × IsTrue breaks)
+      Proceeds (Returns c.environment.parts c.function) (Typed c s2)
+      (λ k. Typed c at_continue k × IsTrue held × IsTrue continues) (λ k. Typed c s k × IsTrue breaks)
 
   -- a statement, and a list
   abbrev Line : Handles → Handles → (breaks continues held : Bool) → Outcome KeptValues → Type 0
@@ -449,7 +304,8 @@ module _ (p : Module) (c : Call) (n : Names) (sound : Sound p c) (bound : ℕ) w
       Body s1 s2 false false hd (continuing kept t)) → (kept : KeptValues) (t : List Event) →
       Typed c s kept →
       Line s s breaks continues false (turns bound (turn body continuing (leave c e)) kept t)
-  loop_proceeds s s1 s2 hb hd breaks continues body continuing e x x2 u w in_body in_continuing kept t y = turns_proceed {I = Typed c s} once bound kept t y
+  loop_proceeds s s1 s2 hb hd breaks continues body continuing e x x2 u w in_body in_continuing kept t y =
+      turns_proceed {I = Typed c s} once bound kept t y
     where
       tail : (kept : KeptValues) (t : List Event) → Typed c s1 kept →
           Proceeds (Returns c.environment.parts c.function) (Typed c s) (λ k. ⊥) (Typed c s)
@@ -460,7 +316,9 @@ module _ (p : Module) (c : Call) (n : Names) (sound : Sound p c) (bound : ℕ) w
           (within_proceeds (λ k q. true≢false (sym q.2)) (λ k b. true≢false (sym b.1))
           (in_continuing kept t y))
 
-      once : (kept : KeptValues) (t : List Event) → Typed c s kept → Proceeds (Returns c.environment.parts c.function) (Typed c s) (λ k. ⊥) (Typed c s) (turn body continuing (leave c e) kept t)
+      once : (kept : KeptValues) (t : List Event) → Typed c s kept →
+          Proceeds (Returns c.environment.parts c.function) (Typed c s) (λ k. ⊥) (Typed c s)
+          (turn body continuing (leave c e) kept t)
       once kept t y =
           continue_proceeds {P = Typed c s1} tail (weaker (λ k y. y) (λ k q. q.0) (λ k b. b.0) (in_body kept t y))
 
@@ -474,7 +332,8 @@ module _ (p : Module) (c : Call) (n : Names) (sound : Sound p c) (bound : ℕ) w
       _ (uses p c n sound s kept y h u)
       (λ v z. returns (subst (λ k. ResultTyped c.environment.parts (Some v) k) (sym w) z))
 
-  asks_proceed : (s : Handles) (breaks continues : Bool) (ws : List Bytes) (kept : KeptValues) (t : List Event) → Typed c s kept → Line s s breaks continues false (ask_each ws kept t)
+  asks_proceed : (s : Handles) (breaks continues : Bool) (ws : List Bytes) (kept : KeptValues)
+      (t : List Event) → Typed c s kept → Line s s breaks continues false (ask_each ws kept t)
   asks_proceed s breaks continues [] kept t y = done y
   asks_proceed s breaks continues (w ∷ ws) kept t y = asks_proceed s breaks continues ws kept (Ask w [] ∷ t) y
 
@@ -486,9 +345,11 @@ module _ (p : Module) (c : Call) (n : Names) (sound : Sound p c) (bound : ℕ) w
   acted_proceeds (Asked w) xs r m vs z t = tt
   acted_proceeds (Called g) xs r m vs z t = go (function_numbered c.callees g) refl m.2
     where
-      go : (o : Option Function) → function_numbered c.callees g ≡ o → CallFits c.function o xs r → Answered (ReturnsOf c.environment.parts o) (c.calls g vs t)
+      go : (o : Option Function) → function_numbered c.callees g ≡ o → CallFits c.function o xs r →
+          Answered (ReturnsOf c.environment.parts o) (c.calls g vs t)
       go None e w = absurd w
-      go (Some callee) e w = sound.calls g callee e vs (subst (λ ts. IsTrue (has_types c.environment.parts ts vs)) w.0 z) t
+      go (Some callee) e w =
+          sound.calls g callee e vs (subst (λ ts. IsTrue (has_types c.environment.parts ts vs)) w.0 z) t
 
   result_proceeds : (s : Handles) (breaks continues : Bool) (a : Action) (xs : List ℕ)
       (r : Option ℕ) → ActionFits p c.callees (naming c n) a xs r → (kept : KeptValues) →
@@ -504,7 +365,8 @@ module _ (p : Module) (c : Call) (n : Names) (sound : Sound p c) (bound : ℕ) w
       (λ z. done (typed_update c s kept h (Bound (n.numbered h)) (Some v)
       (λ i. (v, refl, z)) y))
   result_proceeds s breaks continues (Called g) xs (Some h) m kept y (Gives (Some v) t) k =
-      done (typed_update c s kept h (Bound (n.numbered h)) (Some v) (λ i. (v, refl, called_typed c.environment.parts c.function (function_numbered c.callees g) xs h v m.2 k)) y)
+      done (typed_update c s kept h (Bound (n.numbered h)) (Some v)
+      (λ i. (v, refl, called_typed c.environment.parts c.function (function_numbered c.callees g) xs h v m.2 k)) y)
   result_proceeds s breaks continues a xs (Some h) m kept y (Halts x t) k = stops k
 
   act_proceeds : (s : Handles) (breaks continues : Bool) (a : Action) (xs : List ℕ) (r : Option ℕ) →
@@ -532,7 +394,8 @@ module _ (p : Module) (c : Call) (n : Names) (sound : Sound p c) (bound : ℕ) w
       (used_value c kept v) t _ (uses p c n sound s kept y v z) (λ value i. done y))
 
   -- what holds after a block
-  block_proceeds : (s s1 : Handles) (breaks continues held : Bool) → Extends s s1 → (o : Outcome KeptValues) → Body s s1 breaks continues held o → Line s s breaks continues held o
+  block_proceeds : (s s1 : Handles) (breaks continues held : Bool) → Extends s s1 → (o : Outcome KeptValues) →
+      Body s s1 breaks continues held o → Line s s breaks continues held o
   block_proceeds s s1 breaks continues held x o b =
       weaker (λ k y. typed_less c s s1 k x y) (λ k q. (typed_less c s s1 k x q.0, q.1, q.2)) (λ k b. b) b
 
@@ -554,7 +417,8 @@ module _ (p : Module) (c : Call) (n : Names) (sound : Sound p c) (bound : ℕ) w
   -- a case, which a `break` ends
   abbrev In_case : Handles → (continues held : Bool) → Outcome KeptValues → Type 0
   In_case s continues held =
-      Proceeds (Returns c.environment.parts c.function) (Typed c s) (λ k. Typed c s k × IsTrue held × IsTrue continues) (Typed c s)
+      Proceeds (Returns c.environment.parts c.function) (Typed c s)
+      (λ k. Typed c s k × IsTrue held × IsTrue continues) (Typed c s)
 
   switch_line : (s : Handles) (breaks continues held : Bool) (h : ℕ) (cs : Cases) →
       IsTrue (usable c.function s h) → IsInteger (handle_type c.function h) →
@@ -575,13 +439,16 @@ module _ (p : Module) (c : Call) (n : Names) (sound : Sound p c) (bound : ℕ) w
       In_case s continues (held || held2)
       (and_then o (λ kept1 t1. cond falls (on kept1 t1) (Done kept1 t1)))
   case_proceeds s s1 continues held held2 falls x o on body next =
-      then_proceeds {P = Typed c s1} (λ k t y. go falls k t (typed_less c s s1 k x y)) (weaker (λ k y. y) (λ k q. (typed_less c s s1 k x q.0, or_left held held2 q.1, q.2)) (λ k b. b.0) body)
+      then_proceeds {P = Typed c s1} (λ k t y. go falls k t (typed_less c s s1 k x y))
+      (weaker (λ k y. y) (λ k q. (typed_less c s s1 k x q.0, or_left held held2 q.1, q.2)) (λ k b. b.0) body)
     where
-      go : (b : Bool) (k : KeptValues) (t : List Event) → Typed c s k → In_case s continues (held || held2) (cond b (on k t) (Done k t))
+      go : (b : Bool) (k : KeptValues) (t : List Event) → Typed c s k →
+          In_case s continues (held || held2) (cond b (on k t) (Done k t))
       go true k t y = weaker (λ k y. y) (λ k q. (q.0, or_right held held2 q.1, q.2)) (λ k b. b) (next k t y)
       go false k t y = done y
 
-  picked_proceeds : (s : Handles) (continues held : Bool) (b : Bool) (o o2 : Outcome KeptValues) → In_case s continues held o → In_case s continues held o2 → In_case s continues held (cond b o o2)
+  picked_proceeds : (s : Handles) (continues held : Bool) (b : Bool) (o o2 : Outcome KeptValues) →
+      In_case s continues held o → In_case s continues held o2 → In_case s continues held (cond b o o2)
   picked_proceeds s continues held true o o2 x x2 = x
   picked_proceeds s continues held false o o2 x x2 = x2
 
@@ -592,10 +459,13 @@ module _ (p : Module) (c : Call) (n : Names) (sound : Sound p c) (bound : ℕ) w
         Line s (after (naming c n) k st s) breaks continues (holds_continue st)
         (run c bound st kept t)
     line_proceeds (Emit first count) k s breaks continues r m w kept t y =
-        weaker (λ k y. y) (λ k q. absurd q) (λ k b. absurd b) (emit_proceeds p c n sound k (from first count) s kept t r y m)
-    line_proceeds (Store q v) k s breaks continues r m w kept t y = store_proceeds s breaks continues q v m.0 m.1 w kept t y
+        weaker (λ k y. y) (λ k q. absurd q) (λ k b. absurd b)
+        (emit_proceeds p c n sound k (from first count) s kept t r y m)
+    line_proceeds (Store q v) k s breaks continues r m w kept t y =
+        store_proceeds s breaks continues q v m.0 m.1 w kept t y
     line_proceeds (Block b) k s breaks continues r m w kept t y =
-        block_proceeds s (after_all (naming c n) k b s) breaks continues (any_continue b) (extends_all c n k b s) _ (body_proceeds b k s breaks continues r m w kept t y)
+        block_proceeds s (after_all (naming c n) k b s) breaks continues (any_continue b)
+        (extends_all c n k b s) _ (body_proceeds b k s breaks continues r m w kept t y)
     line_proceeds (If h a b) k s breaks continues r m w kept t y =
         let k1 = named_by_all c.function a k in
         if_proceeds s (after_all (naming c n) k a s) (after_all (naming c n) k1 b s) breaks
@@ -604,7 +474,8 @@ module _ (p : Module) (c : Call) (n : Names) (sound : Sound p c) (bound : ℕ) w
         (body_proceeds a k s breaks continues r m.1 w.1 kept t y)
         (body_proceeds b k1 s breaks continues r m.2 w.2 kept t y)
     line_proceeds (Switch h cs) k s breaks continues r m w kept t y =
-        switch_line s breaks continues (some_case_continues cs) h cs m.0 w.0 kept t y (λ x. cases_proceed cs k s continues r m.1 w.1 x kept t y)
+        switch_line s breaks continues (some_case_continues cs) h cs m.0 w.0 kept t y
+        (λ x. cases_proceed cs k s continues r m.1 w.1 x kept t y)
     line_proceeds (Loop b d e) k s breaks continues r m w kept t y =
         let k1 = named_by_all c.function b k in
         let s1 = after_all (naming c n) k b s in
@@ -616,10 +487,13 @@ module _ (p : Module) (c : Call) (n : Names) (sound : Sound p c) (bound : ℕ) w
         y) kept t y
     line_proceeds (Jumps Break) k s breaks continues r m w kept t y = broke (y, w)
     line_proceeds (Jumps Continue) k s breaks continues r m w kept t y = continued (y, refl, w)
-    line_proceeds (Jumps (Return e)) k s breaks continues r m w kept t y = return_proceeds s breaks continues e m.0 m.1 kept t y
+    line_proceeds (Jumps (Return e)) k s breaks continues r m w kept t y =
+        return_proceeds s breaks continues e m.0 m.1 kept t y
     line_proceeds (Jumps _) k s breaks continues r m w kept t y = stops tt
-    line_proceeds (Barrier bits) k s breaks continues r m w kept t y = asks_proceed s breaks continues (barrier_words bits) kept t y
-    line_proceeds (Act a xs result) k s breaks continues r m w kept t y = act_proceeds s breaks continues a xs result m.0 m.1 kept t y
+    line_proceeds (Barrier bits) k s breaks continues r m w kept t y =
+        asks_proceed s breaks continues (barrier_words bits) kept t y
+    line_proceeds (Act a xs result) k s breaks continues r m w kept t y =
+        act_proceeds s breaks continues a xs result m.0 m.1 kept t y
 
     pub body_proceeds : (ss : Statements) (k : ℕ) (s : Handles) (breaks continues : Bool) →
         Rooted c s → FitsAll p c n k ss s → AreWellFormed c.function breaks continues ss →
@@ -685,7 +559,8 @@ start_operands c s names kept k e o false d i = absurd (absent i)
     absent i = cc
 
 -- what is in scope in front of a local is in scope at the start
-usable_sooner : (f : Function) (i : ℕ) (e : Option Expression) (st : Availability) → IsTrue (usable_as (before_local f i) e st) → IsTrue (usable_as f e st)
+usable_sooner : (f : Function) (i : ℕ) (e : Option Expression) (st : Availability) →
+    IsTrue (usable_as (before_local f i) e st) → IsTrue (usable_as f e st)
 usable_sooner f i (Some (Local j)) st u =
     let few = ltb-true j (local_count (before_local f i)) u in
     let fewer : local_count (before_local f i) ≡ min i (local_count f) = length-take i f.first_values in
@@ -693,7 +568,8 @@ usable_sooner f i (Some (Local j)) st u =
 usable_sooner f i (Some _) st u = u
 usable_sooner f i None st u = u
 
-module _ (p : Module) (n : ModuleNames) (env : Environment) (environment : EnvironmentFits p env) (w : World) (m : Meaning) (bound : ℕ) where
+module _ (p : Module) (n : ModuleNames) (env : Environment) (environment : EnvironmentFits p env) (w : World)
+    (m : Meaning) (bound : ℕ) where
   -- a call of each of these functions
   abbrev Calls_proceed : List Naming → Type 0
   Calls_proceed fs =
@@ -726,17 +602,21 @@ module _ (p : Module) (n : ModuleNames) (env : Environment) (environment : Envir
           calls = earlier;
         }
 
-    stands : (h : ℕ) → Stands c start no_names kept (handle_type f.function h) (expression_of f.function h) (kept h) (start h)
+    stands : (h : ℕ) → Stands c start no_names kept (handle_type f.function h) (expression_of f.function h)
+        (kept h) (start h)
     stands h = start_stands p c environment fit.ordered fit.leaves typed no_names h
 
     start_typed : Typed c start kept
-    start_typed h = start_value c start no_names kept (handle_type f.function h) (expression_of f.function h) (kept h) _ (stands h)
+    start_typed h = start_value c start no_names kept (handle_type f.function h) (expression_of f.function h)
+        (kept h) _ (stands h)
 
     start_rooted : Rooted c start
     start_rooted h =
-        start_operands c start no_names kept (handle_type f.function h) (expression_of f.function h) (kept h) _ (stands h)
+        start_operands c start no_names kept (handle_type f.function h) (expression_of f.function h) (kept h) _
+        (stands h)
 
-    firsts_there : (i : ℕ) (os : List (Option ℕ)) → IsTrue (first_values_fit f.function i os) → (firsts : List (Option Value)) × (first_used_all c kept os ≡ Some firsts)
+    firsts_there : (i : ℕ) (os : List (Option ℕ)) → IsTrue (first_values_fit f.function i os) →
+        (firsts : List (Option Value)) × (first_used_all c kept os ≡ Some firsts)
     firsts_there i [] u = ([], refl)
     firsts_there i (None ∷ os) u =
         let rest = firsts_there (suc i) os u in
@@ -744,13 +624,20 @@ module _ (p : Module) (n : ModuleNames) (env : Environment) (environment : Envir
     firsts_there i (Some h ∷ os) u =
         let here = usable_if (before_local f.function i) start (Some h) in
         let more = first_values_fit f.function (suc i) os in
-        let v = uses p c f.names sound start kept start_typed h (usable_sooner f.function i (expression_of f.function h) (start h) (and_left here more u)) in
-        let rest = firsts_there (suc i) os (and_right here more u) in
-        (Some v.0 ∷ rest.0, ap (λ o. with_first (option_map Some o) (first_used_all c kept os)) v.1 ∙ ap (with_first (Some (Some v.0))) rest.1)
+        let v = uses p c f.names sound start kept start_typed h
+        (usable_sooner f.function i (expression_of f.function h) (start h) (and_left here more u)) in
+        let rest = firsts_there (suc i) os (and_right here more u) in (
+          Some v.0 ∷ rest.0,
+          ap (λ o. with_first (option_map Some o) (first_used_all c kept os)) v.1
+              ∙ ap (with_first (Some (Some v.0))) rest.1,
+        )
 
-    own_proceeds : (g : ℕ) → Answered (Returns env.parts f.function) (run_if_arguments_fit (nat_eq (length vs) (argument_count f.function)) (run_body c bound g vs t) t)
+    own_proceeds : (g : ℕ) →
+        Answered (Returns env.parts f.function)
+        (run_if_arguments_fit (nat_eq (length vs) (argument_count f.function)) (run_body c bound g vs t) t)
     own_proceeds g =
-        let count = eq-eqb (length vs) (argument_count f.function) (has_types_length env.parts f.function.argument_types vs arguments) in
+        let count = eq-eqb (length vs) (argument_count f.function)
+        (has_types_length env.parts f.function.argument_types vs arguments) in
         let firsts_fit = first_values_fit f.function 0 f.function.first_values in
         let body_fits = fits_all f 0 f.function.body start in
         let firsts = firsts_there 0 f.function.first_values (and_left firsts_fit body_fits fit.scope) in
@@ -766,14 +653,16 @@ module _ (p : Module) (n : ModuleNames) (env : Environment) (environment : Envir
         (body_proceeds p c f.names sound bound f.function.body 0 start false false start_rooted
         checked well.body kept (Entry g vs firsts.0 ∷ t) start_typed)))
 
-  calls_proceed : (fs : List Naming) → AllFit p n fs → AllTypedIn env.parts p m (functions_of fs) → AllWellFormed (functions_of fs) → Calls_proceed fs
+  calls_proceed : (fs : List Naming) → AllFit p n fs → AllTypedIn env.parts p m (functions_of fs) →
+      AllWellFormed (functions_of fs) → Calls_proceed fs
   calls_proceed [] fits typed well g callee e vs h t = absurd (none-some callee e)
   calls_proceed (f ∷ fs) fits typed well g callee e vs h t =
       go (nat_eq g (length (functions_of fs))) e (calls_proceed fs fits.1 typed.1 well.1)
     where
       own_call : ReachedOrHalted (Option Value)
       own_call =
-          run_if_arguments_fit (nat_eq (length vs) (argument_count f.function)) (run_body (call_of env w m bound f fs vs t) bound (length (functions_of fs)) vs t) t
+          run_if_arguments_fit (nat_eq (length vs) (argument_count f.function))
+          (run_body (call_of env w m bound f fs vs t) bound (length (functions_of fs)) vs t) t
 
       go : (b : Bool) → cond b (Some f.function) (function_numbered (functions_of fs) g) ≡
           Some callee → Calls_proceed fs →
@@ -782,7 +671,8 @@ module _ (p : Module) (n : ModuleNames) (env : Environment) (environment : Envir
       go true e earlier =
           let same = same_Some f.function callee e in
           let typed_here = subst (λ k. IsTrue (has_types env.parts k.argument_types vs)) (sym same) h in
-          subst (λ k. Answered (Returns env.parts k) own_call) same (own_proceeds fs earlier f fits.0 typed.0 well.0 vs typed_here t (length (functions_of fs)))
+          subst (λ k. Answered (Returns env.parts k) own_call) same
+          (own_proceeds fs earlier f fits.0 typed.0 well.0 vs typed_here t (length (functions_of fs)))
       go false e earlier = earlier g callee e vs h t
 
 not_stuck : (R : Option Value → Type 0) (q : ReachedOrHalted (Option Value)) → Answered R q → IsNotStuck q
@@ -794,8 +684,11 @@ runs_are_not_stuck p n fs fits well s settings m typed g f e vs h w turns t =
     let proceeds = there (subst (λ l. function_numbered l g ≡ Some f) (sym fits.functions) e)
     (subst (λ l. AllTypedIn env.parts p m l) (sym fits.functions)
     (subst (λ parts. AllTypedIn parts p m p.functions) (sym environment.parts) typed.functions))
-    (subst (λ l. AllWellFormed l) (sym fits.functions) well) in
-    (proceeds, λ keeps. subst (λ q. IsNotStuck q) (sym (runs_alike p n fs fits s settings m typed g f e vs h w turns t keeps)) proceeds)
+    (subst (λ l. AllWellFormed l) (sym fits.functions) well) in (
+      proceeds,
+      λ keeps. subst (λ q. IsNotStuck q)
+          (sym (runs_alike p n fs fits s settings m typed g f e vs h w turns t keeps)) proceeds,
+    )
   where
     env : Environment
     env = environment_of p s m
@@ -803,7 +696,8 @@ runs_are_not_stuck p n fs fits well s settings m typed g f e vs h w turns t =
     environment : EnvironmentFits p env
     environment = environment_fits p n fits.constants s settings m typed
 
-    there : function_numbered (functions_of fs) g ≡ Some f → AllTypedIn env.parts p m (functions_of fs) → AllWellFormed (functions_of fs) → IsNotStuck (run_call env w m turns p.functions g vs t)
+    there : function_numbered (functions_of fs) g ≡ Some f → AllTypedIn env.parts p m (functions_of fs) →
+        AllWellFormed (functions_of fs) → IsNotStuck (run_call env w m turns p.functions g vs t)
     there e typed well =
         subst (λ l. IsNotStuck (run_call env w m turns l g vs t)) fits.functions
         (not_stuck (Returns env.parts f) (run_call env w m turns (functions_of fs) g vs t)

@@ -9,7 +9,8 @@ count_below rank zero r = 0
 count_below rank (suc n) r = cond (nat_lt (rank n) r) (suc (count_below rank n r)) (count_below rank n r)
 
 -- a step of the count
-counted : (rank : ℕ → ℕ) (n r : ℕ) (P : ℕ → Type 0) → (rank n < r → P (suc (count_below rank n r))) → (r ≤ rank n → P (count_below rank n r)) → P (count_below rank (suc n) r)
+counted : (rank : ℕ → ℕ) (n r : ℕ) (P : ℕ → Type 0) → (rank n < r → P (suc (count_below rank n r))) →
+    (r ≤ rank n → P (count_below rank n r)) → P (count_below rank (suc n) r)
 counted rank n r P below above = go (nat_lt (rank n) r) refl
   where
     go : (b : Bool) → nat_lt (rank n) r ≡ b → P (cond b (suc (count_below rank n r)) (count_below rank n r))
@@ -33,11 +34,13 @@ count_bounded rank (suc n) r =
     counted rank n r (λ a. a ≤ suc n) (λ lt. omega (arith, rest)) (λ lt. omega (arith, rest))
 
 -- one of the numbers counts for the greater bound alone
-pub count_rises : (rank : ℕ → ℕ) (n r s k : ℕ) → k < n → r ≤ rank k → rank k < s → count_below rank n r < count_below rank n s
+pub count_rises : (rank : ℕ → ℕ) (n r s k : ℕ) → k < n → r ≤ rank k → rank k < s → count_below rank n r
+    < count_below rank n s
 count_rises rank zero r s k lt below above = absurd (omega (arith, lt))
 count_rises rank (suc n) r s k lt below above = go (nat_eq k n) refl (λ less. count_rises rank n r s k less below above)
   where
-    go : (b : Bool) → nat_eq k n ≡ b → (k < n → count_below rank n r < count_below rank n s) → count_below rank (suc n) r < count_below rank (suc n) s
+    go : (b : Bool) → nat_eq k n ≡ b → (k < n → count_below rank n r < count_below rank n s) →
+        count_below rank (suc n) r < count_below rank (suc n) s
     go true e rest =
         let same : k ≡ n = eqb-true k n e in
         let low : r ≤ rank n = subst (λ k. r ≤ rank k) same below in
@@ -61,11 +64,13 @@ pub count_misses : (rank : ℕ → ℕ) (n k : ℕ) → k < n → count_below ra
 count_misses rank zero k lt = absurd (omega (arith, lt))
 count_misses rank (suc n) k lt = go (nat_eq k n) refl (λ less. count_misses rank n k less)
   where
-    go : (b : Bool) → nat_eq k n ≡ b → (k < n → count_below rank n (rank k) < n) → count_below rank (suc n) (rank k) < suc n
+    go : (b : Bool) → nat_eq k n ≡ b → (k < n → count_below rank n (rank k) < n) →
+        count_below rank (suc n) (rank k) < suc n
     go true e rest =
         let same : k ≡ n = eqb-true k n e in
         let all = count_bounded rank n (rank k) in
-        counted rank n (rank k) (λ a. a < suc n) (λ l. absurd (itself (subst (λ k. rank n < rank k) same l))) (λ l. omega (arith, all))
+        counted rank n (rank k) (λ a. a < suc n) (λ l. absurd (itself (subst (λ k. rank n < rank k) same l)))
+        (λ l. omega (arith, all))
       where
         itself : rank n < rank n → ⊥
         itself l = omega (arith, l)

@@ -65,15 +65,20 @@ pub record NoName (c : Call) (n : Names) (w : Bytes) : Type 0 where
   pub named : (k : ℕ) → k < named_by_all c.function c.function.body 0 → n.named k ≢ w
 
 -- what is known of a handle with this expression and this kept value
-abbrev pub Stands : Call → Handles → Scope → KeptValues → ValueType → Option Expression → Option Value → Availability → Type 0
+abbrev pub Stands : Call → Handles → Scope → KeptValues → ValueType → Option Expression → Option Value →
+    Availability → Type 0
 Stands c s names kept y e o Absent = Unit {0}
 Stands c s names kept y e o Barred = Unit {0}
-Stands c s names kept y e o Inline = IsTrue (usable_all c.function s (operands_of e)) × TypedValue c.environment.parts y o × (o ≡ computed_value c kept e)
-Stands c s names kept y e o Everywhere = IsTrue (usable_all c.function s (operands_of e)) × TypedValue c.environment.parts y o × (o ≡ computed_value c kept e)
-Stands c s names kept y e o (Bound x) = TypedValue c.environment.parts y (used_value_as c e o) × (names x ≡ as_denoted (used_value_as c e o))
+Stands c s names kept y e o Inline = IsTrue (usable_all c.function s (operands_of e))
+    × TypedValue c.environment.parts y o × (o ≡ computed_value c kept e)
+Stands c s names kept y e o Everywhere = IsTrue (usable_all c.function s (operands_of e))
+    × TypedValue c.environment.parts y o × (o ≡ computed_value c kept e)
+Stands c s names kept y e o (Bound x) = TypedValue c.environment.parts y (used_value_as c e o)
+    × (names x ≡ as_denoted (used_value_as c e o))
 
 pub record Related (c : Call) (n : Names) (s : Handles) (names : Scope) (kept : KeptValues) : Type 0 where
-  pub availability : (h : ℕ) → Stands c s names kept (handle_type c.function h) (expression_of c.function h) (kept h) (s h)
+  pub availability : (h : ℕ) → Stands c s names kept (handle_type c.function h) (expression_of c.function h)
+      (kept h) (s h)
   pub fixed : (x : FixedName) → IsHere c x → names (fixed_name n x) ≡ fixed_denoted c x
   pub words : (w : Bytes) → NoName c n w → names w ≡ None
 
@@ -107,11 +112,13 @@ used_agree_as c (Some (Global held i)) st o o' u a = refl
 used_agree_as c None st o o' u a = refl
 used_agree_as c _ st o o' u a = a u
 
-pub used_agree : (c : Call) (s : Handles) (kept kept' : KeptValues) → Agree s kept kept' → (x : ℕ) → IsTrue (usable c.function s x) → used_value c kept' x ≡ used_value c kept x
+pub used_agree : (c : Call) (s : Handles) (kept kept' : KeptValues) → Agree s kept kept' → (x : ℕ) →
+    IsTrue (usable c.function s x) → used_value c kept' x ≡ used_value c kept x
 used_agree c s kept kept' a x u =
     used_agree_as c (expression_of c.function x) (s x) (kept x) (kept' x) u (a x)
 
-pub used_all_agree : (c : Call) (s : Handles) (kept kept' : KeptValues) → Agree s kept kept' → (xs : List ℕ) → IsTrue (usable_all c.function s xs) → used_values c kept' xs ≡ used_values c kept xs
+pub used_all_agree : (c : Call) (s : Handles) (kept kept' : KeptValues) → Agree s kept kept' → (xs : List ℕ) →
+    IsTrue (usable_all c.function s xs) → used_values c kept' xs ≡ used_values c kept xs
 used_all_agree c s kept kept' a [] u = refl
 used_all_agree c s kept kept' a (x ∷ xs) u =
     let h = used_agree c s kept kept' a x (and_left (usable c.function s x) (usable_all c.function s xs) u) in
@@ -121,9 +128,11 @@ used_all_agree c s kept kept' a (x ∷ xs) u =
 pub computed_agree : (c : Call) (s : Handles) (kept kept' : KeptValues) → Agree s kept kept' →
     (e : Option Expression) → IsTrue (usable_all c.function s (operands_of e)) →
     computed_value c kept' e ≡ computed_value c kept e
-computed_agree c s kept kept' a e u = ap (gathered_value c.environment.parts c.meaning e) (used_all_agree c s kept kept' a (operands_of e) u)
+computed_agree c s kept kept' a e u = ap (gathered_value c.environment.parts c.meaning e)
+    (used_all_agree c s kept kept' a (operands_of e) u)
 
-usable_more_as : (f : Function) (e : Option Expression) (st st' : Availability) → (IsTrue (is_present st) → IsTrue (is_present st')) → IsTrue (usable_as f e st) → IsTrue (usable_as f e st')
+usable_more_as : (f : Function) (e : Option Expression) (st st' : Availability) →
+    (IsTrue (is_present st) → IsTrue (is_present st')) → IsTrue (usable_as f e st) → IsTrue (usable_as f e st')
 usable_more_as f (Some (Constant v)) st st' x u = u
 usable_more_as f (Some (Argument i)) st st' x u = u
 usable_more_as f (Some (Local i)) st st' x u = u
@@ -131,7 +140,8 @@ usable_more_as f (Some (Global held i)) st st' x u = u
 usable_more_as f None st st' x u = u
 usable_more_as f _ st st' x u = x u
 
-pub usable_all_more : (f : Function) (s s' : Handles) → Extends s s' → (xs : List ℕ) → IsTrue (usable_all f s xs) → IsTrue (usable_all f s' xs)
+pub usable_all_more : (f : Function) (s s' : Handles) → Extends s s' → (xs : List ℕ) →
+    IsTrue (usable_all f s xs) → IsTrue (usable_all f s' xs)
 usable_all_more f s s' x [] u = refl
 usable_all_more f s s' x (y ∷ ys) u =
     and_both (usable f s' y) (usable_all f s' ys)
@@ -153,11 +163,19 @@ pub stands_on : (c : Call) (s s' : Handles) (names names' : Scope) (kept kept' :
 stands_on c s s' names names' kept kept' x a y e o o' Absent w n d = tt
 stands_on c s s' names names' kept kept' x a y e o o' Barred w n d = tt
 stands_on c s s' names names' kept kept' x a y e o o' Inline w n d =
-    let same = w refl in
-    (usable_all_more c.function s s' x (operands_of e) d.0, (d.1.0, same ∙ d.1.1, d.1.2), same ∙ d.2 ∙ sym (computed_agree c s kept kept' a e d.0))
+    let same = w refl in (
+      usable_all_more c.function s s' x (operands_of e) d.0,
+      (d.1.0, same ∙ d.1.1, d.1.2),
+      same ∙ d.2
+          ∙ sym (computed_agree c s kept kept' a e d.0),
+    )
 stands_on c s s' names names' kept kept' x a y e o o' Everywhere w n d =
-    let same = w refl in
-    (usable_all_more c.function s s' x (operands_of e) d.0, (d.1.0, same ∙ d.1.1, d.1.2), same ∙ d.2 ∙ sym (computed_agree c s kept kept' a e d.0))
+    let same = w refl in (
+      usable_all_more c.function s s' x (operands_of e) d.0,
+      (d.1.0, same ∙ d.1.1, d.1.2),
+      same ∙ d.2
+          ∙ sym (computed_agree c s kept kept' a e d.0),
+    )
 stands_on c s s' names names' kept kept' x a y e o o' (Bound z) w n d =
     let same = ap (used_value_as c e) (w refl) in
     ((d.0.0, same ∙ d.0.1, d.0.2), n ∙ d.1 ∙ ap as_denoted (sym same))
@@ -167,7 +185,8 @@ keeps_all names (Bound x) = refl
 keeps_all names _ = tt
 
 -- other values for handles out of scope
-pub related_agree : (c : Call) (n : Names) (s : Handles) (names : Scope) (kept kept' : KeptValues) → Agree s kept kept' → Related c n s names kept → Related c n s names kept'
+pub related_agree : (c : Call) (n : Names) (s : Handles) (names : Scope) (kept kept' : KeptValues) →
+    Agree s kept kept' → Related c n s names kept → Related c n s names kept'
 related_agree c n s names kept kept' a r =
     record {
       availability = λ h. stands_on c s s names names kept kept' (extends_refl s) a
@@ -199,7 +218,8 @@ stands_forgotten c s names kept y e o Everywhere now d = go (is_new now)
 stands_forgotten c s names kept y e o _ now d = d
 
 -- a constant tree that was emitted meanwhile
-pub related_forgotten : (c : Call) (n : Names) (s now : Handles) (names : Scope) (kept : KeptValues) → Related c n s names kept → Related c n (forgotten_handles s now) names kept
+pub related_forgotten : (c : Call) (n : Names) (s now : Handles) (names : Scope) (kept : KeptValues) →
+    Related c n s names kept → Related c n (forgotten_handles s now) names kept
 related_forgotten c n s now names kept r =
     record {
       availability = λ h. let y = handle_type c.function h in let e = expression_of c.function h in

@@ -73,17 +73,23 @@ module _ (p : Module) (f : Naming) (distinct : AreDistinct p f) where
     leaf_named : (names : Lookup) → Knows p f distinct (local_count f.function) names →
         (k : ValueType) (e : Option Expression) → WordFits p f e → LeafFits p f.function k e →
         LeafStands f.function e → IsNamed f names e
-    leaf_named names knows k (Some (Constant e)) fits leaf stands = constant_named p f distinct words leaves (local_count f.function) names knows e leaf.0 fits
+    leaf_named names knows k (Some (Constant e)) fits leaf stands =
+        constant_named p f distinct words leaves (local_count f.function) names knows e leaf.0 fits
     leaf_named names knows k (Some (Argument i)) fits leaf stands = knows.fixed (ArgumentName i) stands tt
     leaf_named names knows k (Some (Local i)) fits leaf stands = knows.fixed (LocalName i) stands stands
     leaf_named names knows k (Some (Global held i)) fits leaf stands = knows.fixed (GlobalName i) leaf.0 tt
     leaf_named names knows k (Some (Operator word xs)) fits leaf stands = knows.free word fits.2
-    leaf_named names knows k (Some (Request word xs es)) fits leaf stands =
-        (knows.free word fits.0.1, constants_named p f distinct words leaves (local_count f.function) names knows es leaf fits.1)
+    leaf_named names knows k (Some (Request word xs es)) fits leaf stands = (
+      knows.free word fits.0.1,
+      constants_named p f distinct words leaves (local_count f.function) names
+          knows es leaf fits.1,
+    )
     leaf_named names knows k _ fits leaf stands = tt
 
-    all_named : (names : Lookup) → Knows p f distinct (local_count f.function) names → (h : ℕ) → IsNamed f names (expression_of f.function h)
-    all_named names knows h = leaf_named names knows (handle_type f.function h) (expression_of f.function h) (words h) (leaves h) (stand h)
+    all_named : (names : Lookup) → Knows p f distinct (local_count f.function) names → (h : ℕ) →
+        IsNamed f names (expression_of f.function h)
+    all_named names knows h = leaf_named names knows (handle_type f.function h) (expression_of f.function h)
+        (words h) (leaves h) (stand h)
 
     lets_resolve : (k l : ℕ) (hs : List ℕ) (s : Handles) (numbers : LetNumbers) (names : Lookup)
         (tail : Lines) → named_after_all f.function hs k ≤ total p f distinct →
@@ -92,7 +98,8 @@ module _ (p : Module) (f : Naming) (distinct : AreDistinct p f) where
         lines_targets (lets_after_all f.function hs l) (names_after_all f k l hs names) tail
     lets_resolve k l [] s numbers names tail le scope = refl
     lets_resolve k l (h ∷ hs) s numbers names tail le scope =
-        let here : named_after f.function h k ≤ total p f distinct = omega (arith, le, named_all_more f hs (named_after f.function h k)) in
+        let here : named_after f.function h k ≤ total p f distinct =
+        omega (arith, le, named_all_more f hs (named_after f.function h k)) in
         by (binds f.function h)
         (let_resolves f names s numbers scope.lets (all_named names scope.items) h)
         (lets_resolve (named_after f.function h k) (lets_after f.function h l) hs
@@ -112,7 +119,8 @@ module _ (p : Module) (f : Naming) (distinct : AreDistinct p f) where
         after_it numbers1 l1 = emit_targets f (named_after f.function h k) l1 hs (after_one f k h s) numbers1
 
         following : ℕ → Lookup → List (Option Target)
-        following l1 names1 = lines_targets (lets_after_all f.function hs l1) (names_after_all f (named_after f.function h k) l1 hs names1) tail
+        following l1 names1 = lines_targets (lets_after_all f.function hs l1)
+            (names_after_all f (named_after f.function h k) l1 hs names1) tail
 
         by : (b : Bool) → tree_targets names e ≡ map Some own
             → lines_targets (cond b (suc l) l)
@@ -129,7 +137,8 @@ module _ (p : Module) (f : Naming) (distinct : AreDistinct p f) where
             ap (λ ts. Some (LetTarget l) ∷ ts)
             ((λ i. one i ++ more_of i)
             ∙ (sym (append_assoc (map Some own) _ _)
-            ∙ ap (λ ts. ts ++ following (suc l) (bind names (bound_name f k h) (Some (LetTarget l)))) (sym (map-append Some own (after_it (update numbers h l) (suc l))))))
+            ∙ ap (λ ts. ts ++ following (suc l) (bind names (bound_name f k h) (Some (LetTarget l))))
+            (sym (map-append Some own (after_it (update numbers h l) (suc l))))))
         by false one more_of = more_of
 
     performs_resolve : (l : ℕ) (names : Lookup) →
@@ -146,7 +155,8 @@ module _ (p : Module) (f : Naming) (distinct : AreDistinct p f) where
         f.names.earlier ≡ length callees → ActionFits p callees f a xs r →
         Some (word_target (word_of f.names a) (names (word_of f.names a))) ∷ []
         ≡ map Some (action_targets a)
-    action_resolves names knows (Asked word) xs r within earlier fits = word_resolves names word (knows.free word fits.1) refl
+    action_resolves names knows (Asked word) xs r within earlier fits =
+        word_resolves names word (knows.free word fits.1) refl
     action_resolves names knows (Called g) xs r within earlier fits =
         ap (λ o. Some (word_target (f.names.outer.function g) o) ∷ [])
         (knows.functions g (omega (arith, fits.0, within, earlier)) fits.1)
@@ -159,7 +169,8 @@ module _ (p : Module) (f : Naming) (distinct : AreDistinct p f) where
             lines_targets l names (form f k st s tail) ≡ map Some
             (statement_targets f k l st s numbers) ++ lines_targets (lets_by f.function st l)
             (names_by f k l st names) tail
-        line_resolves k l (Emit first count) s numbers names tail le regular only scope = lets_resolve k l (from first count) s numbers names tail le scope
+        line_resolves k l (Emit first count) s numbers names tail le regular only scope =
+            lets_resolve k l (from first count) s numbers names tail le scope
         line_resolves k l (Store q v) s numbers names tail le regular only scope =
             let all = all_named names scope.items in
             ap (λ ts. ts ++ lines_targets l names tail)
@@ -167,7 +178,8 @@ module _ (p : Module) (f : Naming) (distinct : AreDistinct p f) where
             (place_resolves f names s numbers scope.lets all q)
             (value_resolves f names s numbers scope.lets all v))
         line_resolves k l (Block b) s numbers names tail le regular only scope =
-            λ i. lines_resolve k l b s numbers names le regular only scope i ++ lines_targets (lines_counted f k l b s i) names tail
+            λ i. lines_resolve k l b s numbers names le regular only scope i ++ lines_targets
+            (lines_counted f k l b s i) names tail
         line_resolves k l (If c a b) s numbers names tail le regular only scope =
             let k1 = named_by_all f.function a k in
             let l1 = lets_by_all f.function a l in
@@ -177,12 +189,15 @@ module _ (p : Module) (f : Naming) (distinct : AreDistinct p f) where
             let reject = ap (λ n. lines_targets n names (form_all f k1 b s))
             (lines_counted f k l a s) ∙ lines_resolve k1 l1 b s numbers names le regular.1 only.1
             (scope_more p f distinct k k1 s numbers names (list_more f a k) scope) in
-            let one = both (value_targets f.function s numbers c) _ value (both (statements_targets f k l a s numbers) (statements_targets f k1 l1 b s numbers) accept reject) in
-            let counted = ap (λ n. lets_following_all n (form_all f k1 b s)) (lines_counted f k l a s) ∙ lines_counted f k1 l1 b s in
+            let one = both (value_targets f.function s numbers c) _ value
+            (both (statements_targets f k l a s numbers) (statements_targets f k1 l1 b s numbers) accept reject) in
+            let counted = ap (λ n. lets_following_all n (form_all f k1 b s)) (lines_counted f k l a s)
+            ∙ lines_counted f k1 l1 b s in
             λ i. one i ++ lines_targets (counted i) names tail
         line_resolves k l (Switch h cs) s numbers names tail le regular only scope =
             let value = value_resolves f names s numbers scope.lets (all_named names scope.items) h in
-            let one = both (value_targets f.function s numbers h) (cases_targets f k l cs s numbers) value (groups_resolve k l [] cs s numbers names le regular only scope) in
+            let one = both (value_targets f.function s numbers h) (cases_targets f k l cs s numbers) value
+            (groups_resolve k l [] cs s numbers names le regular only scope) in
             λ i. one i ++ lines_targets (groups_counted f k l [] cs s i) names tail
         line_resolves k l (Loop b d e) s numbers names tail le regular only scope =
             let k1 = named_by_all f.function b k in
@@ -196,8 +211,10 @@ module _ (p : Module) (f : Naming) (distinct : AreDistinct p f) where
             let names2 = list_names f k1 l1 d names1 in
             let left : names_left l (form_all f k b s) names ≡ names1 = lines_leave f k l b s names only.0 in
             let body = lines_resolve k l b s numbers names k1_le regular.0 only.0 scope in
-            let rest = (λ i. lines_targets (lines_counted f k l b s i) (left i) (form_all f k1 d s1)) ∙ lines_resolve k1 l1 d s1 numbers1 names1 le regular.1 only.1 inside in
-            let end_names = (λ i. names_left (lines_counted f k l b s i) (form_all f k1 d s1) (left i)) ∙ lines_leave f k1 l1 d s1 names1 only.1 in
+            let rest = (λ i. lines_targets (lines_counted f k l b s i) (left i) (form_all f k1 d s1))
+            ∙ lines_resolve k1 l1 d s1 numbers1 names1 le regular.1 only.1 inside in
+            let end_names = (λ i. names_left (lines_counted f k l b s i) (form_all f k1 d s1) (left i))
+            ∙ lines_leave f k1 l1 d s1 names1 only.1 in
             let break_if =
             ap (λ n. tree_targets_if n (value_if f (after_all f k1 d s1) e)) end_names
             ∙ value_if_resolves f names2 (after_all f k1 d s1)
@@ -207,12 +224,15 @@ module _ (p : Module) (f : Naming) (distinct : AreDistinct p f) where
             (both (statements_targets f k1 l1 d s1 numbers1)
             (value_targets_if f.function (after_all f k1 d s1)
             (numbers_left f.function l1 d numbers1) e) rest break_if) in
-            let counted = ap (λ n. lets_following_all n (form_all f k1 d s1)) (lines_counted f k l b s) ∙ lines_counted f k1 l1 d s1 in
+            let counted = ap (λ n. lets_following_all n (form_all f k1 d s1)) (lines_counted f k l b s)
+            ∙ lines_counted f k1 l1 d s1 in
             λ i. one i ++ lines_targets (counted i) names tail
         line_resolves k l (Jumps (Return v)) s numbers names tail le regular only scope =
-            ap (λ ts. ts ++ lines_targets l names tail) (value_if_resolves f names s numbers scope.lets (all_named names scope.items) v)
+            ap (λ ts. ts ++ lines_targets l names tail)
+            (value_if_resolves f names s numbers scope.lets (all_named names scope.items) v)
         line_resolves k l (Jumps _) s numbers names tail le regular only scope = refl
-        line_resolves k l (Barrier bits) s numbers names tail le regular only scope = performs_resolve l names scope.items (barrier_words bits) regular tail
+        line_resolves k l (Barrier bits) s numbers names tail le regular only scope =
+            performs_resolve l names scope.items (barrier_words bits) regular tail
         line_resolves k l (Act a xs r) s numbers names tail le regular only scope =
             by r (both (action_targets a) (operands_targets (value_targets f.function s numbers) xs)
             (action_resolves names scope.items a xs r within earlier regular.0)
@@ -229,7 +249,9 @@ module _ (p : Module) (f : Naming) (distinct : AreDistinct p f) where
                 ++ (action_targets a ++ operands_targets (value_targets f.function s numbers) xs))
                 ++ lines_targets (lets_after_result r l) (names_after_result f l r names) tail
             by None one = ap (λ ts. ts ++ lines_targets l names tail) one
-            by (Some h) one = ap (λ ts. Some (LetTarget l) ∷ (ts ++ lines_targets (suc l) (bind names (f.names.numbered h) (Some (LetTarget l))) tail)) one
+            by (Some h) one =
+                ap (λ ts. Some (LetTarget l)
+                ∷ (ts ++ lines_targets (suc l) (bind names (f.names.numbered h) (Some (LetTarget l))) tail)) one
 
         lines_resolve : (k l : ℕ) (ss : Statements) (s : Handles) (numbers : LetNumbers)
             (names : Lookup) → named_by_all f.function ss k ≤ total p f distinct →
@@ -242,8 +264,10 @@ module _ (p : Module) (f : Naming) (distinct : AreDistinct p f) where
             let l1 = lets_by f.function st l in
             let here : k1 ≤ total p f distinct = omega (arith, le, list_more f ss k1) in
             line_resolves k l st s numbers names (form_all f k1 ss (after f k st s)) here regular.0 only.0 scope
-            ∙ both (statement_targets f k l st s numbers) (statements_targets f k1 l1 ss (after f k st s) (numbers_by f.function l st numbers)) refl
-            (lines_resolve k1 l1 ss (after f k st s) (numbers_by f.function l st numbers) (names_by f k l st names) le regular.1 only.1 (scope_by p f distinct k l st s numbers names here scope))
+            ∙ both (statement_targets f k l st s numbers)
+            (statements_targets f k1 l1 ss (after f k st s) (numbers_by f.function l st numbers)) refl
+            (lines_resolve k1 l1 ss (after f k st s) (numbers_by f.function l st numbers)
+            (names_by f k l st names) le regular.1 only.1 (scope_by p f distinct k l st s numbers names here scope))
 
         groups_resolve : (k l : ℕ) (labels : List CaseValue) (cs : Cases) (s : Handles)
             (numbers : LetNumbers) (names : Lookup) →
@@ -255,7 +279,8 @@ module _ (p : Module) (f : Naming) (distinct : AreDistinct p f) where
         groups_resolve k l labels no_case s numbers names le regular only scope = refl
         groups_resolve k l labels (case label b true cs) s numbers names le regular only scope =
             let k1 = named_by_all f.function b k in
-            groups_resolve k1 l (labels ++ label ∷ []) cs s numbers names le regular.2 only.2 (scope_more p f distinct k k1 s numbers names (list_more f b k) scope)
+            groups_resolve k1 l (labels ++ label ∷ []) cs s numbers names le regular.2 only.2
+            (scope_more p f distinct k k1 s numbers names (list_more f b k) scope)
         groups_resolve k l labels (case label b false cs) s numbers names le regular only scope =
             let k1 = named_by_all f.function b k in
             let l1 = lets_by_all f.function b l in
@@ -268,7 +293,8 @@ module _ (p : Module) (f : Naming) (distinct : AreDistinct p f) where
 
       -- ---- variables
       variables_resolve : (i : ℕ) (os : List (Option ℕ)) → i + length os ≡ local_count f.function →
-          IsTrue (first_values_fit f.function i os) → AreRegular p callees f f.function.body → OnlyEmptyFallIn f.function.body →
+          IsTrue (first_values_fit f.function i os) → AreRegular p callees f f.function.body →
+          OnlyEmptyFallIn f.function.body →
           (names : Lookup) → Knows p f distinct i names
           → variables_targets i names (variables_from f i os)
           (form_all f 0 f.function.body (at_start f.function)) ≡ map Some
@@ -277,7 +303,11 @@ module _ (p : Module) (f : Naming) (distinct : AreDistinct p f) where
       variables_resolve i [] size fit regular only names knows =
           let all : i ≡ local_count f.function = omega (arith, size) in
           lines_resolve 0 0 f.function.body (at_start f.function) no_numbers names (omega arith) regular only
-          (record { items = subst (λ n. Knows p f distinct n names) all knows; lets = none_at_start p f distinct words leaves names; sources = start_sources f })
+          (record {
+            items = subst (λ n. Knows p f distinct n names) all knows;
+            lets = none_at_start p f distinct words leaves names;
+            sources = start_sources f;
+          })
       variables_resolve i (o ∷ os) size fit regular only names knows =
           let usable = usable_if (before_local f.function i) (at_start f.function) o in
           let later = first_values_fit f.function (suc i) os in
@@ -285,27 +315,36 @@ module _ (p : Module) (f : Naming) (distinct : AreDistinct p f) where
           let next : suc i + length os ≡ local_count f.function = omega (arith, size) in
           both (value_targets_if f.function (at_start f.function) no_numbers o) _
           (first_resolves p f distinct words leaves i names knows o (and_left usable later fit))
-          (variables_resolve (suc i) os next (and_right usable later fit) regular only (bind names (f.names.local_ i) (Some (LocalTarget i)))
-          (knows_more p f distinct (FixedKey (LocalName i)) within i (suc i) (LocalTarget i) names (λ y here stands e. same_target y e) declared_before knows))
-          ∙ ap (map Some) (sym (append_assoc (value_targets_if f.function (at_start f.function) no_numbers o) (first_values_targets f.function os) _))
+          (variables_resolve (suc i) os next (and_right usable later fit) regular only
+          (bind names (f.names.local_ i) (Some (LocalTarget i)))
+          (knows_more p f distinct (FixedKey (LocalName i)) within i (suc i) (LocalTarget i) names
+          (λ y here stands e. same_target y e) declared_before knows))
+          ∙ ap (map Some)
+          (sym (append_assoc (value_targets_if f.function (at_start f.function) no_numbers o)
+          (first_values_targets f.function os) _))
         where
-          same_target : (y : FixedName) → FixedKey y ≡ FixedKey (LocalName i) → Some (LocalTarget i) ≡ Some (fixed_target p f distinct y)
+          same_target : (y : FixedName) → FixedKey y ≡ FixedKey (LocalName i) → Some (LocalTarget i)
+              ≡ Some (fixed_target p f distinct y)
           same_target y e = ap (λ x. Some (fixed_target p f distinct x)) (sym (the_name e))
             where
               the_name : FixedKey y ≡ FixedKey (LocalName i) → y ≡ LocalName i
               the_name e = cc
 
-          declared_before : (y : FixedName) → IsDeclared p f distinct (suc i) y → (FixedKey y ≡ FixedKey (LocalName i) → ⊥) → IsDeclared p f distinct i y
-          declared_before (LocalName j) stands other = let apart : j ≢ i = λ e. other (ap (λ k. FixedKey (LocalName k)) e) in omega (arith, stands, apart)
+          declared_before : (y : FixedName) → IsDeclared p f distinct (suc i) y →
+              (FixedKey y ≡ FixedKey (LocalName i) → ⊥) → IsDeclared p f distinct i y
+          declared_before (LocalName j) stands other =
+              let apart : j ≢ i = λ e. other (ap (λ k. FixedKey (LocalName k)) e) in omega (arith, stands, apart)
           declared_before _ stands other = tt
 
       -- ---- a function, in the scope of the module's items
       module _ (items : Lookup) (knows_items : KnowsItems p f distinct items) where
         past : (w : Bytes) → IsNoName p f w → entry p f distinct items w ≡ items w
         past w no_name =
-            family_other ArgumentTarget f.names.argument w (argument_count f.function) 0 (λ i le lt. no_name (FixedKey (ArgumentName i)) (omega (arith, lt))) items
+            family_other ArgumentTarget f.names.argument w (argument_count f.function) 0
+            (λ i le lt. no_name (FixedKey (ArgumentName i)) (omega (arith, lt))) items
 
-        entry_fixed : (y : FixedName) → IsFixedName p f.function y → IsDeclared p f distinct 0 y → entry p f distinct items (fixed_name f.names y) ≡ Some (fixed_target p f distinct y)
+        entry_fixed : (y : FixedName) → IsFixedName p f.function y → IsDeclared p f distinct 0 y →
+            entry p f distinct items (fixed_name f.names y) ≡ Some (fixed_target p f distinct y)
         entry_fixed (ArgumentName i) here stands =
             family_found ArgumentTarget f.names.argument (argument_count f.function) 0
             (λ a b la lb e. one_argument p f distinct a b
@@ -334,10 +373,14 @@ module _ (p : Module) (f : Naming) (distinct : AreDistinct p f) where
             no_global : (j : ℕ) → FixedKey (ArgumentName j) ≡ FixedKey (GlobalName i) → ⊥
             no_global j e = cc
 
-        function_resolves : IsTrue (fits_function f) → AreRegular p callees f f.function.body → OnlyEmptyFallIn f.function.body → text_function_targets items (form_function f) ≡ map Some (function_targets f)
+        function_resolves : IsTrue (fits_function f) → AreRegular p callees f f.function.body →
+            OnlyEmptyFallIn f.function.body → text_function_targets items (form_function f)
+            ≡ map Some (function_targets f)
         function_resolves scope regular only =
             let first = first_values_fit f.function 0 f.function.first_values in
-            variables_resolve 0 f.function.first_values (omega arith) (and_left first (fits_all f 0 f.function.body (at_start f.function)) scope) regular only (entry p f distinct items)
+            variables_resolve 0 f.function.first_values (omega arith)
+            (and_left first (fits_all f 0 f.function.body (at_start f.function)) scope) regular only
+            (entry p f distinct items)
             (record {
               fixed = entry_fixed;
               functions = λ g lt no_name. past (f.names.outer.function g) no_name ∙ knows_items.functions g lt no_name;
@@ -346,27 +389,35 @@ module _ (p : Module) (f : Naming) (distinct : AreDistinct p f) where
 
 -- ---- the items of a module
 -- the names of constants and of variables in their order
-constants_named_from : (n : ModuleNames) (j : ℕ) (es : List ConstantTree) → map (λ c. c.name) (constants_from n j es) ≡ names_from n.constant j (length es)
+constants_named_from : (n : ModuleNames) (j : ℕ) (es : List ConstantTree) →
+    map (λ c. c.name) (constants_from n j es) ≡ names_from n.constant j (length es)
 constants_named_from n j [] = refl
 constants_named_from n j (e ∷ es) = ap (λ xs. n.constant j ∷ xs) (constants_named_from n (suc j) es)
 
-globals_named : (name : ℕ → Bytes) (j : ℕ) (ks : List VariableShape) → map (λ g. g.name) (globals_from name j ks) ≡ names_from name j (length ks)
+globals_named : (name : ℕ → Bytes) (j : ℕ) (ks : List VariableShape) →
+    map (λ g. g.name) (globals_from name j ks) ≡ names_from name j (length ks)
 globals_named name j [] = refl
 globals_named name j (k ∷ ks) = ap (λ xs. name j ∷ xs) (globals_named name (suc j) ks)
 
-names_joined : (name : ℕ → Bytes) (j a b start : ℕ) → start ≡ j + a → names_from name j a ++ names_from name start b ≡ names_from name j (a + b)
-names_joined name j zero b start e = let here : start ≡ j = omega (arith, e) in let none : zero + b ≡ b = omega arith in λ i. names_from name (here i) (sym none i)
+names_joined : (name : ℕ → Bytes) (j a b start : ℕ) → start ≡ j + a →
+    names_from name j a ++ names_from name start b ≡ names_from name j (a + b)
+names_joined name j zero b start e = let here : start ≡ j = omega (arith, e) in let none : zero + b
+    ≡ b = omega arith in λ i. names_from name (here i) (sym none i)
 names_joined name j (suc a) b start e = let more_of : suc a + b ≡ suc (a + b) = omega arith in
     ap (λ xs. name j ∷ xs) (names_joined name (suc j) a b start (omega (arith, e)))
     ∙ ap (names_from name j) (sym more_of)
 
 module _ (p : Module) (n : ModuleNames) (distinct : ModuleNamesAreDistinct p n) where
-  function_found : (fs : List TextFunction) → AreNamed n fs → length fs ≤ length p.functions → (g : ℕ) → g < length fs → with_functions fs (n.function g) ≡ Some (FunctionTarget g)
+  function_found : (fs : List TextFunction) → AreNamed n fs → length fs ≤ length p.functions → (g : ℕ) →
+      g < length fs → with_functions fs (n.function g) ≡ Some (FunctionTarget g)
   function_found [] named within g lt = absurd (omega (arith, lt))
   function_found (f ∷ fs) named within g lt =
-      bind_cases (λ o. o ≡ Some (FunctionTarget g)) (with_functions fs) f.name (Some (FunctionTarget (length fs))) (n.function g)
-      (λ e. ap (λ k. Some (FunctionTarget k)) (distinct.functions (length fs) g (omega (arith, within)) (omega (arith, lt, within)) (sym (e ∙ named.0))))
-      (λ other. function_found fs named.1 (omega (arith, within)) g (before_it (λ e. other (ap n.function e ∙ sym named.0))))
+      bind_cases (λ o. o ≡ Some (FunctionTarget g)) (with_functions fs) f.name
+      (Some (FunctionTarget (length fs))) (n.function g)
+      (λ e. ap (λ k. Some (FunctionTarget k))
+      (distinct.functions (length fs) g (omega (arith, within)) (omega (arith, lt, within)) (sym (e ∙ named.0))))
+      (λ other. function_found fs named.1 (omega (arith, within)) g
+      (before_it (λ e. other (ap n.function e ∙ sym named.0))))
     where
       before_it : (g ≡ length fs → ⊥) → g < length fs
       before_it apart = omega (arith, lt, apart)
@@ -392,14 +443,17 @@ module _ (p : Module) (n : ModuleNames) (fs : List TextFunction) (fits : ItemsFi
 
   constant_found : (i : ℕ) → i < length p.constant_types → items_of p n fs (n.constant i) ≡ Some (ConstantTarget i)
   constant_found i lt =
-      family_found ConstantTarget n.constant (length p.constant_types) 0 (λ a b la lb e. fits.constants.distinct a b (omega (arith, la)) (omega (arith, lb)) e) _ i (omega arith) (omega (arith, lt))
+      family_found ConstantTarget n.constant (length p.constant_types) 0
+      (λ a b la lb e. fits.constants.distinct a b (omega (arith, la)) (omega (arith, lb)) e) _ i
+      (omega arith) (omega (arith, lt))
 
   -- a word that is no constant and no variable is what it is among the functions
   among_functions : (w : Bytes) → ((i : ℕ) → i < length p.constant_types → n.constant i ≢ w) →
       ((i : ℕ) → i < length p.globals → n.global i ≢ w) →
       items_of p n fs w ≡ with_functions fs w
   among_functions w constants globals =
-      family_other ConstantTarget n.constant w (length p.constant_types) 0 (λ i le lt. constants i (omega (arith, lt))) _
+      family_other ConstantTarget n.constant w (length p.constant_types) 0
+      (λ i le lt. constants i (omega (arith, lt))) _
       ∙ family_other GlobalTarget n.global w (length p.globals) 0 (λ i le lt. globals i (omega (arith, lt))) _
 
   knows_items : (f : Naming) (d : AreDistinct p f) → f.names.outer ≡ n → KnowsItems p f d (items_of p n fs)
@@ -422,10 +476,13 @@ module _ (p : Module) (n : ModuleNames) (fs : List TextFunction) (fits : ItemsFi
         (λ i li e. no_name (FixedKey (ConstantName i)) li (ap (λ m. m.constant i) outer ∙ e))
         (λ i li e. no_name (FixedKey (GlobalName i)) li (ap (λ m. m.global i) outer ∙ e))
         ∙ ap (with_functions fs) same
-        ∙ function_found p n fits.distinct fs fits.named (omega (arith, counted_functions)) g (omega (arith, lt, counted_functions));
+        ∙ function_found p n fits.distinct fs fits.named (omega (arith, counted_functions)) g
+        (omega (arith, lt, counted_functions));
     free = λ w stands.
-        among_functions w (λ i li e. stands.1 (FixedKey (ConstantName i)) li (ap (λ m. m.constant i) outer ∙ e)) (λ i li e. stands.1 (FixedKey (GlobalName i)) li (ap (λ m. m.global i) outer ∙ e))
-        ∙ function_none p n fits.distinct fs fits.named (omega (arith, counted_functions)) w (λ g lt e. stands.0 g lt (ap (λ m. m.function g) outer ∙ e));
+        among_functions w (λ i li e. stands.1 (FixedKey (ConstantName i)) li (ap (λ m. m.constant i) outer ∙ e))
+        (λ i li e. stands.1 (FixedKey (GlobalName i)) li (ap (λ m. m.global i) outer ∙ e))
+        ∙ function_none p n fits.distinct fs fits.named (omega (arith, counted_functions)) w
+        (λ g lt e. stands.0 g lt (ap (λ m. m.function g) outer ∙ e));
   }
     where
       no_constant : (j i : ℕ) → FixedKey (ConstantName j) ≡ FixedKey (GlobalName i) → ⊥
@@ -439,7 +496,8 @@ module _ (p : Module) (n : ModuleNames) (fs : List TextFunction) (fits : ItemsFi
       FunctionFits p n callees f → ((h : ℕ) → LeafStands f.function (expression_of f.function h)) →
       text_function_targets (items_of p n fs) (form_function f) ≡ map Some (function_targets f)
   one_resolves callees within f one stand =
-      function_resolves p f one.distinct callees one.words one.leaves stand within one.earlier (items_of p n fs) (knows_items f one.distinct one.outer) one.scope one.regular one.cases
+      function_resolves p f one.distinct callees one.words one.leaves stand within one.earlier (items_of p n fs)
+      (knows_items f one.distinct one.outer) one.scope one.regular one.cases
 
   functions_resolve : (gs : List Naming) → AllFit p n gs → LeavesStand gs →
       length gs ≤ length p.functions →
@@ -469,7 +527,8 @@ module _ (p : Module) (n : ModuleNames) (fs : List TextFunction) (fits : ItemsFi
   initialisers_resolve j (e ∷ es) each =
       let own = each 0 e refl in
       let here = outside_resolves e own.range own.words in
-      let rest = initialisers_resolve (suc j) es (λ i x at. subst (λ k. InitialiserFits p n fits.constants.rank k x) (moved i) (each (suc i) x at)) in
+      let rest = initialisers_resolve (suc j) es
+      (λ i x at. subst (λ k. InitialiserFits p n fits.constants.rank k x) (moved i) (each (suc i) x at)) in
       λ i. here i ∷ rest i
     where
       moved : (i : ℕ) → j + suc i ≡ suc j + i
@@ -478,14 +537,18 @@ module _ (p : Module) (n : ModuleNames) (fs : List TextFunction) (fits : ItemsFi
   -- the names of the text's items
   names_are : text_names (form_module_with p n fs) ≡ items_of p n fs
   names_are =
-      λ i. with_items ConstantTarget 0 (constants i) (with_items GlobalTarget 0 (globals_named n.global 0 p.globals i) (with_functions fs))
+      λ i. with_items ConstantTarget 0 (constants i)
+      (with_items GlobalTarget 0 (globals_named n.global 0 p.globals i) (with_functions fs))
     where
       overrides_counted : constant_count p + length (override_types p) ≡ length p.constant_types
-      overrides_counted = let dropped = length-drop (constant_count p) p.constant_types in omega (arith, dropped, fits.constants.counted)
+      overrides_counted = let dropped = length-drop (constant_count p) p.constant_types in
+          omega (arith, dropped, fits.constants.counted)
 
-      constants : map (λ c. c.name) (constants_from n 0 p.initialisers) ++ names_from n.constant (constant_count p) (length (override_types p)) ≡ names_from n.constant 0 (length p.constant_types)
+      constants : map (λ c. c.name) (constants_from n 0 p.initialisers) ++ names_from n.constant
+          (constant_count p) (length (override_types p)) ≡ names_from n.constant 0 (length p.constant_types)
       constants =
-          (λ i. constants_named_from n 0 p.initialisers i ++ names_from n.constant (constant_count p) (length (override_types p)))
+          (λ i. constants_named_from n 0 p.initialisers i ++ names_from n.constant (constant_count p)
+          (length (override_types p)))
           ∙ (names_joined n.constant 0 (constant_count p) (length (override_types p)) (constant_count p) (omega arith)
           ∙ ap (names_from n.constant 0) overrides_counted)
 
@@ -527,7 +590,8 @@ resolves_as_meant p n fs whole stand =
     let all : length fs ≤ length p.functions =
     (let counted = length-form_functions fs in omega (arith, fits.counted, counted)) in
     let t = form_module p n fs in
-    ap (λ names. map (λ c. tree_targets names c.initialiser) t.constants ++ map (text_function_targets names) t.functions) (names_are p n functions fits)
+    ap (λ names. map (λ c. tree_targets names c.initialiser) t.constants
+    ++ map (text_function_targets names) t.functions) (names_are p n functions fits)
     ∙ ((λ i. initialisers_resolve p n functions fits 0 p.initialisers
     (λ i e at. subst (λ k. InitialiserFits p n fits.constants.rank k e) (from_none i)
     (fits.constants.initialisers i e at)) i ++ functions_resolve p n functions fits fs whole.all stand

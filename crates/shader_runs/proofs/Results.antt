@@ -74,14 +74,16 @@ or_either true b c f g h = f refl
 or_either false b c f g h = g h
 
 module _ (k : Option ValueType) where
-  more : {S : Type 0} (e e2 b b2 : Bool) (o : Outcome S) → (IsTrue e → IsTrue e2) → (IsTrue b → IsTrue b2) → Leads k e b o → Leads k e2 b2 o
+  more : {S : Type 0} (e e2 b b2 : Bool) (o : Outcome S) → (IsTrue e → IsTrue e2) → (IsTrue b → IsTrue b2) →
+      Leads k e b o → Leads k e2 b2 o
   more e e2 b b2 (Done s t) f g l = f l
   more e e2 b b2 (Continued s t) f g l = tt
   more e e2 b b2 (Broke s t) f g l = g l
   more e e2 b b2 (Returned v t) f g l = l
   more e e2 b b2 (Stopped x t) f g l = l
 
-  then_leads : {S : Type 0} (e e2 b b2 : Bool) (o : Outcome S) (f : Next S) → Leads k e b o → ((s : S) (t : List Event) → Leads k e2 b2 (f s t)) → Leads k (e && e2) (b || b2) (and_then o f)
+  then_leads : {S : Type 0} (e e2 b b2 : Bool) (o : Outcome S) (f : Next S) → Leads k e b o →
+      ((s : S) (t : List Event) → Leads k e2 b2 (f s t)) → Leads k (e && e2) (b || b2) (and_then o f)
   then_leads e e2 b b2 (Done s t) f l next =
       more e2 (e && e2) b2 (b || b2) (f s t) (λ z. and_both e e2 l z) (λ z. or_right b b2 z) (next s t)
   then_leads e e2 b b2 (Continued s t) f l next = tt
@@ -89,30 +91,37 @@ module _ (k : Option ValueType) where
   then_leads e e2 b b2 (Returned v t) f l next = l
   then_leads e e2 b b2 (Stopped x t) f l next = l
 
-  there_leads : {A S : Type 0} (e b : Bool) (o : Option A) (t : List Event) (go : A → Outcome S) → ((a : A) → Leads k e b (go a)) → Leads k e b (or_stuck o t go)
+  there_leads : {A S : Type 0} (e b : Bool) (o : Option A) (t : List Event) (go : A → Outcome S) →
+      ((a : A) → Leads k e b (go a)) → Leads k e b (or_stuck o t go)
   there_leads e b None t go each = tt
   there_leads e b (Some a) t go each = each a
 
-  chosen_leads : {S : Type 0} (e b : Bool) (v : Value) (t : List Event) (o o2 : Outcome S) → Leads k e b o → Leads k e b o2 → Leads k e b (branch_by v t o o2)
+  chosen_leads : {S : Type 0} (e b : Bool) (v : Value) (t : List Event) (o o2 : Outcome S) → Leads k e b o →
+      Leads k e b o2 → Leads k e b (branch_by v t o o2)
   chosen_leads e b v t o o2 l l2 = there_leads e b (truth_in v) t _ go
     where
       go : (y : Bool) → Leads k e b (cond y o o2)
       go true = l
       go false = l2
 
-  switch_leads : {S : Type 0} (e b : Bool) (o : Outcome S) → (IsTrue b → IsTrue e) → Leads k e b o → Leads k e false (after_switch o)
+  switch_leads : {S : Type 0} (e b : Bool) (o : Outcome S) → (IsTrue b → IsTrue e) → Leads k e b o →
+      Leads k e false (after_switch o)
   switch_leads e b (Continued s t) f l = tt
   switch_leads e b (Broke s t) f l = f l
   switch_leads e b _ f l = l
 
-  again_leads : {S : Type 0} (e b : Bool) (o : Outcome S) (f : Next S) → Leads k true e o → ((s : S) (t : List Event) → Leads k e b (f s t)) → Leads k e b (and_again o f)
+  again_leads : {S : Type 0} (e b : Bool) (o : Outcome S) (f : Next S) → Leads k true e o →
+      ((s : S) (t : List Event) → Leads k e b (f s t)) → Leads k e b (and_again o f)
   again_leads e b (Done s t) f l next = next s t
   again_leads e b (Continued s t) f l next = tt
   again_leads e b _ f l next = l
 
-  turns_lead : {S : Type 0} (e b : Bool) (once : Next S) → ((s : S) (t : List Event) → Leads k true e (once s t)) → (n : ℕ) (s : S) (t : List Event) → Leads k e b (turns n once s t)
+  turns_lead : {S : Type 0} (e b : Bool) (once : Next S) →
+      ((s : S) (t : List Event) → Leads k true e (once s t)) → (n : ℕ) (s : S) (t : List Event) →
+      Leads k e b (turns n once s t)
   turns_lead e b once each zero s t = tt
-  turns_lead e b once each (suc n) s t = again_leads e b (once s t) (turns n once) (each s t) (turns_lead e b once each n)
+  turns_lead e b once each (suc n) s t = again_leads e b (once s t) (turns n once) (each s t)
+      (turns_lead e b once each n)
 
   continue_leads : {S : Type 0} (e b b2 : Bool) (o : Outcome S) (f : Next S) →
       (IsTrue b → IsTrue b2) → Leads k e b o →
@@ -135,10 +144,13 @@ module _ (k : Option ValueType) where
   typed_leads false t s = tt
 
   -- an Emit is done, or ends by an answer of a wrong type or a value that is no pointer
-  emit_as_leads : (c : Call) (h : ℕ) (e : Option Expression) (kept : KeptValues) (t : List Event) → Leads k true false (emit_as c h e kept t)
+  emit_as_leads : (c : Call) (h : ℕ) (e : Option Expression) (kept : KeptValues) (t : List Event) →
+      Leads k true false (emit_as c h e kept t)
   emit_as_leads c h (Some (Load p)) kept t = go (is_counted c.function h) (used_value c kept p)
     where
-      go : (b : Bool) (o : Option Value) → Leads k true false (if_counted b (after_load c.environment.parts (handle_type c.function h) c.world h o) kept t)
+      go : (b : Bool) (o : Option Value) →
+          Leads k true false
+          (if_counted b (after_load c.environment.parts (handle_type c.function h) c.world h o) kept t)
       go true None = refl
       go true (Some v) =
           there_leads true false
@@ -150,9 +162,12 @@ module _ (k : Option ValueType) where
   emit_as_leads c h (Some (Request w xs es)) kept t =
       go (is_counted c.function h) (joined_values (used_values c kept xs) (constant_values c.environment c.meaning es))
     where
-      go : (b : Bool) (os : Option (List Value)) → Leads k true false (if_counted b (after_request c.environment.parts (handle_type c.function h) c.world h w os) kept t)
+      go : (b : Bool) (os : Option (List Value)) →
+          Leads k true false
+          (if_counted b (after_request c.environment.parts (handle_type c.function h) c.world h w os) kept t)
       go true None = refl
-      go true (Some vs) = typed_leads (has_type c.environment.parts (handle_type c.function h) (c.world t (Ask w vs))) (Ask w vs ∷ t) (update kept h (Some (c.world t (Ask w vs))))
+      go true (Some vs) = typed_leads (has_type c.environment.parts (handle_type c.function h)
+          (c.world t (Ask w vs))) (Ask w vs ∷ t) (update kept h (Some (c.world t (Ask w vs))))
       go false os = refl
   emit_as_leads c h (Some _) kept t = refl
   emit_as_leads c h None kept t = refl
@@ -160,13 +175,15 @@ module _ (k : Option ValueType) where
   emit_leads : (c : Call) (hs : List ℕ) (kept : KeptValues) (t : List Event) → Leads k true false (emit c hs kept t)
   emit_leads c [] kept t = refl
   emit_leads c (h ∷ hs) kept t =
-      then_leads true true false false (emit_as c h (expression_of c.function h) kept t) (emit c hs) (emit_as_leads c h (expression_of c.function h) kept t) (emit_leads c hs)
+      then_leads true true false false (emit_as c h (expression_of c.function h) kept t) (emit c hs)
+      (emit_as_leads c h (expression_of c.function h) kept t) (emit_leads c hs)
 
   asks_lead : (ws : List Bytes) (kept : KeptValues) (t : List Event) → Leads k true false (ask_each ws kept t)
   asks_lead [] kept t = refl
   asks_lead (w ∷ ws) kept t = asks_lead ws kept (Ask w [] ∷ t)
 
-  leave_leads : (c : Call) (b : Bool) (e : Option ℕ) → (kept : KeptValues) (t : List Event) → Leads k true (b || is_some e) (leave c e kept t)
+  leave_leads : (c : Call) (b : Bool) (e : Option ℕ) → (kept : KeptValues) (t : List Event) →
+      Leads k true (b || is_some e) (leave c e kept t)
   leave_leads c b None kept t = refl
   leave_leads c b (Some h) kept t =
       there_leads true (b || true) (used_value c kept h) t
@@ -184,7 +201,8 @@ result_leads parts k f callee a None kept (Halts x t) w l = l
 result_leads parts k f callee a (Some h) kept (Gives None t) w l =
     let there = w h refl in
     absurd (subst (λ o. IsReturned o None) there.1 l)
-result_leads parts k f callee (Asked word) (Some h) kept (Gives (Some v) t) w l = typed_leads k (has_type parts (handle_type f h) v) t (update kept h (Some v))
+result_leads parts k f callee (Asked word) (Some h) kept (Gives (Some v) t) w l =
+    typed_leads k (has_type parts (handle_type f h) v) t (update kept h (Some v))
 result_leads parts k f callee (Called g) (Some h) kept (Gives (Some v) t) w l = refl
 result_leads parts k f callee a (Some h) kept (Halts x t) w l = l
 
@@ -213,12 +231,15 @@ module _ (p : Module) (c : Call) (f : Naming) (complete : (g : ℕ) (callee : Fu
       (Ask w vs ∷ t) (update kept h (Some (c.world t (Ask w vs))))
   act_leads (Called g) xs r m kept t (Some vs) = go (function_numbered c.callees g) refl m.2
     where
-      go : (o : Option Function) → function_numbered c.callees g ≡ o → CallFits f.function o xs r → Leads k true false (with_result c.environment.parts c.function (Called g) r kept (c.calls g vs t))
+      go : (o : Option Function) → function_numbered c.callees g ≡ o → CallFits f.function o xs r →
+          Leads k true false (with_result c.environment.parts c.function (Called g) r kept (c.calls g vs t))
       go None e w = absurd w
       go (Some callee) e w =
-          result_leads c.environment.parts k c.function callee.result (Called g) r kept (c.calls g vs t) (wanted r w) (complete g callee e vs t)
+          result_leads c.environment.parts k c.function callee.result (Called g) r kept (c.calls g vs t)
+          (wanted r w) (complete g callee e vs t)
         where
-          wanted : (r : Option ℕ) → CallFits f.function (Some callee) xs r → (h : ℕ) → r ≡ Some h → (z : ValueType) × (callee.result ≡ Some z)
+          wanted : (r : Option ℕ) → CallFits f.function (Some callee) xs r → (h : ℕ) → r ≡ Some h →
+              (z : ValueType) × (callee.result ≡ Some z)
           wanted None w h e = absurd (none-some h e)
           wanted (Some j) w h e = (handle_type f.function j, w.1)
 
@@ -228,7 +249,8 @@ module _ (p : Module) (c : Call) (f : Naming) (complete : (g : ℕ) (callee : Fu
 
   ends_later : (b : Statements) (falls : Bool) (cs : Cases) → IsTrue (some_case_ends cs) → IsTrue (Ends b falls cs)
   ends_later b falls cs h =
-      or_right (any_break b) ((not falls && may_end_all b) || some_case_ends cs) (or_right (not falls && may_end_all b) (some_case_ends cs) h)
+      or_right (any_break b) ((not falls && may_end_all b) || some_case_ends cs)
+      (or_right (not falls && may_end_all b) (some_case_ends cs) h)
 
   case_leads : (b : Statements) (falls : Bool) (cs : Cases) (on : Next KeptValues)
       (kept : KeptValues) (t : List Event) →
@@ -239,13 +261,19 @@ module _ (p : Module) (c : Call) (f : Naming) (complete : (g : ℕ) (callee : Fu
       (and_then (run_all c bound b kept t) (λ kept1 t1. cond falls (on kept1 t1) (Done kept1 t1)))
   case_leads b falls cs on kept t l next = go (run_all c bound b kept t) l
     where
-      on_from : (z : Bool) → falls ≡ z → IsTrue (may_end_all b) → (kept : KeptValues) (t : List Event) → Leads k (Ends b falls cs) (Ends b falls cs) (cond z (on kept t) (Done kept t))
+      on_from : (z : Bool) → falls ≡ z → IsTrue (may_end_all b) → (kept : KeptValues) (t : List Event) →
+          Leads k (Ends b falls cs) (Ends b falls cs) (cond z (on kept t) (Done kept t))
       on_from true q e kept t =
-          more k (some_case_ends cs) (Ends b falls cs) (some_case_ends cs) (Ends b falls cs) (on kept t) (ends_later b falls cs) (ends_later b falls cs) (next q kept t)
+          more k (some_case_ends cs) (Ends b falls cs) (some_case_ends cs) (Ends b falls cs) (on kept t)
+          (ends_later b falls cs) (ends_later b falls cs) (next q kept t)
       on_from false q e kept t =
-          or_right (any_break b) ((not falls && may_end_all b) || some_case_ends cs) (or_left (not falls && may_end_all b) (some_case_ends cs) (and_both (not falls) (may_end_all b) (ap not q) e))
+          or_right (any_break b) ((not falls && may_end_all b) || some_case_ends cs)
+          (or_left (not falls && may_end_all b) (some_case_ends cs)
+          (and_both (not falls) (may_end_all b) (ap not q) e))
 
-      go : (o : Outcome KeptValues) → Leads k (may_end_all b) (any_break b) o → Leads k (Ends b falls cs) (Ends b falls cs) (and_then o (λ kept1 t1. cond falls (on kept1 t1) (Done kept1 t1)))
+      go : (o : Outcome KeptValues) → Leads k (may_end_all b) (any_break b) o →
+          Leads k (Ends b falls cs) (Ends b falls cs)
+          (and_then o (λ kept1 t1. cond falls (on kept1 t1) (Done kept1 t1)))
       go (Done kept t) l = on_from falls refl l kept t
       go (Continued kept t) l = tt
       go (Broke kept t) l = or_left (any_break b) ((not falls && may_end_all b) || some_case_ends cs) l
@@ -262,7 +290,8 @@ module _ (p : Module) (c : Call) (f : Naming) (complete : (g : ℕ) (callee : Fu
       (λ h. or_either (not there) later (not there || ends) (λ n. or_left (not there) ends n)
       (λ n. or_right (not there) ends (up n)) h) up l2
 
-  if_leads : (ea eb ba bb : Bool) (v : Value) (t : List Event) (a b : Outcome KeptValues) → Leads k ea ba a → Leads k eb bb b → Leads k (ea || eb) (ba || bb) (branch_by v t a b)
+  if_leads : (ea eb ba bb : Bool) (v : Value) (t : List Event) (a b : Outcome KeptValues) → Leads k ea ba a →
+      Leads k eb bb b → Leads k (ea || eb) (ba || bb) (branch_by v t a b)
   if_leads ea eb ba bb v t a b l l2 =
       chosen_leads k (ea || eb) (ba || bb) v t a b
       (more k ea (ea || eb) ba (ba || bb) a (λ h. or_left ea eb h) (λ h. or_left ba bb h) l)
@@ -277,22 +306,28 @@ module _ (p : Module) (c : Call) (f : Naming) (complete : (g : ℕ) (callee : Fu
       (after_switch (run_cases c bound cs (case_value_if (has_case_value (Numbered z) cs) z) kept t))
   one_case_value cs each z kept t = go (has_case_value (Numbered z) cs) refl
     where
-      go : (b : Bool) → has_case_value (Numbered z) cs ≡ b → Leads k (may_end (Switch 0 cs)) false (after_switch (run_cases c bound cs (case_value_if b z) kept t))
+      go : (b : Bool) → has_case_value (Numbered z) cs ≡ b →
+          Leads k (may_end (Switch 0 cs)) false (after_switch (run_cases c bound cs (case_value_if b z) kept t))
       go true q =
-          let up = λ (h : IsTrue (some_case_ends cs)). or_right (not (has_case_value Default cs)) (some_case_ends cs) h in
-          let there = subst (λ b. Leads k (not b || some_case_ends cs) (some_case_ends cs) (run_cases c bound cs (Numbered z) kept t)) q (each (Numbered z) kept t) in
+          let up = λ (h : IsTrue (some_case_ends cs)). or_right (not (has_case_value Default cs))
+          (some_case_ends cs) h in
+          let there = subst (λ b. Leads k (not b || some_case_ends cs) (some_case_ends cs)
+          (run_cases c bound cs (Numbered z) kept t)) q (each (Numbered z) kept t) in
           switch_leads k (may_end (Switch 0 cs)) (some_case_ends cs)
           (run_cases c bound cs (Numbered z) kept t) up
           (more k (some_case_ends cs) (may_end (Switch 0 cs)) (some_case_ends cs)
           (some_case_ends cs) (run_cases c bound cs (Numbered z) kept t) up (λ h. h) there)
       go false q =
-          switch_leads k (may_end (Switch 0 cs)) (some_case_ends cs) (run_cases c bound cs Default kept t) (λ h. or_right (not (has_case_value Default cs)) (some_case_ends cs) h) (each Default kept t)
+          switch_leads k (may_end (Switch 0 cs)) (some_case_ends cs) (run_cases c bound cs Default kept t)
+          (λ h. or_right (not (has_case_value Default cs)) (some_case_ends cs) h) (each Default kept t)
 
   mutual
-    line_leads : (st : Statement) → IsRegular p c.callees f st → Where k (has_values st) → (kept : KeptValues) (t : List Event) → Leads k (may_end st) (holds_break st) (run c bound st kept t)
+    line_leads : (st : Statement) → IsRegular p c.callees f st → Where k (has_values st) →
+        (kept : KeptValues) (t : List Event) → Leads k (may_end st) (holds_break st) (run c bound st kept t)
     line_leads (Emit first count) m w kept t = emit_leads k c (from first count) kept t
     line_leads (Store q v) m w kept t =
-        there_leads k true false (option_and_then place_in (used_value c kept q)) t _ (λ place. there_leads k true false (used_value c kept v) t _ (λ value. refl))
+        there_leads k true false (option_and_then place_in (used_value c kept q)) t _
+        (λ place. there_leads k true false (used_value c kept v) t _ (λ value. refl))
     line_leads (Block b) m w kept t = body_leads b m w kept t
     line_leads (If h a b) m w kept t =
         there_leads k (may_end_all a || may_end_all b) (any_break a || any_break b)
@@ -317,7 +352,8 @@ module _ (p : Module) (c : Call) (f : Naming) (complete : (g : ℕ) (callee : Fu
         (leave_leads k c (any_break b) e))) bound kept t
     line_leads (Jumps Break) m w kept t = refl
     line_leads (Jumps (Return None)) m w kept t = named_none k w
-    line_leads (Jumps (Return (Some h))) m w kept t = there_leads k false false (used_value c kept h) t _ (λ v. returned_some k v)
+    line_leads (Jumps (Return (Some h))) m w kept t = there_leads k false false (used_value c kept h) t _
+        (λ v. returned_some k v)
     line_leads (Jumps _) m w kept t = tt
     line_leads (Barrier bits) m w kept t = asks_lead k (barrier_words bits) kept t
     line_leads (Act a xs r) m w kept t = act_leads a xs r m.0 kept t (used_values c kept xs)
@@ -354,10 +390,12 @@ module _ (p : Module) (c : Call) (f : Naming) (complete : (g : ℕ) (callee : Fu
     on_lead (case l b falls cs) i m w kept t =
         let body = body_leads b m.1 (where_left k (all_have_values b) (cases_have_values cs) w) kept t in
         let later = where_right k (all_have_values b) (cases_have_values cs) w in
-        case_leads b falls cs (run_on c bound cs) kept t body (λ q kept t. on_lead cs (falls_to_case falls cs m.0 q) m.2 later kept t)
+        case_leads b falls cs (run_on c bound cs) kept t body
+        (λ q kept t. on_lead cs (falls_to_case falls cs m.0 q) m.2 later kept t)
 
 -- a body's end, where it is reached, gives nothing
-answer_complete : (k : Option ValueType) (e b : Bool) (o : Outcome KeptValues) → (IsTrue e → IsReturned k None) → Leads k e b o → IsComplete k (answer o)
+answer_complete : (k : Option ValueType) (e b : Bool) (o : Outcome KeptValues) →
+    (IsTrue e → IsReturned k None) → Leads k e b o → IsComplete k (answer o)
 answer_complete k e b (Done s t) f l = f l
 answer_complete k e b (Continued s t) f l = tt
 answer_complete k e b (Broke s t) f l = tt
@@ -369,7 +407,8 @@ values_where : (k : Option ValueType) (body : Statements) → GivesResult k body
 values_where None body w = tt
 values_where (Some k) body w = w.0
 
-end_returned : (k : Option ValueType) (body : Statements) → GivesResult k body → IsTrue (may_end_all body) → IsReturned k None
+end_returned : (k : Option ValueType) (body : Statements) → GivesResult k body → IsTrue (may_end_all body) →
+    IsReturned k None
 end_returned None body w h = tt
 end_returned (Some k) body w h = absurd (true≢false (sym h ∙ w.1))
 
@@ -392,7 +431,9 @@ module _ (p : Module) (env : Environment) (w : World) (m : Meaning) (bound : ℕ
       kept : KeptValues
       kept = constants_kept f.function env m
 
-      go : (o : Option (List (Option Value))) → IsComplete f.function.result (run_from_entry g vs o t (λ t1. answer (run_all c bound f.function.body kept t1)))
+      go : (o : Option (List (Option Value))) →
+          IsComplete f.function.result (run_from_entry g vs o t
+          (λ t1. answer (run_all c bound f.function.body kept t1)))
       go None = tt
       go (Some firsts) =
           let k = f.function.result in
@@ -408,7 +449,8 @@ module _ (p : Module) (env : Environment) (w : World) (m : Meaning) (bound : ℕ
       go (nat_eq g (length (functions_of fs))) e (calls_complete fs fits.1 gives.1)
     where
       own_call : Bool → ReachedOrHalted (Option Value)
-      own_call b = run_if_arguments_fit b (run_body (call_of env w m bound f fs vs t) bound (length (functions_of fs)) vs t) t
+      own_call b = run_if_arguments_fit b (run_body (call_of env w m bound f fs vs t) bound
+          (length (functions_of fs)) vs t) t
 
       own : Calls_complete fs → (b : Bool) → IsComplete f.function.result (own_call b)
       own earlier true = body_complete fs earlier f fits.0 gives.0 vs t (length (functions_of fs))
@@ -431,6 +473,8 @@ results_are_returned p fs same regular gives settings m g f e vs w turns t =
     env : Environment
     env = environment_of p settings m
 
-    there : function_numbered (functions_of fs) g ≡ Some f → AllGiveResults (functions_of fs) → IsComplete f.result (run_call env w m turns p.functions g vs t)
+    there : function_numbered (functions_of fs) g ≡ Some f → AllGiveResults (functions_of fs) →
+        IsComplete f.result (run_call env w m turns p.functions g vs t)
     there e gives =
-        subst (λ l. IsComplete f.result (run_call env w m turns l g vs t)) same (calls_complete p env w m turns fs regular gives g f e vs t)
+        subst (λ l. IsComplete f.result (run_call env w m turns l g vs t)) same
+        (calls_complete p env w m turns fs regular gives g f e vs t)

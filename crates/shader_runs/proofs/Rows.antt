@@ -88,7 +88,9 @@ loads (suc (suc zero)) = tt
 loads (suc (suc (suc zero))) = tt
 loads (suc (suc (suc (suc h)))) = tt
 
-no_operator : (x : Signature) (h : ℕ) → IsOneOf x (signatures_of store_module store_function (handle_type store_function h) (expression_of store_function h)) → ⊥
+no_operator : (x : Signature) (h : ℕ) →
+    IsOneOf x (signatures_of store_module store_function (handle_type store_function h)
+    (expression_of store_function h)) → ⊥
 no_operator x zero k = elim k [ ]
 no_operator x (suc zero) k = elim k [ ]
 no_operator x (suc (suc zero)) k = elim k [ ]
@@ -116,14 +118,21 @@ only_function (suc i) f e = absurd (none-some f e)
 no_spelled : (x : Signature) → IsSpelled store_module x → ⊥
 no_spelled x (in_function place f there h k) = go f (only_function place f there) k
   where
-    go : (f : Function) → store_function ≡ f → IsOneOf x (signatures_of store_module f (handle_type f h) (expression_of f h)) → ⊥
+    go : (f : Function) → store_function ≡ f →
+        IsOneOf x (signatures_of store_module f (handle_type f h) (expression_of f h)) → ⊥
     go f e k =
-        no_operator x h (subst (λ f. IsOneOf x (signatures_of store_module f (handle_type f h) (expression_of f h))) (sym e) k)
+        no_operator x h
+        (subst (λ f. IsOneOf x (signatures_of store_module f (handle_type f h) (expression_of f h))) (sym e) k)
 no_spelled x (in_initialiser i e there k) = none-some e there
 
 no_constants : ConstantsFit store_module store_naming.names.outer
 no_constants =
-    record { counted = omega arith; rank = λ i. i; initialisers = λ i e q. absurd (none-some e q); distinct = λ i k lt lk e. absurd (omega arith) }
+    record {
+      counted = omega arith;
+      rank = λ i. i;
+      initialisers = λ i e q. absurd (none-some e q);
+      distinct = λ i k lt lk e. absurd (omega arith);
+    }
 
 premises : PremisesHold
 premises =
@@ -181,7 +190,10 @@ rows_hold =
       switch = record { fits = refl; text = refl; module_run = refl; text_run = refl };
       joined = record { fits = refl; text = refl; module_run = refl; text_run = refl };
       fallen = record { module_run = refl; two_blocks = refl; one_case = refl };
-      loop = (record { fits = refl; text = refl; module_run = refl; text_run = refl }, record { fits = refl; text = refl; module_run = refl; text_run = refl });
+      loop = (
+        record { fits = refl; text = refl; module_run = refl; text_run = refl },
+        record { fits = refl; text = refl; module_run = refl; text_run = refl },
+      );
       barrier = record { fits = refl; text = refl; module_run = refl; text_run = refl };
       select = record { fits = refl; text = refl; module_run = refl; text_run = refl };
       refused = record { continue_ = refl; break_ = refl; after_loop = refl; emitted_again = refl };
@@ -194,7 +206,15 @@ rows_hold =
         number_as_break_if = refl;
         number_as_pointer = refl;
       };
-      ends = record { both_return = refl; one_returns = refl; loop_without_break = refl; loop_with_break = refl; loop_with_break_if = refl; with_default = refl; without_default = refl };
+      ends = record {
+        both_return = refl;
+        one_returns = refl;
+        loop_without_break = refl;
+        loop_with_break = refl;
+        loop_with_break_if = refl;
+        with_default = refl;
+        without_default = refl;
+      };
       distinguished = record {
         load_inlined_past_store = refl;
         every_emit_bound = refl;

@@ -373,7 +373,8 @@ holds_or_fault f ordered = go (fits_function (unnamed f)) refl
     go false e =
         ⊎_elim
         (λ e. let x = find_first_value f ordered 0 f.first_values e in
-        inr (in_first_value x.0 x.1 x.2 (subst (λ j. IsOutOfScopeAt (before_local f j) entry_point x.1) (omega arith) x.3)))
+        inr (in_first_value x.0 x.1 x.2 (subst (λ j. IsOutOfScopeAt (before_local f j) entry_point x.1)
+        (omega arith) x.3)))
         (λ p. let x = find_all (unnamed f) 0 f.body entry_point (at_start f) start p.1 in
         inr (in_body x.0 x.1 x.2 x.3))
         (first_false (first_values_fit f 0 f.first_values) (fits_all (unnamed f) 0 f.body (at_start f)) e)

@@ -87,7 +87,8 @@ brought f g v k (written_out b p os) = inr (refl, inr os)
 brought f g v k (result m) = inr (refl, m)
 brought f g v k (still g0 d) = inl d
 
-brings_itself : (f : Function) (g : IntroducedHandle) (v : List IntroducedHandle) (k : ℕ) → Brings f v g k → handle_of g ≡ k
+brings_itself : (f : Function) (g : IntroducedHandle) (v : List IntroducedHandle) (k : ℕ) → Brings f v g k →
+    handle_of g ≡ k
 brings_itself f (Emitted h) v k b = b.0
 brings_itself f (AsResult h) v k b = b.0
 
@@ -208,7 +209,8 @@ parts_of_tree : (f : Function) (h : ℕ) →
 parts_of_tree f h p (one_constant c q) = false_is_not_true (is_pure (expression_of f h)) (ap is_pure q) p
 parts_of_tree f h p (over_constants q ts) = ts
 
-each_tree_in_scope : (f : Function) (v : List IntroducedHandle) (xs : List ℕ) → AreConstantTrees f xs → EachInScope f v xs
+each_tree_in_scope : (f : Function) (v : List IntroducedHandle) (xs : List ℕ) → AreConstantTrees f xs →
+    EachInScope f v xs
 each_tree_in_scope f v [] no_tree = no_handle
 each_tree_in_scope f v (x ∷ xs) (and_tree t ts) = and_handle (constant_tree t) (each_tree_in_scope f v xs ts)
 
@@ -239,7 +241,8 @@ if_used f at s t (Some h) = t.used h
 abbrev with_introduced : IntroducedHandle → Point → Point
 with_introduced g at = record { visible = g ∷ at.visible; passed = g ∷ at.passed }
 
-introduced_more : (f : Function) (g : IntroducedHandle) (at : Point) (h : ℕ) → WasIntroduced f at h → WasIntroduced f (with_introduced g at) h
+introduced_more : (f : Function) (g : IntroducedHandle) (at : Point) (h : ℕ) → WasIntroduced f at h →
+    WasIntroduced f (with_introduced g at) h
 introduced_more f g at h (in_sight a) = in_sight (inr a)
 introduced_more f g at h (as_a_tree p t a) = as_a_tree p t (inr a)
 
@@ -325,7 +328,8 @@ module _ (f : Function) (at : Point) (s : Handles) (h : ℕ) (t : Tracks f at s)
       go Inline q = (λ i. stays (ap is_present q), λ d. refl)
       go (Bound x) q = (λ i. stays (ap is_present q), λ d. refl)
 
-  inline_introduced : (u : Bool) → usable_all f s (operands_at f h) ≡ u → is_new (availability_without_name u (s h)) ≡ false
+  inline_introduced : (u : Bool) → usable_all f s (operands_at f h) ≡ u →
+      is_new (availability_without_name u (s h)) ≡ false
   inline_introduced true u = refl
   inline_introduced false u = go (s h) refl
     where
@@ -359,10 +363,12 @@ module _ (f : Function) (h : ℕ) (at : Point) (s : Handles) (t : Tracks f at s)
       let same = usable_pure f (expression_of f h) (availability_without_name Usable (s h)) p in
       let here = inline_used f at s h t p b Usable refl in
       let new = inline_introduced f at s h t p b Usable refl in
-      tracks_introduced f (Emitted h) (availability_without_name Usable (s h)) at s t (λ i. here.0 (sym same ∙ i), λ d. same ∙ here.1 d) new
+      tracks_introduced f (Emitted h) (availability_without_name Usable (s h)) at s t
+      (λ i. here.0 (sym same ∙ i), λ d. same ∙ here.1 d) new
   tracks_kind false false b p = t
 
-  pub tracks_emitted : Tracks f (following_one f h at) (with_emitted_handle (binds f h) (is_pure (expression_of f h)) Usable x s h)
+  pub tracks_emitted : Tracks f (following_one f h at)
+      (with_emitted_handle (binds f h) (is_pure (expression_of f h)) Usable x s h)
   tracks_emitted =
       subst (λ c. Tracks f (WithOne c) (with_emitted_handle (binds f h) (is_pure (expression_of f h)) Usable x s h))
       (sym (unwritten_kind f h (expression_of f h) m))
@@ -449,7 +455,8 @@ tracks_after f k (Act a xs None) at s t i = t
 tracks_after f k _ at s t i = t
 
 -- what was given stays given
-among_emitted : (f : Function) (hs : List ℕ) (v : List IntroducedHandle) (k : ℕ) → IsAmong k v → IsAmong k (with_emitted f hs v)
+among_emitted : (f : Function) (hs : List ℕ) (v : List IntroducedHandle) (k : ℕ) → IsAmong k v →
+    IsAmong k (with_emitted f hs v)
 among_emitted f [] v k a = a
 among_emitted f (h ∷ hs) v k a = among_emitted f hs (with_one f h v) k (one (is_unwritten f h (expression_of f h)))
   where
@@ -686,7 +693,10 @@ module _ (f : Function) (ordered : (h : ℕ) → AllBelow h (operands_at f h)) w
   tracks_start =
       record {
         used = λ h. (used_at_start h (expression_of f h) refl, in_scope_at_start h);
-        introduced = λ h. (λ i. absurd (true≢false (sym (start_new (Tested h)) ∙ i)), λ g. absurd (nothing_introduced h g));
+        introduced = λ h. (
+          λ i. absurd (true≢false (sym (start_new (Tested h)) ∙ i)),
+          λ g. absurd (nothing_introduced h g),
+        );
         trees = λ h e. tested_trees h (start_everywhere (Tested h) e);
         passed = λ h a. a;
       }

@@ -6,7 +6,7 @@ use Rattle.std.proofs.Common.{ap, ◌∙◌, subst, arith, option_map}
 use Rattle.std.proofs.Math.Nat.{eq-or-lt_of_le}
 use Rattle.std.specs.Prelude.{option_and_then}
 use Rattle.shader_runs.specs.Value.{Bytes, same_bytes, PartTypes, Place, Selector, Value}
-use Rattle.shader_runs.specs.Value.{ShortCircuit, truth_in, integer_in, place_in, place_at}
+use Rattle.shader_runs.specs.Value.{ShortCircuit, truth_in, integer_in, place_in, position_at}
 use Rattle.shader_runs.specs.Value.{place_to}
 use Rattle.shader_runs.specs.Value.{place_type, takes_several}
 use Rattle.shader_runs.specs.World.{Event, Entry, Read, Write, entries, World, Meaning, bind}
@@ -71,7 +71,8 @@ pub data Settles {X : Type 0} (m : Ends X) (k : ℕ) (t : List Event) : X → X 
   out_of_turns : {e : List Event} {q : X} → k + length t ≤ length e → Settles m k t (m.out e) q
 
 -- from an earlier history
-widen : {X : Type 0} {m : Ends X} {k : ℕ} {t e : List Event} {q q' : X} → Later t e → Settles m k e q q' → Settles m k t q q'
+widen : {X : Type 0} {m : Ends X} {k : ℕ} {t e : List Event} {q q' : X} → Later t e → Settles m k e q q' →
+    Settles m k t q q'
 widen l (same h) = same (still_later l h)
 widen l (out_of_turns h) = out_of_turns (omega (arith, later_length l, h))
 
@@ -85,7 +86,8 @@ onward {l = l} {k = k} {t = t} F F' o next (out_of_turns {e = e} {q = q} h) =
     subst (λ y. Settles l k t y (F' q)) (sym (o e)) (out_of_turns h)
 
 -- a turn that makes no event is followed by its like
-pub silent : {S : Type 0} (n : ℕ) (once : Next S) (s : S) (t : List Event) → once s t ≡ Done s t → turns n once s t ≡ Stopped OutOfTurns t
+pub silent : {S : Type 0} (n : ℕ) (once : Next S) (s : S) (t : List Event) → once s t ≡ Done s t →
+    turns n once s t ≡ Stopped OutOfTurns t
 silent zero once s t e = refl
 silent (suc n) once s t e = ap (λ o. and_again o (turns n once)) e ∙ silent n once s t e
 
@@ -100,7 +102,8 @@ module _ (k : ℕ) where
   abbrev SettlesNext : {S : Type 0} → Next S → Next S → Type 0
   SettlesNext {S} f f' = (s : S) (t : List Event) → SettlesOutcome t (f s t) (f' s t)
 
-  and_then_settles : {S : Type 0} {t : List Event} {o o' : Outcome S} (f f' : Next S) → SettlesNext f f' → SettlesOutcome t o o' → SettlesOutcome t (and_then o f) (and_then o' f')
+  and_then_settles : {S : Type 0} {t : List Event} {o o' : Outcome S} (f f' : Next S) → SettlesNext f f' →
+      SettlesOutcome t o o' → SettlesOutcome t (and_then o f) (and_then o' f')
   and_then_settles {S} f f' next h = onward (λ o. and_then o f) (λ o. and_then o f') (λ e. refl) go h
     where
       go : (o : Outcome S) → SettlesOutcome (events_of o) (and_then o f) (and_then o f')
@@ -110,7 +113,8 @@ module _ (k : ℕ) where
       go (Returned v e) = same here
       go (Stopped x e) = same here
 
-  and_continue_settles : {S : Type 0} {t : List Event} {o o' : Outcome S} (f f' : Next S) → SettlesNext f f' → SettlesOutcome t o o' → SettlesOutcome t (and_continue o f) (and_continue o' f')
+  and_continue_settles : {S : Type 0} {t : List Event} {o o' : Outcome S} (f f' : Next S) → SettlesNext f f' →
+      SettlesOutcome t o o' → SettlesOutcome t (and_continue o f) (and_continue o' f')
   and_continue_settles {S} f f' next h = onward (λ o. and_continue o f) (λ o. and_continue o f') (λ e. refl) go h
     where
       go : (o : Outcome S) → SettlesOutcome (events_of o) (and_continue o f) (and_continue o f')
@@ -140,31 +144,39 @@ module _ (k : ℕ) where
   closed_events s (Done s1 e) = refl
   closed_events s _ = refl
 
-  within_settles : {S : Type 0} {t : List Event} {o o' : Outcome S} → SettlesOutcome t o o' → SettlesOutcome t (within o) (within o')
+  within_settles : {S : Type 0} {t : List Event} {o o' : Outcome S} → SettlesOutcome t o o' →
+      SettlesOutcome t (within o) (within o')
   within_settles h = changed_settles within (λ e. refl) within_events h
 
-  switch_settles : {S : Type 0} {t : List Event} {o o' : Outcome S} → SettlesOutcome t o o' → SettlesOutcome t (after_switch o) (after_switch o')
+  switch_settles : {S : Type 0} {t : List Event} {o o' : Outcome S} → SettlesOutcome t o o' →
+      SettlesOutcome t (after_switch o) (after_switch o')
   switch_settles h = changed_settles after_switch (λ e. refl) switch_events h
 
-  closed_settles : {S : Type 0} {t : List Event} {o o' : Outcome S} (s : S) → SettlesOutcome t o o' → SettlesOutcome t (closed_outcome s o) (closed_outcome s o')
+  closed_settles : {S : Type 0} {t : List Event} {o o' : Outcome S} (s : S) → SettlesOutcome t o o' →
+      SettlesOutcome t (closed_outcome s o) (closed_outcome s o')
   closed_settles s h = changed_settles (closed_outcome s) (λ e. refl) (closed_events s) h
 
-  closed_if_settles : {S : Type 0} {t : List Event} {o o' : Outcome S} (b : Bool) (s : S) → SettlesOutcome t o o' → SettlesOutcome t (closed_if b s o) (closed_if b s o')
+  closed_if_settles : {S : Type 0} {t : List Event} {o o' : Outcome S} (b : Bool) (s : S) →
+      SettlesOutcome t o o' → SettlesOutcome t (closed_if b s o) (closed_if b s o')
   closed_if_settles true s h = closed_settles s h
   closed_if_settles false s h = h
 
-  there_settles : {A S : Type 0} (o : Option A) (t : List Event) (go go' : A → Outcome S) → ((a : A) → SettlesOutcome t (go a) (go' a)) → SettlesOutcome t (or_stuck o t go) (or_stuck o t go')
+  there_settles : {A S : Type 0} (o : Option A) (t : List Event) (go go' : A → Outcome S) →
+      ((a : A) → SettlesOutcome t (go a) (go' a)) → SettlesOutcome t (or_stuck o t go) (or_stuck o t go')
   there_settles None t go go' h = same here
   there_settles (Some a) t go go' h = h a
 
-  cond_settles : {X : Type 0} {m : Ends X} {t : List Event} (b : Bool) (x y x' y' : X) → Settles m k t x x' → Settles m k t y y' → Settles m k t (cond b x y) (cond b x' y')
+  cond_settles : {X : Type 0} {m : Ends X} {t : List Event} (b : Bool) (x y x' y' : X) → Settles m k t x x' →
+      Settles m k t y y' → Settles m k t (cond b x y) (cond b x' y')
   cond_settles true x y x' y' h l = h
   cond_settles false x y x' y' h l = l
 
-  chosen_settles : {S : Type 0} (v : Value) (t : List Event) (a b a' b' : Outcome S) → SettlesOutcome t a a' → SettlesOutcome t b b' → SettlesOutcome t (branch_by v t a b) (branch_by v t a' b')
+  chosen_settles : {S : Type 0} (v : Value) (t : List Event) (a b a' b' : Outcome S) → SettlesOutcome t a a' →
+      SettlesOutcome t b b' → SettlesOutcome t (branch_by v t a b) (branch_by v t a' b')
   chosen_settles v t a b a' b' h l = there_settles (truth_in v) t _ _ (λ y. cond_settles y a b a' b' h l)
 
-  one_more : {S : Type 0} {j : ℕ} {t e : List Event} {o o' : Outcome S} → Later t e → length t < length e → Settles outcome_ends j e o o' → Settles outcome_ends (suc j) t o o'
+  one_more : {S : Type 0} {j : ℕ} {t e : List Event} {o o' : Outcome S} → Later t e → length t < length e →
+      Settles outcome_ends j e o o' → Settles outcome_ends (suc j) t o o'
   one_more l lt (same h) = same (still_later l h)
   one_more l lt (out_of_turns h) = out_of_turns (omega (arith, lt, h))
 
@@ -179,7 +191,8 @@ module _ (k : ℕ) where
   quiet once once' j n s t e q p p' =
       let first : turns j once s e ≡ Stopped OutOfTurns e = silent j once s e (ap (once s) (sym q) ∙ p) in
       let second : turns n once' s e ≡ Stopped OutOfTurns e = silent n once' s e (ap (once' s) (sym q) ∙ p') in
-      subst (λ o. Settles outcome_ends (suc j) t (turns j once s e) o) (first ∙ sym second) (same (subst (λ o. Later t (events_of o)) (sym first) (subst (λ e. Later t e) q here)))
+      subst (λ o. Settles outcome_ends (suc j) t (turns j once s e) o) (first ∙ sym second)
+      (same (subst (λ o. Later t (events_of o)) (sym first) (subst (λ e. Later t e) q here)))
 
   -- a loop whose turns put the state back
   turns_settle : {S : Type 0} (turn turn' : Next S) → SettlesNext turn turn' →
@@ -188,7 +201,8 @@ module _ (k : ℕ) where
   turns_settle turn turn' each zero n le lk s t = out_of_turns (omega arith)
   turns_settle turn turn' each (suc j) zero le lk s t = absurd (omega (arith, le))
   turns_settle {S} turn turn' each (suc j) (suc n) le lk s t =
-      go (turn s t) (turn' s t) refl refl (each s t) (turns_settle turn turn' each j n (omega (arith, le)) (omega (arith, lk)) s)
+      go (turn s t) (turn' s t) refl refl (each s t)
+      (turns_settle turn turn' each j n (omega (arith, le)) (omega (arith, lk)) s)
     where
       settled : (o : Outcome S) → turn s t ≡ o → turn' s t ≡ o → Later t (events_of o) →
           ((e : List Event) → Settles outcome_ends j e (turns j (putting_back turn) s e)
@@ -198,9 +212,11 @@ module _ (k : ℕ) where
           (and_again (closed_outcome s o) (turns n (putting_back turn')))
       settled (Done s1 e) p p' l rest = grown (eq-or-lt_of_le (later_length l))
         where
-          grown : ((length t ≡ length e) ⊎ (length t < length e)) → Settles outcome_ends (suc j) t (turns j (putting_back turn) s e) (turns n (putting_back turn') s e)
+          grown : ((length t ≡ length e) ⊎ (length t < length e)) →
+              Settles outcome_ends (suc j) t (turns j (putting_back turn) s e) (turns n (putting_back turn') s e)
           grown (inl q) =
-              quiet (putting_back turn) (putting_back turn') j n s t e (no_later l q) (ap (closed_outcome s) p) (ap (closed_outcome s) p')
+              quiet (putting_back turn) (putting_back turn') j n s t e (no_later l q) (ap (closed_outcome s) p)
+              (ap (closed_outcome s) p')
           grown (inr lt) = one_more l lt (rest e)
       settled (Continued s1 e) p p' l rest = same l
       settled (Broke s1 e) p p' l rest = same l
@@ -216,7 +232,8 @@ module _ (k : ℕ) where
       go o o' p p' (same {q = q} l) rest = settled q p p' l rest
       go o o' p p' (out_of_turns h) rest = out_of_turns (omega (arith, h, lk))
 
-  valued_settles : {t : List Event} {q q' : ReachedOrHalted Denotation} (w : World) → SettlesReached t q q' → SettlesReached t (read_value w q) (read_value w q')
+  valued_settles : {t : List Event} {q q' : ReachedOrHalted Denotation} (w : World) → SettlesReached t q q' →
+      SettlesReached t (read_value w q) (read_value w q')
   valued_settles w h = onward (read_value w) (read_value w) (λ e. refl) go h
     where
       go : (q : ReachedOrHalted Denotation) → SettlesReached (reached_events q) (read_value w q) (read_value w q)
@@ -229,7 +246,8 @@ module _ (k : ℕ) where
       SettlesReached t q q' → SettlesReached t (followed_by q rest) (followed_by q' rest')
   followed_settles rest rest' next h = onward (λ q. followed_by q rest) (λ q. followed_by q rest') (λ e. refl) go h
     where
-      put : (v : Value) (q : ReachedOrHalted (List Value)) → SettlesReached (reached_events q) (put_before v q) (put_before v q)
+      put : (v : Value) (q : ReachedOrHalted (List Value)) → SettlesReached (reached_events q) (put_before v q)
+          (put_before v q)
       put v (Gives vs e) = same here
       put v (Halts x e) = same here
 
@@ -241,7 +259,8 @@ module _ (k : ℕ) where
   reach_settles None t = same here
   reach_settles (Some a) t = same here
 
-  unless_settles : {A B : Type 0} {q q' : ReachedOrHalted B} (o : Option A) (t : List Event) → SettlesReached t q q' → SettlesReached t (unless o t q) (unless o t q')
+  unless_settles : {A B : Type 0} {q q' : ReachedOrHalted B} (o : Option A) (t : List Event) →
+      SettlesReached t q q' → SettlesReached t (unless o t q) (unless o t q')
   unless_settles None t h = h
   unless_settles (Some a) t h = same here
 
@@ -249,21 +268,28 @@ module _ (k : ℕ) where
       (rest rest' : List Event → ReachedOrHalted Value) →
       ((e : List Event) → SettlesReached e (rest e) (rest' e)) → SettlesReached t q q' →
       SettlesReached t (index_into parts m q rest) (index_into parts m q' rest')
-  indexed_settles parts m rest rest' next h = onward (λ q. index_into parts m q rest) (λ q. index_into parts m q rest') (λ e. refl) go h
+  indexed_settles parts m rest rest' next h =
+      onward (λ q. index_into parts m q rest) (λ q. index_into parts m q rest') (λ e. refl) go h
     where
-      into_place : (p : Place) (q : ReachedOrHalted Value) → SettlesReached (reached_events q) (part_reached parts p q) (part_reached parts p q)
-      into_place p (Gives v e) = reach_settles (option_map IsPlace (option_and_then (place_at parts p) (integer_in v))) e
+      into_place : (p : Place) (q : ReachedOrHalted Value) →
+          SettlesReached (reached_events q) (part_reached parts p q) (part_reached parts p q)
+      into_place p (Gives v e) =
+          reach_settles (option_map IsPlace (option_and_then (position_at parts p) (integer_in v))) e
       into_place p (Halts x e) = same here
 
-      into_value : (v : Value) (q : ReachedOrHalted Value) → SettlesReached (reached_events q) (index_reached m v q) (index_reached m v q)
+      into_value : (v : Value) (q : ReachedOrHalted Value) →
+          SettlesReached (reached_events q) (index_reached m v q) (index_reached m v q)
       into_value v (Gives i e) = same here
       into_value v (Halts x e) = same here
 
-      value_index : (v : Value) (e : List Event) → SettlesReached e (index_reached m v (rest e)) (index_reached m v (rest' e))
+      value_index : (v : Value) (e : List Event) → SettlesReached e (index_reached m v (rest e))
+          (index_reached m v (rest' e))
       value_index v e = onward (index_reached m v) (index_reached m v) (λ e. refl) (into_value v) (next e)
 
-      go : (q : ReachedOrHalted Denotation) → SettlesReached (reached_events q) (index_into parts m q rest) (index_into parts m q rest')
-      go (Gives (IsPlace p) e) = onward (part_reached parts p) (part_reached parts p) (λ e. refl) (into_place p) (next e)
+      go : (q : ReachedOrHalted Denotation) → SettlesReached (reached_events q) (index_into parts m q rest)
+          (index_into parts m q rest')
+      go (Gives (IsPlace p) e) = onward (part_reached parts p) (part_reached parts p) (λ e. refl) (into_place p)
+          (next e)
       go (Gives (IsValue v) e) = unless_settles (place_in v) e (value_index v e)
       go (Halts x e) = same here
 
@@ -271,9 +297,11 @@ module _ (k : ℕ) where
       (rest rest' : List Event → ReachedOrHalted Value) →
       ((e : List Event) → SettlesReached e (rest e) (rest' e)) → SettlesReached t q q' →
       SettlesReached t (logical_reached m j q rest) (logical_reached m j q' rest')
-  logical_settles m j rest rest' next h = onward (λ q. logical_reached m j q rest) (λ q. logical_reached m j q rest') (λ e. refl) go h
+  logical_settles m j rest rest' next h =
+      onward (λ q. logical_reached m j q rest) (λ q. logical_reached m j q rest') (λ e. refl) go h
     where
-      right : (v : Value) (q : ReachedOrHalted Value) → SettlesReached (reached_events q) (undecided_reached m j v q) (undecided_reached m j v q)
+      right : (v : Value) (q : ReachedOrHalted Value) →
+          SettlesReached (reached_events q) (undecided_reached m j v q) (undecided_reached m j v q)
       right v (Gives u e) = same here
       right v (Halts x e) = same here
 
@@ -284,7 +312,8 @@ module _ (k : ℕ) where
       by true v e = same here
       by false v e = onward (undecided_reached m j v) (undecided_reached m j v) (λ e. refl) (right v) (next e)
 
-      go : (q : ReachedOrHalted Value) → SettlesReached (reached_events q) (logical_reached m j q rest) (logical_reached m j q rest')
+      go : (q : ReachedOrHalted Value) → SettlesReached (reached_events q) (logical_reached m j q rest)
+          (logical_reached m j q rest')
       go (Gives v e) = by (decides j v) v e
       go (Halts x e) = same here
 
@@ -308,7 +337,8 @@ module _ (k : ℕ) where
       go (Gives (IsValue v) e) = same here
       go (Halts x e) = same here
 
-  answer_settles : {S : Type 0} {t : List Event} {o o' : Outcome S} → SettlesOutcome t o o' → SettlesReached t (answer o) (answer o')
+  answer_settles : {S : Type 0} {t : List Event} {o o' : Outcome S} → SettlesOutcome t o o' →
+      SettlesReached t (answer o) (answer o')
   answer_settles {S} h = onward answer answer (λ e. refl) go h
     where
       go : (o : Outcome S) → SettlesReached (events_of o) (answer o) (answer o)
@@ -318,7 +348,8 @@ module _ (k : ℕ) where
       go (Returned v e) = same here
       go (Stopped x e) = same here
 
-  module _ (parts : PartTypes) (w : World) (m : Meaning) (operates : Bytes → Bool) (r r' : Bytes → List Value → List Event →
+  module _ (parts : PartTypes) (w : World) (m : Meaning) (operates : Bytes → Bool)
+      (r r' : Bytes → List Value → List Event →
       ReachedOrHalted (Option Value))
       (responds : (word : Bytes) (vs : List Value) (t : List Event) →
       SettlesReached t (r word vs t) (r' word vs t)) where
@@ -331,9 +362,11 @@ module _ (k : ℕ) where
     word_settles : (word : Bytes) (names : Scope) {t : List Event}
         {q q' : ReachedOrHalted (List Value)} → SettlesReached t q q' →
         SettlesReached t (word_reached l word names t q) (word_reached l' word names t q')
-    word_settles word names {t = t} h = unless_settles (names word) t (onward (word_answer l word) (word_answer l' word) (λ e. refl) go h)
+    word_settles word names {t = t} h =
+        unless_settles (names word) t (onward (word_answer l word) (word_answer l' word) (λ e. refl) go h)
       where
-        go : (q : ReachedOrHalted (List Value)) → SettlesReached (reached_events q) (word_answer l word q) (word_answer l' word q)
+        go : (q : ReachedOrHalted (List Value)) → SettlesReached (reached_events q) (word_answer l word q)
+            (word_answer l' word q)
         go (Gives vs e) = responds word vs e
         go (Halts x e) = same here
 
@@ -345,51 +378,64 @@ module _ (k : ℕ) where
     dereferenced_next (Gives v e) = reach_settles (option_map IsPlace (place_in v)) e
     dereferenced_next (Halts x e) = same here
 
-    addressed_next : (q : ReachedOrHalted Denotation) → SettlesReached (reached_events q) (address_reached q) (address_reached q)
+    addressed_next : (q : ReachedOrHalted Denotation) → SettlesReached (reached_events q) (address_reached q)
+        (address_reached q)
     addressed_next (Gives (IsPlace p) e) = same here
     addressed_next _ = same here
 
-    picked_next : (x : Selector) (q : ReachedOrHalted Denotation) → SettlesReached (reached_events q) (part_picked parts w m x q) (part_picked parts w m x q)
+    picked_next : (x : Selector) (q : ReachedOrHalted Denotation) →
+        SettlesReached (reached_events q) (part_picked parts w m x q) (part_picked parts w m x q)
     picked_next x (Gives (IsPlace p) e) = by (place_to parts p x)
       where
-        several : (b : Bool) (read : ReachedOrHalted Denotation) → SettlesReached e read read → SettlesReached e (cond b read (Halts Stuck e)) (cond b read (Halts Stuck e))
+        several : (b : Bool) (read : ReachedOrHalted Denotation) → SettlesReached e read read →
+            SettlesReached e (cond b read (Halts Stuck e)) (cond b read (Halts Stuck e))
         several true read h = h
         several false read h = same here
 
         by : (o : Option Place) → SettlesReached e (place_picked parts w m x p e o) (place_picked parts w m x p e o)
         by (Some q) = same here
-        by None = several (takes_several (parts (place_type parts p)) x) _ (widen (later here) (unless_settles (place_in (w e (Read p))) (Read p ∷ e) (same here)))
+        by None = several (takes_several (parts (place_type parts p)) x) _
+            (widen (later here) (unless_settles (place_in (w e (Read p))) (Read p ∷ e) (same here)))
     picked_next x (Gives (IsValue v) e) = unless_settles (place_in v) e (same here)
     picked_next x (Halts y e) = same here
 
     mutual
-      tree_settles : (a : Tree) (names : Scope) (t : List Event) → SettlesReached t (evaluate l a names t) (evaluate l' a names t)
+      tree_settles : (a : Tree) (names : Scope) (t : List Event) →
+          SettlesReached t (evaluate l a names t) (evaluate l' a names t)
       tree_settles (Name x) names t = reach_settles (names x) t
       tree_settles (LiteralOf v) names t = same here
       tree_settles (Apply word es) names t =
           onward as_value as_value (λ e. refl) as_value_next (word_settles word names (trees_settle es names t))
       tree_settles (Deref a) names t =
           onward dereference dereference (λ e. refl) dereferenced_next (valued_settles w (tree_settles a names t))
-      tree_settles (AddressOf a) names t = onward address_reached address_reached (λ e. refl) addressed_next (tree_settles a names t)
+      tree_settles (AddressOf a) names t = onward address_reached address_reached (λ e. refl) addressed_next
+          (tree_settles a names t)
       tree_settles (Index a i) names t =
-          indexed_settles parts m (λ e. read_value w (evaluate l i names e)) (λ e. read_value w (evaluate l' i names e)) (λ e. valued_settles w (tree_settles i names e)) (tree_settles a names t)
+          indexed_settles parts m (λ e. read_value w (evaluate l i names e))
+          (λ e. read_value w (evaluate l' i names e)) (λ e. valued_settles w (tree_settles i names e))
+          (tree_settles a names t)
       tree_settles (PartOf x a) names t =
-          onward (part_picked parts w m x) (part_picked parts w m x) (λ e. refl) (picked_next x) (tree_settles a names t)
+          onward (part_picked parts w m x) (part_picked parts w m x) (λ e. refl) (picked_next x)
+          (tree_settles a names t)
       tree_settles (LogicalOf j a b) names t =
           logical_settles m j (λ e. read_value w (evaluate l b names e))
           (λ e. read_value w (evaluate l' b names e))
           (λ e. valued_settles w (tree_settles b names e))
           (valued_settles w (tree_settles a names t))
 
-      trees_settle : (es : Trees) (names : Scope) (t : List Event) → SettlesReached t (evaluate_all l es names t) (evaluate_all l' es names t)
+      trees_settle : (es : Trees) (names : Scope) (t : List Event) →
+          SettlesReached t (evaluate_all l es names t) (evaluate_all l' es names t)
       trees_settle no_more names t = same here
       trees_settle (more a es) names t =
-          followed_settles (evaluate_all l es names) (evaluate_all l' es names) (trees_settle es names) (valued_settles w (tree_settles a names t))
+          followed_settles (evaluate_all l es names) (evaluate_all l' es names) (trees_settle es names)
+          (valued_settles w (tree_settles a names t))
 
-    value_settles : (a : Tree) (names : Scope) (t : List Event) → SettlesReached t (value_of l a names t) (value_of l' a names t)
+    value_settles : (a : Tree) (names : Scope) (t : List Event) →
+        SettlesReached t (value_of l a names t) (value_of l' a names t)
     value_settles a names t = valued_settles w (tree_settles a names t)
 
-    performed_next : (b : Bool) (names : Scope) (q : ReachedOrHalted (Option Value)) → SettlesOutcome (reached_events q) (perform_outcome b names q) (perform_outcome b names q)
+    performed_next : (b : Bool) (names : Scope) (q : ReachedOrHalted (Option Value)) →
+        SettlesOutcome (reached_events q) (perform_outcome b names q) (perform_outcome b names q)
     performed_next true names (Gives v e) = same here
     performed_next false names (Gives v e) = same here
     performed_next b names (Halts x e) = same here
@@ -405,13 +451,15 @@ module _ (k : ℕ) where
     return_settles : (o : Option Tree) → SettlesNext (return_line l o) (return_line l' o)
     return_settles None names t = same here
     return_settles (Some a) names t =
-        with_value_settles (λ v e. Returned (Some v) e) (λ v e. Returned (Some v) e) (λ v e. same here) (value_settles a names t)
+        with_value_settles (λ v e. Returned (Some v) e) (λ v e. Returned (Some v) e) (λ v e. same here)
+        (value_settles a names t)
 
     module _ (n : ℕ) (less : k ≤ n) where
       mutual
         line_settles : (x : Line) → SettlesNext (follow l k x) (follow l' n x)
         line_settles (Let x a) names t =
-            with_value_settles (λ v e. Done (bind names x (Some (IsValue v))) e) (λ v e. Done (bind names x (Some (IsValue v))) e) (λ v e. same here) (value_settles a names t)
+            with_value_settles (λ v e. Done (bind names x (Some (IsValue v))) e)
+            (λ v e. Done (bind names x (Some (IsValue v))) e) (λ v e. same here) (value_settles a names t)
         line_settles (Assign p a) names t =
             with_place_settles
             (λ place t1. with_value (value_of l a names t1)
@@ -465,7 +513,8 @@ module _ (k : ℕ) where
         line_settles (JumpLine (Return o)) names t = return_settles o names t
         line_settles (JumpLine _) names t = same (later here)
         line_settles (Perform word es) names t =
-            onward (perform_outcome (operates word) names) (perform_outcome (operates word) names) (λ e. refl) (performed_next (operates word) names) (word_settles word names (trees_settle es names t))
+            onward (perform_outcome (operates word) names) (perform_outcome (operates word) names) (λ e. refl)
+            (performed_next (operates word) names) (word_settles word names (trees_settle es names t))
 
         lines_settle : (ls : Lines) → SettlesNext (follow_all l k ls) (follow_all l' n ls)
         lines_settle last names t = same here
@@ -475,7 +524,9 @@ module _ (k : ℕ) where
         looped_settle : (ls : Lines) → SettlesNext (follow_in_loop l k ls) (follow_in_loop l' n ls)
         looped_settle last names t = same here
         looped_settle (before x ls) names t =
-            closed_if_settles (has_continue x) names (and_then_settles (follow_in_loop l k ls) (follow_in_loop l' n ls) (looped_settle ls) (line_settles x names t))
+            closed_if_settles (has_continue x) names
+            (and_then_settles (follow_in_loop l k ls) (follow_in_loop l' n ls) (looped_settle ls)
+            (line_settles x names t))
 
         groups_settle : (gs : Groups) (x : CaseValue) → SettlesNext (follow_groups l k gs x) (follow_groups l' n gs x)
         groups_settle no_group x names t = same here
@@ -485,10 +536,12 @@ module _ (k : ℕ) where
             (follow_groups l' n gs x names t) (lines_settle b names t)
             (groups_settle gs x names t)
 
-    put_settles : {t : List Event} {q q' : ReachedOrHalted (List (Option Value))} (o : Option Value) → SettlesReached t q q' → SettlesReached t (put_first o q) (put_first o q')
+    put_settles : {t : List Event} {q q' : ReachedOrHalted (List (Option Value))} (o : Option Value) →
+        SettlesReached t q q' → SettlesReached t (put_first o q) (put_first o q')
     put_settles o h = onward (put_first o) (put_first o) (λ e. refl) go h
       where
-        go : (q : ReachedOrHalted (List (Option Value))) → SettlesReached (reached_events q) (put_first o q) (put_first o q)
+        go : (q : ReachedOrHalted (List (Option Value))) → SettlesReached (reached_events q) (put_first o q)
+            (put_first o q)
         go (Gives vs e) = same here
         go (Halts x e) = same here
 
@@ -498,7 +551,8 @@ module _ (k : ℕ) where
         SettlesReached t (first_followed q rest) (first_followed q' rest')
     first_settles rest rest' next h = onward (λ q. first_followed q rest) (λ q. first_followed q rest') (λ e. refl) go h
       where
-        go : (q : ReachedOrHalted Value) → SettlesReached (reached_events q) (first_followed q rest) (first_followed q rest')
+        go : (q : ReachedOrHalted Value) → SettlesReached (reached_events q) (first_followed q rest)
+            (first_followed q rest')
         go (Gives v e) = put_settles (Some v) (next e)
         go (Halts x e) = same here
 
@@ -509,7 +563,8 @@ module _ (k : ℕ) where
     first_then_settles None names t rest rest' next = put_settles None (next t)
     first_then_settles (Some a) names t rest rest' next = first_settles rest rest' next (value_settles a names t)
 
-    firsts_settle : (xs : List Variable) (frame i : ℕ) (names : Scope) (t : List Event) → SettlesReached t (first_of_each l xs frame i names t) (first_of_each l' xs frame i names t)
+    firsts_settle : (xs : List Variable) (frame i : ℕ) (names : Scope) (t : List Event) →
+        SettlesReached t (first_of_each l xs frame i names t) (first_of_each l' xs frame i names t)
     firsts_settle [] frame i names t = same here
     firsts_settle (x ∷ xs) frame i names t =
         first_then_settles x.first_value names t
@@ -517,7 +572,8 @@ module _ (k : ℕ) where
         (first_of_each l' xs frame (suc i) (with_variable x frame i names))
         (firsts_settle xs frame (suc i) (with_variable x frame i names))
 
-    body_settles : (n : ℕ) → k ≤ n → (g : ℕ) (f : TextFunction) (vs : List Value) (names : Scope) (t : List Event) → SettlesReached t (follow_body l k g f vs names t) (follow_body l' n g f vs names t)
+    body_settles : (n : ℕ) → k ≤ n → (g : ℕ) (f : TextFunction) (vs : List Value) (names : Scope)
+        (t : List Event) → SettlesReached t (follow_body l k g f vs names t) (follow_body l' n g f vs names t)
     body_settles n less g f vs names t =
         onward (λ q. entered_by g vs q (λ t1. answer (follow_all l k f.lines inner t1)))
         (λ q. entered_by g vs q (λ t1. answer (follow_all l' n f.lines inner t1)))
@@ -530,10 +586,12 @@ module _ (k : ℕ) where
             SettlesReached (reached_events q)
             (entered_by g vs q (λ t1. answer (follow_all l k f.lines inner t1)))
             (entered_by g vs q (λ t1. answer (follow_all l' n f.lines inner t1)))
-        go (Gives firsts e) = widen (later here) (answer_settles (lines_settle n less f.lines inner (Entry g vs firsts ∷ e)))
+        go (Gives firsts e) =
+            widen (later here) (answer_settles (lines_settle n less f.lines inner (Entry g vs firsts ∷ e)))
         go (Halts x e) = same here
 
-  called_settles : (b : Bool) (t : List Event) (q q' : ReachedOrHalted (Option Value)) → SettlesReached t q q' → SettlesReached t (run_if_arguments_fit b q t) (run_if_arguments_fit b q' t)
+  called_settles : (b : Bool) (t : List Event) (q q' : ReachedOrHalted (Option Value)) → SettlesReached t q q' →
+      SettlesReached t (run_if_arguments_fit b q t) (run_if_arguments_fit b q' t)
   called_settles true t q q' h = h
   called_settles false t q q' h = same here
 
@@ -553,7 +611,8 @@ module _ (k : ℕ) where
       let callee = call_settles parts outer w m uses n less fs in
       cond_settles (same_bytes word f.name)
       _ _ _ _ (called_settles (nat_eq (length vs) (length f.parameters)) t
-      _ _ (body_settles parts w m (λ word. is_operation (uses word)) (follow_call parts outer w m uses k fs) (follow_call parts outer w m uses n fs)
+      _ _ (body_settles parts w m (λ word. is_operation (uses word)) (follow_call parts outer w m uses k fs)
+      (follow_call parts outer w m uses n fs)
       callee n less (length fs) f vs (with_parameters f.parameters vs outer) t))
       (callee word vs t)
 

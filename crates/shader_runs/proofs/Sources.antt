@@ -32,7 +32,8 @@ forgotten_bound Everywhere now x e = by (is_new now) e
 forgotten_bound _ now x e = e
 
 -- nor has one of a handle that is emitted and not bound
-pub nameless_bound : (u : Bool) (st : Availability) (x : Bytes) → availability_without_name u st ≡ Bound x → st ≡ Bound x
+pub nameless_bound : (u : Bool) (st : Availability) (x : Bytes) → availability_without_name u st ≡ Bound x →
+    st ≡ Bound x
 nameless_bound true st x e = absurd (cc)
 nameless_bound false Absent x e = absurd (cc)
 nameless_bound false _ x e = e
@@ -73,9 +74,11 @@ module _ (f : Naming) where
   pub sources_more : (k k1 : ℕ) (s : Handles) → k ≤ k1 → Sources k s → Sources k1 s
   sources_more k k1 s le d h x e = source_more k k1 h x le (d h x e)
 
-  sources_update : (k : ℕ) (s : Handles) (h : ℕ) (st : Availability) → ((x : Bytes) → st ≡ Bound x → Source k h x) → Sources k s → Sources k (update s h st)
+  sources_update : (k : ℕ) (s : Handles) (h : ℕ) (st : Availability) →
+      ((x : Bytes) → st ≡ Bound x → Source k h x) → Sources k s → Sources k (update s h st)
   sources_update k s h st new d h1 x =
-      update_cases (λ z. z ≡ Bound x → Source k h1 x) s h st h1 (λ e z. subst (λ h. Source k h x) (sym e) (new x z)) (λ e z. d h1 x z)
+      update_cases (λ z. z ≡ Bound x → Source k h1 x) s h st h1
+      (λ e z. subst (λ h. Source k h x) (sym e) (new x z)) (λ e z. d h1 x z)
 
   source_bound : (k h : ℕ) → Source (named_after f.function h k) h (bound_name f k h)
   source_bound k h = by (is_named f.function h)
@@ -116,7 +119,8 @@ module _ (f : Naming) where
   -- ---- one step further
   pub sources_one : (k h : ℕ) (s : Handles) → Sources k s → Sources (named_after f.function h k) (after_one f k h s)
   sources_one k h s d =
-      by (binds f.function h) (is_pure (expression_of f.function h)) (usable_all f.function s (operands_of (expression_of f.function h)))
+      by (binds f.function h) (is_pure (expression_of f.function h))
+      (usable_all f.function s (operands_of (expression_of f.function h)))
     where
       more : Sources (named_after f.function h k) s
       more = sources_more k (named_after f.function h k) s (named_after_more h k) d
@@ -125,10 +129,12 @@ module _ (f : Naming) where
       by true o u = sources_update (named_after f.function h k) s h (Bound (bound_name f k h))
           (λ x e. subst (λ x. Source (named_after f.function h k) h x)
           (same_name (bound_name f k h) x e) (source_bound k h)) more
-      by false true u = sources_update (named_after f.function h k) s h (availability_without_name u (s h)) (λ x e. more h x (nameless_bound u (s h) x e)) more
+      by false true u = sources_update (named_after f.function h k) s h (availability_without_name u (s h))
+          (λ x e. more h x (nameless_bound u (s h) x e)) more
       by false false u = more
 
-  pub sources_emit : (k : ℕ) (hs : List ℕ) (s : Handles) → Sources k s → Sources (named_after_all f.function hs k) (after_emit f k hs s)
+  pub sources_emit : (k : ℕ) (hs : List ℕ) (s : Handles) → Sources k s →
+      Sources (named_after_all f.function hs k) (after_emit f k hs s)
   sources_emit k [] s d = d
   sources_emit k (h ∷ hs) s d = sources_emit (named_after f.function h k) hs (after_one f k h s) (sources_one k h s d)
 
@@ -137,7 +143,8 @@ module _ (f : Naming) where
   sources_result k (Some h) s d =
       sources_update k s h (Bound (f.names.numbered h)) (λ x e. inl (sym (same_name (f.names.numbered h) x e))) d
 
-  pub sources_after : (k : ℕ) (st : Statement) (s : Handles) → Sources k s → Sources (named_by f.function st k) (after f k st s)
+  pub sources_after : (k : ℕ) (st : Statement) (s : Handles) → Sources k s →
+      Sources (named_by f.function st k) (after f k st s)
   sources_after k (Emit first count) s d = sources_emit k (from first count) s d
   sources_after k (Act a xs r) s d = sources_result k r s d
   sources_after k (Block b) s d = sources_more k _ s (named_by_more (Block b) k) d
@@ -149,11 +156,14 @@ module _ (f : Naming) where
   pub start_sources : Sources 0 (at_start f.function)
   start_sources h x e = absurd (start_unnamed _ x e)
 
-  sources_if : (b : Bool) (k k1 : ℕ) (s s1 : Handles) → k ≤ k1 → Sources k s → Sources k1 s1 → Sources k1 (forgotten_if b s s1)
+  sources_if : (b : Bool) (k k1 : ℕ) (s s1 : Handles) → k ≤ k1 → Sources k s → Sources k1 s1 →
+      Sources k1 (forgotten_if b s s1)
   sources_if true k k1 s s1 le d d1 = λ h x e. source_more k k1 h x le (d h x (forgotten_bound (s h) (s1 h) x e))
   sources_if false k k1 s s1 le d d1 = d1
 
-  pub sources_all : (k : ℕ) (ss : Statements) (s : Handles) → Sources k s → Sources (named_by_all f.function ss k) (after_all f k ss s)
+  pub sources_all : (k : ℕ) (ss : Statements) (s : Handles) → Sources k s →
+      Sources (named_by_all f.function ss k) (after_all f k ss s)
   sources_all k end s d = d
   sources_all k (then st ss) s d =
-      sources_if (holds_continue st) k _ s _ (list_more (then st ss) k) d (sources_all (named_by f.function st k) ss (after f k st s) (sources_after k st s d))
+      sources_if (holds_continue st) k _ s _ (list_more (then st ss) k) d
+      (sources_all (named_by f.function st k) ss (after f k st s) (sources_after k st s d))

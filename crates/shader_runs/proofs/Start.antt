@@ -34,7 +34,8 @@ leaf_value p env fits m f k (Some (Constant e)) o l t i =
 leaf_value p env fits m f k (Some _) o l t i = absurd (true≢false (sym i))
 leaf_value p env fits m f k None o l t i = absurd (true≢false (sym i))
 
-pure_value : (env : Environment) (m : Meaning) (e : Option Expression) (o : Option Value) → IsTrue (is_pure e) → or_constant env m e o ≡ o
+pure_value : (env : Environment) (m : Meaning) (e : Option Expression) (o : Option Value) → IsTrue (is_pure e) →
+    or_constant env m e o ≡ o
 pure_value env m (Some (Constant e)) o p = absurd (true≢false (sym p))
 pure_value env m (Some _) o p = refl
 pure_value env m None o p = refl
@@ -55,10 +56,14 @@ module _ (p : Module) (env : Environment) (fits : EnvironmentFits p env) (f : Fu
   typed_list value test h each [] b t = ([], refl, refl)
   typed_list value test h each (x ∷ xs) b t =
       let v = each x b.0 (and_left (test x) (all_constant test xs) t) in
-      let vs = typed_list value test h each xs b.1 (and_right (test x) (all_constant test xs) t) in
-      (v.0 ∷ vs.0, ap (λ o. also o (all_of value xs)) v.1 ∙ ap (also (Some v.0)) vs.1, and_both (has_type env.parts (handle_type f x) v.0) (has_types env.parts (handle_types f xs) vs.0) v.2 vs.2)
+      let vs = typed_list value test h each xs b.1 (and_right (test x) (all_constant test xs) t) in (
+        v.0 ∷ vs.0,
+        ap (λ o. also o (all_of value xs)) v.1 ∙ ap (also (Some v.0)) vs.1,
+        and_both (has_type env.parts (handle_type f x) v.0) (has_types env.parts (handle_types f xs) vs.0) v.2 vs.2,
+      )
 
-  constant_has_type : (n h : ℕ) → IsTrue (is_constant_below f n h) → TypedValue env.parts (handle_type f h) (constant_below f env m n h)
+  constant_has_type : (n h : ℕ) → IsTrue (is_constant_below f n h) →
+      TypedValue env.parts (handle_type f h) (constant_below f env m n h)
   constant_has_type zero h t = absurd (true≢false (sym t))
   constant_has_type (suc n) h t =
       let e = expression_of f h in
@@ -78,52 +83,65 @@ module _ (p : Module) (env : Environment) (fits : EnvironmentFits p env) (f : Fu
       ))
 
   -- the bound doesn't matter past the handle
-  same_list : (a b : ℕ → Option Value) (h : ℕ) → ((x : ℕ) → x < h → a x ≡ b x) → (xs : List ℕ) → AllBelow h xs → all_of a xs ≡ all_of b xs
+  same_list : (a b : ℕ → Option Value) (h : ℕ) → ((x : ℕ) → x < h → a x ≡ b x) → (xs : List ℕ) → AllBelow h xs →
+      all_of a xs ≡ all_of b xs
   same_list a b h each [] l = refl
   same_list a b h each (x ∷ xs) l = ap₂ also (each x l.0) (same_list a b h each xs l.1)
 
-  same_as : (a b : ℕ → Option Value) (h : ℕ) → ((x : ℕ) → x < h → a x ≡ b x) → (e : Option Expression) → AllBelow h (operands_of e) → constant_as env m a e ≡ constant_as env m b e
-  same_as a b h each e l = ap (λ os. or_constant env m e (gathered_value env.parts m e os)) (same_list a b h each (operands_of e) l)
+  same_as : (a b : ℕ → Option Value) (h : ℕ) → ((x : ℕ) → x < h → a x ≡ b x) → (e : Option Expression) →
+      AllBelow h (operands_of e) → constant_as env m a e ≡ constant_as env m b e
+  same_as a b h each e l = ap (λ os. or_constant env m e (gathered_value env.parts m e os))
+      (same_list a b h each (operands_of e) l)
 
   same_bound : (n k h : ℕ) → h < n → h < k → constant_below f env m n h ≡ constant_below f env m k h
   same_bound zero k h ln lk = absurd (omega arith)
   same_bound (suc n) zero h ln lk = absurd (omega arith)
   same_bound (suc n) (suc k) h ln lk =
-      same_as (constant_below f env m n) (constant_below f env m k) h (λ x lt. same_bound n k x (omega arith) (omega arith)) (expression_of f h) (below h)
+      same_as (constant_below f env m n) (constant_below f env m k) h
+      (λ x lt. same_bound n k x (omega arith) (omega arith)) (expression_of f h) (below h)
 
-  same_test_list : (a b : ℕ → Bool) (h : ℕ) → ((x : ℕ) → x < h → a x ≡ b x) → (xs : List ℕ) → AllBelow h xs → all_constant a xs ≡ all_constant b xs
+  same_test_list : (a b : ℕ → Bool) (h : ℕ) → ((x : ℕ) → x < h → a x ≡ b x) → (xs : List ℕ) → AllBelow h xs →
+      all_constant a xs ≡ all_constant b xs
   same_test_list a b h each [] l = refl
   same_test_list a b h each (x ∷ xs) l = ap₂ (λ p q. p && q) (each x l.0) (same_test_list a b h each xs l.1)
 
-  same_test_as : (a b : ℕ → Bool) (h : ℕ) → ((x : ℕ) → x < h → a x ≡ b x) → (e : Option Expression) → AllBelow h (operands_of e) → constant_test a e ≡ constant_test b e
-  same_test_as a b h each e l = ap (λ t. is_constant_leaf e || (is_pure e && t)) (same_test_list a b h each (operands_of e) l)
+  same_test_as : (a b : ℕ → Bool) (h : ℕ) → ((x : ℕ) → x < h → a x ≡ b x) → (e : Option Expression) →
+      AllBelow h (operands_of e) → constant_test a e ≡ constant_test b e
+  same_test_as a b h each e l = ap (λ t. is_constant_leaf e || (is_pure e && t))
+      (same_test_list a b h each (operands_of e) l)
 
   same_test_bound : (n k h : ℕ) → h < n → h < k → is_constant_below f n h ≡ is_constant_below f k h
   same_test_bound zero k h ln lk = absurd (omega arith)
   same_test_bound (suc n) zero h ln lk = absurd (omega arith)
   same_test_bound (suc n) (suc k) h ln lk =
-      same_test_as (is_constant_below f n) (is_constant_below f k) h (λ x lt. same_test_bound n k x (omega arith) (omega arith)) (expression_of f h) (below h)
+      same_test_as (is_constant_below f n) (is_constant_below f k) h
+      (λ x lt. same_test_bound n k x (omega arith) (omega arith)) (expression_of f h) (below h)
 
-  unfold_value : (n h : ℕ) → h < n → constant_below f env m n h ≡ constant_as env m (constant_below f env m n) (expression_of f h)
+  unfold_value : (n h : ℕ) → h < n → constant_below f env m n h ≡ constant_as env m (constant_below f env m n)
+      (expression_of f h)
   unfold_value zero h lt = absurd (omega arith)
   unfold_value (suc n) h lt =
-      same_as (constant_below f env m n) (constant_below f env m (suc n)) h (λ x l. same_bound n (suc n) x (omega arith) (omega arith)) (expression_of f h) (below h)
+      same_as (constant_below f env m n) (constant_below f env m (suc n)) h
+      (λ x l. same_bound n (suc n) x (omega arith) (omega arith)) (expression_of f h) (below h)
 
   unfold_test : (n h : ℕ) → h < n → is_constant_below f n h ≡ constant_test (is_constant_below f n) (expression_of f h)
   unfold_test zero h lt = absurd (omega arith)
   unfold_test (suc n) h lt =
-      same_test_as (is_constant_below f n) (is_constant_below f (suc n)) h (λ x l. same_test_bound n (suc n) x (omega arith) (omega arith)) (expression_of f h) (below h)
+      same_test_as (is_constant_below f n) (is_constant_below f (suc n)) h
+      (λ x l. same_test_bound n (suc n) x (omega arith) (omega arith)) (expression_of f h) (below h)
 
   -- a constant handle lies in the list
   constant_within : (n h : ℕ) → IsTrue (is_constant_below f n h) → h < length f.expressions
   constant_within zero h t = absurd (true≢false (sym t))
   constant_within (suc n) h t = go (expression_of f h) refl t
     where
-      go : (e : Option Expression) → expression_of f h ≡ e → IsTrue (constant_test (is_constant_below f n) e) → h < length f.expressions
+      go : (e : Option Expression) → expression_of f h ≡ e → IsTrue (constant_test (is_constant_below f n) e) →
+          h < length f.expressions
       go None q t = absurd (true≢false (sym t))
       go (Some x) q t = slice_get_within f.expressions h x q
 
-usable_start : (f : Function) (e : Option Expression) (t : Bool) → IsTrue t → IsTrue (is_constant_leaf e) ⊎ IsTrue (is_pure e) → IsTrue (usable_as f e (start_availability (is_pure e && t)))
+usable_start : (f : Function) (e : Option Expression) (t : Bool) → IsTrue t → IsTrue (is_constant_leaf e)
+    ⊎ IsTrue (is_pure e) → IsTrue (usable_as f e (start_availability (is_pure e && t)))
 usable_start f (Some (Constant v)) t i c = refl
 usable_start f (Some (Operator w xs)) t i c = ap (λ t. is_present (start_availability t)) i
 usable_start f (Some (Access x y)) t i c = ap (λ t. is_present (start_availability t)) i
@@ -135,7 +153,9 @@ usable_start f (Some _) t i (inr c) = absurd (true≢false (sym c))
 usable_start f None t i (inl c) = absurd (true≢false (sym c))
 usable_start f None t i (inr c) = absurd (true≢false (sym c))
 
-used_start : (c : Call) (e : Option Expression) (o o' : Option Value) → o ≡ or_constant c.environment c.meaning e o' → IsTrue (is_constant_leaf e) ⊎ IsTrue (is_pure e) → used_value_as c e o ≡ o
+used_start : (c : Call) (e : Option Expression) (o o' : Option Value) →
+    o ≡ or_constant c.environment c.meaning e o' → IsTrue (is_constant_leaf e) ⊎ IsTrue (is_pure e) →
+    used_value_as c e o ≡ o
 used_start c (Some (Constant v)) o o' q t = sym q
 used_start c (Some (Operator w xs)) o o' q t = refl
 used_start c (Some (Access x y)) o o' q t = refl
@@ -148,18 +168,22 @@ used_start c None o o' q (inl t) = absurd (true≢false (sym t))
 used_start c None o o' q (inr t) = absurd (true≢false (sym t))
 
 -- a constant tree is a leaf or an operator
-kind_of_constant : (test : ℕ → Bool) (e : Option Expression) → IsTrue (constant_test test e) → IsTrue (is_constant_leaf e) ⊎ IsTrue (is_pure e)
+kind_of_constant : (test : ℕ → Bool) (e : Option Expression) → IsTrue (constant_test test e) →
+    IsTrue (is_constant_leaf e) ⊎ IsTrue (is_pure e)
 kind_of_constant test e t =
-    or_cases (is_constant_leaf e) (is_pure e && all_constant test (operands_of e)) t (λ l. inl l) (λ u. inr (and_left (is_pure e) (all_constant test (operands_of e)) u))
+    or_cases (is_constant_leaf e) (is_pure e && all_constant test (operands_of e)) t (λ l. inl l)
+    (λ u. inr (and_left (is_pure e) (all_constant test (operands_of e)) u))
 
 pure_no_leaf : (e : Option Expression) → IsTrue (is_pure e) → IsTrue (is_constant_leaf e) → ⊥
 pure_no_leaf (Some (Constant e)) p l = true≢false (sym p)
 pure_no_leaf (Some _) p l = true≢false (sym l)
 pure_no_leaf None p l = true≢false (sym l)
 
-pure_test : (test : ℕ → Bool) (e : Option Expression) → IsTrue (is_pure e) → IsTrue (constant_test test e) → IsTrue (all_constant test (operands_of e))
+pure_test : (test : ℕ → Bool) (e : Option Expression) → IsTrue (is_pure e) → IsTrue (constant_test test e) →
+    IsTrue (all_constant test (operands_of e))
 pure_test test e p t =
-    or_cases (is_constant_leaf e) (is_pure e && all_constant test (operands_of e)) t (λ l. absurd (pure_no_leaf e p l)) (λ u. and_right (is_pure e) (all_constant test (operands_of e)) u)
+    or_cases (is_constant_leaf e) (is_pure e && all_constant test (operands_of e)) t
+    (λ l. absurd (pure_no_leaf e p l)) (λ u. and_right (is_pure e) (all_constant test (operands_of e)) u)
 
 module _ (p : Module) (c : Call) (fits : EnvironmentFits p c.environment) (below : (h : ℕ) →
     AllBelow h (operands_of (expression_of c.function h))) (leaves : (h : ℕ) →
@@ -174,12 +198,15 @@ module _ (p : Module) (c : Call) (fits : EnvironmentFits p c.environment) (below
   within : (x : ℕ) → IsTrue (is_constant_below c.function Top x) → x < Top
   within x t = constant_within p c.environment fits c.function c.meaning below leaves typed Top x t
 
-  tested : (x : ℕ) → IsTrue (is_constant_below c.function Top x) → IsTrue (constant_test (is_constant_below c.function Top) (expression_of c.function x))
+  tested : (x : ℕ) → IsTrue (is_constant_below c.function Top x) →
+      IsTrue (constant_test (is_constant_below c.function Top) (expression_of c.function x))
   tested x t = sym (unfold_test p c.environment fits c.function c.meaning below leaves typed Top x (within x t)) ∙ t
 
-  each_usable : (x : ℕ) → IsTrue (is_constant_below c.function Top x) → IsTrue (usable c.function (at_start c.function) x)
+  each_usable : (x : ℕ) → IsTrue (is_constant_below c.function Top x) →
+      IsTrue (usable c.function (at_start c.function) x)
   each_usable x t =
-      usable_start c.function (expression_of c.function x) (is_constant_below c.function Top x) t (kind_of_constant (is_constant_below c.function Top) (expression_of c.function x) (tested x t))
+      usable_start c.function (expression_of c.function x) (is_constant_below c.function Top x) t
+      (kind_of_constant (is_constant_below c.function Top) (expression_of c.function x) (tested x t))
 
   each_used : (x : ℕ) → IsTrue (is_constant_below c.function Top x) → used_value c values x ≡ values x
   each_used x t =
@@ -188,7 +215,8 @@ module _ (p : Module) (c : Call) (fits : EnvironmentFits p c.environment) (below
       (unfold_value p c.environment fits c.function c.meaning below leaves typed Top x
       (within x t)) (kind_of_constant (is_constant_below c.function Top) e (tested x t))
 
-  list_usable : (xs : List ℕ) → IsTrue (all_constant (is_constant_below c.function Top) xs) → IsTrue (usable_all c.function (at_start c.function) xs)
+  list_usable : (xs : List ℕ) → IsTrue (all_constant (is_constant_below c.function Top) xs) →
+      IsTrue (usable_all c.function (at_start c.function) xs)
   list_usable [] t = refl
   list_usable (x ∷ xs) t =
       let test = is_constant_below c.function Top in
@@ -197,13 +225,16 @@ module _ (p : Module) (c : Call) (fits : EnvironmentFits p c.environment) (below
       (each_usable x (and_left (test x) (all_constant test xs) t))
       (list_usable xs (and_right (test x) (all_constant test xs) t))
 
-  list_used : (xs : List ℕ) → IsTrue (all_constant (is_constant_below c.function Top) xs) → used_values c values xs ≡ all_of values xs
+  list_used : (xs : List ℕ) → IsTrue (all_constant (is_constant_below c.function Top) xs) →
+      used_values c values xs ≡ all_of values xs
   list_used [] t = refl
   list_used (x ∷ xs) t =
       let test = is_constant_below c.function Top in
-      ap₂ also (each_used x (and_left (test x) (all_constant test xs) t)) (list_used xs (and_right (test x) (all_constant test xs) t))
+      ap₂ also (each_used x (and_left (test x) (all_constant test xs) t))
+      (list_used xs (and_right (test x) (all_constant test xs) t))
 
-  pub start_stands : (names : Scope) (h : ℕ) → Stands c (at_start c.function) names values (handle_type c.function h) (expression_of c.function h) (values h) (at_start c.function h)
+  pub start_stands : (names : Scope) (h : ℕ) → Stands c (at_start c.function) names values
+      (handle_type c.function h) (expression_of c.function h) (values h) (at_start c.function h)
   start_stands names h = go (is_pure (expression_of c.function h) && is_constant_below c.function Top h) refl
     where
       go : (b : Bool) →

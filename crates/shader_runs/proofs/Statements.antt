@@ -58,16 +58,19 @@ use Rattle.shader_runs.proofs.Scope.{extends_all, told_continues}
 -- both runs of a list from the scope s end alike, in the scope s2; held: it holds a `continue`
 abbrev pub Same : Call → Names → Handles → KeptValues → Handles → Bool → Outcome KeptValues → Outcome Scope → Type 0
 Same c n s kept s2 held =
-    Alike (Returns c.environment.parts c.function) (λ k l. Related c n s2 l k × Agree s kept k) (λ k l. Related c n s2 l k × Agree s kept k × IsTrue held) (λ k l. Agree s kept k)
+    Alike (Returns c.environment.parts c.function) (λ k l. Related c n s2 l k × Agree s kept k)
+    (λ k l. Related c n s2 l k × Agree s kept k × IsTrue held) (λ k l. Agree s kept k)
 
 -- the same for one statement, which gives no name
 abbrev pub SameLine : Call → Names → Handles → KeptValues → Bool → Outcome KeptValues → Outcome Scope → Type 0
 SameLine c n s kept held =
-    Alike (Returns c.environment.parts c.function) (λ k l. Related c n s l k × Agree s kept k) (λ k l. Agree s kept k × IsTrue held) (λ k l. Agree s kept k)
+    Alike (Returns c.environment.parts c.function) (λ k l. Related c n s l k × Agree s kept k)
+    (λ k l. Agree s kept k × IsTrue held) (λ k l. Agree s kept k)
 
 -- the same for the body of a case, whose names are forgotten
 abbrev pub SameBody : Call → Handles → KeptValues → Bool → Outcome KeptValues → Outcome Scope → Type 0
-SameBody c s kept held = Alike (Returns c.environment.parts c.function) (λ k l. Agree s kept k) (λ k l. Agree s kept k × IsTrue held) (λ k l. Agree s kept k)
+SameBody c s kept held = Alike (Returns c.environment.parts c.function) (λ k l. Agree s kept k)
+    (λ k l. Agree s kept k × IsTrue held) (λ k l. Agree s kept k)
 
 -- a statement and what follows it
 row : (c : Call) (n : Names) (s : Handles) (names : Scope) (kept : KeptValues) →
@@ -92,7 +95,8 @@ row c n s names kept r true held2 s2 o o' f g line next =
     (λ k l t p. weaker (λ k l p. p.1) (λ k l p. p.1) (λ k l b. b) (next k l t p.0 p.1))
     (weaker (λ k l p. p) (λ k l q. q.0) (λ k l b. b) line))
 row c n s names kept r false held2 s2 o o' f g line next =
-    then_alike {P = λ k l. Related c n s l k × Agree s kept k} (λ k l t p. next k l t p.0 p.1) (weaker (λ k l p. p) (λ k l q. absurd (true≢false (sym q.1))) (λ k l b. b) line)
+    then_alike {P = λ k l. Related c n s l k × Agree s kept k} (λ k l t p. next k l t p.0 p.1)
+    (weaker (λ k l p. p) (λ k l q. absurd (true≢false (sym q.1))) (λ k l b. b) line)
 
 pub or_left : (a b : Bool) → IsTrue a → IsTrue (a || b)
 or_left true b e = refl
@@ -104,11 +108,13 @@ or_right false b e = e
 
 module _ (p : Module) (c : Call) (n : Names) (d : Respond) (facts : Facts p c n d) (bound : ℕ) where
   -- lines whose names are forgotten
-  pub same_body : (s s1 : Handles) (kept : KeptValues) (held : Bool) (o : Outcome KeptValues) (ls : Lines) (names : Scope) (t : List Event) →
+  pub same_body : (s s1 : Handles) (kept : KeptValues) (held : Bool) (o : Outcome KeptValues) (ls : Lines)
+      (names : Scope) (t : List Event) →
       Same c n s kept s1 held o (follow_in_loop (words c d) bound ls names t) →
       SameBody c s kept held o (follow_all (words c d) bound ls names t)
   same_body s s1 kept held o ls names t same =
-      alike_ends (list_ends (words c d) bound ls names t) (weaker (λ k l p. p.1) (λ k l q. (q.1, q.2)) (λ k l b. b) same)
+      alike_ends (list_ends (words c d) bound ls names t)
+      (weaker (λ k l p. p.1) (λ k l q. (q.1, q.2)) (λ k l b. b) same)
 
   -- a block leaves the scope as it was
   block_line : (s : Handles) (names : Scope) (kept : KeptValues) (held : Bool)
@@ -125,7 +131,8 @@ module _ (p : Module) (c : Call) (n : Names) (d : Respond) (facts : Facts p c n 
       (break_line (words c d) (value_if (naming c n) s2 e) names t)
   leave_alike s s2 kept0 None u kept names t r a = done a
   leave_alike s s2 kept0 (Some h) u kept names t r a =
-      used_alike _ _ (used_value c kept h) t (value_of (words c d) (value_at (naming c n) s2 h) names t) (value_here p c n d facts s2 names kept r h u t) (λ v. chosen_alike v t (broke a) (done a))
+      used_alike _ _ (used_value c kept h) t (value_of (words c d) (value_at (naming c n) s2 h) names t)
+      (value_here p c n d facts s2 names kept r h u t) (λ v. chosen_alike v t (broke a) (done a))
 
   return_alike : (s : Handles) (names : Scope) (kept : KeptValues) (t : List Event) (e : Option ℕ) →
       IsTrue (usable_if c.function s e) → ReturnFits c.function e → Related c n s names kept →
@@ -135,7 +142,8 @@ module _ (p : Module) (c : Call) (n : Names) (d : Respond) (facts : Facts p c n 
   return_alike s names kept t (Some h) u w r =
       let v = typed_value p c n d facts s names kept r h u in
       let there = value_here p c n d facts s names kept r h u t ∙ ap (λ o. reach o t) v.1 in
-      let typed : Returns c.environment.parts c.function (Some v.0) = subst (λ k. ResultTyped c.environment.parts (Some v.0) k) (sym w) v.2 in
+      let typed : Returns c.environment.parts c.function (Some v.0) =
+      subst (λ k. ResultTyped c.environment.parts (Some v.0) k) (sym w) v.2 in
       subst (λ o. SameLine c n s kept false (or_stuck o t (λ v. Returned (Some v) t))
       (return_line (words c d) (value_if (naming c n) s (Some h)) names t)) (sym v.1)
       (subst (λ q. SameLine c n s kept false (Returned (Some v.0) t)
@@ -174,14 +182,17 @@ module _ (p : Module) (c : Call) (n : Names) (d : Respond) (facts : Facts p c n 
         (and_then (within (continuing' l2 t2))
         (break_line (words c d) (value_if (naming c n) s2 e)))
     tail_alike k1 k2 l2 t2 r2 a =
-        then_alike {P = λ k l. Related c n s2 l k × Agree s1 k2 k} (λ k l t p. leave_alike s s2 k1 e u k l t p.0 (agree_trans s s1 k1 k2 k x a p.1)) (within_alike (same_d k2 l2 t2 r2))
+        then_alike {P = λ k l. Related c n s2 l k × Agree s1 k2 k}
+        (λ k l t p. leave_alike s s2 k1 e u k l t p.0 (agree_trans s s1 k1 k2 k x a p.1))
+        (within_alike (same_d k2 l2 t2 r2))
 
     turn_alike : (k1 : KeptValues) (l1 : Scope) (t1 : List Event) → Related c n s l1 k1 →
         Alike (Returns c.environment.parts c.function) (λ k l. Agree s k1 k) (λ k l. Agree s k1 k)
         (λ k l. Agree s k1 k) (turn body continuing (leave c e) k1 t1)
         (turn body' continuing' (break_line (words c d) (value_if (naming c n) s2 e)) l1 t1)
     turn_alike k1 l1 t1 r1 =
-        continue_alike {P = λ k l. Related c n s1 l k × Agree s k1 k} (λ k l t p. tail_alike k1 k l t p.0 p.1) (weaker (λ k l p. p) (λ k l q. (q.0, q.1)) (λ k l b. b) (same_b k1 l1 t1 r1))
+        continue_alike {P = λ k l. Related c n s1 l k × Agree s k1 k} (λ k l t p. tail_alike k1 k l t p.0 p.1)
+        (weaker (λ k l p. p) (λ k l q. (q.0, q.1)) (λ k l b. b) (same_b k1 l1 t1 r1))
 
     pub turns_keep : (kept : KeptValues) →
         Steps (Returns c.environment.parts c.function) (λ k l. Related c n s l k × Agree s kept k)
@@ -202,7 +213,8 @@ module _ (p : Module) (c : Call) (n : Names) (d : Respond) (facts : Facts p c n 
         (turn body' continuing' (break_line (words c d) (value_if (naming c n) s2 e)) names1 t1))
         names t)
     loop_line names kept t r =
-        turns_alike {I = λ k l. Related c n s l k × Agree s kept k} {P = λ k l. Related c n s l k × Agree s kept k} (turns_keep kept) bound kept names t (r, agree_refl s kept)
+        turns_alike {I = λ k l. Related c n s l k × Agree s kept k}
+        {P = λ k l. Related c n s l k × Agree s kept k} (turns_keep kept) bound kept names t (r, agree_refl s kept)
 
 -- what an action gives
 abbrev pub ReturnsOf : PartTypes → Option Function → Option Value → Type 0
@@ -220,7 +232,8 @@ pub called_typed : (parts : PartTypes) (f : Function) (o : Option Function) (xs 
 called_typed parts f None xs h v w q = absurd w
 called_typed parts f (Some callee) xs h v w q = subst (λ k. ResultTyped parts (Some v) k) w.1 q
 
-result_combined : (c : Call) (e : Option Expression) → IsResult e → (vs : List Value) → combined_value c.environment.parts c.meaning e vs ≡ None
+result_combined : (c : Call) (e : Option Expression) → IsResult e → (vs : List Value) →
+    combined_value c.environment.parts c.meaning e vs ≡ None
 result_combined c (Some Result) i vs = refl
 result_combined c (Some _) i vs = absurd i
 result_combined c None i vs = absurd i
@@ -279,26 +292,33 @@ module _ (p : Module) (c : Call) (n : Names) (d : Respond) (facts : Facts p c n 
       (closed_if held names (and_then o' (Follow tail)))) (sym (continue_all p c n k b s m))
       (row c n s names kept r (any_continue b) held2 s2 (run_all c bound b kept t) o' f
       (Follow tail) (block_line p c n d facts bound s names kept (any_continue b) _ _ r
-      (same_body p c n d facts bound s _ kept (any_continue b) _ (form_all (naming c n) k b s) names t (same names kept t r m))) next)
+      (same_body p c n d facts bound s _ kept (any_continue b) _ (form_all (naming c n) k b s) names t
+      (same names kept t r m))) next)
 
-  if_row : (k h : ℕ) (a b : Statements) (s : Handles) → List_row k a s → List_row (named_by_all c.function a k) b s → Row k (If h a b) s
+  if_row : (k h : ℕ) (a b : Statements) (s : Handles) → List_row k a s →
+      List_row (named_by_all c.function a k) b s → Row k (If h a b) s
   if_row k h a b s same_a same_b names kept t held2 s2 f tail r m next =
       let k1 = named_by_all c.function a k in
       let a' = Inside (form_all (naming c n) k a s) names in
       let b' = Inside (form_all (naming c n) k1 b s) names in
       let held = any_continue a || any_continue b in
-      let o = or_stuck (used_value c kept h) t (λ v. branch_by v t (run_all c bound a kept t) (run_all c bound b kept t)) in
-      let o' = with_value (value_of (words c d) (value_at (naming c n) s h) names t) (λ v t1. closed_outcome names (branch_by v t1 (a' t1) (b' t1))) in
+      let o = or_stuck (used_value c kept h) t
+      (λ v. branch_by v t (run_all c bound a kept t) (run_all c bound b kept t)) in
+      let o' = with_value (value_of (words c d) (value_at (naming c n) s h) names t)
+      (λ v t1. closed_outcome names (branch_by v t1 (a' t1) (b' t1))) in
       subst (λ x. Same c n s kept (forgotten_if held s s2) (held || held2) (and_then o f)
       (closed_if x names (and_then o' (Follow tail))))
       (sym (ap₂ (λ x y. x || y) (continue_all p c n k a s m.1) (continue_all p c n k1 b s m.2)))
       (row c n s names kept r held held2 s2 o o' f (Follow tail)
       (if_line p c n d facts bound s names kept t h (any_continue a) (any_continue b) _ _ a'
       b' r m.0
-      (same_body p c n d facts bound s _ kept (any_continue a) _ (form_all (naming c n) k a s) names t (same_a names kept t r m.1))
-      (same_body p c n d facts bound s _ kept (any_continue b) _ (form_all (naming c n) k1 b s) names t (same_b names kept t r m.2))) next)
+      (same_body p c n d facts bound s _ kept (any_continue a) _ (form_all (naming c n) k a s) names t
+      (same_a names kept t r m.1))
+      (same_body p c n d facts bound s _ kept (any_continue b) _ (form_all (naming c n) k1 b s) names t
+      (same_b names kept t r m.2))) next)
 
-  loop_row : (k : ℕ) (b b2 : Statements) (e : Option ℕ) (s : Handles) → List_row k b s → List_row (named_by_all c.function b k) b2 (after_all (naming c n) k b s) → Row k (Loop b b2 e) s
+  loop_row : (k : ℕ) (b b2 : Statements) (e : Option ℕ) (s : Handles) → List_row k b s →
+      List_row (named_by_all c.function b k) b2 (after_all (naming c n) k b s) → Row k (Loop b b2 e) s
   loop_row k b b2 e s same_b same_d names kept t held2 s2 f tail r m next =
       let k1 = named_by_all c.function b k in
       let s1 = after_all (naming c n) k b s in
@@ -348,9 +368,11 @@ module _ (p : Module) (c : Call) (n : Names) (d : Respond) (facts : Facts p c n 
 
   barrier_row : (k : ℕ) (bits : BarrierBits) (s : Handles) → Row k (Barrier bits) s
   barrier_row k bits s names kept t held2 s2 f tail r m next =
-      asks_alike s s2 names kept r held2 f tail (barrier_words bits) m (λ t1. next kept names t1 r (agree_refl s kept)) t
+      asks_alike s s2 names kept r held2 f tail (barrier_words bits) m
+      (λ t1. next kept names t1 r (agree_refl s kept)) t
 
-  as_answer : (q q' : ReachedOrHalted (Option Value)) → q' ≡ q → HoldsOf (λ o. Unit {0}) q → Answers (λ o. Unit {0}) q q'
+  as_answer : (q q' : ReachedOrHalted (Option Value)) → q' ≡ q → HoldsOf (λ o. Unit {0}) q →
+      Answers (λ o. Unit {0}) q q'
   as_answer q q' e h = subst (λ x. Answers (λ o. Unit {0}) q x) (sym e) (same_answer h)
 
   -- an action's word does the same in the text
@@ -358,23 +380,29 @@ module _ (p : Module) (c : Call) (n : Names) (d : Respond) (facts : Facts p c n 
       ActionFits p c.callees (naming c n) a xs result →
       (vs : List Value) → IsTrue (has_types c.environment.parts (handle_types c.function xs) vs) →
       (t : List Event) → Answers (ActionReturns c a) (action_answer c a vs t) (d.1 (word_of n a) vs t)
-  action_responds (Asked w) xs result m vs h t = as_answer (action_answer c (Asked w) vs t) (d.1 w vs t) (request_responds p c n d facts.responds w m vs t) tt
+  action_responds (Asked w) xs result m vs h t = as_answer (action_answer c (Asked w) vs t) (d.1 w vs t)
+      (request_responds p c n d facts.responds w m vs t) tt
   action_responds (Called g) xs result m vs h t = go (function_numbered c.callees g) refl m.2
     where
-      go : (o : Option Function) → function_numbered c.callees g ≡ o → CallFits c.function o xs result → Answers (ReturnsOf c.environment.parts o) (c.calls g vs t) (d.1 (n.outer.function g) vs t)
+      go : (o : Option Function) → function_numbered c.callees g ≡ o → CallFits c.function o xs result →
+          Answers (ReturnsOf c.environment.parts o) (c.calls g vs t) (d.1 (n.outer.function g) vs t)
       go None e w = absurd w
-      go (Some callee) e w = facts.responds.calls g callee e vs (subst (λ ts. IsTrue (has_types c.environment.parts ts vs)) w.0 h) t
+      go (Some callee) e w =
+          facts.responds.calls g callee e vs (subst (λ ts. IsTrue (has_types c.environment.parts ts vs)) w.0 h) t
 
-  not_hidden : (a : Action) (xs : List ℕ) (result : Option ℕ) → ActionFits p c.callees (naming c n) a xs result → IsNoName p (naming c n) (word_of n a)
+  not_hidden : (a : Action) (xs : List ℕ) (result : Option ℕ) →
+      ActionFits p c.callees (naming c n) a xs result → IsNoName p (naming c n) (word_of n a)
   not_hidden (Asked w) xs result m = m.1.1
   not_hidden (Called g) xs result m = m.1
 
   -- and it is no operator
-  action_is_line : (a : Action) (xs : List ℕ) (result : Option ℕ) → ActionFits p c.callees (naming c n) a xs result → d.0 (word_of n a) ≡ false
+  action_is_line : (a : Action) (xs : List ℕ) (result : Option ℕ) →
+      ActionFits p c.callees (naming c n) a xs result → d.0 (word_of n a) ≡ false
   action_is_line (Asked w) xs result m = facts.responds.asking w m
   action_is_line (Called g) xs result m = go (function_numbered c.callees g) refl m.2
     where
-      go : (o : Option Function) → function_numbered c.callees g ≡ o → CallFits c.function o xs result → d.0 (n.outer.function g) ≡ false
+      go : (o : Option Function) → function_numbered c.callees g ≡ o → CallFits c.function o xs result →
+          d.0 (n.outer.function g) ≡ false
       go None e w = absurd w
       go (Some callee) e w = facts.responds.calling g callee e
 
@@ -387,7 +415,8 @@ module _ (p : Module) (c : Call) (n : Names) (d : Respond) (facts : Facts p c n 
       (word_reached (words c d) (word_of n a) names t
       (evaluate_all (words c d) (value_forms (written_form (naming c n) s) xs) names t))
   responded_written s names kept r a xs result m u vs e h t =
-      let there = value_forms_give c d names kept (written_form (naming c n) s) xs (all_here p c n d facts s names kept r xs u) t ∙ ap (λ os. reach os t) e in
+      let there = value_forms_give c d names kept (written_form (naming c n) s) xs
+      (all_here p c n d facts s names kept r xs u) t ∙ ap (λ os. reach os t) e in
       subst (λ q. Answers (ActionReturns c a) (action_answer c a vs t)
       (word_reached (words c d) (word_of n a) names t q)) (sym there)
       (subst (λ o. Answers (ActionReturns c a) (action_answer c a vs t)
@@ -413,12 +442,15 @@ module _ (p : Module) (c : Call) (n : Names) (d : Respond) (facts : Facts p c n 
   perform_row : (k : ℕ) (a : Action) (xs : List ℕ) (s : Handles) → Row k (Act a xs None) s
   perform_row k a xs s names kept t held2 s2 f tail r m next =
       let v = values_here p c n d facts s names kept r xs m.0 in
-      let q' = word_reached (words c d) (word_of n a) names t (evaluate_all (words c d) (value_forms (written_form (naming c n) s) xs) names t) in
+      let q' = word_reached (words c d) (word_of n a) names t
+      (evaluate_all (words c d) (value_forms (written_form (naming c n) s) xs) names t) in
       row c n s names kept r false held2 s2 _ _ f (Follow tail)
       (subst (λ os. SameLine c n s kept false
       (or_stuck os t (λ vs. with_result c.environment.parts c.function a None kept
       (action_answer c a vs t))) (perform_outcome (d.0 (word_of n a)) names q')) (sym v.1)
-      (subst (λ b. SameLine c n s kept false (with_result c.environment.parts c.function a None kept (action_answer c a v.0 t)) (perform_outcome b names q'))
+      (subst (λ b. SameLine c n s kept false
+      (with_result c.environment.parts c.function a None kept (action_answer c a v.0 t))
+      (perform_outcome b names q'))
       (sym (action_is_line a xs None m.1))
       (performed_alike s names kept a (action_answer c a v.0 t) q'
       (responded_written s names kept r a xs None m.1 m.0 v.0 v.1 v.2 t) r))) next
@@ -429,7 +461,9 @@ module _ (p : Module) (c : Call) (n : Names) (d : Respond) (facts : Facts p c n 
 
   abbrev ResultNext : Handles → KeptValues → Handles → Bool → ℕ → Next KeptValues → Next Scope → Type 0
   ResultNext s kept s2 held2 h f g =
-      (kept1 : KeptValues) (names1 : Scope) (t1 : List Event) → Related c n (update s h (Bound (n.numbered h))) names1 kept1 → Agree s kept kept1 → Same c n s kept s2 held2 (f kept1 t1) (g names1 t1)
+      (kept1 : KeptValues) (names1 : Scope) (t1 : List Event) →
+      Related c n (update s h (Bound (n.numbered h))) names1 kept1 → Agree s kept kept1 →
+      Same c n s kept s2 held2 (f kept1 t1) (g names1 t1)
 
   -- a result that is kept
   result_kept : (s s2 : Handles) (names : Scope) (kept : KeptValues) (held2 : Bool) (h : ℕ)
@@ -445,7 +479,8 @@ module _ (p : Module) (c : Call) (n : Names) (d : Respond) (facts : Facts p c n 
       (agree_update s kept h (Some v) (λ p. absurd (not_there p)))
     where
       not_there : IsTrue (is_present (s h)) → ⊥
-      not_there = new_event c s names kept (handle_type c.function h) (expression_of c.function h) (kept h) (result_combined c (expression_of c.function h) m.kind) (s h) m.new (r.availability h)
+      not_there = new_event c s names kept (handle_type c.function h) (expression_of c.function h) (kept h)
+          (result_combined c (expression_of c.function h) m.kind) (s h) m.new (r.availability h)
 
   result_same : (s s2 : Handles) (names : Scope) (kept : KeptValues) (held2 : Bool) (a : Action)
       (xs : List ℕ) (h : ℕ) (f : Next KeptValues) (g : Next Scope) → Related c n s names kept →
@@ -457,9 +492,11 @@ module _ (p : Module) (c : Call) (n : Names) (d : Respond) (facts : Facts p c n 
       (bound_to names (n.numbered h) g q)
   result_same s s2 names kept held2 a xs h f g r w m next (Gives None t) q = stopped
   result_same s s2 names kept held2 (Asked word) xs h f g r w m next (Gives (Some v) t) q =
-      typed_alike (has_type c.environment.parts (handle_type c.function h) v) t (Done (update kept h (Some v)) t) f (λ y. result_kept s s2 names kept held2 h f g r m next v t y)
+      typed_alike (has_type c.environment.parts (handle_type c.function h) v) t
+      (Done (update kept h (Some v)) t) f (λ y. result_kept s s2 names kept held2 h f g r m next v t y)
   result_same s s2 names kept held2 (Called callee) xs h f g r w m next (Gives (Some v) t) q =
-      result_kept s s2 names kept held2 h f g r m next v t (called_typed c.environment.parts c.function (function_numbered c.callees callee) xs h v w.2 q)
+      result_kept s s2 names kept held2 h f g r m next v t
+      (called_typed c.environment.parts c.function (function_numbered c.callees callee) xs h v w.2 q)
   result_same s s2 names kept held2 a xs h f g r w m next (Halts x t) q = stopped
 
   result_alike : (s s2 : Handles) (names : Scope) (kept : KeptValues) (held2 : Bool) (a : Action)
@@ -470,13 +507,15 @@ module _ (p : Module) (c : Call) (n : Names) (d : Respond) (facts : Facts p c n 
       Same c n s kept s2 held2
       (and_then (with_result c.environment.parts c.function a (Some h) kept q) f)
       (bound_to names (n.numbered h) g q')
-  result_alike s s2 names kept held2 a xs h f g r w m next q q' (same_answer y) = result_same s s2 names kept held2 a xs h f g r w m next q y
+  result_alike s s2 names kept held2 a xs h f g r w m next q q' (same_answer y) =
+      result_same s s2 names kept held2 a xs h f g r w m next q y
   result_alike s s2 names kept held2 a xs h f g r w m next q q' mistyped_answer = mistyped
 
   result_row : (k : ℕ) (a : Action) (xs : List ℕ) (h : ℕ) (s : Handles) → Row k (Act a xs (Some h)) s
   result_row k a xs h s names kept t held2 s2 f tail r m next =
       let v = values_here p c n d facts s names kept r xs m.0 in
-      let q' = word_reached (words c d) (word_of n a) names t (evaluate_all (words c d) (value_forms (written_form (naming c n) s) xs) names t) in
+      let q' = word_reached (words c d) (word_of n a) names t
+      (evaluate_all (words c d) (value_forms (written_form (naming c n) s) xs) names t) in
       subst (λ os. Same c n s kept s2 held2
       (and_then (or_stuck os t (λ vs. with_result c.environment.parts c.function a (Some h) kept
       (action_answer c a vs t))) f) (bound_to names (n.numbered h) (Follow tail) q')) (sym v.1)
@@ -517,9 +556,11 @@ module _ (p : Module) (c : Call) (n : Names) (d : Respond) (facts : Facts p c n 
           (follow_groups (words c d) bound (form_cases (naming c n) k labels no_case s) x names t)
       by_none labels w x e names kept t r m = done (agree_refl s kept)
 
-  module _ (k : ℕ) (l : CaseValue) (b : Statements) (cs : Cases) (s : Handles) (same : List_row k b s) (rest : Cases_row (named_by_all c.function b k) cs s) where
+  module _ (k : ℕ) (l : CaseValue) (b : Statements) (cs : Cases) (s : Handles) (same : List_row k b s)
+      (rest : Cases_row (named_by_all c.function b k) cs s) where
     abbrev Groups_at : List CaseValue → Bool → CaseValue → Next Scope
-    Groups_at labels falls x = follow_groups (words c d) bound (form_cases (naming c n) k labels (case l b falls cs) s) x
+    Groups_at labels falls x = follow_groups (words c d) bound (form_cases (naming c n) k labels
+        (case l b falls cs) s) x
 
     abbrev On_from : Bool → Next KeptValues
     On_from falls kept t =
@@ -533,7 +574,8 @@ module _ (p : Module) (c : Call) (n : Names) (d : Respond) (facts : Facts p c n 
         FitsAll p c n k b s → SameBody c s kept (any_continue b || some_case_continues cs)
         (On_from false kept t) (Inside (form_all (naming c n) k b s) names t)
     body_alone names kept t r m =
-        stays (same_body p c n d facts bound s _ kept (any_continue b) _ (form_all (naming c n) k b s) names t (same names kept t r m))
+        stays (same_body p c n d facts bound s _ kept (any_continue b) _ (form_all (naming c n) k b s) names t
+        (same names kept t r m))
       where
         stays : {o : Outcome KeptValues} {o' : Outcome Scope} →
             SameBody c s kept (any_continue b) o o' →
@@ -546,11 +588,14 @@ module _ (p : Module) (c : Call) (n : Names) (d : Respond) (facts : Facts p c n 
         stays stopped = stopped
         stays mistyped = mistyped
 
-    more_held : {o : Outcome KeptValues} {o' : Outcome Scope} (kept : KeptValues) → SameBody c s kept (some_case_continues cs) o o' → SameBody c s kept (any_continue b || some_case_continues cs) o o'
+    more_held : {o : Outcome KeptValues} {o' : Outcome Scope} (kept : KeptValues) →
+        SameBody c s kept (some_case_continues cs) o o' →
+        SameBody c s kept (any_continue b || some_case_continues cs) o o'
     more_held kept a =
         weaker (λ k l p. p) (λ k l q. (q.0, or_right (any_continue b) (some_case_continues cs) q.1)) (λ k l b. b) a
 
-    is_among : (labels : List CaseValue) (x : CaseValue) → IsTrue (among x labels || same_case_value x l) → IsTrue (among x (labels ++ l ∷ []))
+    is_among : (labels : List CaseValue) (x : CaseValue) → IsTrue (among x labels || same_case_value x l) →
+        IsTrue (among x (labels ++ l ∷ []))
     is_among labels x e = among_append x labels l ∙ e
 
     -- the case with this value, or one that waiting values came to
@@ -560,7 +605,8 @@ module _ (p : Module) (c : Call) (n : Names) (d : Respond) (facts : Facts p c n 
         SameBody c s kept (any_continue b || some_case_continues cs) (On_from false kept t)
         (Groups_at labels false x names t)
     here_stays labels x e names kept t r m =
-        let others = follow_groups (words c d) bound (form_cases (naming c n) (named_by_all c.function b k) [] cs s) x names t in
+        let others = follow_groups (words c d) bound
+        (form_cases (naming c n) (named_by_all c.function b k) [] cs s) x names t in
         subst (λ z. SameBody c s kept (any_continue b || some_case_continues cs)
         (On_from false kept t) (cond z (Inside (form_all (naming c n) k b s) names t) others))
         (sym e) (body_alone names kept t r m.1)
@@ -572,7 +618,8 @@ module _ (p : Module) (c : Call) (n : Names) (d : Respond) (facts : Facts p c n 
         SameBody c s kept (any_continue b || some_case_continues cs) (run_cases c bound cs x kept t)
         (Groups_at labels false x names t)
     past_stays labels x e names kept t r m =
-        let others = follow_groups (words c d) bound (form_cases (naming c n) (named_by_all c.function b k) [] cs s) x names t in
+        let others = follow_groups (words c d) bound
+        (form_cases (naming c n) (named_by_all c.function b k) [] cs s) x names t in
         subst (λ z. SameBody c s kept (any_continue b || some_case_continues cs)
         (run_cases c bound cs x kept t)
         (cond z (Inside (form_all (naming c n) k b s) names t) others)) (sym e)
@@ -588,10 +635,12 @@ module _ (p : Module) (c : Call) (n : Names) (d : Respond) (facts : Facts p c n 
   by_case_value true s kept held f g = f refl
   by_case_value false s kept held f g = g refl
 
-  case_row : (k : ℕ) (l : CaseValue) (b : Statements) (falls : Bool) (cs : Cases) (s : Handles) → List_row k b s → Cases_row (named_by_all c.function b k) cs s → Cases_row k (case l b falls cs) s
+  case_row : (k : ℕ) (l : CaseValue) (b : Statements) (falls : Bool) (cs : Cases) (s : Handles) →
+      List_row k b s → Cases_row (named_by_all c.function b k) cs s → Cases_row k (case l b falls cs) s
   case_row k l b false cs s same rest =
       record {
-        entered = λ labels w x e names kept t r m. here_stays k l b cs s same rest labels x (among_append x labels l ∙ or_left (among x labels) (same_case_value x l) e) names kept t r m;
+        entered = λ labels w x e names kept t r m. here_stays k l b cs s same rest labels x
+            (among_append x labels l ∙ or_left (among x labels) (same_case_value x l) e) names kept t r m;
         searching = λ labels w x e names kept t r m. by_case_value (same_case_value x l) s kept
             (any_continue b || some_case_continues cs)
             (λ q. here_stays k l b cs s same rest labels x (among_append x labels l
@@ -657,7 +706,9 @@ module _ (p : Module) (c : Call) (n : Names) (d : Respond) (facts : Facts p c n 
   switch_row k h cs s cases names kept t held2 s2 f tail r m next =
       let groups = form_cases (naming c n) k [] cs s in
       let held = some_case_continues cs in
-      let o = or_stuck (used_value c kept h) t (λ v. with_integer v t (λ z. after_switch (run_cases c bound cs (case_value_if (has_case_value (Numbered z) cs) z) kept t))) in
+      let o = or_stuck (used_value c kept h) t
+      (λ v. with_integer v t
+      (λ z. after_switch (run_cases c bound cs (case_value_if (has_case_value (Numbered z) cs) z) kept t))) in
       let o' = with_value (value_of (words c d) (value_at (naming c n) s h) names t)
       (λ v t1. closed_outcome names
       (with_integer v t1
@@ -671,7 +722,8 @@ module _ (p : Module) (c : Call) (n : Names) (d : Respond) (facts : Facts p c n 
       (switch_line k h cs s cases names kept t r m.0 m.1) next)
 
   -- a statement, and a list that goes on with it
-  list_row : (k : ℕ) (st : Statement) (ss : Statements) (s : Handles) → Row k st s → List_row (named_by c.function st k) ss (after (naming c n) k st s) → List_row k (then st ss) s
+  list_row : (k : ℕ) (st : Statement) (ss : Statements) (s : Handles) → Row k st s →
+      List_row (named_by c.function st k) ss (after (naming c n) k st s) → List_row k (then st ss) s
   list_row k st ss s one all names kept t r m =
       let k1 = named_by c.function st k in
       let s1 = after (naming c n) k st s in

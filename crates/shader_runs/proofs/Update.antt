@@ -26,7 +26,8 @@ same_bytes_true [] [] e = refl
 same_bytes_true [] (y ∷ ys) e = absurd (true≢false (sym e))
 same_bytes_true (x ∷ xs) [] e = absurd (true≢false (sym e))
 same_bytes_true (x ∷ xs) (y ∷ ys) e =
-    ap₂ ◌∷◌ (eqb-true x y (and_left (nat_eq x y) (same_bytes xs ys) e)) (same_bytes_true xs ys (and_right (nat_eq x y) (same_bytes xs ys) e))
+    ap₂ ◌∷◌ (eqb-true x y (and_left (nat_eq x y) (same_bytes xs ys) e))
+    (same_bytes_true xs ys (and_right (nat_eq x y) (same_bytes xs ys) e))
 
 pub same_bytes_self : (a : Bytes) → IsTrue (same_bytes a a)
 same_bytes_self [] = refl
@@ -58,7 +59,8 @@ same_type_self (IntegerType x) = same_bytes_self x
 same_type_self (PointerType x) = same_bytes_self x
 same_type_self (OtherType x) = same_bytes_self x
 
-pub has_types_length : (parts : PartTypes) (ts : List ValueType) (vs : List Value) → IsTrue (has_types parts ts vs) → length vs ≡ length ts
+pub has_types_length : (parts : PartTypes) (ts : List ValueType) (vs : List Value) →
+    IsTrue (has_types parts ts vs) → length vs ≡ length ts
 has_types_length parts [] [] e = refl
 has_types_length parts [] (v ∷ vs) e = absurd (true≢false (sym e))
 has_types_length parts (t ∷ ts) [] e = absurd (true≢false (sym e))
@@ -66,14 +68,16 @@ has_types_length parts (t ∷ ts) (v ∷ vs) e =
     ap suc (has_types_length parts ts vs (and_right (has_type parts t v) (has_types parts ts vs) e))
 
 -- what holds of an updated map holds of the new entry and of the others
-pub update_cases : {A : Type 0} (P : A → Type 0) (f : ℕ → A) (h : ℕ) (a : A) (k : ℕ) → (k ≡ h → P a) → (k ≢ h → P (f k)) → P (update f h a k)
+pub update_cases : {A : Type 0} (P : A → Type 0) (f : ℕ → A) (h : ℕ) (a : A) (k : ℕ) → (k ≡ h → P a) →
+    (k ≢ h → P (f k)) → P (update f h a k)
 update_cases {A} P f h a k same other = go (nat_eq k h) refl
   where
     go : (b : Bool) → nat_eq k h ≡ b → P (cond b a (f k))
     go true e = same (eqb-true k h e)
     go false e = other (eqb-false k h e)
 
-pub bind_cases : {A : Type 0} (P : A → Type 0) (f : Bytes → A) (x : Bytes) (a : A) (y : Bytes) → (y ≡ x → P a) → (y ≢ x → P (f y)) → P (bind f x a y)
+pub bind_cases : {A : Type 0} (P : A → Type 0) (f : Bytes → A) (x : Bytes) (a : A) (y : Bytes) → (y ≡ x → P a) →
+    (y ≢ x → P (f y)) → P (bind f x a y)
 bind_cases {A} P f x a y same other = go (same_bytes y x) refl
   where
     go : (b : Bool) → same_bytes y x ≡ b → P (cond b a (f y))

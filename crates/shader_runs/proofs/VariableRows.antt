@@ -6,7 +6,8 @@ use Rattle.shader_runs.specs.WorkedModules.{module_of}
 use Rattle.shader_runs.specs.VariableRows.{VariableRowsHold, pointed_example, pointed_function}
 use Rattle.shader_runs.proofs.StatementRows.{worked}
 
-leaves : (h : ℕ) → LeafFits (module_of pointed_example) pointed_function (handle_type pointed_function h) (expression_of pointed_function h)
+leaves : (h : ℕ) → LeafFits (module_of pointed_example) pointed_function (handle_type pointed_function h)
+    (expression_of pointed_function h)
 leaves zero = (omega arith, refl, refl)
 leaves (suc zero) = (omega arith, refl, refl)
 leaves (suc (suc zero)) = tt

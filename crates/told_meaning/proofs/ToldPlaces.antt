@@ -26,7 +26,7 @@ use Rattle.module_meaning.specs.PlaceParts.{member_part, member_taken, members_t
 use Rattle.module_meaning.specs.PlaceParts.{parts_at, pointee_parts, place_parts, place_spaces}
 use Rattle.module_meaning.specs.PlaceParts.{pointer_spelled, pointer_to_member, pointer_types}
 use Rattle.module_meaning.specs.PlaceParts.{pointers_in}
-use Rattle.module_meaning.specs.TypeIdentity.{vector_number}
+use Rattle.module_meaning.specs.TypeIdentity.{component_count}
 use Rattle.module_meaning.specs.TypeParts.{element_count, inner_at}
 use Rattle.shader_runs.specs.Value.{Components, Elements, Members, NoParts, PointerType, same_type}
 use Rattle.told_floats.specs.Told.{IsToldExpression, IsToldFunction, IsToldModule}
@@ -130,10 +130,10 @@ module _ (m new : Module) (all : IsToldModule m new) (info : ModuleInfo) where
   parts_at_same : (whole : List ℕ) (at : AddressSpace) (base : ℕ) (it : TypeInner) →
       parts_at n info whole at base it ≡ parts_at m info whole at base it
   parts_at_same whole at base (inner.Vector size s) = λ i.
-      Components (vector_number size)
+      Components (component_count size)
       (words_same m new all i (Value (inner.ValuePointer None s at)))
   parts_at_same whole at base (inner.Matrix columns rows s) = λ i.
-      Elements (Some (vector_number columns))
+      Elements (Some (component_count columns))
       (words_same m new all i (Value (inner.ValuePointer (Some rows) s at)))
   parts_at_same whole at base (inner.Array item count stride) = λ i.
       Elements (element_count count) (words_same m new all i (Value (inner.Pointer item at)))
@@ -149,7 +149,7 @@ module _ (m new : Module) (all : IsToldModule m new) (info : ModuleInfo) where
   pointee_parts_same whole (inner.Pointer base at) = λ i.
       option_map_or (λ it. parts_at_same whole at base it i) (inner_at m.types base) NoParts
   pointee_parts_same whole (inner.ValuePointer (Some size) s at) = λ i.
-      Components (vector_number size)
+      Components (component_count size)
       (words_same m new all i (Value (inner.ValuePointer None s at)))
   pointee_parts_same whole _ = refl
 

@@ -143,8 +143,7 @@ fn text_of(
     Ok(text)
 }
 
-/// Tells where what the module is refused for stands, if there is such a thing, without the role of
-/// an operand.
+/// Tells where what the module is refused for stands, if there is such a thing.
 fn push_place(
     alloc: Global,
     known: &Known,
@@ -154,10 +153,7 @@ fn push_place(
     requires { IsTrue (is_accepted known.now.module known.now.info) }
 {
     if let Some(refusal) = unwritable(alloc, &known.module, &known.info, flags)? {
-        let place = JsonRefusalPosition {
-            place: refusal.place,
-            role: None,
-        };
+        let position = JsonRefusalPosition::of(&known.module, refusal.position);
         let told = format!(in alloc; "at: {place}\n")?;
         text.push_str(told.as_str())?;
     }

@@ -9,7 +9,8 @@ use Rattle.std.specs.Prelude.{◌==◌, ⊤, nat_le, not}
 use Rattle.std.specs.List.{list_all}
 use Rattle.std.specs.Option.{is_some, option_map_or}
 use Rattle.std.proofs.lemmas.Bool.{and_from, and_parts, false≢true}
-use Rattle.wgsl_layout.specs.Members.{are_apart, are_kept, has_own_sizes, is_aligned, is_concerned, sized_members, stands_after}
+use Rattle.wgsl_layout.specs.Members.{are_apart, are_kept, has_own_sizes, is_aligned, is_concerned}
+use Rattle.wgsl_layout.specs.Members.{sized_members, stands_after}
 use Rattle.wgsl_layout.specs.Rules.{Member}
 use Rattle.wgsl_layout.specs.declared.layouts.Placed.{Placed}
 

@@ -8,7 +8,9 @@ use Rattle.std.specs.Prelude.{◌&&◌, ◌==◌, nat_le, nat_lt, not}
 use Rattle.std.specs.List.{list_all, list_any}
 use Rattle.std.specs.Option.{is_some, option_map_or}
 use Rattle.std.proofs.lemmas.Bool.{and_from, and_parts, false≢true, le-leb, ltb-false, not-false, or_parts}
-use Rattle.wgsl_layout.specs.Members.{are_apart, are_kept, begins_inside, has_own_sizes, is_aligned, is_concerned, is_off_alignment, overlaps, stands_after, starts_late}
+use Rattle.wgsl_layout.specs.Members.{are_apart, are_kept, begins_inside, has_own_sizes, is_aligned}
+use Rattle.wgsl_layout.specs.Members.{is_concerned, is_off_alignment, overlaps, stands_after}
+use Rattle.wgsl_layout.specs.Members.{starts_late}
 use Rattle.wgsl_layout.specs.declared.layouts.Placed.{Placed}
 
 -- a member that doesn't begin before the end of the one before it begins no earlier than there

@@ -10,7 +10,8 @@ use Rattle.std.specs.List.{list_all, list_any}
 use Rattle.std.specs.Option.{is_some, option_or}
 use Rattle.std.proofs.lemmas.Bool.{and_from, and_parts, or_left, or_right}
 use Rattle.wgsl_layout.specs.Faults.{StandsAmong, first_fault, goes_on, own_fault}
-use Rattle.wgsl_layout.specs.Members.{are_apart, are_kept, begins_inside, has_own_sizes, is_aligned, is_concerned, overlaps, stands_after}
+use Rattle.wgsl_layout.specs.Members.{are_apart, are_kept, begins_inside, has_own_sizes, is_aligned}
+use Rattle.wgsl_layout.specs.Members.{is_concerned, overlaps, stands_after}
 use Rattle.wgsl_layout.specs.declared.layouts.Placed.{Placed}
 use Rattle.wgsl_layout.specs.declared.members.Misplaced.{Misplaced}
 use Rattle.wgsl_layout.specs.declared.members.Misplaced.TheVariants.{OffAlignment, Overlapping}
@@ -86,8 +87,10 @@ found_concerns b found (k ∷ more) it is =
 pub fault_stands : (ks : List Placed) (it : Misplaced) → first_fault None None ks ≡ Some it →
     (is_concerned ks ≡ true) × StandsAmong it ks
 fault_stands [] it is = absurd (grind (arith, is))
-fault_stands (k ∷ more) it is =
-    (and_from (are_apart (k ∷ more)) _ concerns.0 concerns.1, by (own_fault None k) refl (found_stands k (own_fault None k) more it is))
+fault_stands (k ∷ more) it is = (
+  and_from (are_apart (k ∷ more)) _ concerns.0 concerns.1,
+  by (own_fault None k) refl (found_stands k (own_fault None k) more it is),
+)
   where
     concerns : (list_all (λ k. not (k.offset == 0)) more ≡ true) × (has_own_sizes (k ∷ more) ≡ true)
     concerns = found_concerns k (own_fault None k) more it is
@@ -104,7 +107,8 @@ fault_stands (k ∷ more) it is =
     later OffAlignment stands = or_right (not (k.offset == 0)) _ (or_right (not (is_aligned k)) _ stands)
     later Overlapping stands = stands
 
-    by : (o : Option Misplaced) → own_fault None k ≡ o → (o ≡ Some it) ⊎ StandsFrom it k more → StandsAmong it (k ∷ more)
+    by : (o : Option Misplaced) → own_fault None k ≡ o → (o ≡ Some it) ⊎ StandsFrom it k more →
+        StandsAmong it (k ∷ more)
     by o is (inl same) = first (is_aligned k) (k.offset == 0) refl refl it (is ∙ same)
     by o is (inr stands) = later it stands
 

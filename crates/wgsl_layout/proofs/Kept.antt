@@ -11,8 +11,12 @@ use Rattle.std.specs.Int.{next_multiple_of}
 use Rattle.std.specs.Option.{is_some, option_map, option_map_or, option_or}
 use Rattle.std.proofs.lemmas.Bool.{and_parts, eqb-true, false≢true, leb-true}
 use Rattle.wgsl_layout.specs.Capped.{IsAlignment, Two, Four, Eight, Sixteen, ThirtyTwo}
-use Rattle.wgsl_layout.specs.Members.{are_kept, end_of_last, ended, gap_size, greatest_placed, has_room, is_aligned, last_of, sized, sized_members, stands_after, written_members}
-use Rattle.wgsl_layout.specs.Rules.{Member, begins, closed, end_after, end_of, greatest_alignment, greatest_from, has_sizes, offsets_from, offsets_of, struct_layout, taken}
+use Rattle.wgsl_layout.specs.Members.{are_kept, end_of_last, ended, gap_size, greatest_placed}
+use Rattle.wgsl_layout.specs.Members.{has_room, is_aligned, last_of, sized, sized_members}
+use Rattle.wgsl_layout.specs.Members.{stands_after, written_members}
+use Rattle.wgsl_layout.specs.Rules.{Member, begins, closed, end_after, end_of, greatest_alignment}
+use Rattle.wgsl_layout.specs.Rules.{greatest_from, has_sizes, offsets_from, offsets_of}
+use Rattle.wgsl_layout.specs.Rules.{struct_layout, taken}
 use Rattle.wgsl_layout.specs.declared.layouts.Placed.{Placed}
 use Rattle.wgsl_layout.proofs.Rounding.{begins_at, first_greatest, greater, rounds_to}
 
@@ -42,15 +46,18 @@ after : (k next : Placed) → stands_after (Some k) next ≡ true → is_aligned
     Follows k next
 after k next stands aligned = by k.layout.size refl
   where
-    parts : (not (next.offset == 0) ≡ true) × (option_map_or (λ s. nat_le (k.offset + s) next.offset) k.layout.size false ≡ true)
+    parts : (not (next.offset == 0) ≡ true)
+        × (option_map_or (λ s. nat_le (k.offset + s) next.offset) k.layout.size false ≡ true)
     parts = and_parts (not (next.offset == 0)) _ stands
 
     by : (o : Option ℕ) → k.layout.size ≡ o → Follows k next
-    by None is = absurd (false≢true (sym (ap (λ o. option_map_or (λ s. nat_le (k.offset + s) next.offset) o false) is) ∙ parts.1))
+    by None is = absurd
+        (false≢true (sym (ap (λ o. option_map_or (λ s. nat_le (k.offset + s) next.offset) o false) is) ∙ parts.1))
     by (Some s) is = record {
       size = s;
       has = is;
-      within = leb-true (k.offset + s) next.offset (sym (ap (λ o. option_map_or (λ s. nat_le (k.offset + s) next.offset) o false) is) ∙ parts.1);
+      within = leb-true (k.offset + s) next.offset
+          (sym (ap (λ o. option_map_or (λ s. nat_le (k.offset + s) next.offset) o false) is) ∙ parts.1);
       multiple = eqb-true (next.offset % next.layout.alignment) 0 aligned;
     }
 
@@ -64,7 +71,8 @@ end_is end k s p a has at =
 
 -- so the next one begins where the module has it
 next_begins : (k next : Placed) (is : Follows k next) → IsAlignment next.layout.alignment →
-    next_multiple_of (k.offset + unwrap_or (gap_size k.offset (Some is.size) next.offset next.layout.alignment) is.size) next.layout.alignment ≡ next.offset
+    next_multiple_of (k.offset + unwrap_or (gap_size k.offset (Some is.size) next.offset next.layout.alignment)
+    is.size) next.layout.alignment ≡ next.offset
 next_begins k next is aligned =
     begins_at next.layout.alignment k.offset is.size next.offset aligned is.within is.multiple
 
@@ -87,9 +95,12 @@ offsets_left whole span end k (next ∷ more) aligned kept at =
     let left = sized_members whole span (next ∷ more) in
     ap (λ e. next_multiple_of end k.layout.alignment ∷ offsets_from e left)
     (end_is end k is.size next.offset next.layout.alignment is.has at)
-    ∙ (ap (λ o. o ∷ offsets_from (Some (k.offset + unwrap_or (gap_size k.offset (Some is.size) next.offset next.layout.alignment) is.size)) left) at
+    ∙ (ap (λ o. o ∷ offsets_from
+    (Some (k.offset + unwrap_or (gap_size k.offset (Some is.size) next.offset next.layout.alignment)
+    is.size)) left) at
     ∙ ap (λ os. k.offset ∷ os)
-    (offsets_left whole span (k.offset + unwrap_or (gap_size k.offset (Some is.size) next.offset next.layout.alignment) is.size)
+    (offsets_left whole span (k.offset
+    + unwrap_or (gap_size k.offset (Some is.size) next.offset next.layout.alignment) is.size)
     next more aligned.1 here.1 (next_begins k next is aligned.1.0)))
 
 -- the end of the last of them, which is given a size where the struct has room after it
@@ -104,7 +115,8 @@ end_left whole span end k [] aligned kept at = by k.layout.size refl
         end_after (Some end) (sized k span whole) ≡
         option_map (λ s. k.offset + unwrap_or (gap_size k.offset (Some s) span whole) s) k.layout.size
     by None is =
-        ap (λ own. option_map (λ n. begins end (sized k span whole) + n) (option_or (gap_size k.offset own span whole) own)) is
+        ap (λ own. option_map (λ n. begins end (sized k span whole) + n)
+        (option_or (gap_size k.offset own span whole) own)) is
         ∙ sym (ap (option_map (λ s. k.offset + unwrap_or (gap_size k.offset (Some s) span whole) s)) is)
     by (Some s) is =
         end_is end k s span whole is at
@@ -114,7 +126,8 @@ end_left whole span end k (next ∷ more) aligned kept at =
     let is = here.0 in
     let left = sized_members whole span (next ∷ more) in
     ap (λ e. end_of e left) (end_is end k is.size next.offset next.layout.alignment is.has at)
-    ∙ end_left whole span (k.offset + unwrap_or (gap_size k.offset (Some is.size) next.offset next.layout.alignment) is.size)
+    ∙ end_left whole span (k.offset
+    + unwrap_or (gap_size k.offset (Some is.size) next.offset next.layout.alignment) is.size)
     next more aligned.1 here.1 (next_begins k next is aligned.1.0)
 
 -- each of them but the last has a size
@@ -127,7 +140,8 @@ sizes_left whole span k (next ∷ []) kept =
 sizes_left whole span k (next ∷ third ∷ more) kept =
     let here = step k next (third ∷ more) kept in
     let is = here.0 in
-    ap (λ o. is_some o && has_sizes (sized_members whole span (next ∷ third ∷ more))) (taken_is k is.size next.offset next.layout.alignment is.has)
+    ap (λ o. is_some o && has_sizes (sized_members whole span (next ∷ third ∷ more)))
+    (taken_is k is.size next.offset next.layout.alignment is.has)
     ∙ sizes_left whole span next (third ∷ more) here.1
 
 -- sizes change no alignment
@@ -140,7 +154,8 @@ same_greatest whole span a (k ∷ next ∷ more) = same_greatest whole span (max
 -- the greatest of alignments is one
 pub greatest_is : (a : ℕ) (ks : List Placed) → IsAlignment a → AllAligned ks → IsAlignment (greatest_placed a ks)
 greatest_is a [] is all = is
-greatest_is a (k ∷ more) is all = greatest_is (max a k.layout.alignment) more (greater a k.layout.alignment is all.0) all.1
+greatest_is a (k ∷ more) is all = greatest_is (max a k.layout.alignment) more
+    (greater a k.layout.alignment is all.0) all.1
 
 -- ---- structs
 -- the first is at 0, and so begins where the module has it
@@ -199,7 +214,8 @@ module _ (span : ℕ) (k : Placed) (more : List Placed) (aligned : AllAligned (k
       let first = first_kept k more kept in
       let some = some_sized whole span k more in
       struct_of (written_members span (k ∷ more)) some.0 some.1 some.2 (sizes_left whole span k more first.1)
-      ∙ (ap (λ a. Some (closed a (end_of (Some 0) (written_members span (k ∷ more))))) (same_greatest whole span 0 (k ∷ more))
+      ∙ (ap (λ a. Some (closed a (end_of (Some 0) (written_members span (k ∷ more)))))
+      (same_greatest whole span 0 (k ∷ more))
       ∙ ap (λ e. Some (closed whole e))
       (end_left whole span 0 k more aligned first.1 (first_begins k aligned.0 first.0)))
 
@@ -210,14 +226,18 @@ module _ (span : ℕ) (k : Placed) (more : List Placed) (aligned : AllAligned (k
       last : Placed
       last = last_of k more
 
-      parts : ((span % whole == 0) ≡ true) × (option_map_or (λ s. nat_le (last.offset + s) span) last.layout.size false ≡ true)
+      parts : ((span % whole == 0) ≡ true)
+          × (option_map_or (λ s. nat_le (last.offset + s) span) last.layout.size false ≡ true)
       parts = and_parts (span % whole == 0) _ room
 
       by : (o : Option ℕ) → last.layout.size ≡ o →
           option_map (λ end. next_multiple_of end whole) (end_of_last span whole last) ≡ Some span
-      by None is = absurd (false≢true (sym (ap (λ o. option_map_or (λ s. nat_le (last.offset + s) span) o false) is) ∙ parts.1))
+      by None is = absurd
+          (false≢true (sym (ap (λ o. option_map_or (λ s. nat_le (last.offset + s) span) o false) is) ∙ parts.1))
       by (Some s) is =
-          ap (λ o. option_map (λ end. next_multiple_of end whole) (option_map (λ s. last.offset + unwrap_or (gap_size last.offset (Some s) span whole) s) o)) is
+          ap (λ o. option_map (λ end. next_multiple_of end whole)
+          (option_map (λ s. last.offset + unwrap_or (gap_size last.offset (Some s) span whole) s) o)) is
           ∙ ap (λ n. Some n) (begins_at whole last.offset s span whole_is
-          (leb-true (last.offset + s) span (sym (ap (λ o. option_map_or (λ s. nat_le (last.offset + s) span) o false) is) ∙ parts.1))
+          (leb-true (last.offset + s) span
+          (sym (ap (λ o. option_map_or (λ s. nat_le (last.offset + s) span) o false) is) ∙ parts.1))
           (eqb-true (span % whole) 0 parts.0))

@@ -61,14 +61,19 @@ worded_kind Payload = refl
 worded_kind IncomingPayload = refl
 
 -- an attribute, from a state where `@` may stand
-pub attribute_runs : (a : Attribute) {at : State} {s : Stack} → step is_builtin at (Fixed At) ≡ AttributeName s → Runs (attribute_pieces a) at (add_attribute a s)
-attribute_runs (Plain a) {s = s} e = reads $ as_state e $ reads $ as_state (ap (λ k. attribute_named k s) (plain_kind a)) $ over_gap at_end
-attribute_runs (Numbered a n) {s = s} e = reads $ as_state e $ reads $ as_state (ap (λ k. attribute_named k s) (numbered_kind a)) at_end
-attribute_runs (Worded a w) {s = s} e = reads $ as_state e $ reads $ as_state (ap (λ k. attribute_named k s) (worded_kind a)) at_end
+pub attribute_runs : (a : Attribute) {at : State} {s : Stack} → step is_builtin at (Fixed At)
+    ≡ AttributeName s → Runs (attribute_pieces a) at (add_attribute a s)
+attribute_runs (Plain a) {s = s} e = reads $ as_state e $ reads $
+    as_state (ap (λ k. attribute_named k s) (plain_kind a)) $ over_gap at_end
+attribute_runs (Numbered a n) {s = s} e = reads $ as_state e $ reads $
+    as_state (ap (λ k. attribute_named k s) (numbered_kind a)) at_end
+attribute_runs (Worded a w) {s = s} e = reads $ as_state e $ reads $
+    as_state (ap (λ k. attribute_named k s) (worded_kind a)) at_end
 attribute_runs (Interpolated i w) e = reads $ as_state e at_end
 attribute_runs (WorkgroupSize x y z) e = reads $ as_state e at_end
 
-pub attributes_run : (list attributes : List Attribute) (p : Program) → Runs (attributes_pieces list) (Expect (InProgram attributes p)) (Expect (InProgram (turned list attributes) p))
+pub attributes_run : (list attributes : List Attribute) (p : Program) →
+    Runs (attributes_pieces list) (Expect (InProgram attributes p)) (Expect (InProgram (turned list attributes) p))
 attributes_run [] attributes p = at_end
 attributes_run (a ∷ more) attributes p = attribute_runs a refl onward attributes_run more (a ∷ attributes) p
 
@@ -77,21 +82,24 @@ pub member_attributes_run : (list : List Attribute) (w : List ℕ) (done : List 
     Runs (attributes_pieces list) (ExpectMemberName (InMembers w done attributes s))
     (ExpectMemberName (InMembers w done (turned list attributes) s))
 member_attributes_run [] w done attributes s = at_end
-member_attributes_run (a ∷ more) w done attributes s = attribute_runs a refl onward member_attributes_run more w done (a ∷ attributes) s
+member_attributes_run (a ∷ more) w done attributes s =
+    attribute_runs a refl onward member_attributes_run more w done (a ∷ attributes) s
 
 pub parameter_attributes_run : (list : List Attribute) (f : List ℕ) (done : List Parameter)
     (attributes : List Attribute) (s : Stack) →
     Runs (attributes_pieces list) (ExpectParameter (InParameters f done attributes s))
     (ExpectParameter (InParameters f done (turned list attributes) s))
 parameter_attributes_run [] f done attributes s = at_end
-parameter_attributes_run (a ∷ more) f done attributes s = attribute_runs a refl onward parameter_attributes_run more f done (a ∷ attributes) s
+parameter_attributes_run (a ∷ more) f done attributes s =
+    attribute_runs a refl onward parameter_attributes_run more f done (a ∷ attributes) s
 
 pub result_attributes_run : (list : List Attribute) (f : List ℕ) (ps : List Parameter)
     (attributes : List Attribute) (s : Stack) →
     Runs (attributes_pieces list) (ExpectResult (InResult f ps attributes s))
     (ExpectResult (InResult f ps (turned list attributes) s))
 result_attributes_run [] f ps attributes s = at_end
-result_attributes_run (a ∷ more) f ps attributes s = attribute_runs a refl onward result_attributes_run more f ps (a ∷ attributes) s
+result_attributes_run (a ∷ more) f ps attributes s =
+    attribute_runs a refl onward result_attributes_run more f ps (a ∷ attributes) s
 
 -- In their pieces no token runs into the next.
 
@@ -148,14 +156,18 @@ attribute_word IncomingPayload w is = is.word
 
 pub attribute_closed : (a : Attribute) → IsAttribute a → Closed (attribute_pieces a)
 attribute_closed (Plain a) is = sign (λ _. refl) $ tok (plain_word a) (λ _. refl) $ gap none
-attribute_closed (Numbered a n) is = sign (λ _. refl) $ tok (numbered_word a) (λ _. refl) $ sign (λ _. refl) $ size is (λ _. refl) $ sign (λ _. refl) $ gap none
+attribute_closed (Numbered a n) is = sign (λ _. refl) $ tok (numbered_word a) (λ _. refl) $ sign (λ _. refl) $
+    size is (λ _. refl) $ sign (λ _. refl) $ gap none
 attribute_closed (Worded a w) is =
-    sign (λ _. refl) $ tok (worded_word a) (λ _. refl) $ sign (λ _. refl) $ free (attribute_word a w is) (λ _. refl) $ sign (λ _. refl) $ gap none
+    sign (λ _. refl) $ tok (worded_word a) (λ _. refl) $ sign (λ _. refl) $ free (attribute_word a w is)
+    (λ _. refl) $ sign (λ _. refl) $ gap none
 attribute_closed (Interpolated i s) is =
-    sign (λ _. refl) $ tok interpolate_word (λ _. refl) $ sign (λ _. refl) $ free (table_word interpolation_words i interpolations_free is.0) (λ _. refl) $ sign (λ _. refl) $ gap $
+    sign (λ _. refl) $ tok interpolate_word (λ _. refl) $ sign (λ _. refl) $
+    free (table_word interpolation_words i interpolations_free is.0) (λ _. refl) $ sign (λ _. refl) $ gap $
     free (table_word sampling_words s samplings_free is.1) (λ _. refl) $ sign (λ _. refl) $ gap none
 attribute_closed (WorkgroupSize x y z) is =
-    sign (λ _. refl) $ tok size_word (λ _. refl) $ sign (λ _. refl) $ size is.0 (λ _. refl) $ sign (λ _. refl) $ gap $ size is.1 (λ _. refl) $ sign (λ _. refl) $ gap $
+    sign (λ _. refl) $ tok size_word (λ _. refl) $ sign (λ _. refl) $ size is.0 (λ _. refl) $ sign (λ _. refl) $
+    gap $ size is.1 (λ _. refl) $ sign (λ _. refl) $ gap $
     size is.2 (λ _. refl) $ sign (λ _. refl) $ gap none
 
 pub attributes_closed : (list : List Attribute) → IsAttributes list → Closed (attributes_pieces list)
@@ -164,5 +176,6 @@ attributes_closed (a ∷ more) is = attribute_closed a is.0 then attributes_clos
 
 -- The text of each row, from the texts of its parts.
 
-pub attribute_then_text : (a : Attribute) (more : List Attribute) → text (attributes_pieces (a ∷ more)) ≡ text (attribute_pieces a) ++ text (attributes_pieces more)
+pub attribute_then_text : (a : Attribute) (more : List Attribute) → text (attributes_pieces (a ∷ more))
+    ≡ text (attribute_pieces a) ++ text (attributes_pieces more)
 attribute_then_text a more = simp text-append

@@ -38,16 +38,22 @@ pub in_front : (ws vs : List (List ℕ)) (w : List ℕ) → stands_in ws w ≡ t
 in_front [] vs w e = absurd (cc)
 in_front (v ∷ ws) vs w e = by (bytes_eq v w) refl (in_front ws vs w)
   where
-    by : (b : Bool) → bytes_eq v w ≡ b → (stands_in ws w ≡ true → stands_in (ws ++ vs) w ≡ true) → (bytes_eq v w || stands_in (ws ++ vs) w) ≡ true
+    by : (b : Bool) → bytes_eq v w ≡ b → (stands_in ws w ≡ true → stands_in (ws ++ vs) w ≡ true) →
+        (bytes_eq v w || stands_in (ws ++ vs) w) ≡ true
     by true same more = ap (λ b. b || stands_in (ws ++ vs) w) same
-    by false same more = ap (λ b. b || stands_in (ws ++ vs) w) same ∙ more (sym (ap (λ b. b || stands_in ws w) same) ∙ e)
+    by false same more = ap (λ b. b || stands_in (ws ++ vs) w) same
+        ∙ more (sym (ap (λ b. b || stands_in ws w) same) ∙ e)
 
 -- a word of the types of one word
 pub plain_is : (w : List ℕ) → stands_in plain_type_words w ≡ true → IsType (Named w)
-plain_is w plain = record { part = table_word plain_type_words w plain_free plain; whole = ap (λ b. b || not (is_builtin w)) plain }
+plain_is w plain = record {
+  part = table_word plain_type_words w plain_free plain;
+  whole = ap (λ b. b || not (is_builtin w)) plain;
+}
 
 pub scalar_word_is : (w : List ℕ) → stands_in scalar_words w ≡ true → IsType (Named w)
-scalar_word_is w scalar = plain_is w (in_front scalar_words (sampler_words ++ (ray_words ++ depth_image_words)) w scalar)
+scalar_word_is w scalar =
+    plain_is w (in_front scalar_words (sampler_words ++ (ray_words ++ depth_image_words)) w scalar)
 
 -- an identifier, as a struct's name
 pub name_is : (w : List ℕ) → IsIdentifier w → IsType (Named w)
@@ -58,11 +64,14 @@ name_is w is = record { part = is.word; whole = by (stands_in plain_type_words w
     by false b e = ap not e
 
 -- a word with a scalar
-pub of_scalar_word_is : (word w : List ℕ) → rule_among type_templates word ≡ TakesScalar → stands_in scalar_words w ≡ true → IsType (Template word (TypeArgument (Named w) NoTemplateArguments))
-of_scalar_word_is word w rule scalar = record { part = (rw rule scalar, (table_word scalar_words w scalars_free scalar, tt)); whole = refl }
+pub of_scalar_word_is : (word w : List ℕ) → rule_among type_templates word ≡ TakesScalar →
+    stands_in scalar_words w ≡ true → IsType (Template word (TypeArgument (Named w) NoTemplateArguments))
+of_scalar_word_is word w rule scalar =
+    record { part = (rw rule scalar, (table_word scalar_words w scalars_free scalar, tt)); whole = refl }
 
 -- an array of as many as are bound, and of a number
-pub dynamic_is : (word : List ℕ) (t : TypeSpecifier) → rule_among type_templates word ≡ TakesElements → IsType t → IsType (Template word (TypeArgument t NoTemplateArguments))
+pub dynamic_is : (word : List ℕ) (t : TypeSpecifier) → rule_among type_templates word ≡ TakesElements →
+    IsType t → IsType (Template word (TypeArgument t NoTemplateArguments))
 dynamic_is word t rule is = record { part = (rw rule is.whole, (is.part, tt)); whole = refl }
 
 pub sized_is : (word : List ℕ) (t : TypeSpecifier) (n : ℕ) →
@@ -70,12 +79,26 @@ pub sized_is : (word : List ℕ) (t : TypeSpecifier) (n : ℕ) →
     IsType (Template word (TypeArgument t (SizeArgument n NoTemplateArguments)))
 sized_is word t n rule is number = record { part = (rw rule is.whole, (is.part, (number, tt))); whole = refl }
 
-pub pointer_to_is : (a : List ℕ) (t : TypeSpecifier) → stands_in address_space_words a ≡ true → IsType t → IsType (Template (codes "ptr") (TypeArgument (Named a) (TypeArgument t NoTemplateArguments)))
+pub pointer_to_is : (a : List ℕ) (t : TypeSpecifier) → stands_in address_space_words a ≡ true → IsType t →
+    IsType (Template (codes "ptr") (TypeArgument (Named a) (TypeArgument t NoTemplateArguments)))
 pointer_to_is a t known is =
-    record { part = (and_from (stands_in address_space_words a) (is_type t) known is.whole, (table_word address_space_words a address_spaces_free known, (is.part, tt))); whole = refl }
+    record {
+      part = (
+        and_from (stands_in address_space_words a) (is_type t) known is.whole,
+        (table_word address_space_words a address_spaces_free known, (is.part, tt)),
+      );
+      whole = refl;
+    }
 
 pub words_are_types : WordsAreTypes
-words_are_types = record { plain = plain_is; struct_name = name_is; of_scalar = of_scalar_word_is; dynamic_array = dynamic_is; sized_array = sized_is; pointer = pointer_to_is }
+words_are_types = record {
+  plain = plain_is;
+  struct_name = name_is;
+  of_scalar = of_scalar_word_is;
+  dynamic_array = dynamic_is;
+  sized_array = sized_is;
+  pointer = pointer_to_is;
+}
 
 operands_are : (es : List Expression) → Each IsExpression es → IsArguments (operands es)
 operands_are [] is = tt
@@ -90,10 +113,12 @@ takes (Named w) [] = refl
 takes (Named w) (e ∷ es) = ap (λ b. b || (stands_in level_words w && have_a_zero (operands es))) (operands_alone es)
 takes (Template w parts) es = operands_alone es
 
-call_is : (t : TypeSpecifier) (es : List Expression) → IsCallee t → Each IsExpression es → IsExpression (Call t (operands es))
+call_is : (t : TypeSpecifier) (es : List Expression) → IsCallee t → Each IsExpression es →
+    IsExpression (Call t (operands es))
 call_is t es callee all = (callee, operands_are es all, takes t es)
 
-call_statement_is : (t : TypeSpecifier) (es : List Expression) → IsCallee t → Each IsExpression es → IsStatement (CallStatement t (operands es))
+call_statement_is : (t : TypeSpecifier) (es : List Expression) → IsCallee t → Each IsExpression es →
+    IsStatement (CallStatement t (operands es))
 call_statement_is t es callee all = (callee, operands_are es all, takes t es)
 
 -- built-in words
@@ -123,7 +148,8 @@ gather_is w n e es gathers low all =
     let plain : IsPlainNumber n = omega (arith, low) in (
       table_word gather_words w gathers_free gathers,
       (plain, tt, operands_are (e ∷ es) all),
-      and_from (stands_in gather_words w) (nat_lt n 4 && are_expressions (operands es)) gathers (and_from (nat_lt n 4) (are_expressions (operands es)) (lt-ltb n 4 low) (operands_alone es)),
+      and_from (stands_in gather_words w) (nat_lt n 4 && are_expressions (operands es)) gathers
+          (and_from (nat_lt n 4) (are_expressions (operands es)) (lt-ltb n 4 low) (operands_alone es)),
     )
 
 with_level_are : (whole : Bool) (first more : List Expression) → Each IsExpression first →
@@ -151,8 +177,17 @@ level_is whole w e es more levels all last = (
 
 -- a word that takes a type
 
-taking_type_is : (w : List ℕ) (t : TypeSpecifier) → stands_in type_taking_words w ≡ true → IsType t → IsCallee (Template w (TypeArgument t NoTemplateArguments))
+taking_type_is : (w : List ℕ) (t : TypeSpecifier) → stands_in type_taking_words w ≡ true → IsType t →
+    IsCallee (Template w (TypeArgument t NoTemplateArguments))
 taking_type_is w t taking is = (rw taking is.whole, (is.part, tt))
 
 pub called_words : CalledWordsAreExpressions
-called_words = record { builtin = builtin_is_word; type = type_called; taking_type = taking_type_is; expression = call_is; statement = call_statement_is; gather = gather_is; level = level_is }
+called_words = record {
+  builtin = builtin_is_word;
+  type = type_called;
+  taking_type = taking_type_is;
+  expression = call_is;
+  statement = call_statement_is;
+  gather = gather_is;
+  level = level_is;
+}

@@ -29,29 +29,41 @@ pub indent : {n : ℕ} {qs : List Piece} → Closed qs → Closed (Indent n ∷ 
 indent b = record { by = b.by }
 
 -- what shows that a token ends, and what stands after it
-pub tok : {t : Token} {qs : List Piece} → IsToken t → ((more : List Piece) → ends t (text (qs ++ more)) ≡ true) → Closed qs → Closed (TokenPiece t ∷ qs)
+pub tok : {t : Token} {qs : List Piece} → IsToken t →
+    ((more : List Piece) → ends t (text (qs ++ more)) ≡ true) → Closed qs → Closed (TokenPiece t ∷ qs)
 tok is front b = record { by = λ more h. (is, front more, b.by more h) }
 
 -- a word that may stand at a member's place, and a plain number
-pub free : {w : List ℕ} {qs : List Piece} → IsWord w → ((more : List Piece) → ends_word (text (qs ++ more)) ≡ true) → Closed qs → Closed (TokenPiece (Word w) ∷ qs)
+pub free : {w : List ℕ} {qs : List Piece} → IsWord w →
+    ((more : List Piece) → ends_word (text (qs ++ more)) ≡ true) → Closed qs → Closed (TokenPiece (Word w) ∷ qs)
 free is front b = tok (word_token_of is) front b
 
-pub size : {n : ℕ} {qs : List Piece} → IsPlainNumber n → ((more : List Piece) → ends (Number false n NoSuffix) (text (qs ++ more)) ≡ true) → Closed qs → Closed (plain n ∷ qs)
+pub size : {n : ℕ} {qs : List Piece} → IsPlainNumber n →
+    ((more : List Piece) → ends (Number false n NoSuffix) (text (qs ++ more)) ≡ true) → Closed qs →
+    Closed (plain n ∷ qs)
 size {n} is front b = tok (number_of_plain n is) front b
 
-pub sign : {m : Mark} {qs : List Piece} → ((more : List Piece) → ends (Fixed m) (text (qs ++ more)) ≡ true) → Closed qs → Closed (mark m ∷ qs)
+pub sign : {m : Mark} {qs : List Piece} → ((more : List Piece) → ends (Fixed m) (text (qs ++ more)) ≡ true) →
+    Closed qs → Closed (mark m ∷ qs)
 sign front b = tok tt front b
 
 -- `<` before what opens
 pub angle : {qs : List Piece} → Opens qs → Closed qs → Closed (mark LessThan ∷ qs)
 angle a b = tok tt a.at b
 
-pub part : {ps qs : List Piece} → Spaced ps → ((more : List Piece) → ends_word (text (qs ++ more)) ≡ true) → Closed qs → Closed (ps ++ qs)
-part {ps} {qs} a front b = record { by = λ more h. subst Apart (sym (append_assoc ps qs more)) (a.by (qs ++ more) (b.by more h) (front more)) }
+pub part : {ps qs : List Piece} → Spaced ps → ((more : List Piece) → ends_word (text (qs ++ more)) ≡ true) →
+    Closed qs → Closed (ps ++ qs)
+part {ps} {qs} a front b = record {
+  by = λ more h. subst Apart (sym (append_assoc ps qs more))
+      (a.by (qs ++ more) (b.by more h) (front more));
+}
 
 infixr 10 ◌then◌
 pub ◌then◌ : {ps qs : List Piece} → Closed ps → Closed qs → Closed (ps ++ qs)
-◌then◌ {ps} {qs} a b = record { by = λ more h. subst Apart (sym (append_assoc ps qs more)) (a.by (qs ++ more) (b.by more h)) }
+◌then◌ {ps} {qs} a b = record {
+  by = λ more h. subst Apart (sym (append_assoc ps qs more))
+      (a.by (qs ++ more) (b.by more h));
+}
 
 pub stop : Closed line_end
 stop = sign (λ _. refl) (line none)

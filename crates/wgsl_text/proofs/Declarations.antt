@@ -48,15 +48,20 @@ after_runs (Numbered Binding n) s = at_end
 after_runs (Numbered Location n) s = at_end
 after_runs _ s = at_end
 
-global_attributes_run : (list attributes : List Attribute) (p : Program) → Runs (global_attributes_pieces list) (Expect (InProgram attributes p)) (Expect (InProgram (turned list attributes) p))
+global_attributes_run : (list attributes : List Attribute) (p : Program) →
+    Runs (global_attributes_pieces list) (Expect (InProgram attributes p))
+    (Expect (InProgram (turned list attributes) p))
 global_attributes_run [] attributes p = at_end
-global_attributes_run (a ∷ more) attributes p = attribute_runs a refl onward after_runs a _ onward global_attributes_run more (a ∷ attributes) p
+global_attributes_run (a ∷ more) attributes p =
+    attribute_runs a refl onward after_runs a _ onward global_attributes_run more (a ∷ attributes) p
 
 -- declarations
 
-enables_run : (list : List (List ℕ)) (p : Program) → Runs (enables_pieces list) (Expect (InProgram [] p)) (Expect (InProgram [] (record p { enables = turned list p.enables })))
+enables_run : (list : List (List ℕ)) (p : Program) → Runs (enables_pieces list) (Expect (InProgram [] p))
+    (Expect (InProgram [] (record p { enables = turned list p.enables })))
 enables_run [] p = at_end
-enables_run (w ∷ more) p = reads $ over_gap $ reads $ reads $ over_line $ enables_run more (record p { enables = w ∷ p.enables })
+enables_run (w ∷ more) p = reads $ over_gap $ reads $ reads $ over_line $
+    enables_run more (record p { enables = w ∷ p.enables })
 
 members_run : (ms : List StructMember) → Each IsMember ms →
     (w : List ℕ) (done : List StructMember) (s : Stack) →
@@ -64,15 +69,21 @@ members_run : (ms : List StructMember) → Each IsMember ms →
     (ExpectMemberName (InMembers w (turned ms done) [] s))
 members_run [] is w done s = at_end
 members_run (m ∷ more) is w done s =
-    over_indent $ member_attributes_run m.attributes w done [] s onward reads $ reads $ over_gap $ type_runs m.type is.0.type.part _ onward reads $
-    as_state (ap (λ v. ExpectMemberName (InMembers w (record m { attributes = v } ∷ done) [] s)) (turned_back m.attributes [])) $
+    over_indent $ member_attributes_run m.attributes w done [] s onward reads $ reads $ over_gap $
+    type_runs m.type is.0.type.part _ onward reads $
+    as_state (ap (λ v. ExpectMemberName (InMembers w (record m { attributes = v } ∷ done) [] s))
+    (turned_back m.attributes [])) $
     over_line $ members_run more is.1 w (m ∷ done) s
 
-structs_run : (list : List Struct) → Each IsStruct list → (p : Program) → Runs (structs_pieces list) (Expect (InProgram [] p)) (Expect (InProgram [] (record p { structs = turned list p.structs })))
+structs_run : (list : List Struct) → Each IsStruct list → (p : Program) →
+    Runs (structs_pieces list) (Expect (InProgram [] p))
+    (Expect (InProgram [] (record p { structs = turned list p.structs })))
 structs_run [] is p = at_end
 structs_run (d ∷ more) is p =
-    reads $ over_gap $ reads $ over_gap $ reads $ over_line $ members_run d.members is.0.members d.name [] _ onward reads $
-    as_state (ap (λ v. Expect (InProgram [] (record p { structs = record d { members = v } ∷ p.structs }))) (turned_back d.members [])) $
+    reads $ over_gap $ reads $ over_gap $ reads $ over_line $
+    members_run d.members is.0.members d.name [] _ onward reads $
+    as_state (ap (λ v. Expect (InProgram [] (record p { structs = record d { members = v } ∷ p.structs })))
+    (turned_back d.members [])) $
     over_line $ over_line $ structs_run more is.1 (record p { structs = d ∷ p.structs })
 
 constants_run : (list : List NamedConstant) → Each IsNamedConstant list →
@@ -80,10 +91,13 @@ constants_run : (list : List NamedConstant) → Each IsNamedConstant list →
     (Expect (InProgram [] (record p { constants = turned list p.constants })))
 constants_run [] is p = at_end
 constants_run (d ∷ more) is p =
-    reads $ over_gap $ reads $ reads $ over_gap $ type_runs d.type is.0.type.part _ onward over_gap $ reads $ over_gap $ expression_runs d.value is.0.value _ onward reads $ over_line $
+    reads $ over_gap $ reads $ reads $ over_gap $ type_runs d.type is.0.type.part _ onward over_gap $ reads $
+    over_gap $ expression_runs d.value is.0.value _ onward reads $ over_line $
     constants_run more is.1 (record p { constants = d ∷ p.constants })
 
-override_value_runs : (value : Option Expression) → IsValue value → (w : List ℕ) (t : TypeSpecifier) (s : Stack) → Runs (value_pieces value) (GotType t (InOverrideType w s)) (add_override w t value s)
+override_value_runs : (value : Option Expression) → IsValue value →
+    (w : List ℕ) (t : TypeSpecifier) (s : Stack) → Runs (value_pieces value) (GotType t (InOverrideType w s))
+    (add_override w t value s)
 override_value_runs None is w t s = at_end
 override_value_runs (Some e) is w t s = over_gap $ reads $ over_gap $ expression_runs e is _ onward at_end
 
@@ -92,14 +106,16 @@ overrides_run : (list : List Override) → Each IsOverride list →
     (Expect (InProgram [] (record p { overrides = turned list p.overrides })))
 overrides_run [] is p = at_end
 overrides_run (d ∷ more) is p =
-    attributes_run d.attributes [] p onward reads $ over_gap $ reads $ reads $ over_gap $ type_runs d.type is.0.type.part _ onward
+    attributes_run d.attributes [] p onward reads $ over_gap $ reads $ reads $ over_gap $
+    type_runs d.type is.0.type.part _ onward
     to_state (override_value_runs d.value is.0.value d.name d.type _)
     (ap (λ v. Expect
     (InProgram [] (record p { overrides = record d { attributes = v } ∷ p.overrides })))
     (turned_back d.attributes [])) onward
     overrides_run more is.1 (record p { overrides = d ∷ p.overrides })
 
-space_runs : (space : Space) (w : List ℕ) {s : Stack} {qs : List Piece} {s' : State} → Runs qs (AfterGlobalName space w s) s' → Runs (space_pieces space ++ (Blank ∷ word w ∷ qs)) (AfterVar s) s'
+space_runs : (space : Space) (w : List ℕ) {s : Stack} {qs : List Piece} {s' : State} →
+    Runs qs (AfterGlobalName space w s) s' → Runs (space_pieces space ++ (Blank ∷ word w ∷ qs)) (AfterVar s) s'
 space_runs NoSpace w b = over_gap $ reads b
 space_runs (SpaceAlone a) w b = reads $ reads $ reads $ over_gap $ reads b
 space_runs (SpaceAndAccess a m) w b = reads $ reads $ reads $ over_gap $ reads $ reads $ over_gap $ reads b
@@ -110,10 +126,13 @@ global_value_runs : (value : Option Expression) → IsValue value →
 global_value_runs None is space w t s = at_end
 global_value_runs (Some e) is space w t s = over_gap $ reads $ over_gap $ expression_runs e is _ onward at_end
 
-globals_run : (list : List Global) → Each IsGlobal list → (p : Program) → Runs (globals_pieces list) (Expect (InProgram [] p)) (Expect (InProgram [] (record p { globals = turned list p.globals })))
+globals_run : (list : List Global) → Each IsGlobal list → (p : Program) →
+    Runs (globals_pieces list) (Expect (InProgram [] p))
+    (Expect (InProgram [] (record p { globals = turned list p.globals })))
 globals_run [] is p = at_end
 globals_run (d ∷ more) is p =
-    global_attributes_run d.attributes [] p onward reads $ space_runs d.space d.name $ reads $ over_gap $ type_runs d.type is.0.type.part _ onward
+    global_attributes_run d.attributes [] p onward reads $ space_runs d.space d.name $ reads $ over_gap $
+    type_runs d.type is.0.type.part _ onward
     to_state (global_value_runs d.value is.0.value d.space d.name d.type _)
     (ap (λ v. Expect
     (InProgram [] (record p { globals = record d { attributes = v } ∷ p.globals })))
@@ -132,7 +151,8 @@ newest_first p = record {
   entry_points = turned p.entry_points [];
 }
 
-pub program_runs : (p : Program) → IsProgram p → Runs (program_pieces p) (Expect (InProgram [] no_declarations)) (Expect (InProgram [] (newest_first p)))
+pub program_runs : (p : Program) → IsProgram p → Runs (program_pieces p) (Expect (InProgram [] no_declarations))
+    (Expect (InProgram [] (newest_first p)))
 program_runs p is =
     enables_run p.enables _ onward group_end_runs p.enables _ onward structs_run p.structs is.structs _ onward
     constants_run p.constants is.constants _ onward group_end_runs p.constants _ onward
@@ -170,8 +190,13 @@ newest_twice p =
       entry_points =
           (newest_first (newest_first p)).entry_points;
     }) (turned_back p.overrides [])
-    ∙ ap (λ v. record p { globals = v; functions = (newest_first (newest_first p)).functions; entry_points = (newest_first (newest_first p)).entry_points }) (turned_back p.globals [])
-    ∙ ap (λ v. record p { functions = v; entry_points = (newest_first (newest_first p)).entry_points }) (turned_back p.functions [])
+    ∙ ap (λ v. record p {
+      globals = v;
+      functions = (newest_first (newest_first p)).functions;
+      entry_points = (newest_first (newest_first p)).entry_points;
+    }) (turned_back p.globals [])
+    ∙ ap (λ v. record p { functions = v; entry_points = (newest_first (newest_first p)).entry_points })
+    (turned_back p.functions [])
     ∙ ap (λ v. record p { entry_points = v }) (turned_back p.entry_points [])
 
 -- In their pieces no token runs into the next.
@@ -183,42 +208,49 @@ after_closed _ = none
 
 global_attributes_closed : (list : List Attribute) → IsAttributes list → Closed (global_attributes_pieces list)
 global_attributes_closed [] is = none
-global_attributes_closed (a ∷ more) is = attribute_closed a is.0 then after_closed a then global_attributes_closed more is.1
+global_attributes_closed (a ∷ more) is =
+    attribute_closed a is.0 then after_closed a then global_attributes_closed more is.1
 
 -- declarations
 
 enables_closed : (list : List (List ℕ)) → Each IsEnable list → Closed (enables_pieces list)
 enables_closed [] is = none
-enables_closed (w ∷ more) is = sign (λ _. refl) $ gap $ free (table_word enable_words w enables_free is.0) (λ _. refl) $ sign (λ _. refl) $ line $ enables_closed more is.1
+enables_closed (w ∷ more) is = sign (λ _. refl) $ gap $ free (table_word enable_words w enables_free is.0)
+    (λ _. refl) $ sign (λ _. refl) $ line $ enables_closed more is.1
 
 members_closed : (ms : List StructMember) → Each IsMember ms → Closed (members_pieces ms)
 members_closed [] is = none
 members_closed (m ∷ more) is =
-    indent $ attributes_closed m.attributes is.0.attributes then free is.0.name (λ _. refl) $ sign (λ _. refl) $ gap $ part (type_spaced m.type is.0.type.part) (λ _. refl) $
+    indent $ attributes_closed m.attributes is.0.attributes then free is.0.name (λ _. refl) $ sign (λ _. refl) $
+    gap $ part (type_spaced m.type is.0.type.part) (λ _. refl) $
     sign (λ _. refl) $ line $ members_closed more is.1
 
 structs_closed : (list : List Struct) → Each IsStruct list → Closed (structs_pieces list)
 structs_closed [] is = none
 structs_closed (d ∷ more) is =
-    sign (λ _. refl) $ gap $ free is.0.name.word (λ _. refl) $ gap $ sign (λ _. refl) $ line $ members_closed d.members is.0.members then sign (λ _. refl) $ line $ line $ structs_closed more is.1
+    sign (λ _. refl) $ gap $ free is.0.name.word (λ _. refl) $ gap $ sign (λ _. refl) $ line $
+    members_closed d.members is.0.members then sign (λ _. refl) $ line $ line $ structs_closed more is.1
 
 constants_closed : (list : List NamedConstant) → Each IsNamedConstant list → Closed (constants_pieces list)
 constants_closed [] is = none
 constants_closed (d ∷ more) is =
-    sign (λ _. refl) $ gap $ free is.0.name.word (λ _. refl) $ sign (λ _. refl) $ gap $ part (type_spaced d.type is.0.type.part) (λ _. refl) $ gap $ sign (λ _. refl) $ gap $
+    sign (λ _. refl) $ gap $ free is.0.name.word (λ _. refl) $ sign (λ _. refl) $ gap $
+    part (type_spaced d.type is.0.type.part) (λ _. refl) $ gap $ sign (λ _. refl) $ gap $
     part (expression_spaced d.value is.0.value) (λ _. refl) $ sign (λ _. refl) $ line $ constants_closed more is.1
 
 overrides_closed : (list : List Override) → Each IsOverride list → Closed (overrides_pieces list)
 overrides_closed [] is = none
 overrides_closed (d ∷ more) is =
-    attributes_closed d.attributes is.0.attributes then sign (λ _. refl) $ gap $ free is.0.name.word (λ _. refl) $ sign (λ _. refl) $ gap $
+    attributes_closed d.attributes is.0.attributes then sign (λ _. refl) $ gap $
+    free is.0.name.word (λ _. refl) $ sign (λ _. refl) $ gap $
     value_after d.type is.0.type d.value is.0.value $ overrides_closed more is.1
 
 storage_free : all_words is_free (codes "storage" ∷ []) ≡ true
 unfolding is_reserved
 storage_free = refl
 
-var_closed : (space : Space) → IsTrue (is_space space) → {qs : List Piece} → Closed qs → Closed (mark KeywordVar ∷ (space_pieces space ++ (Blank ∷ qs)))
+var_closed : (space : Space) → IsTrue (is_space space) → {qs : List Piece} → Closed qs →
+    Closed (mark KeywordVar ∷ (space_pieces space ++ (Blank ∷ qs)))
 var_closed NoSpace is b = sign (λ _. refl) $ gap b
 var_closed (SpaceAlone a) is b =
     let w = table_word address_space_words a address_spaces_free is in
@@ -226,12 +258,14 @@ var_closed (SpaceAlone a) is b =
 var_closed (SpaceAndAccess a m) is b =
     let h = and_parts (bytes_eq (codes "storage") a) (stands_in access_words m) is in
     let w = table_word (codes "storage" ∷ []) a storage_free (ap (λ c. c || false) h.0) in
-    sign (λ _. refl) $ angle (word_opens a w) $ free w (λ _. refl) $ sign (λ _. refl) $ gap $ free (table_word access_words m accesses_free h.1) (λ _. refl) $ sign (λ _. refl) $ gap b
+    sign (λ _. refl) $ angle (word_opens a w) $ free w (λ _. refl) $ sign (λ _. refl) $ gap $
+    free (table_word access_words m accesses_free h.1) (λ _. refl) $ sign (λ _. refl) $ gap b
 
 globals_closed : (list : List Global) → Each IsGlobal list → Closed (globals_pieces list)
 globals_closed [] is = none
 globals_closed (d ∷ more) is =
-    global_attributes_closed d.attributes is.0.attributes then var_closed d.space is.0.space $ free is.0.name.word (λ _. refl) $ sign (λ _. refl) $ gap $
+    global_attributes_closed d.attributes is.0.attributes then var_closed d.space is.0.space $
+    free is.0.name.word (λ _. refl) $ sign (λ _. refl) $ gap $
     value_after d.type is.0.type d.value is.0.value $ globals_closed more is.1
 
 pub program_closed : (p : Program) → IsProgram p → Closed (program_pieces p)
@@ -244,7 +278,8 @@ program_closed p is =
 
 -- The text of each row, from the texts of its parts.
 
-pub enables_text : (w : List ℕ) (more : List (List ℕ)) → text (enables_pieces (w ∷ more)) ≡ codes "enable " ++ (w ++ (codes ";\n" ++ text (enables_pieces more)))
+pub enables_text : (w : List ℕ) (more : List (List ℕ)) → text (enables_pieces (w ∷ more)) ≡ codes "enable "
+    ++ (w ++ (codes ";\n" ++ text (enables_pieces more)))
 enables_text w more = refl
 
 pub members_text : (m : StructMember) (more : List StructMember) →

@@ -40,20 +40,24 @@ use Rattle.wgsl_text.specs.Text.{mark_text, text}
 use Rattle.std.proofs.lemmas.List.{append-nil}
 use Rattle.wgsl_text.specs.Reading.{type_layout, expression_layout}
 
-less_runs : (a : Expression) → IsExpression a → (s : Stack) → Runs (mark LessThan ∷ []) (Got a (InParens s)) (Expect (InRight a Less s))
+less_runs : (a : Expression) → IsExpression a → (s : Stack) → Runs (mark LessThan ∷ []) (Got a (InParens s))
+    (Expect (InRight a Less s))
 less_runs (Name w) is s = record { to = when_false _ is.own }
 less_runs _ is s = at_end
 
-operator_runs : (op : BinaryOperator) (a : Expression) → IsExpression a → (s : Stack) → Runs (binary_pieces op) (Got a (InParens s)) (Expect (InRight a op s))
+operator_runs : (op : BinaryOperator) (a : Expression) → IsExpression a → (s : Stack) →
+    Runs (binary_pieces op) (Got a (InParens s)) (Expect (InRight a op s))
 operator_runs Less a is s = less_runs a is s
 operator_runs _ a is s = at_end
 
-unary_runs : (op : UnaryOperator) (s : Stack) → Runs (mark (unary_mark op) ∷ mark OpenParen ∷ []) (Expect s) (Expect (InUnary op s))
+unary_runs : (op : UnaryOperator) (s : Stack) → Runs (mark (unary_mark op) ∷ mark OpenParen ∷ []) (Expect s)
+    (Expect (InUnary op s))
 unary_runs Negate s = at_end
 unary_runs _ s = at_end
 
 -- the base of a member or an index, in parentheses where it is unary
-base_runs : (e : Expression) (s : Stack) → ((s : Stack) → Runs (expression_pieces e) (Expect s) (Got e s)) → Runs (base_pieces e (expression_pieces e)) (Expect s) (Got e s)
+base_runs : (e : Expression) (s : Stack) → ((s : Stack) → Runs (expression_pieces e) (Expect s) (Got e s)) →
+    Runs (base_pieces e (expression_pieces e)) (Expect s) (Got e s)
 base_runs (Unary op e) s a = reads $ a _ onward at_end
 base_runs (Constant l) s a = a s
 base_runs _ s a = a s
@@ -143,7 +147,8 @@ calls_are_templates : all_rows is_template call_templates ≡ true
 unfolding is_reserved is_builtin
 calls_are_templates = refl
 
-pub call_template : (w : List ℕ) (parts : TemplateArguments) → IsTrue (fits (rule_among call_templates w) parts) → IsTemplateWord w
+pub call_template : (w : List ℕ) (parts : TemplateArguments) →
+    IsTrue (fits (rule_among call_templates w) parts) → IsTemplateWord w
 call_template w parts fit = template_of w (row_word is_template call_templates w parts calls_are_templates fit)
 
 -- The machine reads back expressions.
@@ -154,18 +159,22 @@ pub callee_runs : (t : TypeSpecifier) → IsCallee t → (ps : List Piece) (s : 
     Runs (type_pieces t ++ (mark OpenParen ∷ ps)) (Expect s) s'
 callee_runs (Named w) is ps s s' a = record { to = a.to }
 callee_runs (Template w parts) is ps s s' a =
-    reads $ reads $ as_state (when_true _ (call_template w parts is.0).builtin) $ parts_run parts is.1 (has_gaps w) w (InCallee s) onward reads a
+    reads $ reads $ as_state (when_true _ (call_template w parts is.0).builtin) $
+    parts_run parts is.1 (has_gaps w) w (InCallee s) onward reads a
 
 mutual
-  pub expression_runs : (e : Expression) → IsExpression e → (s : Stack) → Runs (expression_pieces e) (Expect s) (Got e s)
+  pub expression_runs : (e : Expression) → IsExpression e → (s : Stack) →
+      Runs (expression_pieces e) (Expect s) (Got e s)
   expression_runs (Constant l) is s = literal_runs l is s
   expression_runs (Name w) is s = at_end
   expression_runs (Binary a op b) is s =
-      reads $ expression_runs a is.0 _ onward over_gap $ operator_runs op a is.0 s onward over_gap $ expression_runs b is.1 _ onward at_end
+      reads $ expression_runs a is.0 _ onward over_gap $ operator_runs op a is.0 s onward over_gap $
+      expression_runs b is.1 _ onward at_end
   expression_runs (Unary op e) is s = unary_runs op s onward expression_runs e is _ onward at_end
   expression_runs (Call t args) is s = callee_runs t is.0 _ s _ (arguments_run args is.1 (stand_first t args is.2) t s)
   expression_runs (Member e w) is s = base_runs e s (expression_runs e is.0) onward at_end
-  expression_runs (Index e i) is s = base_runs e s (expression_runs e is.0) onward reads $ expression_runs i is.1 _ onward at_end
+  expression_runs (Index e i) is s = base_runs e s (expression_runs e is.0) onward reads $
+      expression_runs i is.1 _ onward at_end
   expression_runs (IndexAt e n) is s = base_runs e s (expression_runs e is.0) onward at_end
   expression_runs (AddressOf e) is s = reads $ reads $ expression_runs e is _ onward at_end
   expression_runs (Dereference e) is s = reads $ reads $ expression_runs e is _ onward at_end
@@ -174,8 +183,10 @@ mutual
       (t : TypeSpecifier) (s : Stack) →
       Runs (arguments_pieces args) (Expect (InArguments t NoArguments s)) (Got (Call t args) s)
   arguments_run NoArguments is first t s = at_end
-  arguments_run (Argument e more) is first t s = expression_runs e is.0 _ onward argument_done more (more_arguments_run more is.1 first (Argument e NoArguments) tt t s)
-  arguments_run (NumberArgument n more) is first t s = reads $ number_done more is.1 (more_arguments_run more is.2 first (NumberArgument n NoArguments) tt t s)
+  arguments_run (Argument e more) is first t s = expression_runs e is.0 _ onward argument_done more
+      (more_arguments_run more is.1 first (Argument e NoArguments) tt t s)
+  arguments_run (NumberArgument n more) is first t s =
+      reads $ number_done more is.1 (more_arguments_run more is.2 first (NumberArgument n NoArguments) tt t s)
   arguments_run (ZeroArgument whole more) is first t s = absurd first
 
   pub more_arguments_run : (args : Arguments) → IsArguments args → StandAfter args →
@@ -183,18 +194,24 @@ mutual
       Runs (more_arguments_pieces args) (AfterArgument t done s)
       (Got (Call t (unwind_arguments done args)) s)
   more_arguments_run NoArguments is following done some t s = at_end
-  more_arguments_run (Argument e more) is following done some t s = reads $ over_gap $ expression_runs e is.0 _ onward argument_done more (more_arguments_run more is.1 following (Argument e done) tt t s)
+  more_arguments_run (Argument e more) is following done some t s = reads $ over_gap $
+      expression_runs e is.0 _ onward argument_done more
+      (more_arguments_run more is.1 following (Argument e done) tt t s)
   more_arguments_run (NumberArgument n more) is following done some t s = absurd following
-  more_arguments_run (ZeroArgument false more) is following done some t s = reads $ over_gap $ reads $ more_arguments_run more is following (ZeroArgument false done) tt t s
-  more_arguments_run (ZeroArgument true more) is following done some t s = reads $ over_gap $ reads $ zero_done more done some (more_arguments_run more is following (ZeroArgument true done) tt t s)
+  more_arguments_run (ZeroArgument false more) is following done some t s = reads $ over_gap $ reads $
+      more_arguments_run more is following (ZeroArgument false done) tt t s
+  more_arguments_run (ZeroArgument true more) is following done some t s = reads $ over_gap $ reads $
+      zero_done more done some (more_arguments_run more is following (ZeroArgument true done) tt t s)
 
 -- Words that take parts.
 
 -- A function that takes a type is no type.
-call_fits : (w : List ℕ) (parts : TemplateArguments) → IsTrue (fits (rule_among type_templates w) parts) → IsTrue (fits (rule_among call_templates w) parts)
+call_fits : (w : List ℕ) (parts : TemplateArguments) → IsTrue (fits (rule_among type_templates w) parts) →
+    IsTrue (fits (rule_among call_templates w) parts)
 call_fits w parts fit = by_word (stands_in type_taking_words w) refl
   where
-    by_word : (b : Bool) → stands_in type_taking_words w ≡ b → IsTrue (fits (cond b TakesType (rule_among type_templates w)) parts)
+    by_word : (b : Bool) → stands_in type_taking_words w ≡ b →
+        IsTrue (fits (cond b TakesType (rule_among type_templates w)) parts)
     by_word true e =
         let none = passes (λ v. takes_none (rule_among type_templates v)) type_taking_words w refl e in
         absurd (false≢true (sym (fits_nothing (rule_among type_templates w) parts none) ∙ fit))
@@ -229,7 +246,9 @@ expression_opens _ is = record { at = λ more. refl }
 pub callee_spaced : (t : TypeSpecifier) → IsCallee t → Spaced (type_pieces t)
 callee_spaced (Named w) is = free is (λ more e. e) end
 callee_spaced (Template w parts) is =
-    free (call_template w parts is.0).word (λ more e. refl) $ tok tt (λ more e. (parts_open parts (parts_of_fit _ parts is.0) is.1 (has_gaps w)).at more) $ parts_spaced parts is.1 (has_gaps w)
+    free (call_template w parts is.0).word (λ more e. refl) $
+    tok tt (λ more e. (parts_open parts (parts_of_fit _ parts is.0) is.1 (has_gaps w)).at more) $
+    parts_spaced parts is.1 (has_gaps w)
 
 -- an operator between blanks
 operator_spaced : (op : BinaryOperator) {qs : List Piece} → Spaced qs → Spaced (binary_pieces op ++ (Blank ∷ qs))
@@ -249,7 +268,8 @@ more_arguments_end : (args : Arguments) → Ends (more_arguments_pieces args)
 more_arguments_end NoArguments more e = refl
 more_arguments_end _ more e = refl
 
-number_argument_end : (args : Arguments) (n : ℕ) (more : List Piece) → ends (Number false n NoSuffix) (text (more_arguments_pieces args ++ more)) ≡ true
+number_argument_end : (args : Arguments) (n : ℕ) (more : List Piece) →
+    ends (Number false n NoSuffix) (text (more_arguments_pieces args ++ more)) ≡ true
 number_argument_end NoArguments n more = refl
 number_argument_end _ n more = refl
 
@@ -261,31 +281,46 @@ mutual
   expression_spaced (Constant l) is = literal_spaced l is
   expression_spaced (Name w) is = free is.word (λ more e. e) end
   expression_spaced (Binary a op b) is =
-      tok tt (λ more e. refl) $ part (expression_spaced a is.0) (λ more e. refl) $ gap $ operator_spaced op (part (expression_spaced b is.1) (λ more e. refl) close)
+      tok tt (λ more e. refl) $ part (expression_spaced a is.0) (λ more e. refl) $ gap $
+      operator_spaced op (part (expression_spaced b is.1) (λ more e. refl) close)
   expression_spaced (Unary op e) is = unary_spaced op (part (expression_spaced e is) (λ more e. refl) close)
-  expression_spaced (Call t args) is = part (callee_spaced t is.0) (λ more e. refl) $ tok tt (λ more e. refl) $ arguments_spaced args is.1
-  expression_spaced (Member e w) is = part (base_spaced e (expression_spaced e is.0)) (λ more _. refl) $ tok tt (λ more _. refl) $ free is.1 (λ more h. h) end
+  expression_spaced (Call t args) is = part (callee_spaced t is.0) (λ more e. refl) $ tok tt (λ more e. refl) $
+      arguments_spaced args is.1
+  expression_spaced (Member e w) is = part (base_spaced e (expression_spaced e is.0)) (λ more _. refl) $
+      tok tt (λ more _. refl) $ free is.1 (λ more h. h) end
   expression_spaced (Index e i) is =
       part (base_spaced e (expression_spaced e is.0)) (λ more _. refl) $ tok tt
       (λ more _. refl) $ part (expression_spaced i is.1) (λ more _. refl) $ tok tt
       (λ more _. refl) end
-  expression_spaced (IndexAt e n) is = part (base_spaced e (expression_spaced e is.0)) (λ more _. refl) $ tok tt (λ more _. refl) $ size is.1 (λ more _. refl) $ tok tt (λ more _. refl) end
-  expression_spaced (AddressOf e) is = tok tt (λ more _. refl) $ tok tt (λ more _. (opens_first _ (expression_opens e is)).at more) $ part (expression_spaced e is) (λ more _. refl) close
-  expression_spaced (Dereference e) is = tok tt (λ more _. refl) $ tok tt (λ more _. refl) $ part (expression_spaced e is) (λ more _. refl) close
+  expression_spaced (IndexAt e n) is = part (base_spaced e (expression_spaced e is.0)) (λ more _. refl) $
+      tok tt (λ more _. refl) $ size is.1 (λ more _. refl) $ tok tt (λ more _. refl) end
+  expression_spaced (AddressOf e) is = tok tt (λ more _. refl) $
+      tok tt (λ more _. (opens_first _ (expression_opens e is)).at more) $ part (expression_spaced e is)
+      (λ more _. refl) close
+  expression_spaced (Dereference e) is = tok tt (λ more _. refl) $ tok tt (λ more _. refl) $
+      part (expression_spaced e is) (λ more _. refl) close
 
   pub arguments_spaced : (args : Arguments) → IsArguments args → Spaced (arguments_pieces args)
   arguments_spaced NoArguments is = close
-  arguments_spaced (Argument e more) is = part (expression_spaced e is.0) (more_arguments_end more) $ more_arguments_spaced more is.1
-  arguments_spaced (NumberArgument n more) is = size is.0 (λ ps e. number_argument_end more n ps) $ more_arguments_spaced more is.2
-  arguments_spaced (ZeroArgument false more) is = tok tt (λ ps e. more_arguments_end more ps e) $ more_arguments_spaced more is
-  arguments_spaced (ZeroArgument true more) is = size plain_zero (λ ps e. number_argument_end more 0 ps) $ more_arguments_spaced more is
+  arguments_spaced (Argument e more) is = part (expression_spaced e is.0) (more_arguments_end more) $
+      more_arguments_spaced more is.1
+  arguments_spaced (NumberArgument n more) is = size is.0 (λ ps e. number_argument_end more n ps) $
+      more_arguments_spaced more is.2
+  arguments_spaced (ZeroArgument false more) is = tok tt (λ ps e. more_arguments_end more ps e) $
+      more_arguments_spaced more is
+  arguments_spaced (ZeroArgument true more) is = size plain_zero (λ ps e. number_argument_end more 0 ps) $
+      more_arguments_spaced more is
 
   pub more_arguments_spaced : (args : Arguments) → IsArguments args → Spaced (more_arguments_pieces args)
   more_arguments_spaced NoArguments is = close
-  more_arguments_spaced (Argument e more) is = tok tt (λ ps e. refl) $ gap $ part (expression_spaced e is.0) (more_arguments_end more) $ more_arguments_spaced more is.1
-  more_arguments_spaced (NumberArgument n more) is = tok tt (λ ps e. refl) $ gap $ size is.0 (λ ps e. number_argument_end more n ps) $ more_arguments_spaced more is.2
-  more_arguments_spaced (ZeroArgument false more) is = tok tt (λ ps e. refl) $ gap $ tok tt (λ ps e. more_arguments_end more ps e) $ more_arguments_spaced more is
-  more_arguments_spaced (ZeroArgument true more) is = tok tt (λ ps e. refl) $ gap $ size plain_zero (λ ps e. number_argument_end more 0 ps) $ more_arguments_spaced more is
+  more_arguments_spaced (Argument e more) is = tok tt (λ ps e. refl) $ gap $ part (expression_spaced e is.0)
+      (more_arguments_end more) $ more_arguments_spaced more is.1
+  more_arguments_spaced (NumberArgument n more) is = tok tt (λ ps e. refl) $ gap $
+      size is.0 (λ ps e. number_argument_end more n ps) $ more_arguments_spaced more is.2
+  more_arguments_spaced (ZeroArgument false more) is = tok tt (λ ps e. refl) $ gap $
+      tok tt (λ ps e. more_arguments_end more ps e) $ more_arguments_spaced more is
+  more_arguments_spaced (ZeroArgument true more) is = tok tt (λ ps e. refl) $ gap $
+      size plain_zero (λ ps e. number_argument_end more 0 ps) $ more_arguments_spaced more is
 
 -- The text of each row, from the texts of its parts.
 
@@ -298,16 +333,20 @@ pub binary_text : (a : Expression) (op : BinaryOperator) (b : Expression) →
     (codes " " ++ (text (binary_pieces op) ++ (codes " " ++ (expression_layout b ++ codes ")")))))
 binary_text a op b = simp text-append
 
-pub unary_text : (op : UnaryOperator) (e : Expression) → expression_layout (Unary op e) ≡ mark_text (unary_mark op) ++ (codes "(" ++ (expression_layout e ++ codes ")"))
+pub unary_text : (op : UnaryOperator) (e : Expression) → expression_layout (Unary op e)
+    ≡ mark_text (unary_mark op) ++ (codes "(" ++ (expression_layout e ++ codes ")"))
 unary_text op e = simp text-append
 
-pub call_text : (t : TypeSpecifier) (args : Arguments) → expression_layout (Call t args) ≡ type_layout t ++ (codes "(" ++ text (arguments_pieces args))
+pub call_text : (t : TypeSpecifier) (args : Arguments) → expression_layout (Call t args) ≡ type_layout t
+    ++ (codes "(" ++ text (arguments_pieces args))
 call_text t args = simp text-append
 
-pub argument_text : (e : Expression) (more : Arguments) → text (arguments_pieces (Argument e more)) ≡ expression_layout e ++ text (more_arguments_pieces more)
+pub argument_text : (e : Expression) (more : Arguments) → text (arguments_pieces (Argument e more))
+    ≡ expression_layout e ++ text (more_arguments_pieces more)
 argument_text e more = simp text-append
 
-pub next_argument_text : (e : Expression) (more : Arguments) → text (more_arguments_pieces (Argument e more)) ≡ codes ", " ++ (expression_layout e ++ text (more_arguments_pieces more))
+pub next_argument_text : (e : Expression) (more : Arguments) → text (more_arguments_pieces (Argument e more))
+    ≡ codes ", " ++ (expression_layout e ++ text (more_arguments_pieces more))
 next_argument_text e more = simp text-append
 
 -- the base of a member or an index
@@ -317,14 +356,18 @@ base_text e = text (base_pieces e (expression_pieces e))
 pub member_text : (e : Expression) (w : List ℕ) → expression_layout (Member e w) ≡ base_text e ++ (codes "." ++ w)
 member_text e w = simp (text-append, append-nil)
 
-pub index_text : (e i : Expression) → expression_layout (Index e i) ≡ base_text e ++ (codes "[" ++ (expression_layout i ++ codes "]"))
+pub index_text : (e i : Expression) → expression_layout (Index e i)
+    ≡ base_text e ++ (codes "[" ++ (expression_layout i ++ codes "]"))
 index_text e i = simp text-append
 
-pub index_at_text : (e : Expression) (n : ℕ) → expression_layout (IndexAt e n) ≡ base_text e ++ (codes "[" ++ (decimal n ++ codes "]"))
-index_at_text e n = text-append (base_pieces e (expression_pieces e)) _ ∙ ap (λ v. base_text e ++ (codes "[" ++ v)) (plain_text n (mark CloseBracket ∷ []))
+pub index_at_text : (e : Expression) (n : ℕ) → expression_layout (IndexAt e n)
+    ≡ base_text e ++ (codes "[" ++ (decimal n ++ codes "]"))
+index_at_text e n = text-append (base_pieces e (expression_pieces e)) _
+    ∙ ap (λ v. base_text e ++ (codes "[" ++ v)) (plain_text n (mark CloseBracket ∷ []))
 
 pub address_text : (e : Expression) → expression_layout (AddressOf e) ≡ codes "(&" ++ (expression_layout e ++ codes ")")
 address_text e = simp text-append
 
-pub dereference_text : (e : Expression) → expression_layout (Dereference e) ≡ codes "(*" ++ (expression_layout e ++ codes ")")
+pub dereference_text : (e : Expression) → expression_layout (Dereference e)
+    ≡ codes "(*" ++ (expression_layout e ++ codes ")")
 dereference_text e = simp text-append

@@ -46,7 +46,10 @@ double_form = record {
   functions = (
     record {
       name = is_d;
-      parameters = (record { attributes = tt; binding = refl; name = is_t; type = is_vector }, (record { attributes = tt; binding = refl; name = is_x; type = is_integer }, tt));
+      parameters = (
+        record { attributes = tt; binding = refl; name = is_t; type = is_vector },
+        (record { attributes = tt; binding = refl; name = is_x; type = is_integer }, tt),
+      );
       result = (tt, refl, is_integer);
       locals = tt;
       body = (doubled_form 12, tt);

@@ -69,13 +69,15 @@ pub literal_opens : (l : Literal) → IsLiteral l → Opens (literal_pieces l)
 literal_opens (Truth true) is = record { at = λ more. refl }
 literal_opens (Truth false) is = record { at = λ more. refl }
 literal_opens (Suffixed negative n suffix) is = number_opens negative n suffix (suffixed_number suffix negative n is)
-literal_opens (Floating negative whole fraction precision) is = decimal_opens negative whole fraction precision is.whole_digits
+literal_opens (Floating negative whole fraction precision) is =
+    decimal_opens negative whole fraction precision is.whole_digits
 literal_opens (SignedShort negative n) is = record { at = λ more. refl }
 literal_opens (UnsignedShort n) is = record { at = λ more. refl }
 literal_opens LeastInteger is = record { at = λ more. refl }
 literal_opens LeastLong is = record { at = λ more. refl }
 
-suffixed_spaced : (suffix : Suffix) (negative : Bool) (n : ℕ) → IsSuffixed suffix negative n → Spaced (TokenPiece (Number negative n suffix) ∷ [])
+suffixed_spaced : (suffix : Suffix) (negative : Bool) (n : ℕ) → IsSuffixed suffix negative n →
+    Spaced (TokenPiece (Number negative n suffix) ∷ [])
 suffixed_spaced NoSuffix negative n is = absurd is
 suffixed_spaced SuffixI negative n is = tok (suffixed_number SuffixI negative n is) (λ more e. refl) end
 suffixed_spaced SuffixU negative n is = tok (suffixed_number SuffixU negative n is) (λ more e. refl) end
@@ -83,15 +85,19 @@ suffixed_spaced SuffixLi negative n is = tok (suffixed_number SuffixLi negative 
 suffixed_spaced SuffixLu negative n is = tok (suffixed_number SuffixLu negative n is) (λ more e. refl) end
 
 wrapped_spaced : (w : List ℕ) (negative : Bool) (n : ℕ) → IsWord w → IsNumber n → Spaced (wrapped_pieces w negative n)
-wrapped_spaced w negative n word is = free word (λ more e. refl) $ tok tt (λ more e. refl) $ tok is (λ more e. refl) close
+wrapped_spaced w negative n word is = free word (λ more e. refl) $ tok tt (λ more e. refl) $
+    tok is (λ more e. refl) close
 
 pub literal_spaced : (l : Literal) → IsLiteral l → Spaced (literal_pieces l)
 literal_spaced (Truth true) is = tok tt (λ more e. e) end
 literal_spaced (Truth false) is = tok tt (λ more e. e) end
 literal_spaced (Suffixed negative n suffix) is = suffixed_spaced suffix negative n is
-literal_spaced (Floating negative whole fraction precision) is = tok (is.whole_digits, is.fraction_digits, is.power_digits) (λ more e. refl) end
-literal_spaced (SignedShort negative n) is = wrapped_spaced (codes "i16") negative n i16_word (signed_number negative n (2 ^ 15) (omega arith) is)
+literal_spaced (Floating negative whole fraction precision) is =
+    tok (is.whole_digits, is.fraction_digits, is.power_digits) (λ more e. refl) end
+literal_spaced (SignedShort negative n) is = wrapped_spaced (codes "i16") negative n i16_word
+    (signed_number negative n (2 ^ 15) (omega arith) is)
 literal_spaced (UnsignedShort n) is = wrapped_spaced (codes "u16") false n u16_word (omega arith)
 literal_spaced LeastInteger is = wrapped_spaced (codes "i32") true 2147483648 i32_word (omega arith)
 literal_spaced LeastLong is =
-    free i64_word (λ more e. refl) $ tok tt (λ more e. refl) $ tok (omega arith) (λ more e. refl) $ gap $ tok tt (λ more e. refl) $ gap $ tok (omega arith) (λ more e. refl) close
+    free i64_word (λ more e. refl) $ tok tt (λ more e. refl) $ tok (omega arith) (λ more e. refl) $ gap $
+    tok tt (λ more e. refl) $ gap $ tok (omega arith) (λ more e. refl) close

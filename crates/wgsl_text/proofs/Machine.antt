@@ -199,7 +199,8 @@ turned (x ∷ done) more = turned done (x ∷ more)
 -- a function has been read; it is an entry point if it has attributes
 abbrev pub function_added : List Attribute → Function → Program → Program
 function_added [] f p = record p { functions = f ∷ p.functions }
-function_added (a ∷ attributes) f p = let e : EntryPoint = record { stage = a ∷ attributes; function = f } in record p { entry_points = e ∷ p.entry_points }
+function_added (a ∷ attributes) f p = let e : EntryPoint = record { stage = a ∷ attributes; function = f } in
+    record p { entry_points = e ∷ p.entry_points }
 
 abbrev pub add_function : Function → Stack → State
 add_function f (InProgram attributes p) = Expect (InProgram [] (function_added (turned attributes []) f p))
@@ -207,7 +208,8 @@ add_function f _ = Failed
 
 abbrev pub add_local : List ℕ → TypeSpecifier → Option Expression → Stack → State
 add_local w t value (InLocals f parameters result done s) =
-    let l : Local = record { name = w; type = t; value = value } in Expect (InStatements NoStatements (InLocals f parameters result (l ∷ done) s))
+    let l : Local = record { name = w; type = t; value = value } in
+    Expect (InStatements NoStatements (InLocals f parameters result (l ∷ done) s))
 add_local w t value _ = Failed
 
 abbrev pub add_enable : List ℕ → Stack → State
@@ -216,12 +218,14 @@ add_enable w _ = Failed
 
 abbrev pub add_struct : List ℕ → List StructMember → Stack → State
 add_struct w members (InProgram attributes p) =
-    let d : Struct = record { name = w; members = members } in Expect (InProgram [] (record p { structs = d ∷ p.structs }))
+    let d : Struct = record { name = w; members = members } in
+    Expect (InProgram [] (record p { structs = d ∷ p.structs }))
 add_struct w members _ = Failed
 
 abbrev pub add_constant : List ℕ → TypeSpecifier → Expression → Stack → State
 add_constant w t e (InProgram attributes p) =
-    let d : NamedConstant = record { name = w; type = t; value = e } in Expect (InProgram [] (record p { constants = d ∷ p.constants }))
+    let d : NamedConstant = record { name = w; type = t; value = e } in
+    Expect (InProgram [] (record p { constants = d ∷ p.constants }))
 add_constant w t e _ = Failed
 
 abbrev pub add_global : Space → List ℕ → TypeSpecifier → Option Expression → Stack → State
@@ -246,7 +250,8 @@ add_attribute a _ = Failed
 
 abbrev pub add_member : List ℕ → TypeSpecifier → Stack → State
 add_member w t (InMembers name done attributes s) =
-    let m : StructMember = record { attributes = turned attributes []; name = w; type = t } in ExpectMemberName (InMembers name (m ∷ done) [] s)
+    let m : StructMember = record { attributes = turned attributes []; name = w; type = t } in
+    ExpectMemberName (InMembers name (m ∷ done) [] s)
 add_member w t _ = Failed
 
 abbrev pub close_struct : Stack → State
@@ -262,7 +267,13 @@ close_block body (InLoop s) = add_statement (Loop body NoBlock) s
 close_block body (InContinuing first s) = CloseOnce (Loop first (SomeBlock body)) s
 close_block body (InCase e done labels s) = AtCase e (Case labels body done) s
 close_block body (InLocals f parameters result locals s) =
-    add_function (record { name = f; parameters = parameters; result = result; locals = turned locals []; body = body }) s
+    add_function (record {
+      name = f;
+      parameters = parameters;
+      result = result;
+      locals = turned locals [];
+      body = body;
+    }) s
 close_block body _ = Failed
 
 abbrev pub expect_close_brace : Stack → State
@@ -407,7 +418,8 @@ got_open _ s = Failed
 
 -- Is this the word of a type, or of a call that takes a type?
 abbrev pub got_less : (List ℕ → Bool) → Expression → Stack → State
-got_less takes_types (Name w) s = cond (takes_types w) (ExpectType (InTemplate w NoTemplateArguments (InCallee s))) (got_operator Less (Name w) s)
+got_less takes_types (Name w) s =
+    cond (takes_types w) (ExpectType (InTemplate w NoTemplateArguments (InCallee s))) (got_operator Less (Name w) s)
 got_less takes_types e s = got_operator Less e s
 
 abbrev pub call_statement : Expression → Statements → Stack → State
@@ -482,7 +494,8 @@ got_index _ e n s = Failed
 
 -- a plain number alone in parentheses is a literal, and with more after it an argument
 abbrev pub wrapped_literal : List ℕ → Bool → ℕ → Literal
-wrapped_literal w negative n = cond (bytes_eq (codes "i16") w) (SignedShort negative n) (cond (bytes_eq (codes "u16") w) (UnsignedShort n) LeastInteger)
+wrapped_literal w negative n = cond (bytes_eq (codes "i16") w) (SignedShort negative n)
+    (cond (bytes_eq (codes "u16") w) (UnsignedShort n) LeastInteger)
 
 abbrev pub wrapped : TypeSpecifier → Bool → ℕ → Stack → State
 wrapped (Named w) negative n s = Got (Constant (wrapped_literal w negative n)) s
@@ -539,7 +552,8 @@ got_type_open t _ = Failed
 
 abbrev pub add_parameter : List ℕ → TypeSpecifier → Stack → Stack
 add_parameter w t (InParameters f done attributes s) =
-    let p : Parameter = record { attributes = turned attributes []; name = w; type = t } in InParameters f (p ∷ done) [] s
+    let p : Parameter = record { attributes = turned attributes []; name = w; type = t } in
+    InParameters f (p ∷ done) [] s
 add_parameter w t s = s
 
 abbrev pub close_parameters : Stack → State
@@ -569,8 +583,10 @@ after_global_type _ space w t s = Failed
 abbrev pub got_type_in : Mark → TypeSpecifier → Stack → State
 got_type_in m t (InTemplate w done s) = after_part m w (TypeArgument t done) s
 got_type_in m t (InLetType w s) = Expect (InTypedLet w t s)
-got_type_in m t (InParameterType f done attributes w s) = after_parameter m (add_parameter w t (InParameters f done attributes s))
-got_type_in m t (InResult f parameters attributes s) = Expect (InStatements NoStatements (InLocals f parameters (ResultOf (turned attributes []) t) [] s))
+got_type_in m t (InParameterType f done attributes w s) =
+    after_parameter m (add_parameter w t (InParameters f done attributes s))
+got_type_in m t (InResult f parameters attributes s) =
+    Expect (InStatements NoStatements (InLocals f parameters (ResultOf (turned attributes []) t) [] s))
 got_type_in m t (InLocalType w s) = after_local_type m w t s
 got_type_in m t (InMemberType w s) = add_member w t s
 got_type_in m t (InConstantType w s) = Expect (InConstant w t s)
@@ -626,7 +642,8 @@ number_case_value _ negative n = SignedCase negative n
 
 abbrev pub expect_case_value : Token → Expression → Cases → List CaseValue → Stack → State
 expect_case_value (Fixed KeywordDefault) e done labels s = AfterCaseValue e done labels DefaultCase s
-expect_case_value (Number negative n suffix) e done labels s = AfterCaseValue e done labels (number_case_value suffix negative n) s
+expect_case_value (Number negative n suffix) e done labels s =
+    AfterCaseValue e done labels (number_case_value suffix negative n) s
 expect_case_value _ e done labels s = Failed
 
 abbrev pub after_case_value : Mark → Expression → Cases → List CaseValue → CaseValue → Stack → State
@@ -661,7 +678,8 @@ plain_among (a ∷ more) w other = cond (bytes_eq (plain_attribute_word a) w) (P
 
 abbrev pub numbered_among : List NumberedAttribute → List ℕ → AttributeKind → AttributeKind
 numbered_among [] w other = other
-numbered_among (a ∷ more) w other = cond (bytes_eq (numbered_attribute_word a) w) (NumberedKind a) (numbered_among more w other)
+numbered_among (a ∷ more) w other = cond (bytes_eq (numbered_attribute_word a) w) (NumberedKind a)
+    (numbered_among more w other)
 
 abbrev pub worded_among : List WordedAttribute → List ℕ → AttributeKind → AttributeKind
 worded_among [] w other = other
@@ -669,7 +687,8 @@ worded_among (a ∷ more) w other = cond (bytes_eq (worded_attribute_word a) w) 
 
 abbrev pub kind_of : List ℕ → AttributeKind
 kind_of w =
-    plain_among (Invariant ∷ PerPrimitive ∷ Coherent ∷ Volatile ∷ Vertex ∷ Fragment ∷ Compute ∷ Task ∷ RayGeneration ∷ AnyHit ∷ ClosestHit ∷ Miss ∷ []) w
+    plain_among (Invariant ∷ PerPrimitive ∷ Coherent ∷ Volatile ∷ Vertex ∷ Fragment ∷ Compute ∷ Task
+    ∷ RayGeneration ∷ AnyHit ∷ ClosestHit ∷ Miss ∷ []) w
     (numbered_among (Location ∷ BlendSource ∷ Id ∷ Group ∷ Binding ∷ Size ∷ Align ∷ []) w
     (worded_among (Builtin ∷ Interpolate ∷ Mesh ∷ Payload ∷ IncomingPayload ∷ []) w
     (cond (bytes_eq (codes "workgroup_size") w) SizeKind NoKind)))

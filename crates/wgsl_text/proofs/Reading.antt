@@ -48,24 +48,28 @@ type_read t r = reads_to r.tokens (type_runs t r.form.part Bottom)
 pub expression_read : {ts : List Token} (e : Expression) → ReadsExpression ts e → read ts (Expect Bottom) ≡ Got e Bottom
 expression_read e r = reads_to r.tokens (expression_runs e r.form Bottom)
 
-statement_read : {ts : List Token} (st : Statement) → ReadsStatement ts st → read ts (Expect (InStatements NoStatements Bottom)) ≡ Expect (InStatements (Then st NoStatements) Bottom)
+statement_read : {ts : List Token} (st : Statement) → ReadsStatement ts st →
+    read ts (Expect (InStatements NoStatements Bottom)) ≡ Expect (InStatements (Then st NoStatements) Bottom)
 statement_read st r = reads_to r.tokens (statement_runs st r.form r.level NoStatements Bottom)
 
 -- a program of one function
 abbrev only_function : Function → Program
 only_function f = record no_declarations { functions = f ∷ [] }
 
-function_read : {ts : List Token} (f : Function) → ReadsFunction ts f → read ts (Expect (InProgram [] no_declarations)) ≡ Expect (InProgram [] (only_function f))
+function_read : {ts : List Token} (f : Function) → ReadsFunction ts f →
+    read ts (Expect (InProgram [] no_declarations)) ≡ Expect (InProgram [] (only_function f))
 function_read f r = reads_to r.tokens (function_runs f r.form [] no_declarations)
 
 -- a program of one entry point
 abbrev only_entry_point : EntryPoint → Program
 only_entry_point e = record no_declarations { entry_points = e ∷ [] }
 
-entry_point_read : {ts : List Token} (e : EntryPoint) → ReadsEntryPoint ts e → read ts (Expect (InProgram [] no_declarations)) ≡ Expect (InProgram [] (only_entry_point e))
+entry_point_read : {ts : List Token} (e : EntryPoint) → ReadsEntryPoint ts e →
+    read ts (Expect (InProgram [] no_declarations)) ≡ Expect (InProgram [] (only_entry_point e))
 entry_point_read e r = reads_to r.tokens (entry_point_runs e r.form no_declarations)
 
-pub program_read : {ts : List Token} (p : Program) → Reads ts p → read ts (Expect (InProgram [] no_declarations)) ≡ Expect (InProgram [] (newest_first p))
+pub program_read : {ts : List Token} (p : Program) → Reads ts p →
+    read ts (Expect (InProgram [] no_declarations)) ≡ Expect (InProgram [] (newest_first p))
 program_read p r = reads_to r.tokens (program_runs p r.form)
 
 pub same_type : (a b : TypeSpecifier) (s : State) → s ≡ GotType a Bottom → s ≡ GotType b Bottom → a ≡ b
@@ -74,7 +78,8 @@ same_type a b s e f = cc
 pub same_expression : (a b : Expression) (s : State) → s ≡ Got a Bottom → s ≡ Got b Bottom → a ≡ b
 same_expression a b s e f = cc
 
-same_statement : (a b : Statement) (s : State) → s ≡ Expect (InStatements (Then a NoStatements) Bottom) → s ≡ Expect (InStatements (Then b NoStatements) Bottom) → a ≡ b
+same_statement : (a b : Statement) (s : State) → s ≡ Expect (InStatements (Then a NoStatements) Bottom) →
+    s ≡ Expect (InStatements (Then b NoStatements) Bottom) → a ≡ b
 same_statement a b s e f = cc
 
 pub same_program : (a b : Program) (s : State) → s ≡ Expect (InProgram [] a) → s ≡ Expect (InProgram [] b) → a ≡ b
@@ -97,15 +102,18 @@ first_or f (g ∷ more) = g
 
 pub function_unique : (ts : List Token) (a b : Function) → ReadsFunction ts a → ReadsFunction ts b → a ≡ b
 function_unique ts a b ra rb =
-    ap (λ p. first_or a p.functions) (same_program (only_function a) (only_function b) _ (function_read a ra) (function_read b rb))
+    ap (λ p. first_or a p.functions) (same_program (only_function a) (only_function b) _ (function_read a ra)
+    (function_read b rb))
 
 pub entry_point_unique : (ts : List Token) (a b : EntryPoint) → ReadsEntryPoint ts a → ReadsEntryPoint ts b → a ≡ b
 entry_point_unique ts a b ra rb =
-    ap (λ p. first_or a p.entry_points) (same_program (only_entry_point a) (only_entry_point b) _ (entry_point_read a ra) (entry_point_read b rb))
+    ap (λ p. first_or a p.entry_points) (same_program (only_entry_point a) (only_entry_point b) _
+    (entry_point_read a ra) (entry_point_read b rb))
 
 pub program_unique : (ts : List Token) (a b : Program) → Reads ts a → Reads ts b → a ≡ b
 program_unique ts a b ra rb =
-    let e = same_program _ _ _ (program_read a ra) (program_read b rb) in sym (newest_twice a) ∙ (ap newest_first e ∙ newest_twice b)
+    let e = same_program _ _ _ (program_read a ra) (program_read b rb) in sym (newest_twice a)
+    ∙ (ap newest_first e ∙ newest_twice b)
 
 -- the tokens of pieces that stand apart
 spaced_tokens : (ps : List Piece) → Spaced ps → tokens (text ps) ≡ tokens_in ps
@@ -116,30 +124,44 @@ closed_tokens ps a = pieces_scan ps (subst Apart (append-nil ps) (a.by [] tt))
 
 pub type_has_one_reading : (t : TypeSpecifier) → IsType t → HasOneReading ReadsType (type_layout t) t
 type_has_one_reading t is =
-    let r : ReadsType (tokens (type_layout t)) t = record { form = is; tokens = spaced_tokens (type_pieces t) (type_spaced t is.part) } in
+    let r : ReadsType (tokens (type_layout t)) t =
+    record { form = is; tokens = spaced_tokens (type_pieces t) (type_spaced t is.part) } in
     record { read = r; only = λ other o. type_unique _ other t o r }
 
-pub expression_has_one_reading : (e : Expression) → IsExpression e → HasOneReading ReadsExpression (expression_layout e) e
+pub expression_has_one_reading : (e : Expression) → IsExpression e →
+    HasOneReading ReadsExpression (expression_layout e) e
 expression_has_one_reading e is =
-    let r : ReadsExpression (tokens (expression_layout e)) e = record { form = is; tokens = spaced_tokens (expression_pieces e) (expression_spaced e is) } in
+    let r : ReadsExpression (tokens (expression_layout e)) e =
+    record { form = is; tokens = spaced_tokens (expression_pieces e) (expression_spaced e is) } in
     record { read = r; only = λ other o. expression_unique _ other e o r }
 
-pub statement_has_one_reading : (st : Statement) → IsStatement st → (level : ℕ) → HasOneReading ReadsStatement (statement_layout st level) st
+pub statement_has_one_reading : (st : Statement) → IsStatement st → (level : ℕ) →
+    HasOneReading ReadsStatement (statement_layout st level) st
 statement_has_one_reading st is level =
-    let r : ReadsStatement (tokens (statement_layout st level)) st = record { form = is; level = level; tokens = closed_tokens (statement_pieces st level) (statement_closed st is level) } in
+    let r : ReadsStatement (tokens (statement_layout st level)) st =
+    record {
+      form = is;
+      level = level;
+      tokens = closed_tokens (statement_pieces st level)
+          (statement_closed st is level);
+    } in
     record { read = r; only = λ other o. statement_unique _ other st o r }
 
 pub function_has_one_reading : (f : Function) → IsFunction f → HasOneReading ReadsFunction (function_layout f) f
 function_has_one_reading f is =
-    let r : ReadsFunction (tokens (function_layout f)) f = record { form = is; tokens = closed_tokens (function_pieces f) (function_closed f is) } in
+    let r : ReadsFunction (tokens (function_layout f)) f =
+    record { form = is; tokens = closed_tokens (function_pieces f) (function_closed f is) } in
     record { read = r; only = λ other o. function_unique _ other f o r }
 
-pub entry_point_has_one_reading : (e : EntryPoint) → IsEntryPoint e → HasOneReading ReadsEntryPoint (entry_point_layout e) e
+pub entry_point_has_one_reading : (e : EntryPoint) → IsEntryPoint e →
+    HasOneReading ReadsEntryPoint (entry_point_layout e) e
 entry_point_has_one_reading e is =
-    let r : ReadsEntryPoint (tokens (entry_point_layout e)) e = record { form = is; tokens = closed_tokens (entry_point_pieces e) (entry_point_closed e is) } in
+    let r : ReadsEntryPoint (tokens (entry_point_layout e)) e =
+    record { form = is; tokens = closed_tokens (entry_point_pieces e) (entry_point_closed e is) } in
     record { read = r; only = λ other o. entry_point_unique _ other e o r }
 
 pub program_has_one_reading : (p : Program) → IsProgram p → HasOneReading Reads (layout p) p
 program_has_one_reading p is =
-    let r : Reads (tokens (layout p)) p = record { form = is; tokens = closed_tokens (program_pieces p) (program_closed p is) } in
+    let r : Reads (tokens (layout p)) p =
+    record { form = is; tokens = closed_tokens (program_pieces p) (program_closed p is) } in
     record { read = r; only = λ other o. program_unique _ other p o r }

@@ -21,7 +21,8 @@ pub ◌onward◌ : {ps qs : List Piece} {s s' s'' : State} → Runs ps s s' → 
 ◌onward◌ {ps} {qs} {s} a b = record { to = run_append ps qs s ∙ (ap (run is_builtin qs) a.to ∙ b.to) }
 
 -- a token, and then the others
-pub reads : {t : Token} {qs : List Piece} {s s' : State} → Runs qs (step is_builtin s t) s' → Runs (TokenPiece t ∷ qs) s s'
+pub reads : {t : Token} {qs : List Piece} {s s' : State} → Runs qs (step is_builtin s t) s' →
+    Runs (TokenPiece t ∷ qs) s s'
 reads b = record { to = b.to }
 
 pub over_gap : {qs : List Piece} {s s' : State} → Runs qs s s' → Runs (Blank ∷ qs) s s'

@@ -30,14 +30,21 @@ end = record { by = λ more h e. h }
 
 -- a part of a row, what shows that the others end it, and the others
 pub part : {ps qs : List Piece} → Spaced ps → Ends qs → Spaced qs → Spaced (ps ++ qs)
-part {ps} {qs} a front b = record { by = λ more h e. subst Apart (sym (append_assoc ps qs more)) (a.by (qs ++ more) (b.by more h e) (front more e)) }
+part {ps} {qs} a front b = record {
+  by = λ more h e. subst Apart (sym (append_assoc ps qs more))
+      (a.by (qs ++ more) (b.by more h e) (front more e));
+}
 
 -- a token, what shows that it ends, and the others
-pub tok : {t : Token} {qs : List Piece} → IsToken t → ((more : List Piece) → ends_word (text more) ≡ true → ends t (text (qs ++ more)) ≡ true) → Spaced qs → Spaced (TokenPiece t ∷ qs)
+pub tok : {t : Token} {qs : List Piece} → IsToken t →
+    ((more : List Piece) → ends_word (text more) ≡ true → ends t (text (qs ++ more)) ≡ true) → Spaced qs →
+    Spaced (TokenPiece t ∷ qs)
 tok is front b = record { by = λ more h e. (is, front more e, b.by more h e) }
 
 -- a word that may stand at a member's place
-pub free : {w : List ℕ} {qs : List Piece} → IsWord w → ((more : List Piece) → ends_word (text more) ≡ true → ends_word (text (qs ++ more)) ≡ true) → Spaced qs → Spaced (TokenPiece (Word w) ∷ qs)
+pub free : {w : List ℕ} {qs : List Piece} → IsWord w →
+    ((more : List Piece) → ends_word (text more) ≡ true → ends_word (text (qs ++ more)) ≡ true) → Spaced qs →
+    Spaced (TokenPiece (Word w) ∷ qs)
 free is front b = tok (word_token_of is) front b
 
 pub number_of_plain : (n : ℕ) → IsPlainNumber n → IsNumber n
@@ -65,21 +72,35 @@ opens_first {ps} qs a = record { at = λ more. ap (λ l. opens (text l)) (append
 
 pub word_opens : (w : List ℕ) → IsWord w → {ps : List Piece} → Opens (TokenPiece (Word w) ∷ ps)
 word_opens [] is = absurd (false≢true is.text)
-word_opens (b ∷ w) is = record { at = λ more. ap (λ c. c || (is_ascii_digit b || (b == 32 || (b == 33 || (b == 40 || (b == 45 || b == 126)))))) (and_parts (is_letter b) (all_word_bytes w) is.text).0 }
+word_opens (b ∷ w) is =
+    record {
+      at = λ more. ap (λ c. c
+          || (is_ascii_digit b || (b == 32 || (b == 33 || (b == 40 || (b == 45 || b == 126))))))
+          (and_parts (is_letter b) (all_word_bytes w) is.text).0;
+    }
 
 digits_open : (ds rest : List ℕ) → 0 < length ds → all_ascii_digits ds ≡ true → opens (ds ++ rest) ≡ true
 digits_open [] rest some is = absurd (omega arith)
 digits_open (b ∷ ds) rest some is =
     let h = and_parts (is_ascii_digit b) (all_ascii_digits ds) is in
-    ap (λ c. c || (is_ascii_digit b || (b == 32 || (b == 33 || (b == 40 || (b == 45 || b == 126)))))) (digit_no_letter b h.0)
+    ap (λ c. c || (is_ascii_digit b || (b == 32 || (b == 33 || (b == 40 || (b == 45 || b == 126))))))
+    (digit_no_letter b h.0)
     ∙ ap (λ c. c || (b == 32 || (b == 33 || (b == 40 || (b == 45 || b == 126))))) h.0
 
-pub number_opens : (negative : Bool) (n : ℕ) (suffix : Suffix) → IsNumber n → {ps : List Piece} → Opens (TokenPiece (Number negative n suffix) ∷ ps)
+pub number_opens : (negative : Bool) (n : ℕ) (suffix : Suffix) → IsNumber n → {ps : List Piece} →
+    Opens (TokenPiece (Number negative n suffix) ∷ ps)
 number_opens true n suffix is = record { at = λ more. refl }
 number_opens false n suffix is {ps} =
-    record { at = λ more. ap opens (append_assoc (decimal n) (suffix_text suffix) (text (ps ++ more))) ∙ digits_open (decimal n) _ (decimal_nonempty n is) (digits_decimal own_digits n is) }
+    record {
+      at = λ more. ap opens (append_assoc (decimal n) (suffix_text suffix) (text (ps ++ more)))
+          ∙ digits_open (decimal n) _ (decimal_nonempty n is) (digits_decimal own_digits n is);
+    }
 
-pub decimal_opens : (negative : Bool) (whole fraction : List ℕ) (precision : Precision) → AreDigits whole → {ps : List Piece} → Opens (TokenPiece (Decimal negative whole fraction precision) ∷ ps)
+pub decimal_opens : (negative : Bool) (whole fraction : List ℕ) (precision : Precision) → AreDigits whole →
+    {ps : List Piece} → Opens (TokenPiece (Decimal negative whole fraction precision) ∷ ps)
 decimal_opens true whole fraction precision are = record { at = λ more. refl }
 decimal_opens false whole fraction precision are {ps} =
-    record { at = λ more. ap opens (append_assoc whole (decimal_tail fraction precision) (text (ps ++ more))) ∙ digits_open whole _ are.some are.digits }
+    record {
+      at = λ more. ap opens (append_assoc whole (decimal_tail fraction precision) (text (ps ++ more)))
+          ∙ digits_open whole _ are.some are.digits;
+    }

@@ -27,11 +27,25 @@ calls = record { enables = refl; type_taking = refl; gathers = refl; levels = re
 
 marks : SpelledMarks
 unfolding is_reserved
-marks = record { keywords_in_order = refl; brackets = refl; separators = refl; operators = refl; double_operators = refl; suffixes = refl; precisions = refl }
+marks = record {
+  keywords_in_order = refl;
+  brackets = refl;
+  separators = refl;
+  operators = refl;
+  double_operators = refl;
+  suffixes = refl;
+  precisions = refl;
+}
 
 attributes : SpelledAttributes
 unfolding digits
-attributes = record { plain_attributes = refl; numbered_attributes = refl; worded_attributes = refl; interpolated_attributes = refl; workgroup_size = refl }
+attributes = record {
+  plain_attributes = refl;
+  numbered_attributes = refl;
+  worded_attributes = refl;
+  interpolated_attributes = refl;
+  workgroup_size = refl;
+}
 
 pub spelled : SpelledPieces
 spelled = record { types = types; calls = calls; marks = marks; attributes = attributes }

@@ -47,7 +47,8 @@ abbrev rewind_cases : Cases → Cases → Cases
 rewind_cases NoCases done = done
 rewind_cases (Case labels body more) done = rewind_cases more (Case labels body done)
 
-unwind_rewind : (ss done : Statements) → unwind_statements (rewind_statements ss done) NoStatements ≡ unwind_statements done ss
+unwind_rewind : (ss done : Statements) → unwind_statements (rewind_statements ss done) NoStatements
+    ≡ unwind_statements done ss
 unwind_rewind NoStatements done = refl
 unwind_rewind (Then s more) done = unwind_rewind more (Then s done)
 
@@ -56,10 +57,12 @@ unwind_rewind_cases NoCases done = refl
 unwind_rewind_cases (Case labels body more) done = unwind_rewind_cases more (Case labels body done)
 
 -- the brace after statements
-pub closes : (ss : Statements) {s : Stack} {qs : List Piece} {s' : State} → Runs qs (close_block ss s) s' → Runs (mark CloseBrace ∷ qs) (Expect (InStatements (rewind_statements ss NoStatements) s)) s'
+pub closes : (ss : Statements) {s : Stack} {qs : List Piece} {s' : State} → Runs qs (close_block ss s) s' →
+    Runs (mark CloseBrace ∷ qs) (Expect (InStatements (rewind_statements ss NoStatements) s)) s'
 closes ss {s} b = reads $ as_state (ap (λ body. close_block body s) (unwind_rewind ss NoStatements)) b
 
-case_value_runs : (l : CaseValue) (e : Expression) (done : Cases) (labels : List CaseValue) (s : Stack) → Runs (case_value_pieces l) (ExpectCaseValue e done labels s) (AfterCaseValue e done labels l s)
+case_value_runs : (l : CaseValue) (e : Expression) (done : Cases) (labels : List CaseValue) (s : Stack) →
+    Runs (case_value_pieces l) (ExpectCaseValue e done labels s) (AfterCaseValue e done labels l s)
 case_value_runs DefaultCase e done labels s = at_end
 case_value_runs _ e done labels s = at_end
 
@@ -67,12 +70,16 @@ case_values_run : (ls : CaseValues) (e : Expression) (done : Cases) (labels : Li
     Runs (case_values_pieces ls) (ExpectCaseValue e done labels s)
     (ExpectBrace (InCase e done (unwind_case_values labels ls) s))
 case_values_run (LastCaseValue l) e done labels s = case_value_runs l e done labels s onward at_end
-case_values_run (MoreCaseValues l more) e done labels s = case_value_runs l e done labels s onward reads $ over_gap $ case_values_run more e done (l ∷ labels) s
+case_values_run (MoreCaseValues l more) e done labels s = case_value_runs l e done labels s onward reads $
+    over_gap $ case_values_run more e done (l ∷ labels) s
 
-case_runs : (ls : CaseValues) (e : Expression) (done : Cases) (s : Stack) → Runs (case_pieces ls) (AtCase e done s) (ExpectBrace (InCase e done ls s))
+case_runs : (ls : CaseValues) (e : Expression) (done : Cases) (s : Stack) →
+    Runs (case_pieces ls) (AtCase e done s) (ExpectBrace (InCase e done ls s))
 case_runs (LastCaseValue DefaultCase) e done s = at_end
-case_runs (LastCaseValue (SignedCase negative n)) e done s = reads $ over_gap $ case_values_run (LastCaseValue (SignedCase negative n)) e done [] s
-case_runs (LastCaseValue (UnsignedCase n)) e done s = reads $ over_gap $ case_values_run (LastCaseValue (UnsignedCase n)) e done [] s
+case_runs (LastCaseValue (SignedCase negative n)) e done s = reads $ over_gap $
+    case_values_run (LastCaseValue (SignedCase negative n)) e done [] s
+case_runs (LastCaseValue (UnsignedCase n)) e done s = reads $ over_gap $
+    case_values_run (LastCaseValue (UnsignedCase n)) e done [] s
 case_runs (MoreCaseValues l more) e done s = reads $ over_gap $ case_values_run (MoreCaseValues l more) e done [] s
 
 -- a loop, up to the brace that closes it
@@ -93,12 +100,17 @@ continues : (body : Statements) {s : Stack} {qs : List Piece} {s' : State} →
 continues body {s} b = reads $ as_state (ap (λ v. ExpectBrace (InContinuing v s)) (unwind_rewind body NoStatements)) b
 
 mutual
-  pub statement_runs : (st : Statement) → IsStatement st → (n : ℕ) (done : Statements) (s : Stack) → Runs (statement_pieces st n) (Expect (InStatements done s)) (Expect (InStatements (Then st done) s))
-  statement_runs (Let w e) is n done s = over_indent $ reads $ over_gap $ reads $ over_gap $ reads $ over_gap $ expression_runs e is.1 _ onward at_end
+  pub statement_runs : (st : Statement) → IsStatement st → (n : ℕ) (done : Statements) (s : Stack) →
+      Runs (statement_pieces st n) (Expect (InStatements done s)) (Expect (InStatements (Then st done) s))
+  statement_runs (Let w e) is n done s = over_indent $ reads $ over_gap $ reads $ over_gap $ reads $ over_gap $
+      expression_runs e is.1 _ onward at_end
   statement_runs (TypedLet w t e) is n done s =
-      over_indent $ reads $ over_gap $ reads $ reads $ over_gap $ type_runs t is.1.part _ onward over_gap $ reads $ over_gap $ expression_runs e is.2 _ onward at_end
-  statement_runs (Assign a b) is n done s = over_indent $ expression_runs a is.0 _ onward over_gap $ reads $ over_gap $ expression_runs b is.1 _ onward at_end
-  statement_runs (CallStatement t args) is n done s = over_indent $ callee_runs t is.0 _ _ _ (arguments_run args is.1 (stand_first t args is.2) t _ onward at_end)
+      over_indent $ reads $ over_gap $ reads $ reads $ over_gap $ type_runs t is.1.part _ onward over_gap $
+      reads $ over_gap $ expression_runs e is.2 _ onward at_end
+  statement_runs (Assign a b) is n done s = over_indent $ expression_runs a is.0 _ onward over_gap $ reads $
+      over_gap $ expression_runs b is.1 _ onward at_end
+  statement_runs (CallStatement t args) is n done s =
+      over_indent $ callee_runs t is.0 _ _ _ (arguments_run args is.1 (stand_first t args is.2) t _ onward at_end)
   statement_runs (ReturnValue e) is n done s = over_indent $ reads $ over_gap $ expression_runs e is _ onward at_end
   statement_runs (If e accept reject) is n done s =
       over_indent $ reads $ over_gap $ expression_runs e is.0 _ onward over_gap $ reads $ over_line
@@ -109,15 +121,21 @@ mutual
       (suc n) NoStatements _ onward continuing_runs rest is.1 (suc n) body (InStatements done s)
       onward over_indent $ loop_closes body rest done s
   statement_runs (LoopBreakIf body rest e) is n done s =
-      over_indent (reads (over_gap (reads (over_line (statements_run body is.0 (suc n) NoStatements _ onward over_indent (continues body (over_gap (reads (over_line (
-      statements_run rest is.1 (suc (suc n)) NoStatements _ onward over_indent (reads (over_gap (reads (over_gap (expression_runs e is.2 _ onward
-      reads (as_state (ap (λ v. CloseTwice (LoopBreakIf body v e) (InStatements done s)) (unwind_rewind rest NoStatements)) at_end))))))))))))))))
+      over_indent (reads
+      (over_gap (reads
+      (over_line (statements_run body is.0 (suc n) NoStatements _ onward over_indent
+      (continues body (over_gap (reads (over_line (
+      statements_run rest is.1 (suc (suc n)) NoStatements _ onward over_indent
+      (reads (over_gap (reads (over_gap (expression_runs e is.2 _ onward
+      reads (as_state (ap (λ v. CloseTwice (LoopBreakIf body v e) (InStatements done s))
+      (unwind_rewind rest NoStatements)) at_end))))))))))))))))
   statement_runs (Switch e cases) is n done s =
       over_indent $ reads $ over_gap $ expression_runs e is.0 _ onward over_gap $ reads $ over_line
       $ cases_run cases is.1 (suc n) e NoCases _ onward over_indent $ reads $ as_state
       (ap (λ cs. add_statement (Switch e cs) (InStatements done s))
       (unwind_rewind_cases cases NoCases)) at_end
-  statement_runs (Block body) is n done s = over_indent $ reads $ over_line $ statements_run body is (suc n) NoStatements _ onward over_indent $ closes body at_end
+  statement_runs (Block body) is n done s = over_indent $ reads $ over_line $
+      statements_run body is (suc n) NoStatements _ onward over_indent $ closes body at_end
   statement_runs _ is n done s = at_end
 
   pub statements_run : (ss : Statements) → IsStatements ss →
@@ -125,7 +143,8 @@ mutual
       Runs (statements_pieces ss n) (Expect (InStatements done s))
       (Expect (InStatements (rewind_statements ss done) s))
   statements_run NoStatements is n done s = at_end
-  statements_run (Then st more) is n done s = statement_runs st is.0 n done s onward statements_run more is.1 n (Then st done) s
+  statements_run (Then st more) is n done s = statement_runs st is.0 n done s onward statements_run more is.1 n
+      (Then st done) s
 
   else_runs : (reject : OptionalBlock) → IsOptionalBlock reject → (n : ℕ) (e : Expression)
       (accept done : Statements) (s : Stack) →
@@ -146,7 +165,8 @@ mutual
       over_indent $ continues body $ over_gap $ reads $ over_line $
       statements_run rest is (suc n) NoStatements _ onward over_indent $ closes rest at_end
 
-  cases_run : (cs : Cases) → IsCases cs → (n : ℕ) (e : Expression) (done : Cases) (s : Stack) → Runs (cases_pieces cs n) (AtCase e done s) (AtCase e (rewind_cases cs done) s)
+  cases_run : (cs : Cases) → IsCases cs → (n : ℕ) (e : Expression) (done : Cases) (s : Stack) →
+      Runs (cases_pieces cs n) (AtCase e done s) (AtCase e (rewind_cases cs done) s)
   cases_run NoCases is n e done s = at_end
   cases_run (Case labels body more) is n e done s =
       over_indent $ case_runs labels e done s onward over_gap $ reads $ over_line $ statements_run
@@ -160,36 +180,45 @@ case_value_closed : (l : CaseValue) → IsCaseValue l → {qs : List Piece} →
     ((more : List Piece) → ends_word (text (qs ++ more)) ≡ true) → Closed qs →
     Closed (case_value_pieces l ++ qs)
 case_value_closed DefaultCase is number front a = sign front a
-case_value_closed (SignedCase negative n) is number front a = tok (signed_number negative n (2 ^ 31) (omega arith) is) number a
+case_value_closed (SignedCase negative n) is number front a =
+    tok (signed_number negative n (2 ^ 31) (omega arith) is) number a
 case_value_closed (UnsignedCase n) is number front a = tok (number_of_plain n is) (λ _. refl) a
 
 case_values_closed : (ls : CaseValues) → AreCaseValues ls → Closed (case_values_pieces ls)
 case_values_closed (LastCaseValue l) is = case_value_closed l is (λ _. refl) (λ _. refl) (sign (λ _. refl) none)
-case_values_closed (MoreCaseValues l more) is = case_value_closed l is.0 (λ _. refl) (λ _. refl) (sign (λ _. refl) (gap (case_values_closed more is.1)))
+case_values_closed (MoreCaseValues l more) is = case_value_closed l is.0 (λ _. refl) (λ _. refl)
+    (sign (λ _. refl) (gap (case_values_closed more is.1)))
 
 case_closed : (ls : CaseValues) → AreCaseValues ls → Closed (case_pieces ls)
 case_closed (LastCaseValue DefaultCase) is = sign (λ _. refl) $ sign (λ _. refl) none
-case_closed (LastCaseValue (SignedCase negative n)) is = sign (λ _. refl) $ gap $ case_values_closed (LastCaseValue (SignedCase negative n)) is
-case_closed (LastCaseValue (UnsignedCase n)) is = sign (λ _. refl) $ gap $ case_values_closed (LastCaseValue (UnsignedCase n)) is
+case_closed (LastCaseValue (SignedCase negative n)) is = sign (λ _. refl) $ gap $
+    case_values_closed (LastCaseValue (SignedCase negative n)) is
+case_closed (LastCaseValue (UnsignedCase n)) is = sign (λ _. refl) $ gap $
+    case_values_closed (LastCaseValue (UnsignedCase n)) is
 case_closed (MoreCaseValues l more) is = sign (λ _. refl) $ gap $ case_values_closed (MoreCaseValues l more) is
 
 mutual
   pub statement_closed : (st : Statement) → IsStatement st → (n : ℕ) → Closed (statement_pieces st n)
   statement_closed (Let w e) is n =
-      indent $ sign (λ _. refl) $ gap $ free is.0.word (λ _. refl) $ gap $ sign (λ _. refl) $ gap $ part (expression_spaced e is.1) (λ _. refl) stop
+      indent $ sign (λ _. refl) $ gap $ free is.0.word (λ _. refl) $ gap $ sign (λ _. refl) $ gap $
+      part (expression_spaced e is.1) (λ _. refl) stop
   statement_closed (TypedLet w t e) is n =
       indent $ sign (λ _. refl) $ gap $ free is.0.word (λ _. refl) $ sign (λ _. refl) $ gap $ part
       (type_spaced t is.1.part) (λ _. refl) $ gap $ sign (λ _. refl) $ gap $ part
       (expression_spaced e is.2) (λ _. refl) stop
-  statement_closed (Assign a b) is n = indent $ part (expression_spaced a is.0) (λ _. refl) $ gap $ sign (λ _. refl) $ gap $ part (expression_spaced b is.1) (λ _. refl) stop
-  statement_closed (CallStatement t args) is n = indent $ part (callee_spaced t is.0) (λ _. refl) $ sign (λ _. refl) $ part (arguments_spaced args is.1) (λ _. refl) stop
-  statement_closed (ReturnValue e) is n = indent $ sign (λ _. refl) $ gap $ part (expression_spaced e is) (λ _. refl) stop
+  statement_closed (Assign a b) is n = indent $ part (expression_spaced a is.0) (λ _. refl) $ gap $
+      sign (λ _. refl) $ gap $ part (expression_spaced b is.1) (λ _. refl) stop
+  statement_closed (CallStatement t args) is n = indent $ part (callee_spaced t is.0) (λ _. refl) $
+      sign (λ _. refl) $ part (arguments_spaced args is.1) (λ _. refl) stop
+  statement_closed (ReturnValue e) is n = indent $ sign (λ _. refl) $ gap $ part (expression_spaced e is)
+      (λ _. refl) stop
   statement_closed (If e accept reject) is n =
       indent $ sign (λ _. refl) $ gap $ part (expression_spaced e is.0) (λ _. refl) $ gap $ sign
       (λ _. refl) $ line $ statements_closed accept is.1 (suc n) then indent $ sign
       (λ _. refl) $ else_closed reject is.2 n
   statement_closed (Loop body rest) is n =
-      indent $ sign (λ _. refl) $ gap $ sign (λ _. refl) $ line $ statements_closed body is.0 (suc n) then continuing_closed rest is.1 (suc n) then indent close_line
+      indent $ sign (λ _. refl) $ gap $ sign (λ _. refl) $ line $
+      statements_closed body is.0 (suc n) then continuing_closed rest is.1 (suc n) then indent close_line
   statement_closed (LoopBreakIf body rest e) is n =
       indent $ sign (λ _. refl) $ gap $ sign (λ _. refl) $ line $ statements_closed body is.0
       (suc n) then indent $ sign (λ _. refl) $ gap $ sign (λ _. refl) $ line $ statements_closed
@@ -197,8 +226,10 @@ mutual
       (λ _. refl) $ gap $ part (expression_spaced e is.2) (λ _. refl) $ sign
       (λ _. refl) $ line $ indent $ sign (λ _. refl) $ line $ indent close_line
   statement_closed (Switch e cases) is n =
-      indent $ sign (λ _. refl) $ gap $ part (expression_spaced e is.0) (λ _. refl) $ gap $ sign (λ _. refl) $ line $ cases_closed cases is.1 (suc n) then indent close_line
-  statement_closed (Block body) is n = indent $ sign (λ _. refl) $ line $ statements_closed body is (suc n) then indent close_line
+      indent $ sign (λ _. refl) $ gap $ part (expression_spaced e is.0) (λ _. refl) $ gap $ sign (λ _. refl) $
+      line $ cases_closed cases is.1 (suc n) then indent close_line
+  statement_closed (Block body) is n = indent $ sign (λ _. refl) $ line $
+      statements_closed body is (suc n) then indent close_line
   statement_closed _ is n = indent $ sign (λ _. refl) stop
 
   pub statements_closed : (ss : Statements) → IsStatements ss → (n : ℕ) → Closed (statements_pieces ss n)
@@ -222,11 +253,13 @@ mutual
   cases_closed : (cs : Cases) → IsCases cs → (n : ℕ) → Closed (cases_pieces cs n)
   cases_closed NoCases is n = none
   cases_closed (Case labels body more) is n =
-      indent $ case_closed labels is.0 then gap $ sign (λ _. refl) $ line $ statements_closed body is.1 (suc n) then indent $ sign (λ _. refl) $ line $ cases_closed more is.2 n
+      indent $ case_closed labels is.0 then gap $ sign (λ _. refl) $ line $
+      statements_closed body is.1 (suc n) then indent $ sign (λ _. refl) $ line $ cases_closed more is.2 n
 
 -- The text of each row, from the texts of its parts.
 
-pub let_text : (w : List ℕ) (e : Expression) (n : ℕ) → text (statement_pieces (Let w e) n) ≡ indent_text n ++ (codes "let " ++ (w ++ (codes " = " ++ (expression_layout e ++ codes ";\n"))))
+pub let_text : (w : List ℕ) (e : Expression) (n : ℕ) → text (statement_pieces (Let w e) n) ≡ indent_text n
+    ++ (codes "let " ++ (w ++ (codes " = " ++ (expression_layout e ++ codes ";\n"))))
 let_text w e n = simp text-append
 
 pub typed_let_text : (w : List ℕ) (t : TypeSpecifier) (e : Expression) (n : ℕ) →
@@ -235,7 +268,8 @@ pub typed_let_text : (w : List ℕ) (t : TypeSpecifier) (e : Expression) (n : �
     (w ++ (codes ": " ++ (type_layout t ++ (codes " = " ++ (expression_layout e ++ codes ";\n"))))))
 typed_let_text w t e n = simp text-append
 
-pub assign_text : (a b : Expression) (n : ℕ) → text (statement_pieces (Assign a b) n) ≡ indent_text n ++ (expression_layout a ++ (codes " = " ++ (expression_layout b ++ codes ";\n")))
+pub assign_text : (a b : Expression) (n : ℕ) → text (statement_pieces (Assign a b) n) ≡ indent_text n
+    ++ (expression_layout a ++ (codes " = " ++ (expression_layout b ++ codes ";\n")))
 assign_text a b n = simp text-append
 
 pub call_statement_text : (t : TypeSpecifier) (args : Arguments) (n : ℕ) →
@@ -243,7 +277,8 @@ pub call_statement_text : (t : TypeSpecifier) (args : Arguments) (n : ℕ) →
     (type_layout t ++ (codes "(" ++ (text (arguments_pieces args) ++ codes ";\n")))
 call_statement_text t args n = simp text-append
 
-pub return_text : (e : Expression) (n : ℕ) → text (statement_pieces (ReturnValue e) n) ≡ indent_text n ++ (codes "return " ++ (expression_layout e ++ codes ";\n"))
+pub return_text : (e : Expression) (n : ℕ) → text (statement_pieces (ReturnValue e) n) ≡ indent_text n
+    ++ (codes "return " ++ (expression_layout e ++ codes ";\n"))
 return_text e n = simp text-append
 
 pub if_text : (e : Expression) (accept : Statements) (reject : OptionalBlock) (n : ℕ) →
@@ -302,8 +337,10 @@ pub case_text : (labels : CaseValues) (body : Statements) (more : Cases) (n : �
     (indent_text n ++ (codes "}\n" ++ text (cases_pieces more n))))))
 case_text labels body more n = simp text-append
 
-pub block_text : (body : Statements) (n : ℕ) → text (statement_pieces (Block body) n) ≡ indent_text n ++ (codes "{\n" ++ (text (statements_pieces body (suc n)) ++ (indent_text n ++ codes "}\n")))
+pub block_text : (body : Statements) (n : ℕ) → text (statement_pieces (Block body) n) ≡ indent_text n
+    ++ (codes "{\n" ++ (text (statements_pieces body (suc n)) ++ (indent_text n ++ codes "}\n")))
 block_text body n = simp text-append
 
-pub then_text : (s : Statement) (more : Statements) (n : ℕ) → text (statements_pieces (Then s more) n) ≡ text (statement_pieces s n) ++ text (statements_pieces more n)
+pub then_text : (s : Statement) (more : Statements) (n : ℕ) → text (statements_pieces (Then s more) n)
+    ≡ text (statement_pieces s n) ++ text (statements_pieces more n)
 then_text s more n = simp text-append

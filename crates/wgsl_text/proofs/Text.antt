@@ -138,7 +138,8 @@ word_end : (rest : List ℕ) → ends_word rest ≡ true → word_length rest �
 word_end [] e = refl
 word_end (b ∷ rest) e =
     let h = both_not (is_letter b) (is_ascii_digit b) e in
-    ap (λ c. cond (c || is_ascii_digit b) (suc (word_length rest)) 0) h.0 ∙ ap (λ c. cond c (suc (word_length rest)) 0) h.1
+    ap (λ c. cond (c || is_ascii_digit b) (suc (word_length rest)) 0) h.0
+    ∙ ap (λ c. cond c (suc (word_length rest)) 0) h.1
 
 word_whole : (w rest : List ℕ) → all_word_bytes w ≡ true → ends_word rest ≡ true → word_length (w ++ rest) ≡ length w
 word_whole [] rest is e = word_end rest e
@@ -147,7 +148,8 @@ word_whole (b ∷ w) rest is e =
     ap (λ c. cond c (suc (word_length (w ++ rest))) 0) h.0 ∙ ap suc (word_whole w rest h.1 e)
 
 -- any word, keywords too
-pub word_scans : (w rest : List ℕ) → is_word_text w ≡ true → ends_word rest ≡ true → scan (w ++ rest) 0 ≡ word_token w ∷ scan rest 0
+pub word_scans : (w rest : List ℕ) → is_word_text w ≡ true → ends_word rest ≡ true → scan (w ++ rest) 0
+    ≡ word_token w ∷ scan rest 0
 word_scans [] rest is e = absurd (false≢true is)
 word_scans (b ∷ w) rest is e =
     let h = and_parts (is_letter b) (all_word_bytes w) is in
@@ -169,7 +171,8 @@ own_digits = numerals_by_value _ tells_all_ascii_digits
 pub digit_no_letter : (b : ℕ) → is_ascii_digit b ≡ true → is_letter b ≡ false
 digit_no_letter b e = grind (arith, nat_tests)
 
-digits_end : (suffix : Suffix) (rest : List ℕ) → ends_number suffix rest ≡ true → digits_length (suffix_text suffix ++ rest) ≡ 0
+digits_end : (suffix : Suffix) (rest : List ℕ) → ends_number suffix rest ≡ true →
+    digits_length (suffix_text suffix ++ rest) ≡ 0
 digits_end NoSuffix [] e = refl
 digits_end NoSuffix (b ∷ rest) e = when_false _ (both_not (is_letter b) (is_ascii_digit b) (and_parts _ _ e).0).1
 digits_end SuffixI rest e = refl
@@ -177,13 +180,15 @@ digits_end SuffixU rest e = refl
 digits_end SuffixLi rest e = refl
 digits_end SuffixLu rest e = refl
 
-digits_whole : (ds rest : List ℕ) → all_ascii_digits ds ≡ true → digits_length rest ≡ 0 → digits_length (ds ++ rest) ≡ length ds
+digits_whole : (ds rest : List ℕ) → all_ascii_digits ds ≡ true → digits_length rest ≡ 0 →
+    digits_length (ds ++ rest) ≡ length ds
 digits_whole [] rest is e = e
 digits_whole (b ∷ ds) rest is e =
     let h = and_parts (is_ascii_digit b) (all_ascii_digits ds) is in
     when_true _ h.0 ∙ ap suc (digits_whole ds rest h.1 e)
 
-suffix_found : (suffix : Suffix) (rest : List ℕ) → ends_number suffix rest ≡ true → suffix_at (suffix_text suffix ++ rest) ≡ suffix
+suffix_found : (suffix : Suffix) (rest : List ℕ) → ends_number suffix rest ≡ true →
+    suffix_at (suffix_text suffix ++ rest) ≡ suffix
 suffix_found NoSuffix [] e = refl
 suffix_found NoSuffix (b ∷ rest) e = when_false _ (both_not (is_letter b) (is_ascii_digit b) (and_parts _ _ e).0).0
 suffix_found SuffixI rest e = refl
@@ -191,7 +196,8 @@ suffix_found SuffixU rest e = refl
 suffix_found SuffixLi rest e = refl
 suffix_found SuffixLu rest e = refl
 
-no_point : (suffix : Suffix) (rest : List ℕ) → ends_number suffix rest ≡ true → is_point_zero (suffix_text suffix ++ rest) ≡ false
+no_point : (suffix : Suffix) (rest : List ℕ) → ends_number suffix rest ≡ true →
+    is_point_zero (suffix_text suffix ++ rest) ≡ false
 no_point NoSuffix [] e = refl
 no_point NoSuffix (b ∷ rest) e = ap (λ c. c && starts_with 48 rest) (not-true (b == 46) (and_parts _ _ e).1)
 no_point SuffixI rest e = refl
@@ -219,13 +225,15 @@ no_precision (b ∷ rest) e =
     let letter = (both_not (is_letter b) (is_ascii_digit b) e).0 in
     ap (λ c. c || (b == 102 || starts_with_lf (after_power (b ∷ rest)))) (no_h b letter)
     ∙ ap (λ c. c || starts_with_lf (after_power (b ∷ rest))) (no_f b letter)
-    ∙ ap (λ c. starts_with_lf (drop (length (power_text (cond c (power_after_letter rest) NoPower))) (b ∷ rest))) (no_e b letter)
+    ∙ ap (λ c. starts_with_lf (drop (length (power_text (cond c (power_after_letter rest) NoPower)))
+    (b ∷ rest))) (no_e b letter)
     ∙ ap (λ c. c && starts_with 102 rest) (no_l b letter)
 
 no_fraction : (b : ℕ) (rest : List ℕ) → (b == 46) ≡ false → after_fraction (b ∷ rest) ≡ b ∷ rest
 no_fraction b rest e = ap (λ c. drop (length (fraction_text (cond c (take (digits_length rest) rest) []))) (b ∷ rest)) e
 
-no_type_after : (suffix : Suffix) (rest : List ℕ) → ends_number suffix rest ≡ true → has_precision (after_fraction (suffix_text suffix ++ rest)) ≡ false
+no_type_after : (suffix : Suffix) (rest : List ℕ) → ends_number suffix rest ≡ true →
+    has_precision (after_fraction (suffix_text suffix ++ rest)) ≡ false
 no_type_after NoSuffix [] e = refl
 no_type_after NoSuffix (b ∷ rest) e =
     let h = and_parts (ends_word (b ∷ rest)) (not (b == 46)) e in
@@ -249,12 +257,15 @@ digits_scan negative b ds suffix rest is e =
     ∙ ap (λ c. cond (c && (not negative && (b == 48 && is_empty ds))) (Takes ZeroPointZero 2)
     (Takes (Number negative (digits_value 10 (b ∷ ds)) (suffix_at after))
     (length (ds ++ suffix_text (suffix_at after))))) (no_point suffix rest e)
-    ∙ ap (λ v. Takes (Number negative (digits_value 10 (b ∷ ds)) v) (length (ds ++ suffix_text v))) (suffix_found suffix rest e)
+    ∙ ap (λ v. Takes (Number negative (digits_value 10 (b ∷ ds)) v) (length (ds ++ suffix_text v)))
+    (suffix_found suffix rest e)
 
 -- what the digits and the suffix of a number leave
-number_left : (ds : List ℕ) (suffix : Suffix) (rest : List ℕ) → scan (ds ++ (suffix_text suffix ++ rest)) (length (ds ++ suffix_text suffix)) ≡ scan rest 0
+number_left : (ds : List ℕ) (suffix : Suffix) (rest : List ℕ) →
+    scan (ds ++ (suffix_text suffix ++ rest)) (length (ds ++ suffix_text suffix)) ≡ scan rest 0
 number_left ds suffix rest =
-    ap (λ v. scan v (length (ds ++ suffix_text suffix))) (sym (append_assoc ds (suffix_text suffix) rest)) ∙ past (ds ++ suffix_text suffix) rest
+    ap (λ v. scan v (length (ds ++ suffix_text suffix))) (sym (append_assoc ds (suffix_text suffix) rest))
+    ∙ past (ds ++ suffix_text suffix) rest
 
 pub number_scans : (negative : Bool) (ds : List ℕ) (suffix : Suffix) (rest : List ℕ) →
     0 < length ds → all_ascii_digits ds ≡ true → ends_number suffix rest ≡ true →
@@ -291,7 +302,8 @@ digits_before (Double NoPower) rest = refl
 digits_before (Double (PowerOf false ds)) rest = refl
 digits_before (Double (PowerOf true ds)) rest = refl
 
-digits_before_tail : (fraction : List ℕ) (precision : Precision) (rest : List ℕ) → digits_length (fraction_text fraction ++ (precision_text precision ++ rest)) ≡ 0
+digits_before_tail : (fraction : List ℕ) (precision : Precision) (rest : List ℕ) →
+    digits_length (fraction_text fraction ++ (precision_text precision ++ rest)) ≡ 0
 digits_before_tail [] precision rest = digits_before precision rest
 digits_before_tail (b ∷ ds) precision rest = refl
 
@@ -303,35 +315,43 @@ fraction_found [] (Double NoPower) rest is = refl
 fraction_found [] (Double (PowerOf false ds)) rest is = refl
 fraction_found [] (Double (PowerOf true ds)) rest is = refl
 fraction_found (b ∷ ds) precision rest is =
-    ap (λ n. take n ((b ∷ ds) ++ (precision_text precision ++ rest))) (digits_whole (b ∷ ds) (precision_text precision ++ rest) is (digits_before precision rest))
+    ap (λ n. take n ((b ∷ ds) ++ (precision_text precision ++ rest)))
+    (digits_whole (b ∷ ds) (precision_text precision ++ rest) is (digits_before precision rest))
     ∙ take-append_seam (b ∷ ds) (precision_text precision ++ rest)
 
 pub fraction_left : (fraction : List ℕ) (precision : Precision) (rest : List ℕ) → all_ascii_digits fraction ≡ true →
     after_fraction (fraction_text fraction ++ (precision_text precision ++ rest)) ≡ precision_text precision ++ rest
 fraction_left fraction precision rest is =
-    ap (λ v. drop (length (fraction_text v)) (fraction_text fraction ++ (precision_text precision ++ rest))) (fraction_found fraction precision rest is)
+    ap (λ v. drop (length (fraction_text v)) (fraction_text fraction ++ (precision_text precision ++ rest)))
+    (fraction_found fraction precision rest is)
     ∙ drop-append_seam (fraction_text fraction) (precision_text precision ++ rest)
 
 -- the power of ten of an `f64`
 
 digits_found : (ds after : List ℕ) → all_ascii_digits ds ≡ true → digits_length after ≡ 0 → digits_at (ds ++ after) ≡ ds
-digits_found ds after is none = ap (λ n. take n (ds ++ after)) (digits_whole ds after is none) ∙ take-append_seam ds after
+digits_found ds after is none = ap (λ n. take n (ds ++ after)) (digits_whole ds after is none)
+    ∙ take-append_seam ds after
 
 no_minus : (b : ℕ) → is_ascii_digit b ≡ true → (b == 45) ≡ false
 no_minus b e = grind (arith, nat_tests)
 
-power_found_in : (power : Power) (rest : List ℕ) → IsPower power → power_at (power_text power ++ (codes "lf" ++ rest)) ≡ power
+power_found_in : (power : Power) (rest : List ℕ) → IsPower power →
+    power_at (power_text power ++ (codes "lf" ++ rest)) ≡ power
 power_found_in NoPower rest is = refl
 power_found_in (PowerOf negative []) rest is = absurd (omega (arith, is.some))
-power_found_in (PowerOf true (d ∷ ds)) rest is = ap (power_of_digits true) (digits_found (d ∷ ds) (codes "lf" ++ rest) is.digits refl)
+power_found_in (PowerOf true (d ∷ ds)) rest is =
+    ap (power_of_digits true) (digits_found (d ∷ ds) (codes "lf" ++ rest) is.digits refl)
 power_found_in (PowerOf false (d ∷ ds)) rest is =
     let h = and_parts (is_ascii_digit d) (all_ascii_digits ds) is.digits in
-    when_false _ (no_minus d h.0) ∙ ap (power_of_digits false) (digits_found (d ∷ ds) (codes "lf" ++ rest) is.digits refl)
+    when_false _ (no_minus d h.0) ∙ ap (power_of_digits false)
+    (digits_found (d ∷ ds) (codes "lf" ++ rest) is.digits refl)
 
 power_found : (power : Power) (rest : List ℕ) → IsPower power → power_at (precision_text (Double power) ++ rest) ≡ power
-power_found power rest is = ap power_at (append_assoc (power_text power) (codes "lf") rest) ∙ power_found_in power rest is
+power_found power rest is = ap power_at (append_assoc (power_text power) (codes "lf") rest)
+    ∙ power_found_in power rest is
 
-power_left : (power : Power) (rest : List ℕ) → IsPower power → after_power (precision_text (Double power) ++ rest) ≡ codes "lf" ++ rest
+power_left : (power : Power) (rest : List ℕ) → IsPower power →
+    after_power (precision_text (Double power) ++ rest) ≡ codes "lf" ++ rest
 power_left power rest is =
     ap (λ p. drop (length (power_text p)) (precision_text (Double power) ++ rest)) (power_found power rest is)
     ∙ ap (drop (length (power_text power))) (append_assoc (power_text power) (codes "lf") rest)
@@ -344,46 +364,61 @@ double_before : (negative : Bool) (b : ℕ) (ds fraction : List ℕ) (power : Po
     (whole_of negative b ds (fraction_text fraction ++ (precision_text (Double power) ++ rest)))
     ≡ decimal_of negative b ds fraction (Double power)
 double_before negative b ds fraction power rest is =
-    ap (λ v. cond (starts_with_lf v) (decimal_of negative b ds fraction (Double (power_at (precision_text (Double power) ++ rest)))) (whole_of negative b ds (fraction_text fraction ++ (precision_text (Double power) ++ rest)))) (power_left power rest is)
+    ap (λ v. cond (starts_with_lf v) (decimal_of negative b ds fraction
+    (Double (power_at (precision_text (Double power) ++ rest))))
+    (whole_of negative b ds (fraction_text fraction ++ (precision_text (Double power) ++ rest))))
+    (power_left power rest is)
     ∙ ap (λ p. decimal_of negative b ds fraction (Double p)) (power_found power rest is)
 
-decimal_before : (negative : Bool) (b : ℕ) (ds fraction : List ℕ) (precision : Precision) (rest : List ℕ) → IsPrecision precision →
-    cond (has_precision (precision_text precision ++ rest)) (decimal_of negative b ds fraction (precision_at (precision_text precision ++ rest)))
-    (whole_of negative b ds (fraction_text fraction ++ (precision_text precision ++ rest))) ≡ decimal_of negative b ds fraction precision
+decimal_before : (negative : Bool) (b : ℕ) (ds fraction : List ℕ) (precision : Precision) (rest : List ℕ) →
+    IsPrecision precision →
+    cond (has_precision (precision_text precision ++ rest))
+    (decimal_of negative b ds fraction (precision_at (precision_text precision ++ rest)))
+    (whole_of negative b ds (fraction_text fraction ++ (precision_text precision ++ rest)))
+    ≡ decimal_of negative b ds fraction precision
 decimal_before negative b ds fraction Half rest is = refl
 decimal_before negative b ds fraction Single rest is = refl
 decimal_before negative b ds fraction (Double NoPower) rest is = refl
-decimal_before negative b ds fraction (Double (PowerOf false ps)) rest is = double_before negative b ds fraction (PowerOf false ps) rest is
-decimal_before negative b ds fraction (Double (PowerOf true ps)) rest is = double_before negative b ds fraction (PowerOf true ps) rest is
+decimal_before negative b ds fraction (Double (PowerOf false ps)) rest is =
+    double_before negative b ds fraction (PowerOf false ps) rest is
+decimal_before negative b ds fraction (Double (PowerOf true ps)) rest is =
+    double_before negative b ds fraction (PowerOf true ps) rest is
 
 pub decimal_scan : (negative : Bool) (b : ℕ) (ds fraction : List ℕ) (precision : Precision) (rest : List ℕ) →
     all_ascii_digits ds ≡ true → all_ascii_digits fraction ≡ true → IsPrecision precision →
-    number_lexeme negative b (ds ++ (fraction_text fraction ++ (precision_text precision ++ rest))) ≡ decimal_of negative b ds fraction precision
+    number_lexeme negative b (ds ++ (fraction_text fraction ++ (precision_text precision ++ rest)))
+    ≡ decimal_of negative b ds fraction precision
 decimal_scan negative b ds fraction precision rest is tail_is power_is =
     let after = fraction_text fraction ++ (precision_text precision ++ rest) in
     let n = digits_whole ds after is (digits_before_tail fraction precision rest) in
     ap (λ k. number_of negative b (take k (ds ++ after)) (drop k (ds ++ after))) n
     ∙ ap (λ v. number_of negative b v (drop (length ds) (ds ++ after))) (take-append_seam ds after)
     ∙ ap (λ v. number_of negative b ds v) (drop-append_seam ds after)
-    ∙ ap (λ v. cond (has_precision v) (decimal_of negative b ds (fraction_at after) (precision_at v)) (whole_of negative b ds after)) (fraction_left fraction precision rest tail_is)
-    ∙ ap (λ v. cond (has_precision (precision_text precision ++ rest)) (decimal_of negative b ds v (precision_at (precision_text precision ++ rest))) (whole_of negative b ds after)) (fraction_found fraction precision rest tail_is)
+    ∙ ap (λ v. cond (has_precision v) (decimal_of negative b ds (fraction_at after) (precision_at v))
+    (whole_of negative b ds after)) (fraction_left fraction precision rest tail_is)
+    ∙ ap (λ v. cond (has_precision (precision_text precision ++ rest))
+    (decimal_of negative b ds v (precision_at (precision_text precision ++ rest)))
+    (whole_of negative b ds after)) (fraction_found fraction precision rest tail_is)
     ∙ decimal_before negative b ds fraction precision rest power_is
 
 pub joined : (ds fraction : List ℕ) (precision : Precision) (rest : List ℕ) →
-    ds ++ (fraction_text fraction ++ (precision_text precision ++ rest)) ≡ (ds ++ decimal_tail fraction precision) ++ rest
+    ds ++ (fraction_text fraction ++ (precision_text precision ++ rest))
+    ≡ (ds ++ decimal_tail fraction precision) ++ rest
 joined ds fraction precision rest =
     ap (λ v. ds ++ v) (sym (append_assoc (fraction_text fraction) (precision_text precision) rest))
     ∙ sym (append_assoc ds (decimal_tail fraction precision) rest)
 
 decimal_left : (ds fraction : List ℕ) (precision : Precision) (rest : List ℕ) →
-    scan (ds ++ (fraction_text fraction ++ (precision_text precision ++ rest))) (length (ds ++ decimal_tail fraction precision)) ≡ scan rest 0
+    scan (ds ++ (fraction_text fraction ++ (precision_text precision ++ rest)))
+    (length (ds ++ decimal_tail fraction precision)) ≡ scan rest 0
 decimal_left ds fraction precision rest =
     ap (λ v. scan v (length (ds ++ decimal_tail fraction precision))) (joined ds fraction precision rest)
     ∙ past (ds ++ decimal_tail fraction precision) rest
 
 pub decimal_scans : (negative : Bool) (whole fraction : List ℕ) (precision : Precision) (rest : List ℕ) →
     AreDigits whole → all_ascii_digits fraction ≡ true → IsPrecision precision →
-    scan (token_text (Decimal negative whole fraction precision) ++ rest) 0 ≡ Decimal negative whole fraction precision ∷ scan rest 0
+    scan (token_text (Decimal negative whole fraction precision) ++ rest) 0
+    ≡ Decimal negative whole fraction precision ∷ scan rest 0
 decimal_scans negative [] fraction precision rest is tail_is power_is = absurd (omega (arith, is.some))
 decimal_scans false (b ∷ ds) fraction precision rest are tail_is power_is =
     let h = and_parts (is_ascii_digit b) (all_ascii_digits ds) are.digits in
@@ -397,7 +432,8 @@ decimal_scans true (b ∷ ds) fraction precision rest are tail_is power_is =
     let after = ds ++ (fraction_text fraction ++ (precision_text precision ++ rest)) in
     let first : lexeme 45 (b ∷ after) ≡ one_more (number_lexeme true b after) = when_true _ h.0 in
     ap (λ v. scan (45 ∷ b ∷ v) 0) (sym (joined ds fraction precision rest))
-    ∙ ap (λ l. following l (scan (b ∷ after))) (first ∙ ap one_more (decimal_scan true b ds fraction precision rest h.1 tail_is power_is))
+    ∙ ap (λ l. following l (scan (b ∷ after)))
+    (first ∙ ap one_more (decimal_scan true b ds fraction precision rest h.1 tail_is power_is))
     ∙ ap (λ ts. Decimal true (b ∷ ds) fraction precision ∷ ts) (decimal_left ds fraction precision rest)
 
 -- no digit begins these bytes
@@ -410,7 +446,8 @@ zero_scans : (rest : List ℕ) → ends_word rest ≡ true → scan (codes "0.0"
 zero_scans rest e =
     ap (λ l. following l (scan (46 ∷ 48 ∷ rest)))
     (when_false (decimal_of false 48 [] (fraction_at (46 ∷ 48 ∷ rest)) (precision_at (after_fraction (46 ∷ 48 ∷ rest))))
-    (ap (λ k. has_precision (drop (length (fraction_text (48 ∷ take k rest))) (46 ∷ 48 ∷ rest))) (no_digits rest e) ∙ no_precision rest e))
+    (ap (λ k. has_precision (drop (length (fraction_text (48 ∷ take k rest))) (46 ∷ 48 ∷ rest)))
+    (no_digits rest e) ∙ no_precision rest e))
 
 -- signs and keywords
 
@@ -424,11 +461,14 @@ not_next x (c ∷ rest) shut opening = not_same x c (c == x) refl shut opening
 
 minus_scans : (rest : List ℕ) → ends_minus rest ≡ true → scan (45 ∷ rest) 0 ≡ Fixed Minus ∷ scan rest 0
 minus_scans [] e = refl
-minus_scans (b ∷ rest) e = ap (λ c. following (cond c (one_more (number_lexeme true b rest)) (Takes (Fixed Minus) 0)) (scan (b ∷ rest))) (not-true _ e)
+minus_scans (b ∷ rest) e =
+    ap (λ c. following (cond c (one_more (number_lexeme true b rest)) (Takes (Fixed Minus) 0))
+    (scan (b ∷ rest))) (not-true _ e)
 
 less_scans : (rest : List ℕ) → opens rest ≡ true → scan (60 ∷ rest) 0 ≡ Fixed LessThan ∷ scan rest 0
 less_scans rest e =
-    ap (λ c. following (cond c (Takes (Fixed LessEquals) 1) (sign_or LessThan (starts_with 60 rest) LessLess)) (scan rest)) (not_next 61 rest refl e)
+    ap (λ c. following (cond c (Takes (Fixed LessEquals) 1) (sign_or LessThan (starts_with 60 rest) LessLess))
+    (scan rest)) (not_next 61 rest refl e)
     ∙ ap (λ c. following (sign_or LessThan c LessLess) (scan rest)) (not_next 60 rest refl e)
 
 mark_scans : (m : Mark) (rest : List ℕ) → ends_mark m rest ≡ true → scan (mark_text m ++ rest) 0 ≡ Fixed m ∷ scan rest 0
@@ -465,12 +505,17 @@ mark_scans BarBar rest e = refl
 mark_scans LessLess rest e = refl
 mark_scans keyword rest e = word_scans (mark_text keyword) rest refl e
 
-token_scans : (t : Token) (rest : List ℕ) → IsToken t → ends t rest ≡ true → scan (token_text t ++ rest) 0 ≡ t ∷ scan rest 0
+token_scans : (t : Token) (rest : List ℕ) → IsToken t → ends t rest ≡ true → scan (token_text t ++ rest) 0
+    ≡ t ∷ scan rest 0
 token_scans (Fixed m) rest is e = mark_scans m rest e
 token_scans (Word w) rest is e = own_word_scans w rest is e
-token_scans (Number false n suffix) rest is e = ap (λ v. scan v 0) (append_assoc (decimal n) (suffix_text suffix) rest) ∙ own_number_scans false n suffix rest is e
-token_scans (Number true n suffix) rest is e = ap (λ v. scan (45 ∷ v) 0) (append_assoc (decimal n) (suffix_text suffix) rest) ∙ own_number_scans true n suffix rest is e
-token_scans (Decimal negative whole fraction precision) rest is e = decimal_scans negative whole fraction precision rest is.0 is.1 is.2
+token_scans (Number false n suffix) rest is e =
+    ap (λ v. scan v 0) (append_assoc (decimal n) (suffix_text suffix) rest) ∙ own_number_scans false n suffix rest is e
+token_scans (Number true n suffix) rest is e =
+    ap (λ v. scan (45 ∷ v) 0) (append_assoc (decimal n) (suffix_text suffix) rest)
+    ∙ own_number_scans true n suffix rest is e
+token_scans (Decimal negative whole fraction precision) rest is e =
+    decimal_scans negative whole fraction precision rest is.0 is.1 is.2
 token_scans ZeroPointZero rest is e = zero_scans rest e
 token_scans (Foreign b) rest is e = absurd is
 
@@ -488,17 +533,20 @@ Apart (_ ∷ pieces) = Apart pieces
 
 pub pieces_scan : (pieces : List Piece) → Apart pieces → scan (text pieces) 0 ≡ tokens_in pieces
 pieces_scan [] apart = refl
-pieces_scan (TokenPiece t ∷ pieces) apart = token_scans t (text pieces) apart.0 apart.1 ∙ ap (λ ts. t ∷ ts) (pieces_scan pieces apart.2)
+pieces_scan (TokenPiece t ∷ pieces) apart = token_scans t (text pieces) apart.0 apart.1
+    ∙ ap (λ ts. t ∷ ts) (pieces_scan pieces apart.2)
 pieces_scan (Blank ∷ pieces) apart = pieces_scan pieces apart
 pieces_scan (LineEnd ∷ pieces) apart = pieces_scan pieces apart
 pieces_scan (Indent n ∷ pieces) apart = blanks_scan (4 * n) (text pieces) ∙ pieces_scan pieces apart
 
 pub text-append : (ps qs : List Piece) → text (ps ++ qs) ≡ text ps ++ text qs
 text-append [] qs = refl
-text-append (TokenPiece t ∷ ps) qs = ap (λ v. token_text t ++ v) (text-append ps qs) ∙ sym (append_assoc (token_text t) (text ps) (text qs))
+text-append (TokenPiece t ∷ ps) qs = ap (λ v. token_text t ++ v) (text-append ps qs)
+    ∙ sym (append_assoc (token_text t) (text ps) (text qs))
 text-append (Blank ∷ ps) qs = ap (λ v. 32 ∷ v) (text-append ps qs)
 text-append (LineEnd ∷ ps) qs = ap (λ v. 10 ∷ v) (text-append ps qs)
-text-append (Indent n ∷ ps) qs = ap (λ v. replicate (4 * n) 32 ++ v) (text-append ps qs) ∙ sym (append_assoc (replicate (4 * n) 32) (text ps) (text qs))
+text-append (Indent n ∷ ps) qs = ap (λ v. replicate (4 * n) 32 ++ v) (text-append ps qs)
+    ∙ sym (append_assoc (replicate (4 * n) 32) (text ps) (text qs))
 
 -- the blanks of a level
 abbrev pub indent_text : ℕ → List ℕ

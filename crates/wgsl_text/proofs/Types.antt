@@ -39,7 +39,8 @@ part_done (TypeArgument t more) gaps a = record { to = a.to }
 part_done (SizeArgument n more) gaps a = record { to = a.to }
 
 mutual
-  pub type_runs : (t : TypeSpecifier) → IsTemplateArgument t → (s : Stack) → Runs (type_pieces t) (ExpectType s) (GotType t s)
+  pub type_runs : (t : TypeSpecifier) → IsTemplateArgument t → (s : Stack) →
+      Runs (type_pieces t) (ExpectType s) (GotType t s)
   type_runs (Named w) is s = at_end
   type_runs (Template w args) is s = reads $ reads $ parts_run args is.1 (has_gaps w) w s
 
@@ -48,16 +49,20 @@ mutual
       Runs (template_pieces args gaps) (ExpectType (InTemplate w NoTemplateArguments s))
       (GotType (Template w args) s)
   parts_run NoTemplateArguments is gaps w s = at_end
-  parts_run (TypeArgument t more) is gaps w s = type_runs t is.0 _ onward part_done more gaps (more_parts_run more is.1 gaps _ w s)
-  parts_run (SizeArgument n more) is gaps w s = reads $ more_parts_run more is.1 gaps (SizeArgument n NoTemplateArguments) w s
+  parts_run (TypeArgument t more) is gaps w s = type_runs t is.0 _ onward part_done more gaps
+      (more_parts_run more is.1 gaps _ w s)
+  parts_run (SizeArgument n more) is gaps w s =
+      reads $ more_parts_run more is.1 gaps (SizeArgument n NoTemplateArguments) w s
 
   pub more_parts_run : (args : TemplateArguments) → AreTemplateArguments args →
       (gaps : Bool) (done : TemplateArguments) (w : List ℕ) (s : Stack) →
       Runs (more_template_pieces args gaps) (AfterPart w done s)
       (GotType (Template w (unwind_parts done args)) s)
   more_parts_run NoTemplateArguments is gaps done w s = at_end
-  more_parts_run (TypeArgument t more) is gaps done w s = reads $ gap_runs gaps $ type_runs t is.0 _ onward part_done more gaps (more_parts_run more is.1 gaps (TypeArgument t done) w s)
-  more_parts_run (SizeArgument n more) is gaps done w s = reads $ gap_runs gaps $ reads $ more_parts_run more is.1 gaps (SizeArgument n done) w s
+  more_parts_run (TypeArgument t more) is gaps done w s = reads $ gap_runs gaps $
+      type_runs t is.0 _ onward part_done more gaps (more_parts_run more is.1 gaps (TypeArgument t done) w s)
+  more_parts_run (SizeArgument n more) is gaps done w s = reads $ gap_runs gaps $ reads $
+      more_parts_run more is.1 gaps (SizeArgument n done) w s
 
 -- Words that take parts.
 
@@ -78,13 +83,16 @@ fits_none NoTemplateArguments = refl
 fits_none _ = refl
 
 -- A word whose parts fit stands in a row.
-pub row_word : (p : List ℕ → Bool) (rows : List (List (List ℕ) × TemplateRule)) (w : List ℕ) (parts : TemplateArguments) → all_rows p rows ≡ true → IsTrue (fits (rule_among rows w) parts) → p w ≡ true
+pub row_word : (p : List ℕ → Bool) (rows : List (List (List ℕ) × TemplateRule)) (w : List ℕ)
+    (parts : TemplateArguments) → all_rows p rows ≡ true → IsTrue (fits (rule_among rows w) parts) → p w ≡ true
 row_word p [] w parts all fit = absurd (false≢true (sym (fits_none parts) ∙ fit))
 row_word p (row ∷ rows) w parts all fit =
     let h = and_parts (all_words p row.0) (all_rows p rows) all in
     found (stands_in row.0 w) refl h.0 (row_word p rows w parts h.1) fit
   where
-    found : (b : Bool) → stands_in row.0 w ≡ b → all_words p row.0 ≡ true → (IsTrue (fits (rule_among rows w) parts) → p w ≡ true) → IsTrue (fits (cond b row.1 (rule_among rows w)) parts) → p w ≡ true
+    found : (b : Bool) → stands_in row.0 w ≡ b → all_words p row.0 ≡ true →
+        (IsTrue (fits (rule_among rows w) parts) → p w ≡ true) →
+        IsTrue (fits (cond b row.1 (rule_among rows w)) parts) → p w ≡ true
     found true at each later fit = passes p row.0 w each at
     found false at each later fit = later fit
 
@@ -95,7 +103,8 @@ types_are_templates = refl
 pub template_of : (w : List ℕ) → is_template w ≡ true → IsTemplateWord w
 template_of w e = let h = and_parts (is_free w) (is_builtin w) e in record { word = free_word w h.0; builtin = h.1 }
 
-pub type_template : (w : List ℕ) (parts : TemplateArguments) → IsTrue (fits (rule_among type_templates w) parts) → IsTemplateWord w
+pub type_template : (w : List ℕ) (parts : TemplateArguments) →
+    IsTrue (fits (rule_among type_templates w) parts) → IsTemplateWord w
 type_template w parts fit = template_of w (row_word is_template type_templates w parts types_are_templates fit)
 
 -- No rule takes no parts.
@@ -138,7 +147,8 @@ part_opens : (t : TypeSpecifier) → IsTemplateArgument t → Opens (type_pieces
 part_opens (Named w) is = word_opens w is
 part_opens (Template w parts) is = word_opens w (type_template w parts is.0).word
 
-pub parts_open : (parts : TemplateArguments) → HasParts parts → AreTemplateArguments parts → (gaps : Bool) → Opens (template_pieces parts gaps)
+pub parts_open : (parts : TemplateArguments) → HasParts parts → AreTemplateArguments parts → (gaps : Bool) →
+    Opens (template_pieces parts gaps)
 parts_open NoTemplateArguments some is gaps = absurd some
 parts_open (TypeArgument t more) some is gaps = opens_first _ (part_opens t is.0)
 parts_open (SizeArgument n more) some is gaps =
@@ -152,7 +162,8 @@ more_parts_end : (args : TemplateArguments) (gaps : Bool) → Ends (more_templat
 more_parts_end NoTemplateArguments gaps more e = refl
 more_parts_end _ gaps more e = refl
 
-number_end : (args : TemplateArguments) (gaps : Bool) (n : ℕ) (more : List Piece) → ends (Number false n NoSuffix) (text (more_template_pieces args gaps ++ more)) ≡ true
+number_end : (args : TemplateArguments) (gaps : Bool) (n : ℕ) (more : List Piece) →
+    ends (Number false n NoSuffix) (text (more_template_pieces args gaps ++ more)) ≡ true
 number_end NoTemplateArguments gaps n more = refl
 number_end _ gaps n more = refl
 
@@ -160,34 +171,48 @@ mutual
   pub type_spaced : (t : TypeSpecifier) → IsTemplateArgument t → Spaced (type_pieces t)
   type_spaced (Named w) is = free is (λ more e. e) end
   type_spaced (Template w parts) is =
-      free (type_template w parts is.0).word (λ more e. refl) $ tok tt (λ more e. (parts_open parts (parts_of_fit _ parts is.0) is.1 (has_gaps w)).at more) $ parts_spaced parts is.1 (has_gaps w)
+      free (type_template w parts is.0).word (λ more e. refl) $
+      tok tt (λ more e. (parts_open parts (parts_of_fit _ parts is.0) is.1 (has_gaps w)).at more) $
+      parts_spaced parts is.1 (has_gaps w)
 
-  pub parts_spaced : (parts : TemplateArguments) → AreTemplateArguments parts → (gaps : Bool) → Spaced (template_pieces parts gaps)
+  pub parts_spaced : (parts : TemplateArguments) → AreTemplateArguments parts → (gaps : Bool) →
+      Spaced (template_pieces parts gaps)
   parts_spaced NoTemplateArguments is gaps = tok tt (λ more e. refl) end
-  parts_spaced (TypeArgument t more) is gaps = part (type_spaced t is.0) (more_parts_end more gaps) $ more_parts_spaced more is.1 gaps
-  parts_spaced (SizeArgument n more) is gaps = size is.0 (λ ps e. number_end more gaps n ps) $ more_parts_spaced more is.1 gaps
+  parts_spaced (TypeArgument t more) is gaps = part (type_spaced t is.0) (more_parts_end more gaps) $
+      more_parts_spaced more is.1 gaps
+  parts_spaced (SizeArgument n more) is gaps = size is.0 (λ ps e. number_end more gaps n ps) $
+      more_parts_spaced more is.1 gaps
 
-  more_parts_spaced : (parts : TemplateArguments) → AreTemplateArguments parts → (gaps : Bool) → Spaced (more_template_pieces parts gaps)
+  more_parts_spaced : (parts : TemplateArguments) → AreTemplateArguments parts → (gaps : Bool) →
+      Spaced (more_template_pieces parts gaps)
   more_parts_spaced NoTemplateArguments is gaps = tok tt (λ more e. refl) end
-  more_parts_spaced (TypeArgument t more) is gaps = tok tt (λ ps e. refl) $ gap_spaced gaps $ part (type_spaced t is.0) (more_parts_end more gaps) $ more_parts_spaced more is.1 gaps
-  more_parts_spaced (SizeArgument n more) is gaps = tok tt (λ ps e. refl) $ gap_spaced gaps $ size is.0 (λ ps e. number_end more gaps n ps) $ more_parts_spaced more is.1 gaps
+  more_parts_spaced (TypeArgument t more) is gaps = tok tt (λ ps e. refl) $ gap_spaced gaps $
+      part (type_spaced t is.0) (more_parts_end more gaps) $ more_parts_spaced more is.1 gaps
+  more_parts_spaced (SizeArgument n more) is gaps = tok tt (λ ps e. refl) $ gap_spaced gaps $
+      size is.0 (λ ps e. number_end more gaps n ps) $ more_parts_spaced more is.1 gaps
 
 -- The text of each row, from the texts of its parts.
 
 pub named_text : (w : List ℕ) → type_layout (Named w) ≡ w
 named_text w = append-nil w
 
-pub template_text : (w : List ℕ) (parts : TemplateArguments) → type_layout (Template w parts) ≡ w ++ (codes "<" ++ text (template_pieces parts (has_gaps w)))
+pub template_text : (w : List ℕ) (parts : TemplateArguments) → type_layout (Template w parts)
+    ≡ w ++ (codes "<" ++ text (template_pieces parts (has_gaps w)))
 template_text w parts = refl
 
-pub type_part_text : (t : TypeSpecifier) (more : TemplateArguments) (gaps : Bool) → text (template_pieces (TypeArgument t more) gaps) ≡ type_layout t ++ text (more_template_pieces more gaps)
+pub type_part_text : (t : TypeSpecifier) (more : TemplateArguments) (gaps : Bool) →
+    text (template_pieces (TypeArgument t more) gaps) ≡ type_layout t ++ text (more_template_pieces more gaps)
 type_part_text t more gaps = simp text-append
 
-pub next_part_text : (t : TypeSpecifier) (more : TemplateArguments) → text (more_template_pieces (TypeArgument t more) true) ≡ codes ", " ++ (type_layout t ++ text (more_template_pieces more true))
+pub next_part_text : (t : TypeSpecifier) (more : TemplateArguments) →
+    text (more_template_pieces (TypeArgument t more) true)
+    ≡ codes ", " ++ (type_layout t ++ text (more_template_pieces more true))
 next_part_text t more = simp text-append
 
-pub size_part_text : (n : ℕ) (more : TemplateArguments) (gaps : Bool) → text (template_pieces (SizeArgument n more) gaps) ≡ decimal n ++ text (more_template_pieces more gaps)
+pub size_part_text : (n : ℕ) (more : TemplateArguments) (gaps : Bool) →
+    text (template_pieces (SizeArgument n more) gaps) ≡ decimal n ++ text (more_template_pieces more gaps)
 size_part_text n more gaps = plain_text n (more_template_pieces more gaps)
 
-pub next_size_text : (n : ℕ) (more : TemplateArguments) → text (more_template_pieces (SizeArgument n more) true) ≡ codes ", " ++ (decimal n ++ text (more_template_pieces more true))
+pub next_size_text : (n : ℕ) (more : TemplateArguments) → text (more_template_pieces (SizeArgument n more) true)
+    ≡ codes ", " ++ (decimal n ++ text (more_template_pieces more true))
 next_size_text n more = ap (λ v. codes ", " ++ v) (plain_text n (more_template_pieces more true))

@@ -39,7 +39,8 @@ stands_if_there words None = true
 stands_if_there words (Some w) = stands_in words w
 
 -- Each word of the table is that of one of these values.
-found : {A : Type 0} (word : A → Option (List ℕ)) (vs : List A) (words : List (List ℕ)) → map word vs ≡ map Some words → (w : List ℕ) → stands_in words w ≡ true → (v : A) × (word v ≡ Some w)
+found : {A : Type 0} (word : A → Option (List ℕ)) (vs : List A) (words : List (List ℕ)) →
+    map word vs ≡ map Some words → (w : List ℕ) → stands_in words w ≡ true → (v : A) × (word v ≡ Some w)
 found word [] [] e w at = absurd (false≢true at)
 found word [] (u ∷ words) e w at = absurd (cc)
 found word (v ∷ vs) [] e w at = absurd (false≢true at)
@@ -70,10 +71,14 @@ by_width words false false true x y z p q r = r
 by_width words false false false x y z p q r = refl
 
 scalar_stands : (k : ScalarKind) (n : ℕ) → stands_if_there scalar_words (scalar_word_of k n) ≡ true
-scalar_stands kind.Bool n = by_width scalar_words (n == 1) false false (codes "bool") (codes "bool") (codes "bool") refl refl refl
-scalar_stands kind.Sint n = by_width scalar_words (n == 2) (n == 4) (n == 8) (codes "i16") (codes "i32") (codes "i64") refl refl refl
-scalar_stands kind.Uint n = by_width scalar_words (n == 2) (n == 4) (n == 8) (codes "u16") (codes "u32") (codes "u64") refl refl refl
-scalar_stands kind.Float n = by_width scalar_words (n == 2) (n == 4) (n == 8) (codes "f16") (codes "f32") (codes "f64") refl refl refl
+scalar_stands kind.Bool n = by_width scalar_words (n == 1) false false (codes "bool") (codes "bool")
+    (codes "bool") refl refl refl
+scalar_stands kind.Sint n = by_width scalar_words (n == 2) (n == 4) (n == 8) (codes "i16") (codes "i32")
+    (codes "i64") refl refl refl
+scalar_stands kind.Uint n = by_width scalar_words (n == 2) (n == 4) (n == 8) (codes "u16") (codes "u32")
+    (codes "u64") refl refl refl
+scalar_stands kind.Float n = by_width scalar_words (n == 2) (n == 4) (n == 8) (codes "f16") (codes "f32")
+    (codes "f64") refl refl refl
 scalar_stands kind.AbstractInt n = refl
 scalar_stands kind.AbstractFloat n = refl
 
@@ -83,7 +88,8 @@ scalar k n = record { kind = k; width = n }
 scalars : AreTheWordsOf scalar_word scalar_words
 unfolding scalar
 scalars = are_the_words scalar_word scalar_words (λ s. scalar_stands s.kind s.width) (
-    scalar kind.Bool 1 ∷ scalar kind.Sint 2 ∷ scalar kind.Uint 2 ∷ scalar kind.Sint 4 ∷ scalar kind.Uint 4 ∷ scalar kind.Sint 8 ∷ scalar kind.Uint 8 ∷
+    scalar kind.Bool 1 ∷ scalar kind.Sint 2 ∷ scalar kind.Uint 2 ∷ scalar kind.Sint 4 ∷ scalar kind.Uint 4
+    ∷ scalar kind.Sint 8 ∷ scalar kind.Uint 8 ∷
     scalar kind.Float 2 ∷ scalar kind.Float 4 ∷ scalar kind.Float 8 ∷ []) refl
 
 sampled_stands : (k : ScalarKind) → stands_if_there sampled_words (scalar_word_of k 4) ≡ true
@@ -115,7 +121,9 @@ space_stands : (a : AddressSpace) → stands_if_there address_space_words (space
 space_stands space.Function = refl
 space_stands _ = refl
 
-access_stands : (x y z : Bool) → stands_in access_words (if x then codes "atomic" else (if y then (if z then codes "read_write" else codes "read") else codes "write")) ≡ true
+access_stands : (x y z : Bool) →
+    stands_in access_words (if x then codes "atomic" else
+    (if y then (if z then codes "read_write" else codes "read") else codes "write")) ≡ true
 access_stands true y z = refl
 access_stands false true true = refl
 access_stands false true false = refl
@@ -138,33 +146,48 @@ pub value_words : ValueWords
 unfolding bits
 value_words = record {
   scalars = scalars;
-  sampled = are_the_words (λ k. scalar_word_of k 4) sampled_words sampled_stands (kind.Sint ∷ kind.Uint ∷ kind.Float ∷ []) refl;
+  sampled = are_the_words (λ k. scalar_word_of k 4) sampled_words sampled_stands
+      (kind.Sint ∷ kind.Uint ∷ kind.Float ∷ []) refl;
   formats = are_the_words (λ f. Some (format_word f)) format_words format_stands (
-      format.R8Unorm ∷ format.R8Snorm ∷ format.R8Uint ∷ format.R8Sint ∷ format.Rg8Unorm ∷ format.Rg8Snorm ∷ format.Rg8Uint ∷ format.Rg8Sint ∷
-      format.Rgba8Unorm ∷ format.Rgba8Snorm ∷ format.Rgba8Uint ∷ format.Rgba8Sint ∷ format.R16Unorm ∷ format.R16Snorm ∷ format.R16Uint ∷
-      format.R16Sint ∷ format.R16Float ∷ format.Rg16Unorm ∷ format.Rg16Snorm ∷ format.Rg16Uint ∷ format.Rg16Sint ∷ format.Rg16Float ∷
-      format.Rgba16Unorm ∷ format.Rgba16Snorm ∷ format.Rgba16Uint ∷ format.Rgba16Sint ∷ format.Rgba16Float ∷ format.R32Uint ∷ format.R32Sint ∷
-      format.R32Float ∷ format.Rg32Uint ∷ format.Rg32Sint ∷ format.Rg32Float ∷ format.Rgba32Uint ∷ format.Rgba32Sint ∷ format.Rgba32Float ∷
+      format.R8Unorm ∷ format.R8Snorm ∷ format.R8Uint ∷ format.R8Sint ∷ format.Rg8Unorm ∷ format.Rg8Snorm
+      ∷ format.Rg8Uint ∷ format.Rg8Sint ∷
+      format.Rgba8Unorm ∷ format.Rgba8Snorm ∷ format.Rgba8Uint ∷ format.Rgba8Sint ∷ format.R16Unorm
+      ∷ format.R16Snorm ∷ format.R16Uint ∷
+      format.R16Sint ∷ format.R16Float ∷ format.Rg16Unorm ∷ format.Rg16Snorm ∷ format.Rg16Uint ∷ format.Rg16Sint
+      ∷ format.Rg16Float ∷
+      format.Rgba16Unorm ∷ format.Rgba16Snorm ∷ format.Rgba16Uint ∷ format.Rgba16Sint ∷ format.Rgba16Float
+      ∷ format.R32Uint ∷ format.R32Sint ∷
+      format.R32Float ∷ format.Rg32Uint ∷ format.Rg32Sint ∷ format.Rg32Float ∷ format.Rgba32Uint
+      ∷ format.Rgba32Sint ∷ format.Rgba32Float ∷
       format.Bgra8Unorm ∷ format.Rgb10a2Uint ∷ format.Rgb10a2Unorm ∷ format.Rg11b10Ufloat ∷ format.R64Uint ∷ []) refl;
   roles = are_the_words (λ r. Some (role_word r)) role_words role_stands (role.A ∷ role.B ∷ role.C ∷ []) refl;
   builtin_values = are_the_words builtin_word builtin_value_words builtin_stands (
-      builtin.Position false ∷ builtin.Barycentric true ∷ builtin.Barycentric false ∷ builtin.ViewIndex ∷ builtin.InstanceIndex ∷
-      builtin.VertexIndex ∷ builtin.ClipDistances ∷ builtin.FragDepth ∷ builtin.FrontFacing ∷ builtin.PrimitiveIndex ∷ builtin.DrawIndex ∷
-      builtin.SampleIndex ∷ builtin.SampleMask ∷ builtin.GlobalInvocationId ∷ builtin.LocalInvocationId ∷ builtin.LocalInvocationIndex ∷
+      builtin.Position false ∷ builtin.Barycentric true ∷ builtin.Barycentric false ∷ builtin.ViewIndex
+      ∷ builtin.InstanceIndex ∷
+      builtin.VertexIndex ∷ builtin.ClipDistances ∷ builtin.FragDepth ∷ builtin.FrontFacing
+      ∷ builtin.PrimitiveIndex ∷ builtin.DrawIndex ∷
+      builtin.SampleIndex ∷ builtin.SampleMask ∷ builtin.GlobalInvocationId ∷ builtin.LocalInvocationId
+      ∷ builtin.LocalInvocationIndex ∷
       builtin.WorkGroupId ∷ builtin.NumWorkGroups ∷ builtin.NumSubgroups ∷ builtin.SubgroupId ∷ builtin.SubgroupSize ∷
-      builtin.SubgroupInvocationId ∷ builtin.MeshTaskSize ∷ builtin.TriangleIndices ∷ builtin.LineIndices ∷ builtin.PointIndex ∷
-      builtin.Vertices ∷ builtin.Primitives ∷ builtin.VertexCount ∷ builtin.PrimitiveCount ∷ builtin.CullPrimitive ∷ builtin.RayInvocationId ∷
-      builtin.NumRayInvocations ∷ builtin.InstanceCustomData ∷ builtin.GeometryIndex ∷ builtin.WorldRayOrigin ∷ builtin.WorldRayDirection ∷
-      builtin.ObjectRayOrigin ∷ builtin.ObjectRayDirection ∷ builtin.RayTmin ∷ builtin.RayTCurrentMax ∷ builtin.ObjectToWorld ∷
+      builtin.SubgroupInvocationId ∷ builtin.MeshTaskSize ∷ builtin.TriangleIndices ∷ builtin.LineIndices
+      ∷ builtin.PointIndex ∷
+      builtin.Vertices ∷ builtin.Primitives ∷ builtin.VertexCount ∷ builtin.PrimitiveCount
+      ∷ builtin.CullPrimitive ∷ builtin.RayInvocationId ∷
+      builtin.NumRayInvocations ∷ builtin.InstanceCustomData ∷ builtin.GeometryIndex ∷ builtin.WorldRayOrigin
+      ∷ builtin.WorldRayDirection ∷
+      builtin.ObjectRayOrigin ∷ builtin.ObjectRayDirection ∷ builtin.RayTmin ∷ builtin.RayTCurrentMax
+      ∷ builtin.ObjectToWorld ∷
       builtin.WorldToObject ∷ builtin.HitKind ∷ []) refl;
   interpolations = are_the_words (λ i. Some (interpolation_word i)) interpolation_words interpolation_stands (
       interpolation.Perspective ∷ interpolation.Linear ∷ interpolation.Flat ∷ interpolation.PerVertex ∷ []) refl;
   samplings = are_the_words (λ s. Some (sampling_word s)) sampling_words sampling_stands (
       sampling.Center ∷ sampling.Centroid ∷ sampling.Sample ∷ sampling.First ∷ sampling.Either ∷ []) refl;
   spaces = are_the_words space_word address_space_words space_stands (
-      space.Private ∷ space.Uniform ∷ space.Storage (bits 0) ∷ space.Immediate ∷ space.WorkGroup ∷ space.Function ∷ space.TaskPayload ∷
+      space.Private ∷ space.Uniform ∷ space.Storage (bits 0) ∷ space.Immediate ∷ space.WorkGroup
+      ∷ space.Function ∷ space.TaskPayload ∷
       space.IncomingRayPayload ∷ space.RayPayload ∷ []) refl;
   accesses = are_the_words (λ a. Some (image_access_word a)) access_words
-      (λ a. access_stands (has atomic_bit a) (has load_bit a) (has store_bit a)) (bits 1 ∷ bits 0 ∷ bits 3 ∷ bits 4 ∷ []) refl;
+      (λ a. access_stands (has atomic_bit a) (has load_bit a) (has store_bit a))
+      (bits 1 ∷ bits 0 ∷ bits 3 ∷ bits 4 ∷ []) refl;
   functions = λ f w is. ap builtin_if_there (sym is) ∙ function_is_builtin f;
 }

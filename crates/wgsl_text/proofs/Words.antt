@@ -14,7 +14,8 @@ abbrev pub all_words : (List ℕ → Bool) → List (List ℕ) → Bool
 all_words p [] = true
 all_words p (w ∷ words) = p w && all_words p words
 
-pub passes : (p : List ℕ → Bool) (words : List (List ℕ)) (w : List ℕ) → all_words p words ≡ true → stands_in words w ≡ true → p w ≡ true
+pub passes : (p : List ℕ → Bool) (words : List (List ℕ)) (w : List ℕ) → all_words p words ≡ true →
+    stands_in words w ≡ true → p w ≡ true
 passes p [] w all at = absurd (false≢true at)
 passes p (v ∷ words) w all at =
     elim (or_cases (bytes_eq v w) (stands_in words w) at) [
@@ -27,9 +28,11 @@ abbrev pub is_free : List ℕ → Bool
 is_free w = is_word_text w && not (is_reserved w)
 
 pub free_word : (w : List ℕ) → is_free w ≡ true → IsWord w
-free_word w e = let h = and_parts (is_word_text w) (not (is_reserved w)) e in record { text = h.0; free = not-true (is_reserved w) h.1 }
+free_word w e = let h = and_parts (is_word_text w) (not (is_reserved w)) e in
+    record { text = h.0; free = not-true (is_reserved w) h.1 }
 
-pub table_word : (words : List (List ℕ)) (w : List ℕ) → all_words is_free words ≡ true → stands_in words w ≡ true → IsWord w
+pub table_word : (words : List (List ℕ)) (w : List ℕ) → all_words is_free words ≡ true → stands_in words w
+    ≡ true → IsWord w
 table_word words w all at = free_word w (passes is_free words w all at)
 
 pub address_spaces_free : all_words is_free address_space_words ≡ true

@@ -58,16 +58,16 @@ fn of_written(
 /// Tells what a module is refused for and where, and shows the lines around.
 fn of_refusal(alloc: Global, known: &Known, refusal: Refusal) -> Result<Explanation, AllocError> {
     let construct = format!(in alloc; "{}", refusal.construct)?;
-    let place = refused_position(refusal.place);
+    let position = refused_position(refusal.position);
     let listing = explain(
         alloc,
         &known.module,
         &known.info,
-        &place,
+        &position,
         construct.as_str(),
     )?;
     let told = JsonRefusal::of(&known.module, refusal);
-    not_written(match label_at(&known.module, refusal.place) {
+    not_written(match label_at(&known.module, refusal.position) {
         Some(label) => format!(in alloc; "refused: {told}, in {label:?}\n\n{listing}"),
         None => format!(in alloc; "refused: {told}\n\n{listing}"),
     })
@@ -79,10 +79,10 @@ fn of_unaccepted(
     known: &Known,
     unaccepted: Unaccepted,
 ) -> Result<Explanation, AllocError> {
-    let place = listed_position(unaccepted.item);
+    let position = listed_position(unaccepted.item);
     let told = JsonPosition(unaccepted.item);
     let fault = fault_text(alloc, &known.module, &known.info, unaccepted)?;
-    let listing = explain(alloc, &known.module, &known.info, &place, fault.as_str())?;
+    let listing = explain(alloc, &known.module, &known.info, &position, fault.as_str())?;
     not_written(format!(in alloc; "not accepted: {told}: {fault}\n\n{listing}"))
 }
 

@@ -248,9 +248,9 @@ fn tell_refused(
 ) -> Result<(), AllocError> {
     tell(alloc, "refused", reason, members)?;
     if let Some(refusal) = refusal {
-        let place = JsonRefusalPosition::of(module, refusal.place);
-        tell(alloc, "place", place, members)?;
-        if let Some(label) = label_at(module, refusal.place) {
+        let position = JsonRefusalPosition::of(module, refusal.position);
+        tell(alloc, "place", position, members)?;
+        if let Some(label) = label_at(module, refusal.position) {
             tell(alloc, "function", label, members)?;
         }
     }

@@ -8,7 +8,7 @@ use crate::progress::Progress;
 use crate::texts::write_in;
 use crate::words::{Request, Task, request_of};
 use module_answers::{
-    JsonRefusal, Unwritten, Written, fault_line, label_at, layout_table, look_into,
+    JsonRefusal, Unwritten, Written, check_nesting, fault_line, label_at, layout_table,
 };
 use naga_json::Known;
 use naga_wgsl_out::info::{Unaccepted, unaccepted};
@@ -170,7 +170,7 @@ fn check<O: Write, E: Write>(
     out: &mut O,
     err: &mut E,
 ) -> u8 {
-    if let Err(unwritten) = look_into(alloc, &known.module, request.style.limits.nesting) {
+    if let Err(unwritten) = check_nesting(alloc, &known.module, request.style.limits.nesting) {
         return tell_unwritten(alloc, known, unwritten, err);
     }
     match unaccepted(&known.module, &known.info) {
@@ -204,7 +204,7 @@ fn tell_layouts<O: Write, E: Write>(
     out: &mut O,
     err: &mut E,
 ) -> u8 {
-    if let Err(unwritten) = look_into(alloc, &known.module, request.style.limits.nesting) {
+    if let Err(unwritten) = check_nesting(alloc, &known.module, request.style.limits.nesting) {
         return tell_unwritten(alloc, known, unwritten, err);
     }
     match unaccepted(&known.module, &known.info) {
@@ -236,7 +236,7 @@ fn print_written<O: Write, E: Write>(
 
 /// Tells what the module is refused for, where that stands, and the label of the function there.
 fn refuse_at<E: Write>(refusal: Refusal, module: &Module, err: &mut E) -> u8 {
-    let label = label_at(module, refusal.place);
+    let label = label_at(module, refusal.position);
     refuse_in(&JsonRefusal::of(module, refusal), label, err)
 }
 

@@ -52,7 +52,8 @@ unread_written json flags status.NotAccepted text tells = absurd tells
 unread_written json flags status.UnknownFlag text tells = absurd tells
 unread_written json flags status.TooLong text tells = absurd tells
 
-pub unread_checked : (json : List ℕ) (told : Status) (text : List ℕ) → TellsOfReading json told text → TellsOfChecking json told text
+pub unread_checked : (json : List ℕ) (told : Status) (text : List ℕ) → TellsOfReading json told text →
+    TellsOfChecking json told text
 unread_checked json status.NoModule text tells = tells
 unread_checked json status.TooDeep text tells = inl tells
 unread_checked json status.OutOfMemory text tells = tells
@@ -62,7 +63,8 @@ unread_checked json status.NotAccepted text tells = absurd tells
 unread_checked json status.UnknownFlag text tells = absurd tells
 unread_checked json status.TooLong text tells = absurd tells
 
-pub unread_laid_out : (json : List ℕ) (told : Status) (text : List ℕ) → TellsOfReading json told text → TellsOfLayouts json told text
+pub unread_laid_out : (json : List ℕ) (told : Status) (text : List ℕ) → TellsOfReading json told text →
+    TellsOfLayouts json told text
 unread_laid_out json status.NoModule text tells = tells
 unread_laid_out json status.TooDeep text tells = inl tells
 unread_laid_out json status.OutOfMemory text tells = tells
@@ -97,12 +99,26 @@ pub not_written : (json : List ℕ) (flags : ℕ) (writer : WriterFlags) (given 
     IsUnwritten writer (record { nesting = deepest_nesting; text = longest_text }) given m read info reason →
     SaysOfUnwritten reason told text → TellsOfWriting json flags told text
 not_written json flags writer given m read info (unwritten.TooDeep nested) told text known bits asked is says =
-    said (TellsOfWriting json flags) status.TooDeep told text (inr (record { m = given; nested = nested; past = is.0 })) refl says.0
+    said (TellsOfWriting json flags) status.TooDeep told text
+    (inr (record { m = given; nested = nested; past = is.0 })) refl says.0
 not_written json flags writer given m read info (unwritten.NotAccepted fault) told text known bits asked is says =
-    said (TellsOfWriting json flags) status.NotAccepted told text (record { m = given; read = read; fault = fault; fails = is.1 }) refl says.0
+    said (TellsOfWriting json flags) status.NotAccepted told text
+    (record { m = given; read = read; fault = fault; fails = is.1 }) refl says.0
 not_written json flags writer given m read info unwritten.TooLong told text known bits asked is says =
     let long : IsTooLong flags =
-    record { flags_are_known = known; writer = writer; has_bits = bits; given = given; m = m; is_as_asked = asked refl; read = read; info = info; accepted = is.accepted; counted = is.counted; longer = is.longer } in
+    record {
+      flags_are_known = known;
+      writer = writer;
+      has_bits = bits;
+      given = given;
+      m = m;
+      is_as_asked = asked refl;
+      read = read;
+      info = info;
+      accepted = is.accepted;
+      counted = is.counted;
+      longer = is.longer;
+    } in
     said (TellsOfWriting json flags) status.TooLong told text long refl says.0
 not_written json flags writer given m read info (unwritten.Memory error) told text known bits asked is says =
     said (TellsOfWriting json flags) status.OutOfMemory told text (says.1 refl) refl says.0
@@ -122,7 +138,8 @@ no_failures flags m info content failures f =
     record { refusals = f.refusals; reading = f.reading; interface = f.interface; runs = f.runs }
 
 -- it stopped by an error
-stopped : (json : List ℕ) (flags : ℕ) (e : Error) (told : Status) (text : List ℕ) → IsStopped flags (status_of_error e) →
+stopped : (json : List ℕ) (flags : ℕ) (e : Error) (told : Status) (text : List ℕ) →
+    IsStopped flags (status_of_error e) →
     SaysOfError e told text → TellsOfWriting json flags told text
 stopped json flags (error.Memory e) told text is says =
     said (TellsOfWriting json flags) status.OutOfMemory told text (says.1 refl) refl says.0
@@ -162,10 +179,40 @@ wrote json flags writer given m read info (Ok tt) content failures told text kno
     subst (λ now. FaithfulWriting writer m info (Ok tt) [] now 0 0) (sym is.1)
     (no_failures writer m info content failures faithful) in
     let done : IsWritten flags text =
-    record { flags_are_known = known; writer = writer; has_bits = bits; given = given; m = m; is_as_asked = asked; read = read; info = info; accepted = accepted; counted = counted; faithful = moved; text_is = is.1 ∙ appends; is_within = subst (λ t. length t ≤ longest_text) (sym is.1) within } in
+    record {
+      flags_are_known = known;
+      writer = writer;
+      has_bits = bits;
+      given = given;
+      m = m;
+      is_as_asked = asked;
+      read = read;
+      info = info;
+      accepted = accepted;
+      counted = counted;
+      faithful = moved;
+      text_is = is.1 ∙ appends;
+      is_within = subst (λ t. length t ≤ longest_text) (sym is.1) within;
+    } in
     subst (λ s. TellsOfWriting json flags s text) (sym is.0) done
 wrote json flags writer given m read info (Err e) content failures told text known bits asked accepted counted faithful
     appends within says =
     stopped json flags e told text
-    (record { flags_are_known = known; writer = writer; has_bits = bits; given = given; m = m; is_as_asked = asked; read = read; info = info; error = e; beginning = content; failures = failures; accepted = accepted; counted = counted; faithful = faithful; told_is = refl })
+    (record {
+      flags_are_known = known;
+      writer = writer;
+      has_bits = bits;
+      given = given;
+      m = m;
+      is_as_asked = asked;
+      read = read;
+      info = info;
+      error = e;
+      beginning = content;
+      failures = failures;
+      accepted = accepted;
+      counted = counted;
+      faithful = faithful;
+      told_is = refl;
+    })
     says

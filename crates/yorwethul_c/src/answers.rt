@@ -10,8 +10,8 @@ use crate::nesting::nests_past;
 use crate::status::{Status, status_of};
 use bitflags::Flags;
 use module_answers::{
-    JsonRefusalPosition, Unwritten, Written, fault_line, layout_table, look_into,
-    write_told_within, write_within,
+    JsonRefusal, Unwritten, Written, check_nesting, fault_line, layout_table, write_told_within,
+    write_within,
 };
 use naga_json::{Known, ReadError, read_known};
 use naga_wgsl_out::info::{Unaccepted, unaccepted};
@@ -207,10 +207,7 @@ fn told_refusal(
     ensures { Says status result.status (string_bytes result.text) }
 {
     match refusal {
-        Some(refusal) => {
-            let at = JsonRefusalPosition::of(module, refusal.place);
-            told(alloc, status, format_args!("{}: {}", refusal.construct, at))
-        }
+        Some(refusal) => told(alloc, status, JsonRefusal::of(module, refusal)),
         None => told(alloc, status, error),
     }
 }
@@ -230,7 +227,7 @@ fn not_written(alloc: Global, known: &Known, unwritten: Unwritten) -> Answer
 fn checked_known(alloc: Global, known: &Known) -> Answer
     ensures { (json : List ℕ) → TellsOfChecking json result.status (string_bytes result.text) }
 {
-    match look_into(alloc, &known.module, DEEPEST_NESTING) {
+    match check_nesting(alloc, &known.module, DEEPEST_NESTING) {
         Ok(()) => checked_flat(alloc, known),
         Err(unwritten) => not_written(alloc, known, unwritten),
     }
@@ -252,7 +249,7 @@ fn checked_flat(alloc: Global, known: &Known) -> Answer
 fn laid_out_known(alloc: Global, known: &Known) -> Answer
     ensures { (json : List ℕ) → TellsOfLayouts json result.status (string_bytes result.text) }
 {
-    match look_into(alloc, &known.module, DEEPEST_NESTING) {
+    match check_nesting(alloc, &known.module, DEEPEST_NESTING) {
         Ok(()) => laid_out_flat(alloc, known),
         Err(unwritten) => not_written(alloc, known, unwritten),
     }

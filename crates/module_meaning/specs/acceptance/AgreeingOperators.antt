@@ -38,7 +38,7 @@ use Rattle.module_meaning.specs.ExpressionOperators.{own_operator}
 use Rattle.module_meaning.specs.OperatorTable.{Operator, BinarySign, Math, RayCorners}
 use Rattle.module_meaning.specs.OperatorTable.{RayIntersection, Relational, UnarySign, asks}
 use Rattle.module_meaning.specs.OperatorTable.{is_untyped, operator_word}
-use Rattle.module_meaning.specs.TypeIdentity.{kind_number, level, truth_number, vector_number}
+use Rattle.module_meaning.specs.TypeIdentity.{kind_number, level, truth_number, component_count}
 use Rattle.module_meaning.specs.TypeParts.{known_inner}
 
 -- What tells an operator, as numbers: those that WGSL spells alike over as many operands are told
@@ -90,13 +90,13 @@ conversion_key types kind convert (Some operand) =
 -- the letter at a place of a swizzle, of which so many are written
 abbrev pub letter_number : VectorSize → List SwizzleComponent → (place : ℕ) → ℕ
 letter_number size pattern place =
-    if nat_lt place (vector_number size)
+    if nat_lt place (component_count size)
     then option_map_or (tag_of components) (slice_get pattern place) 0
     else 0
 
 abbrev pub swizzle_key : VectorSize → List SwizzleComponent → List ℕ
 swizzle_key size pattern =
-    word_key 5 (vector_number size) (letter_number size pattern 0) (letter_number size pattern 1)
+    word_key 5 (component_count size) (letter_number size pattern 0) (letter_number size pattern 1)
     (letter_number size pattern 2) (letter_number size pattern 3)
 
 -- What tells an operator that takes no type. Signs, and those of whose kind some have no word, have

@@ -18,7 +18,7 @@ use Rattle.naga_ir.specs.declared.types.TypeInner.{TypeInner}
 use Rattle.naga_ir.specs.declared.types.TypeInner.TheVariants as inner
 use Rattle.naga_ir.specs.declared.types.VectorSize.{VectorSize}
 use Rattle.naga_info.specs.declared.info.TypeResolution.{TypeResolution}
-use Rattle.module_meaning.specs.TypeIdentity.{vector_number}
+use Rattle.module_meaning.specs.TypeIdentity.{component_count}
 use Rattle.module_meaning.specs.TypeParts.{inner_at, known_inner, pointee_type}
 use Rattle.module_meaning.specs.TypeParts.{has_computed_parts, is_part_number}
 
@@ -52,8 +52,8 @@ points_to_components types _ = false
 -- Has a vector of so many components all that are chosen first, as many as the swizzle has?
 abbrev pub letters_fit : (chosen : VectorSize) → List SwizzleComponent → VectorSize → Bool
 letters_fit chosen letters n =
-    list_all (λ letter. nat_lt (tag_of components letter) (vector_number n))
-    (take (vector_number chosen) letters)
+    list_all (λ letter. nat_lt (tag_of components letter) (component_count n))
+    (take (component_count chosen) letters)
 
 -- Is it a vector that has them?
 abbrev pub is_swizzled : (chosen : VectorSize) → List SwizzleComponent → TypeInner → Bool

@@ -206,7 +206,13 @@ is_call m f known function arguments outcome =
 
 -- ---- statements
 
--- what a statement without blocks wants by itself: those that are not listed want nothing
+-- the pointer to a scalar or a vector that a statement without blocks wants, if it wants that alone
+abbrev pub components_pointer : SimpleStatement → Option ℕ
+components_pointer (cooperative_store target data_) = Some data_.pointer
+components_pointer _ = None
+
+-- what a statement without blocks wants by itself: those that are not listed want such a pointer or
+-- nothing
 abbrev pub simple_is_sound :
     Module → Function → (known : List TypeResolution) → (breaks continues : Bool) →
     SimpleStatement → Bool
@@ -229,9 +235,8 @@ simple_is_sound m f known breaks continues (subgroup_gather mode argument outcom
 simple_is_sound m f known breaks continues
     (subgroup_collective_operation op collective argument outcome) =
     is_result is_subgroup_result f outcome
-simple_is_sound m f known breaks continues (cooperative_store target data_) =
-    operand_is m.types known (points_to_components m.types) data_.pointer
-simple_is_sound m f known breaks continues _ = true
+simple_is_sound m f known breaks continues s =
+    option_map_or (operand_is m.types known (points_to_components m.types)) (components_pointer s) true
 
 abbrev mutual
   pub statement_is_sound :

@@ -39,10 +39,10 @@ pub(crate) fn pattern_is_whole(pattern: [SwizzleComponent; 4]) -> bool
     pattern.len() == 4
 }
 
-fn case_value_fits_32_bits(label: SwitchValue) -> bool
-    ensures { result ≡ case_value_fits_32_bits label }
+fn case_value_fits_32_bits(case_value: SwitchValue) -> bool
+    ensures { result ≡ case_value_fits_32_bits case_value }
 {
-    match label {
+    match case_value {
         SwitchValue::I32(_) | SwitchValue::U32(_) => true,
         SwitchValue::Default => true,
     }

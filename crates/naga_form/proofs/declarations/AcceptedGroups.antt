@@ -70,10 +70,13 @@ use Rattle.naga_form.proofs.types.SameValues.{TypesAreCounted, TypesAreFit, IsFi
 use Rattle.naga_form.proofs.types.SameValues.{LengthIsCounted}
 
 -- ---- what is known
-known_test : (test : TypeResolution → Bool) (es : List ExpressionInfo) → list_all (λ k. test k.ty) es ≡ true → (h : ℕ) (r : TypeResolution) → slice_get (map (λ k. k.ty) es) h ≡ Some r → test r ≡ true
+known_test : (test : TypeResolution → Bool) (es : List ExpressionInfo) → list_all (λ k. test k.ty) es ≡ true →
+    (h : ℕ) (r : TypeResolution) → slice_get (map (λ k. k.ty) es) h ≡ Some r → test r ≡ true
 known_test test [] all h r at = absurd cc
-known_test test (k ∷ es) all zero r at = ap test (sym (same_Some k.ty r at)) ∙ (and_parts (test k.ty) (list_all (λ k. test k.ty) es) all).0
-known_test test (k ∷ es) all (suc h) r at = known_test test es (and_parts (test k.ty) (list_all (λ k. test k.ty) es) all).1 h r at
+known_test test (k ∷ es) all zero r at = ap test (sym (same_Some k.ty r at))
+    ∙ (and_parts (test k.ty) (list_all (λ k. test k.ty) es) all).0
+known_test test (k ∷ es) all (suc h) r at =
+    known_test test es (and_parts (test k.ty) (list_all (λ k. test k.ty) es) all).1 h r at
 
 -- ---- numbers
 -- a length that has 32 bits is counted
@@ -84,12 +87,14 @@ size_counted size.Dynamic fits = tt
 
 -- so is a type's
 inner_counted : (it : TypeInner) → type_fits_32_bits it ≡ true → InnerIsCounted it
-inner_counted (inner.Array base n stride) fits = size_counted n (and_parts (size_fits_32_bits n) (fits_32_bits stride) fits).0
+inner_counted (inner.Array base n stride) fits =
+    size_counted n (and_parts (size_fits_32_bits n) (fits_32_bits stride) fits).0
 inner_counted (inner.BindingArray base n) fits = size_counted n fits
 inner_counted _ fits = tt
 
 -- a type that is fit is one by itself or among the module's
-pub fits_in_range : (overrides : ℕ) (types : List Type_) (r : TypeResolution) → resolution_fits overrides (length types) r ≡ true → InRange r types
+pub fits_in_range : (overrides : ℕ) (types : List Type_) (r : TypeResolution) →
+    resolution_fits overrides (length types) r ≡ true → InRange r types
 fits_in_range overrides types (Handle h) fits = ltb-true h (length types) fits
 fits_in_range overrides types (Value it) fits = tt
 
@@ -99,14 +104,18 @@ pub record IsSoundGroup (m : Module) (info : ModuleInfo) (f : Option Function) (
   pub size : length g.expressions ≡ length g.known
   pub fits : AllFit m info g.known
   pub below : (h : ℕ) (e : Expression) → slice_get g.expressions h ≡ Some e → all_below h (expression_operands e) ≡ true
-  pub typed : (h : ℕ) (e : Expression) (r : TypeResolution) → slice_get g.expressions h ≡ Some e → slice_get g.known h ≡ Some r → expression_type_fits m f g.known e r ≡ true
+  pub typed : (h : ℕ) (e : Expression) (r : TypeResolution) → slice_get g.expressions h ≡ Some e →
+      slice_get g.known h ≡ Some r → expression_type_fits m f g.known e r ≡ true
   pub demands : (h : ℕ) (e : Expression) → slice_get g.expressions h ≡ Some e → operands_fit m.types g.known e ≡ true
-  pub indexes : (h base index : ℕ) → slice_get g.expressions h ≡ Some (expression.AccessIndex base index) → index < 2 ^ 32
-  pub patterns : (h : ℕ) (size : VectorSize) (vector : ℕ) (pattern : List SwizzleComponent) → slice_get g.expressions h ≡ Some (expression.Swizzle size vector pattern) → length pattern ≡ 4
+  pub indexes : (h base index : ℕ) → slice_get g.expressions h ≡ Some (expression.AccessIndex base index) →
+      index < 2 ^ 32
+  pub patterns : (h : ℕ) (size : VectorSize) (vector : ℕ) (pattern : List SwizzleComponent) →
+      slice_get g.expressions h ≡ Some (expression.Swizzle size vector pattern) → length pattern ≡ 4
 
 module _ (m : Module) (info : ModuleInfo) where
   -- operands that stand before are known
-  known_below : (known : List TypeResolution) (h : ℕ) (hs : List ℕ) → h ≤ length known → all_below h hs ≡ true → AreKnown m info known hs
+  known_below : (known : List TypeResolution) (h : ℕ) (hs : List ℕ) → h ≤ length known → all_below h hs ≡ true →
+      AreKnown m info known hs
   known_below known h [] le all = tt
   known_below known h (x ∷ hs) le all =
       let parts = and_parts (nat_lt x h) (all_below h hs) all in
@@ -114,26 +123,30 @@ module _ (m : Module) (info : ModuleInfo) where
       (element known x (omega (arith, lt, le)), known_below known h hs le parts.1)
 
   -- the operands of an expression are known
-  pub operands_known : (f : Option Function) (g : Group) → IsSoundGroup m info f g → (h : ℕ) (e : Expression) → slice_get g.expressions h ≡ Some e → AreKnown m info g.known (expression_operands e)
+  pub operands_known : (f : Option Function) (g : Group) → IsSoundGroup m info f g → (h : ℕ) (e : Expression) →
+      slice_get g.expressions h ≡ Some e → AreKnown m info g.known (expression_operands e)
   operands_known f g is h e at =
       let lt = slice_get_within g.expressions h e at in let size = is.size in
       known_below g.known h (expression_operands e) (omega (arith, lt, size)) (is.below h e at)
 
   -- and so is its own type
-  pub own_known : (f : Option Function) (g : Group) → IsSoundGroup m info f g → (h : ℕ) (e : Expression) → slice_get g.expressions h ≡ Some e → (r : TypeResolution) × (slice_get g.known h ≡ Some r)
+  pub own_known : (f : Option Function) (g : Group) → IsSoundGroup m info f g → (h : ℕ) (e : Expression) →
+      slice_get g.expressions h ≡ Some e → (r : TypeResolution) × (slice_get g.known h ≡ Some r)
   own_known f g is h e at =
       let lt = slice_get_within g.expressions h e at in let size = is.size in
       element g.known h (omega (arith, lt, size))
 
   module _ (accepted : IsTrue (is_accepted m info)) where
-    accepted_parts : (module_ranges_fit m info ≡ true) × (module_is_sound m info ≡ true) × (module_operators_agree m info ≡ true)
+    accepted_parts : (module_ranges_fit m info ≡ true) × (module_is_sound m info ≡ true)
+        × (module_operators_agree m info ≡ true)
     unfolding is_accepted
     accepted_parts = let one = and_parts _ _ accepted in let two = and_parts _ _ one.1 in (one.0, two.0, two.1)
 
     pub agree : module_operators_agree m info ≡ true
     agree = accepted_parts.2
 
-    ranges_parts : (sizes_fit m info ≡ true) × (list_all type_is_fit m.types ≡ true) × (module_in_range m ≡ true) × (all_known (resolution_fits (length m.overrides) (length m.types)) info ≡ true)
+    ranges_parts : (sizes_fit m info ≡ true) × (list_all type_is_fit m.types ≡ true)
+        × (module_in_range m ≡ true) × (all_known (resolution_fits (length m.overrides) (length m.types)) info ≡ true)
     unfolding module_ranges_fit
     ranges_parts =
         let one = and_parts _ _ accepted_parts.0 in let two = and_parts _ _ one.1 in let three = and_parts _ _ two.1 in
@@ -143,7 +156,8 @@ module _ (m : Module) (info : ModuleInfo) where
     types_range = let one = and_parts _ _ ranges_parts.2 in let two = and_parts _ _ one.0 in two.0
 
     -- the numbers of each type
-    pub numbers_at : (h : ℕ) (t : Type_) → slice_get m.types h ≡ Some t → (length_within (length m.overrides) t.inner ≡ true) × (type_fits_32_bits t.inner ≡ true)
+    pub numbers_at : (h : ℕ) (t : Type_) → slice_get m.types h ≡ Some t →
+        (length_within (length m.overrides) t.inner ≡ true) × (type_fits_32_bits t.inner ≡ true)
     numbers_at h t at =
         and_parts (length_within (length m.overrides) t.inner) (type_fits_32_bits t.inner)
         (list_all_at (λ t. numbers_in_range (length m.overrides) t.inner) m.types h t (and_parts _ _ types_range).1 at)
@@ -163,7 +177,8 @@ module _ (m : Module) (info : ModuleInfo) where
     pub fit_of : (r : TypeResolution) → resolution_fits (length m.overrides) (length m.types) r ≡ true → IsFit m r
     fit_of (Handle h) fits = tt
     fit_of (Value it) fits =
-        let one = and_parts (resolution_is_fit (Value it)) _ fits in let two = and_parts (parts_before (length m.types) it) (numbers_in_range (length m.overrides) it) one.1 in
+        let one = and_parts (resolution_is_fit (Value it)) _ fits in
+        let two = and_parts (parts_before (length m.types) it) (numbers_in_range (length m.overrides) it) one.1 in
         let three = and_parts (length_within (length m.overrides) it) (type_fits_32_bits it) two.1 in
         (one.0, inner_counted it three.1, three.0)
 
@@ -174,10 +189,14 @@ module _ (m : Module) (info : ModuleInfo) where
     sound_parts = let one = and_parts _ _ accepted_parts.1 in let two = and_parts _ _ one.1 in (one.0, two.0, two.1)
 
     -- of expressions that are sound
-    sound_group : (f : Option Function) (g : Group) (arguments locals : ℕ) → IsIn (groups_of m info) g → length g.expressions ≡ length g.known →
-        ((h : ℕ) (r : TypeResolution) → slice_get g.known h ≡ Some r → resolution_fits (length m.overrides) (length m.types) r ≡ true) →
-        ((h : ℕ) (e : Expression) → slice_get g.expressions h ≡ Some e → expression_in_range m arguments locals h e ≡ true) →
-        have_their_types m f g.known g.expressions ≡ true → are_operands_fit m.types g.known g.expressions ≡ true → IsSoundGroup m info f g
+    sound_group : (f : Option Function) (g : Group) (arguments locals : ℕ) → IsIn (groups_of m info) g →
+        length g.expressions ≡ length g.known →
+        ((h : ℕ) (r : TypeResolution) → slice_get g.known h ≡ Some r →
+        resolution_fits (length m.overrides) (length m.types) r ≡ true) →
+        ((h : ℕ) (e : Expression) → slice_get g.expressions h ≡ Some e →
+        expression_in_range m arguments locals h e ≡ true) →
+        have_their_types m f g.known g.expressions ≡ true → are_operands_fit m.types g.known g.expressions
+        ≡ true → IsSoundGroup m info f g
     sound_group f g arguments locals place size fits ranges typed demands = record {
       place = place;
       size = size;
@@ -186,29 +205,39 @@ module _ (m : Module) (info : ModuleInfo) where
       typed = λ h e r here there.
           let at : 0 + h ≡ h = omega arith in
           let one = placed_at (has_its_type m f g.known) 0 g.expressions h e typed here in
-          sym (ap (λ k. option_map_or (expression_type_fits m f g.known e) (slice_get g.known k) false) at ∙ ap (λ o. option_map_or (expression_type_fits m f g.known e) o false) there) ∙ one;
+          sym (ap (λ k. option_map_or (expression_type_fits m f g.known e) (slice_get g.known k) false) at
+          ∙ ap (λ o. option_map_or (expression_type_fits m f g.known e) o false) there) ∙ one;
       demands = λ h e at. list_all_at (operands_fit m.types g.known) g.expressions h e demands at;
       indexes = λ h base index at. ltb-true index (2 ^ 32) (in_range h (expression.AccessIndex base index) at).1;
-      patterns = λ h size vector pattern at. eqb-true (length pattern) 4 (in_range h (expression.Swizzle size vector pattern) at).1;
+      patterns = λ h size vector pattern at. eqb-true (length pattern) 4
+          (in_range h (expression.Swizzle size vector pattern) at).1;
     }
       where
-        in_range : (h : ℕ) (e : Expression) → slice_get g.expressions h ≡ Some e → (all_below h (expression_operands e) ≡ true) × (names_in_range m arguments locals e ≡ true)
-        in_range h e at = and_parts (all_below h (expression_operands e)) (names_in_range m arguments locals e) (ranges h e at)
+        in_range : (h : ℕ) (e : Expression) → slice_get g.expressions h ≡ Some e →
+            (all_below h (expression_operands e) ≡ true) × (names_in_range m arguments locals e ≡ true)
+        in_range h e at = and_parts (all_below h (expression_operands e)) (names_in_range m arguments locals e)
+            (ranges h e at)
 
     -- of a function that is in range and sound
-    function_is : (callees : ℕ) (f : Function) (es : List ExpressionInfo) → IsIn (groups_of m info) (function_group f es) → function_size_fits f es ≡ true → function_in_range m callees f ≡ true →
-        list_all (λ k. resolution_fits (length m.overrides) (length m.types) k.ty) es ≡ true → function_is_sound m f es ≡ true → IsSoundGroup m info (Some f) (function_group f es)
+    function_is : (callees : ℕ) (f : Function) (es : List ExpressionInfo) →
+        IsIn (groups_of m info) (function_group f es) → function_size_fits f es ≡ true →
+        function_in_range m callees f ≡ true →
+        list_all (λ k. resolution_fits (length m.overrides) (length m.types) k.ty) es ≡ true →
+        function_is_sound m f es ≡ true → IsSoundGroup m info (Some f) (function_group f es)
     function_is callees f es place size ranges known sound =
         let one = and_parts (signature_fits (length m.types) f) _ ranges in let two = and_parts (names_fit f) _ one.1 in
-        let three = and_parts (list_all (local_in_range (length m.types) (length f.expressions)) f.local_variables) _ two.1 in
-        let four = and_parts (expressions_in_range m f) (block_in_range callees (length f.expressions) f.body) three.1 in
+        let three = and_parts (list_all (local_in_range (length m.types) (length f.expressions))
+        f.local_variables) _ two.1 in
+        let four = and_parts (expressions_in_range m f) (block_in_range callees (length f.expressions) f.body)
+        three.1 in
         let parts = and_parts _ _ sound in let typed = and_parts _ _ parts.0 in
         let test = expression_in_range m (length f.arguments.items) (length f.local_variables) in
         sound_group (Some f) (function_group f es) (length f.arguments.items)
         (length f.local_variables) place (eqb-true (length f.expressions) (length es) size
         ∙ sym (length-map es (λ e. e.ty)))
         (known_test (resolution_fits (length m.overrides) (length m.types)) es known)
-        (λ h e at. let from : 0 + h ≡ h = omega arith in sym (ap (λ n. test n e) from) ∙ placed_at test 0 f.expressions h e four.0 at)
+        (λ h e at. let from : 0 + h ≡ h = omega arith in sym (ap (λ n. test n e) from)
+        ∙ placed_at test 0 f.expressions h e four.0 at)
         typed.0 typed.1
 
     -- each function
@@ -226,8 +255,10 @@ module _ (m : Module) (info : ModuleInfo) where
               (in_groups m.functions info.functions.items k f es here there),
         )
         (paired_at function_size_fits m.functions info.functions.items sizes.0 k f es here there)
-        (sym (ap (λ n. function_in_range m n f) from) ∙ placed_at (function_in_range m) 0 m.functions k f functions.0 here)
-        (list_all_at (list_all (λ k. resolution_fits (length m.overrides) (length m.types) k.ty)) info.functions.items k es (and_parts _ _ ranges_parts.3).0 there)
+        (sym (ap (λ n. function_in_range m n f) from)
+        ∙ placed_at (function_in_range m) 0 m.functions k f functions.0 here)
+        (list_all_at (list_all (λ k. resolution_fits (length m.overrides) (length m.types) k.ty))
+        info.functions.items k es (and_parts _ _ ranges_parts.3).0 there)
         (paired_at (function_is_sound m) m.functions info.functions.items sound_parts.1 k f es here there)
 
     -- what is known of the expressions of each function and entry point is fit, and names what is there
@@ -249,7 +280,8 @@ module _ (m : Module) (info : ModuleInfo) where
             let more = and_parts _ _ ranges_parts.3 in
             list_all_at (list_all fits) info.entry_points.items e.0 es (and_parts _ _ more.1).0 e.2
 
-    pub known_fits : (k : ℕ) (es : List ExpressionInfo) → slice_get (all_infos info) k ≡ Some es → (h : ℕ) (e : ExpressionInfo) → slice_get es h ≡ Some e → IsFit m e.ty
+    pub known_fits : (k : ℕ) (es : List ExpressionInfo) → slice_get (all_infos info) k ≡ Some es →
+        (h : ℕ) (e : ExpressionInfo) → slice_get es h ≡ Some e → IsFit m e.ty
     known_fits k es there h e at = fit_of e.ty (known_is_fit k es there h e at)
 
     -- each entry point
@@ -264,10 +296,12 @@ module _ (m : Module) (info : ModuleInfo) where
         let one = and_parts (is_below count (option_map (λ k. k.output_variable) p.mesh_info)) _ own in
         let two = and_parts (is_below count p.task_payload) _ one.1 in
         let three = and_parts (is_below count p.incoming_ray_payload) _ two.1 in
-        let four = and_parts (workgroup_fits_32_bits p.workgroup_size) (function_in_range m (length m.functions) p.function) three.1 in
+        let four = and_parts (workgroup_fits_32_bits p.workgroup_size)
+        (function_in_range m (length m.functions) p.function) three.1 in
         let mapped = slice_get-map (λ p. p.function) m.entry_points.items k ∙ ap (option_map (λ p. p.function)) here in
         let known = and_parts _ _ ranges_parts.3 in
-        let group = in_groups (map (λ p. p.function) m.entry_points.items) info.entry_points.items k p.function es mapped there in
+        let group = in_groups (map (λ p. p.function) m.entry_points.items) info.entry_points.items k p.function
+        es mapped there in
         function_is (length m.functions) p.function es
         (in_right (function_groups m.functions info.functions.items) (further_groups_of m info)
         (function_group p.function es) (
@@ -277,8 +311,10 @@ module _ (m : Module) (info : ModuleInfo) where
         ))
         (paired_at entry_point_size_fits m.entry_points.items info.entry_points.items more.0 k p es here there)
         four.1
-        (list_all_at (list_all (λ k. resolution_fits (length m.overrides) (length m.types) k.ty)) info.entry_points.items k es (and_parts _ _ known.1).0 there)
-        (paired_at (entry_point_is_sound m) m.entry_points.items info.entry_points.items sound_parts.2 k p es here there)
+        (list_all_at (list_all (λ k. resolution_fits (length m.overrides) (length m.types) k.ty))
+        info.entry_points.items k es (and_parts _ _ known.1).0 there)
+        (paired_at (entry_point_is_sound m) m.entry_points.items info.entry_points.items sound_parts.2 k p es
+        here there)
 
     -- the module's own expressions
     abbrev pub own_group : Group
@@ -288,19 +324,24 @@ module _ (m : Module) (info : ModuleInfo) where
     declarations_are =
         let sizes = and_parts _ _ ranges_parts.0 in let more = and_parts _ _ sizes.1 in
         let types = length m.types in let own = length m.global_expressions in
-        let range = and_parts (declarations_in_range m) (all_placed (function_in_range m) m.functions && list_all (entry_point_in_range m) m.entry_points.items) ranges_parts.2 in
+        let range = and_parts (declarations_in_range m)
+        (all_placed (function_in_range m) m.functions
+        && list_all (entry_point_in_range m) m.entry_points.items) ranges_parts.2 in
         let declared = and_parts (types_in_range (length m.overrides) m.types) _ range.0 in
         let d1 = and_parts (special_types_fit types m.special_types) _ declared.1 in
         let d2 = and_parts (list_all (constant_in_range types own) m.constants) _ d1.1 in
         let d3 = and_parts (list_all (override_in_range types own) m.overrides) _ d2.1 in
-        let d4 = and_parts (list_all (global_in_range types own) m.global_variables) (all_placed (global_expression_in_range m) m.global_expressions) d3.1 in
+        let d4 = and_parts (list_all (global_in_range types own) m.global_variables)
+        (all_placed (global_expression_in_range m) m.global_expressions) d3.1 in
         let known = and_parts _ _ ranges_parts.3 in let all = and_parts _ _ known.1 in
         let sound = and_parts _ _ sound_parts.0 in let typed = and_parts _ _ sound.0 in
         sound_group None own_group 0 0
         (in_right (function_groups m.functions info.functions.items) (further_groups_of m info) own_group
-        (in_right (function_groups (map (λ p. p.function) m.entry_points.items) info.entry_points.items) (own_group ∷ []) own_group (0, refl)))
+        (in_right (function_groups (map (λ p. p.function) m.entry_points.items) info.entry_points.items)
+        (own_group ∷ []) own_group (0, refl)))
         (eqb-true (length m.global_expressions) (length info.const_expression_types.items) more.1)
-        (λ h r at. list_all_at (resolution_fits (length m.overrides) (length m.types)) info.const_expression_types.items h r all.1 at)
+        (λ h r at. list_all_at (resolution_fits (length m.overrides) (length m.types))
+        info.const_expression_types.items h r all.1 at)
         (λ h e at. let from : 0 + h ≡ h = omega arith in
         (and_parts (expression_in_range m 0 0 h e)
         _ (sym (ap (λ n. global_expression_in_range m n e) from)

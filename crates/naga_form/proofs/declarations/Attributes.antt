@@ -66,7 +66,8 @@ use Rattle.naga_form.specs.Attributes.{size_attributes, stage_attributes}
 
 -- ---- locations
 -- what is told after a number
-abbrev location_attributes : (source : Option ℕ) → (perspective center : Bool) → (i s : List ℕ) → (per_primitive : Bool) → List Attribute
+abbrev location_attributes : (source : Option ℕ) → (perspective center : Bool) → (i s : List ℕ) →
+    (per_primitive : Bool) → List Attribute
 location_attributes source perspective center i s per_primitive =
     attribute_of (Numbered BlendSource) source ++
     (interpolation_told perspective center i s ++ attribute_if (Plain PerPrimitive) per_primitive)
@@ -80,18 +81,24 @@ location_read : (n : ℕ) (source : Option ℕ) (perspective center : Bool) (i s
     (perspective ≡ true → i ≡ default_interpolation) → (center ≡ true → s ≡ default_sampling) →
     after_location_read (plain_location n) (location_attributes source perspective center i s per_primitive) ≡
     AtLocation (told_location n source i s per_primitive)
-location_read n None true true i s true is_i is_s = λ j. AtLocation (told_location n None (sym (is_i refl) j) (sym (is_s refl) j) true)
-location_read n None true true i s false is_i is_s = λ j. AtLocation (told_location n None (sym (is_i refl) j) (sym (is_s refl) j) false)
+location_read n None true true i s true is_i is_s =
+    λ j. AtLocation (told_location n None (sym (is_i refl) j) (sym (is_s refl) j) true)
+location_read n None true true i s false is_i is_s =
+    λ j. AtLocation (told_location n None (sym (is_i refl) j) (sym (is_s refl) j) false)
 location_read n None false true i s true is_i is_s = λ j. AtLocation (told_location n None i (sym (is_s refl) j) true)
 location_read n None false true i s false is_i is_s = λ j. AtLocation (told_location n None i (sym (is_s refl) j) false)
 location_read n None true false i s true is_i is_s = refl
 location_read n None true false i s false is_i is_s = refl
 location_read n None false false i s true is_i is_s = refl
 location_read n None false false i s false is_i is_s = refl
-location_read n (Some source) true true i s true is_i is_s = λ j. AtLocation (told_location n (Some source) (sym (is_i refl) j) (sym (is_s refl) j) true)
-location_read n (Some source) true true i s false is_i is_s = λ j. AtLocation (told_location n (Some source) (sym (is_i refl) j) (sym (is_s refl) j) false)
-location_read n (Some source) false true i s true is_i is_s = λ j. AtLocation (told_location n (Some source) i (sym (is_s refl) j) true)
-location_read n (Some source) false true i s false is_i is_s = λ j. AtLocation (told_location n (Some source) i (sym (is_s refl) j) false)
+location_read n (Some source) true true i s true is_i is_s =
+    λ j. AtLocation (told_location n (Some source) (sym (is_i refl) j) (sym (is_s refl) j) true)
+location_read n (Some source) true true i s false is_i is_s =
+    λ j. AtLocation (told_location n (Some source) (sym (is_i refl) j) (sym (is_s refl) j) false)
+location_read n (Some source) false true i s true is_i is_s =
+    λ j. AtLocation (told_location n (Some source) i (sym (is_s refl) j) true)
+location_read n (Some source) false true i s false is_i is_s =
+    λ j. AtLocation (told_location n (Some source) i (sym (is_s refl) j) false)
 location_read n (Some source) true false i s true is_i is_s = refl
 location_read n (Some source) true false i s false is_i is_s = refl
 location_read n (Some source) false false i s true is_i is_s = refl
@@ -107,7 +114,8 @@ center_is _ is = absurd cc
 
 -- the word of what is meant is that of what is there, or the default
 meant_interpolation : (i : Option Interpolation) →
-    interpolation_word (unwrap_or i interpolation.Perspective) ≡ option_map_or interpolation_word i default_interpolation
+    interpolation_word (unwrap_or i interpolation.Perspective)
+    ≡ option_map_or interpolation_word i default_interpolation
 meant_interpolation None = refl
 meant_interpolation (Some i) = refl
 
@@ -128,7 +136,8 @@ binding_read (BuiltIn value) is = builtin_read (builtin_word value) (is_invarian
 binding_read (Location location i s source per_primitive) is =
     let own_i = unwrap_or i interpolation.Perspective in
     let own_s = unwrap_or s sampling.Center in
-    location_read location source (is_perspective own_i) (is_center own_s) (interpolation_word own_i) (sampling_word own_s) per_primitive
+    location_read location source (is_perspective own_i) (is_center own_s) (interpolation_word own_i)
+    (sampling_word own_s) per_primitive
     (perspective_is own_i) (center_is own_s)
     ∙ (λ j. AtLocation (told_location location source (meant_interpolation i j) (meant_sampling s j) per_primitive))
 
@@ -147,7 +156,8 @@ abbrev read_resource : ResourceBinding → Resource
 read_resource b = record { group = b.group; binding = b.binding }
 
 resource_read : (b : Option ResourceBinding) (coherent volatile : Bool) →
-    resource_binding_read (resource_attributes b ++ (attribute_if (Plain Coherent) coherent ++ attribute_if (Plain Volatile) volatile)) ≡
+    resource_binding_read (resource_attributes b
+    ++ (attribute_if (Plain Coherent) coherent ++ attribute_if (Plain Volatile) volatile)) ≡
     option_map read_resource b
 resource_read None true true = refl
 resource_read None true false = refl
@@ -156,11 +166,14 @@ resource_read None false false = refl
 resource_read (Some b) coherent volatile = refl
 
 -- where a variable is bound
-pub resource_is_read : (g : GlobalVariable) → resource_binding_read (global_attributes g) ≡ option_map read_resource g.binding
-resource_is_read g = resource_read g.binding (is_coherent_memory g.memory_decorations) (is_volatile_memory g.memory_decorations)
+pub resource_is_read : (g : GlobalVariable) → resource_binding_read (global_attributes g)
+    ≡ option_map read_resource g.binding
+resource_is_read g = resource_read g.binding (is_coherent_memory g.memory_decorations)
+    (is_volatile_memory g.memory_decorations)
 
 coherent_read : (b : Option ResourceBinding) (coherent volatile : Bool) →
-    list_any is_coherent (resource_attributes b ++ (attribute_if (Plain Coherent) coherent ++ attribute_if (Plain Volatile) volatile)) ≡ coherent
+    list_any is_coherent (resource_attributes b
+    ++ (attribute_if (Plain Coherent) coherent ++ attribute_if (Plain Volatile) volatile)) ≡ coherent
 coherent_read None true true = refl
 coherent_read None true false = refl
 coherent_read None false true = refl
@@ -171,7 +184,8 @@ coherent_read (Some b) false true = refl
 coherent_read (Some b) false false = refl
 
 volatile_read : (b : Option ResourceBinding) (coherent volatile : Bool) →
-    list_any is_volatile (resource_attributes b ++ (attribute_if (Plain Coherent) coherent ++ attribute_if (Plain Volatile) volatile)) ≡ volatile
+    list_any is_volatile (resource_attributes b
+    ++ (attribute_if (Plain Coherent) coherent ++ attribute_if (Plain Volatile) volatile)) ≡ volatile
 volatile_read None true true = refl
 volatile_read None true false = refl
 volatile_read None false true = refl
@@ -182,11 +196,15 @@ volatile_read (Some b) false true = refl
 volatile_read (Some b) false false = refl
 
 -- and how its accesses are ordered
-pub coherent_is_read : (g : GlobalVariable) → list_any is_coherent (global_attributes g) ≡ is_coherent_memory g.memory_decorations
-coherent_is_read g = coherent_read g.binding (is_coherent_memory g.memory_decorations) (is_volatile_memory g.memory_decorations)
+pub coherent_is_read : (g : GlobalVariable) → list_any is_coherent (global_attributes g)
+    ≡ is_coherent_memory g.memory_decorations
+coherent_is_read g = coherent_read g.binding (is_coherent_memory g.memory_decorations)
+    (is_volatile_memory g.memory_decorations)
 
-pub volatile_is_read : (g : GlobalVariable) → list_any is_volatile (global_attributes g) ≡ is_volatile_memory g.memory_decorations
-volatile_is_read g = volatile_read g.binding (is_coherent_memory g.memory_decorations) (is_volatile_memory g.memory_decorations)
+pub volatile_is_read : (g : GlobalVariable) → list_any is_volatile (global_attributes g)
+    ≡ is_volatile_memory g.memory_decorations
+volatile_is_read g = volatile_read g.binding (is_coherent_memory g.memory_decorations)
+    (is_volatile_memory g.memory_decorations)
 
 -- ---- entry points
 -- with three sizes
@@ -197,13 +215,15 @@ module _ (names : NameMap) (e : EntryPoint) (x y z : ℕ) (sizes : e.workgroup_s
   mesh_read : (output : Option MeshStageInfo) (payload : Option ℕ) → is_some output ≡ true →
       stage_read (attribute_of (λ i. Worded Mesh (global_name names i.output_variable)) output ++
       (size_attributes size ++ attribute_of (λ v. Worded Payload (global_name names v)) payload)) ≡
-      MeshStage (option_map (λ i. global_name names i.output_variable) output) (option_map (global_name names) payload) size
+      MeshStage (option_map (λ i. global_name names i.output_variable) output)
+      (option_map (global_name names) payload) size
   mesh_read None payload is = absurd cc
   mesh_read (Some output) None is = refl
   mesh_read (Some output) (Some payload) is = refl
 
   task_read : (payload : Option ℕ) → is_some payload ≡ true →
-      stage_read (Plain Task ∷ (attribute_of (λ v. Worded Payload (global_name names v)) payload ++ size_attributes size)) ≡
+      stage_read (Plain Task ∷ (attribute_of (λ v. Worded Payload (global_name names v)) payload
+      ++ size_attributes size)) ≡
       TaskStage (option_map (global_name names) payload) size
   task_read None is = absurd cc
   task_read (Some payload) is = refl
@@ -214,9 +234,11 @@ module _ (names : NameMap) (e : EntryPoint) (x y z : ℕ) (sizes : e.workgroup_s
   stage_is_read stage.Compute is =
       ap (λ l. stage_read (Plain Compute ∷ size_attributes l)) sizes ∙ ap ComputeStage (sym sizes)
   stage_is_read stage.Mesh is =
-      ap (λ l. stage_read (attribute_of (λ i. Worded Mesh (global_name names i.output_variable)) e.mesh_info ++ (size_attributes l ++ payload_attributes names e))) sizes
+      ap (λ l. stage_read (attribute_of (λ i. Worded Mesh (global_name names i.output_variable)) e.mesh_info
+      ++ (size_attributes l ++ payload_attributes names e))) sizes
       ∙ mesh_read e.mesh_info e.task_payload is
-      ∙ ap (MeshStage (option_map (λ i. global_name names i.output_variable) e.mesh_info) (option_map (global_name names) e.task_payload)) (sym sizes)
+      ∙ ap (MeshStage (option_map (λ i. global_name names i.output_variable) e.mesh_info)
+      (option_map (global_name names) e.task_payload)) (sym sizes)
   stage_is_read stage.Task is =
       ap (λ l. stage_read (Plain Task ∷ (payload_attributes names e ++ size_attributes l))) sizes
       ∙ task_read e.task_payload is
@@ -224,19 +246,22 @@ module _ (names : NameMap) (e : EntryPoint) (x y z : ℕ) (sizes : e.workgroup_s
   stage_is_read stage.AnyHit is = by e.incoming_ray_payload is
     where
       by : (payload : Option ℕ) → is_some payload ≡ true →
-          stage_read (Plain AnyHit ∷ attribute_of (λ v. Worded IncomingPayload (global_name names v)) payload) ≡ AnyHitStage (option_map (global_name names) payload)
+          stage_read (Plain AnyHit ∷ attribute_of (λ v. Worded IncomingPayload (global_name names v)) payload)
+          ≡ AnyHitStage (option_map (global_name names) payload)
       by None is = absurd cc
       by (Some v) is = refl
   stage_is_read stage.ClosestHit is = by e.incoming_ray_payload is
     where
       by : (payload : Option ℕ) → is_some payload ≡ true →
-          stage_read (Plain ClosestHit ∷ attribute_of (λ v. Worded IncomingPayload (global_name names v)) payload) ≡ ClosestHitStage (option_map (global_name names) payload)
+          stage_read (Plain ClosestHit ∷ attribute_of (λ v. Worded IncomingPayload (global_name names v))
+          payload) ≡ ClosestHitStage (option_map (global_name names) payload)
       by None is = absurd cc
       by (Some v) is = refl
   stage_is_read stage.Miss is = by e.incoming_ray_payload is
     where
       by : (payload : Option ℕ) → is_some payload ≡ true →
-          stage_read (Plain Miss ∷ attribute_of (λ v. Worded IncomingPayload (global_name names v)) payload) ≡ MissStage (option_map (global_name names) payload)
+          stage_read (Plain Miss ∷ attribute_of (λ v. Worded IncomingPayload (global_name names v)) payload)
+          ≡ MissStage (option_map (global_name names) payload)
       by None is = absurd cc
       by (Some v) is = refl
   stage_is_read _ is = refl
@@ -254,8 +279,14 @@ told_is : (perspective center : Bool) (i : Interpolation) (s : Sampling) →
     IsAttributes (interpolation_told perspective center (interpolation_word i) (sampling_word s))
 told_is true true i s = tt
 told_is false true i s = (value_words.interpolations.each i (interpolation_word i) refl, tt)
-told_is perspective false i s =
-    ((value_words.interpolations.each i (interpolation_word i) refl, value_words.samplings.each s (sampling_word s) refl), tt)
+told_is perspective false i s = (
+  (
+    value_words.interpolations.each i (interpolation_word i) refl,
+    value_words.samplings.each s
+        (sampling_word s) refl,
+  ),
+  tt,
+)
 
 plain_if : (p : PlainAttribute) (b : Bool) → IsAttributes (attribute_if (Plain p) b)
 plain_if p true = (tt, tt)
@@ -266,11 +297,13 @@ builtin_is : (value : builtins.BuiltIn) (o : Option (List ℕ)) → builtin_word
 builtin_is value None at invariant = tt
 builtin_is value (Some w) at invariant = (value_words.builtin_values.each value w at, plain_if Invariant invariant)
 
-source_is : (source : Option ℕ) → option_map_or fits_32_bits source true ≡ true → IsAttributes (attribute_of (Numbered BlendSource) source)
+source_is : (source : Option ℕ) → option_map_or fits_32_bits source true ≡ true →
+    IsAttributes (attribute_of (Numbered BlendSource) source)
 source_is None fits = tt
 source_is (Some n) fits = (plain_number n fits, tt)
 
-pub passing_is : (b : Option Binding) → option_map_or binding_fits_32_bits b true ≡ true → IsAttributes (passing_attributes b)
+pub passing_is : (b : Option Binding) → option_map_or binding_fits_32_bits b true ≡ true →
+    IsAttributes (passing_attributes b)
 passing_is None fits = tt
 passing_is (Some (BuiltIn value)) fits = builtin_is value (builtin_word value) refl (is_invariant value)
 passing_is (Some (Location location i s source per_primitive)) fits =
@@ -279,7 +312,8 @@ passing_is (Some (Location location i s source per_primitive)) fits =
     let own_s = unwrap_or s sampling.Center in (
       plain_number location parts.0,
       both_attributes (attribute_of (Numbered BlendSource) source) _ (source_is source parts.1)
-          (both_attributes (interpolation_attributes i s) _ (told_is (is_perspective own_i) (is_center own_s) own_i own_s)
+          (both_attributes (interpolation_attributes i s) _
+          (told_is (is_perspective own_i) (is_center own_s) own_i own_s)
           (plain_if PerPrimitive per_primitive)),
     )
 
@@ -324,10 +358,12 @@ passing_io (Some (BuiltIn value)) = builtin_io value (builtin_word value) refl (
 passing_io (Some (Location location i s source per_primitive)) =
     let own_i = unwrap_or i interpolation.Perspective in
     let own_s = unwrap_or s sampling.Center in
-    location_io source (is_perspective own_i) (is_center own_s) (interpolation_word own_i) (sampling_word own_s) per_primitive
+    location_io source (is_perspective own_i) (is_center own_s) (interpolation_word own_i)
+    (sampling_word own_s) per_primitive
 
 -- and of a member, with the size that it is given; a binding is neither a size nor an alignment
-bound_member : (list : List Attribute) → is_io_binding list ≡ true → (may_follow_size list ≡ true) × (is_member_binding list ≡ true)
+bound_member : (list : List Attribute) → is_io_binding list ≡ true → (may_follow_size list ≡ true)
+    × (is_member_binding list ≡ true)
 bound_member (Numbered Size n ∷ more) is = absurd cc
 bound_member (Numbered Align n ∷ more) is = absurd cc
 bound_member _ is = (is, is)
@@ -338,7 +374,8 @@ member_is (Some n) b = (bound_member (passing_attributes b) (passing_io b)).0
 
 -- so what is written of a member says its size, no alignment and how it passes
 abbrev GivesNoRoom : List Attribute → Type 0
-GivesNoRoom list = (size_read list ≡ None) × (after_size list ≡ list) × (alignment_read list ≡ None) × (after_alignment list ≡ list)
+GivesNoRoom list = (size_read list ≡ None) × (after_size list ≡ list) × (alignment_read list ≡ None)
+    × (after_alignment list ≡ list)
 
 gives_no_room : (list : List Attribute) → is_io_binding list ≡ true → GivesNoRoom list
 gives_no_room (Numbered Size n ∷ more) is = absurd cc
@@ -373,7 +410,8 @@ id_attributes_are None fits = tt
 id_attributes_are (Some n) fits = let lt = ltb-true n (2 ^ 16) fits in (omega (arith, lt), tt)
 
 global_io : (b : Option ResourceBinding) (coherent volatile : Bool) →
-    is_global_binding (resource_attributes b ++ (attribute_if (Plain Coherent) coherent ++ attribute_if (Plain Volatile) volatile)) ≡ true
+    is_global_binding (resource_attributes b
+    ++ (attribute_if (Plain Coherent) coherent ++ attribute_if (Plain Volatile) volatile)) ≡ true
 global_io None true true = refl
 global_io None true false = refl
 global_io None false true = refl
@@ -386,16 +424,20 @@ global_io (Some b) false false = refl
 pub global_is : (g : GlobalVariable) → is_global_binding (global_attributes g) ≡ true
 global_is g = global_io g.binding (is_coherent_memory g.memory_decorations) (is_volatile_memory g.memory_decorations)
 
-resource_is : (b : Option ResourceBinding) → option_map_or resource_fits_32_bits b true ≡ true → IsAttributes (resource_attributes b)
+resource_is : (b : Option ResourceBinding) → option_map_or resource_fits_32_bits b true ≡ true →
+    IsAttributes (resource_attributes b)
 resource_is None fits = tt
 resource_is (Some b) fits =
     let parts = and_parts (fits_32_bits b.group) (fits_32_bits b.binding) fits in
     (plain_number b.group parts.0, (plain_number b.binding parts.1, tt))
 
-pub global_attributes_are : (g : GlobalVariable) → option_map_or resource_fits_32_bits g.binding true ≡ true → IsAttributes (global_attributes g)
+pub global_attributes_are : (g : GlobalVariable) → option_map_or resource_fits_32_bits g.binding true ≡ true →
+    IsAttributes (global_attributes g)
 global_attributes_are g fits =
-    both_attributes (resource_attributes g.binding) (decoration_attributes g.memory_decorations) (resource_is g.binding fits)
-    (both_attributes (attribute_if (Plain Coherent) (is_coherent_memory g.memory_decorations)) _ (plain_if Coherent (is_coherent_memory g.memory_decorations))
+    both_attributes (resource_attributes g.binding) (decoration_attributes g.memory_decorations)
+    (resource_is g.binding fits)
+    (both_attributes (attribute_if (Plain Coherent) (is_coherent_memory g.memory_decorations)) _
+    (plain_if Coherent (is_coherent_memory g.memory_decorations))
     (plain_if Volatile (is_volatile_memory g.memory_decorations)))
 
 -- entry points
@@ -436,14 +478,16 @@ module _ (names : NameMap) (e : EntryPoint) (x y z : ℕ) (sizes : e.workgroup_s
   mesh_stage (Some output) (Some payload) is = refl
 
   task_stage : (payload : Option ℕ) → is_some payload ≡ true →
-      is_stage (Plain Task ∷ (attribute_of (λ v. Worded Payload (global_name names v)) payload ++ size_attributes (x ∷ y ∷ z ∷ []))) ≡ true
+      is_stage (Plain Task ∷ (attribute_of (λ v. Worded Payload (global_name names v)) payload
+      ++ size_attributes (x ∷ y ∷ z ∷ []))) ≡ true
   task_stage None is = absurd cc
   task_stage (Some payload) is = refl
 
   pub stage_is : (s : ShaderStage) → stage_has_form e s ≡ true → is_stage (stage_attributes names e s) ≡ true
   stage_is stage.Compute is = ap (λ l. is_stage (Plain Compute ∷ size_attributes l)) sizes
   stage_is stage.Mesh is =
-      ap (λ l. is_stage (attribute_of (λ i. Worded Mesh (global_name names i.output_variable)) e.mesh_info ++ (size_attributes l ++ payload_attributes names e))) sizes
+      ap (λ l. is_stage (attribute_of (λ i. Worded Mesh (global_name names i.output_variable)) e.mesh_info
+      ++ (size_attributes l ++ payload_attributes names e))) sizes
       ∙ mesh_stage e.mesh_info e.task_payload is
   stage_is stage.Task is =
       ap (λ l. is_stage (Plain Task ∷ (payload_attributes names e ++ size_attributes l))) sizes
@@ -497,7 +541,8 @@ module _ (names : NameMap) (e : EntryPoint) (x y z : ℕ) (sizes : e.workgroup_s
       pub stage_attributes_are : (s : ShaderStage) → IsAttributes (stage_attributes names e s)
       stage_attributes_are stage.Compute = (tt, size_is e.workgroup_size (sym sizes))
       stage_attributes_are stage.Mesh =
-          both_attributes (attribute_of (λ i. Worded Mesh (global_name names i.output_variable)) e.mesh_info) _ (mesh_is e.mesh_info output_below)
+          both_attributes (attribute_of (λ i. Worded Mesh (global_name names i.output_variable)) e.mesh_info) _
+          (mesh_is e.mesh_info output_below)
           (both_attributes (size_attributes e.workgroup_size) _ (size_is e.workgroup_size (sym sizes)) payload_is)
       stage_attributes_are stage.Task =
           (tt, both_attributes (payload_attributes names e) _ payload_is (size_is e.workgroup_size (sym sizes)))

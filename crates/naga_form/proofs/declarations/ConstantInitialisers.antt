@@ -38,7 +38,8 @@ use Rattle.naga_form.proofs.operators.Signatures.{IsOfZero}
 abbrev IsNamedOf : List Constant → Constant → Type 0
 IsNamedOf cs c = (h : ℕ) × (slice_get cs h ≡ Some c) × (is_named c ≡ true)
 
-pub named_stands : (cs : List Constant) (i : ℕ) (c : Constant) → slice_get (filter is_named cs) i ≡ Some c → IsNamedOf cs c
+pub named_stands : (cs : List Constant) (i : ℕ) (c : Constant) → slice_get (filter is_named cs) i ≡ Some c →
+    IsNamedOf cs c
 named_stands [] i c here = absurd cc
 named_stands (d ∷ cs) i c here = by (named_stands cs) (is_named d) refl here
   where
@@ -46,7 +47,8 @@ named_stands (d ∷ cs) i c here = by (named_stands cs) (is_named d) refl here
     further k = (suc k.0, k.1, k.2)
 
     by : ((i : ℕ) (c : Constant) → slice_get (filter is_named cs) i ≡ Some c → IsNamedOf cs c) →
-        (b : Bool) → is_named d ≡ b → slice_get (if b then d ∷ filter is_named cs else filter is_named cs) i ≡ Some c → IsNamedOf (d ∷ cs) c
+        (b : Bool) → is_named d ≡ b → slice_get (if b then d ∷ filter is_named cs else filter is_named cs) i
+        ≡ Some c → IsNamedOf (d ∷ cs) c
     by rest false named here = further (rest i c here)
     by rest true named here = at i here
       where
@@ -54,21 +56,26 @@ named_stands (d ∷ cs) i c here = by (named_stands cs) (is_named d) refl here
         at zero here = (0, here, subst (λ x. is_named x ≡ true) (same_Some d c here) named)
         at (suc i) here = further (rest i c here)
 
-module _ (m : Module) (info : ModuleInfo) (accepted : IsTrue (is_accepted m info)) (distinguished : TypesAreDistinguished m) where
+module _ (m : Module) (info : ModuleInfo) (accepted : IsTrue (is_accepted m info))
+    (distinguished : TypesAreDistinguished m) where
   -- ---- trees of a sound group
-  pub tree_typed : (f : Option Function) (g : Group) → IsSoundGroup m info f g → (h : ℕ) (t : ConstantTree) → constant_tree (declared_for m info g) g.expressions h ≡ Some t →
+  pub tree_typed : (f : Option Function) (g : Group) → IsSoundGroup m info f g → (h : ℕ) (t : ConstantTree) →
+      constant_tree (declared_for m info g) g.expressions h ≡ Some t →
       constant_type (module_shape m info) t ≡ value_at m info g.known h
   tree_typed f g is h t found = (trees_are m info accepted distinguished f g is h t found).type
 
-  pub tree_spelled : (f : Option Function) (g : Group) → IsSoundGroup m info f g → (h : ℕ) (t : ConstantTree) → constant_tree (declared_for m info g) g.expressions h ≡ Some t →
+  pub tree_spelled : (f : Option Function) (g : Group) → IsSoundGroup m info f g → (h : ℕ) (t : ConstantTree) →
+      constant_tree (declared_for m info g) g.expressions h ≡ Some t →
       (x : Signature) → IsOneOf x (constant_signatures (module_shape m info) t) → IsOfExpression m info x
   tree_spelled f g is h t found = (trees_are m info accepted distinguished f g is h t found).spelled
 
-  pub tree_in_range : (f : Option Function) (g : Group) → IsSoundGroup m info f g → (h : ℕ) (t : ConstantTree) → constant_tree (declared_for m info g) g.expressions h ≡ Some t →
+  pub tree_in_range : (f : Option Function) (g : Group) → IsSoundGroup m info f g → (h : ℕ) (t : ConstantTree) →
+      constant_tree (declared_for m info g) g.expressions h ≡ Some t →
       ConstantInRange (module_shape m info) t
   tree_in_range f g is h t found = (trees_are m info accepted distinguished f g is h t found).range
 
-  pub tree_fits : (f : Option Function) (g : Group) → IsSoundGroup m info f g → (h : ℕ) (t : ConstantTree) → constant_tree (declared_for m info g) g.expressions h ≡ Some t →
+  pub tree_fits : (f : Option Function) (g : Group) → IsSoundGroup m info f g → (h : ℕ) (t : ConstantTree) →
+      constant_tree (declared_for m info g) g.expressions h ≡ Some t →
       TreeFits (module_shape m info) t
   tree_fits f g is h t found = (trees_are m info accepted distinguished f g is h t found).fits
 
@@ -81,9 +88,11 @@ module _ (m : Module) (info : ModuleInfo) (accepted : IsTrue (is_accepted m info
     pub there : slice_get m.constants handle ≡ Some constant
     pub is : initialiser m info constant ≡ e
 
-  pub initialiser_of : (i : ℕ) (e : ConstantTree) → slice_get (module_shape m info).initialisers i ≡ Some e → IsInitialiser i e
+  pub initialiser_of : (i : ℕ) (e : ConstantTree) → slice_get (module_shape m info).initialisers i ≡ Some e →
+      IsInitialiser i e
   initialiser_of i e at =
-      let found = map_some (initialiser m info) (slice_get (named_constants m) i) e (sym (slice_get-map (initialiser m info) (named_constants m) i) ∙ at) in
+      let found = map_some (initialiser m info) (slice_get (named_constants m) i) e
+      (sym (slice_get-map (initialiser m info) (named_constants m) i) ∙ at) in
       let all = named_stands m.constants i found.0 found.1 in
       record { constant = found.0; named = found.1; handle = all.0; there = all.1; is = found.2 }
 
@@ -133,14 +142,16 @@ module _ (m : Module) (info : ModuleInfo) (accepted : IsTrue (is_accepted m info
       (initialiser_by (Told x) k.handle k.constant k.there
       (λ one. inr (zero_spelled k.constant.ty x one)) (λ t is one. inl (is.spelled x one)))
 
-  pub initialiser_in_range : (i : ℕ) (e : ConstantTree) → slice_get (module_shape m info).initialisers i ≡ Some e → ConstantInRange (module_shape m info) e
+  pub initialiser_in_range : (i : ℕ) (e : ConstantTree) → slice_get (module_shape m info).initialisers i
+      ≡ Some e → ConstantInRange (module_shape m info) e
   initialiser_in_range i e at =
       let k = initialiser_of i e at in
       subst (ConstantInRange (module_shape m info)) k.is
       (initialiser_by (ConstantInRange (module_shape m info)) k.handle k.constant k.there tt
       (λ t is. is.range))
 
-  pub initialiser_fits : (i : ℕ) (e : ConstantTree) → slice_get (module_shape m info).initialisers i ≡ Some e → TreeFits (module_shape m info) e
+  pub initialiser_fits : (i : ℕ) (e : ConstantTree) → slice_get (module_shape m info).initialisers i ≡ Some e →
+      TreeFits (module_shape m info) e
   initialiser_fits i e at =
       let k = initialiser_of i e at in
       subst (TreeFits (module_shape m info)) k.is

@@ -48,7 +48,8 @@ AnyValue v = Unit {0}
 
 mutual
   -- leaves that are as one says are as another says that follows
-  leaves_follow : (P Q : ℕ → Type 0) → ((k : ℕ) → P k → Q k) → (t : ConstantTree) → EachLeaf AnyValue P t → EachLeaf AnyValue Q t
+  leaves_follow : (P Q : ℕ → Type 0) → ((k : ℕ) → P k → Q k) → (t : ConstantTree) → EachLeaf AnyValue P t →
+      EachLeaf AnyValue Q t
   leaves_follow P Q more (Fixed v) are = tt
   leaves_follow P Q more (NamedConstant k) are = more k are
   leaves_follow P Q more (Constructed w ty ts) are = all_leaves_follow P Q more ts are
@@ -56,12 +57,15 @@ mutual
   leaves_follow P Q more (Picking x ty b) are = leaves_follow P Q more b are
   leaves_follow P Q more (Joining j ty l r) are = (leaves_follow P Q more l are.0, leaves_follow P Q more r are.1)
 
-  all_leaves_follow : (P Q : ℕ → Type 0) → ((k : ℕ) → P k → Q k) → (ts : ConstantTrees) → EachLeafOf AnyValue P ts → EachLeafOf AnyValue Q ts
+  all_leaves_follow : (P Q : ℕ → Type 0) → ((k : ℕ) → P k → Q k) → (ts : ConstantTrees) →
+      EachLeafOf AnyValue P ts → EachLeafOf AnyValue Q ts
   all_leaves_follow P Q more no_constant are = tt
   all_leaves_follow P Q more (constant t ts) are = (leaves_follow P Q more t are.0, all_leaves_follow P Q more ts are.1)
 
-trees_leaves : (P : ℕ → Type 0) (tree_of : ℕ → Option ConstantTree) (bound : ℕ) → ((h : ℕ) → h < bound → (t : ConstantTree) → tree_of h ≡ Some t → EachLeaf AnyValue P t) →
-    (hs : List ℕ) → all_below bound hs ≡ true → (ts : List ConstantTree) → trees_of tree_of hs ≡ Some ts → EachLeafOf AnyValue P (trees ts)
+trees_leaves : (P : ℕ → Type 0) (tree_of : ℕ → Option ConstantTree) (bound : ℕ) →
+    ((h : ℕ) → h < bound → (t : ConstantTree) → tree_of h ≡ Some t → EachLeaf AnyValue P t) →
+    (hs : List ℕ) → all_below bound hs ≡ true → (ts : List ConstantTree) → trees_of tree_of hs ≡ Some ts →
+    EachLeafOf AnyValue P (trees ts)
 trees_leaves P tree_of bound are [] below ts is = subst (λ us. EachLeafOf AnyValue P (trees us)) (same_Some [] ts is) tt
 trees_leaves P tree_of bound are (h ∷ hs) below ts is =
     let low = and_parts (nat_lt h bound) (all_below bound hs) below in
@@ -73,7 +77,8 @@ trees_leaves P tree_of bound are (h ∷ hs) below ts is =
         tree_then o os ≡ Some ts → EachLeafOf AnyValue P (trees ts)
     by None one os more is = absurd cc
     by (Some t) one None more is = absurd cc
-    by (Some t) one (Some us) more is = subst (λ vs. EachLeafOf AnyValue P (trees vs)) (same_Some (t ∷ us) ts is) (one t refl, more us refl)
+    by (Some t) one (Some us) more is = subst (λ vs. EachLeafOf AnyValue P (trees vs))
+        (same_Some (t ∷ us) ts is) (one t refl, more us refl)
 
 module _ (m : Module) (info : ModuleInfo) where
   abbrev shape : program.Module
@@ -97,11 +102,13 @@ module _ (m : Module) (info : ModuleInfo) where
   override_before bound o lt = let count = constants_counted m info in absurd (omega (arith, lt, count))
 
   before_more : (a b : ℕ) → a ≤ b → (t : ConstantTree) → EachLeaf AnyValue (Before a) t → EachLeaf AnyValue (Before b) t
-  before_more a b le t are = leaves_follow (Before a) (Before b) (λ k before lt. let low = before lt in omega (arith, le, low)) t are
+  before_more a b le t are = leaves_follow (Before a) (Before b) (λ k before lt. let low = before lt in omega
+      (arith, le, low)) t are
 
   -- a constant's tree names none after its initialiser
   abbrev AreBefore : (ℕ → Option ConstantTree) → Type 0
-  AreBefore written = (h : ℕ) (c : Constant) → slice_get m.constants h ≡ Some c → (t : ConstantTree) → written h ≡ Some t → EachLeaf AnyValue (Before (suc c.init)) t
+  AreBefore written = (h : ℕ) (c : Constant) → slice_get m.constants h ≡ Some c → (t : ConstantTree) →
+      written h ≡ Some t → EachLeaf AnyValue (Before (suc c.init)) t
 
   module _ (accepted : IsTrue (is_accepted m info)) (distinguished : TypesAreDistinguished m) where
     module _ (written : ℕ → Option ConstantTree) (are : AreBefore written) where
@@ -112,22 +119,30 @@ module _ (m : Module) (info : ModuleInfo) where
           EachLeafOf AnyValue (Before bound) (trees ts) → (t : ConstantTree) →
           built inside h o ts ≡ Some t → EachLeaf AnyValue (Before bound) t
       built_before h bound o ts before t made =
-          let parts = map_some (λ r. Constructed (run_word o) (inside.value_type r) (trees ts)) (global_types_known info h) t made in
+          let parts = map_some (λ r. Constructed (run_word o) (inside.value_type r) (trees ts))
+          (global_types_known info h) t made in
           subst (EachLeaf AnyValue (Before bound)) parts.2 before
 
-      over_before : (tree_of : ℕ → Option ConstantTree) (h : ℕ) (e : Expression) → slice_get m.global_expressions h ≡ Some e →
-          ((k : ℕ) → k < h → (t : ConstantTree) → tree_of k ≡ Some t → EachLeaf AnyValue (Before h) t) → (t : ConstantTree) → tree_over inside tree_of h e ≡ Some t → EachLeaf AnyValue (Before h) t
-      over_before tree_of h (expression.Literal v) at below t found = subst (EachLeaf AnyValue (Before h)) (same_Some _ t found) tt
+      over_before : (tree_of : ℕ → Option ConstantTree) (h : ℕ) (e : Expression) →
+          slice_get m.global_expressions h ≡ Some e →
+          ((k : ℕ) → k < h → (t : ConstantTree) → tree_of k ≡ Some t → EachLeaf AnyValue (Before h) t) →
+          (t : ConstantTree) → tree_over inside tree_of h e ≡ Some t → EachLeaf AnyValue (Before h) t
+      over_before tree_of h (expression.Literal v) at below t found =
+          subst (EachLeaf AnyValue (Before h)) (same_Some _ t found) tt
       over_before tree_of h (expression.Constant c) at below t found =
           let item = constant_named m info accepted None (Own m info accepted) (own_is m info accepted) h c at in
           let lt = initialiser_stands_before m info accepted h c at item.0 item.1 in
           before_more (suc item.0.init) h (omega (arith, lt)) t (are c item.0 item.1 t found)
-      over_before tree_of h (expression.Override o) at below t found = subst (EachLeaf AnyValue (Before h)) (same_Some (NamedConstant (override_number m o)) t found) (override_before h o)
-      over_before tree_of h (expression.ZeroValue ty) at below t found = built_before h h (constructor inside.context (Handle ty) 0) [] tt t found
+      over_before tree_of h (expression.Override o) at below t found =
+          subst (EachLeaf AnyValue (Before h)) (same_Some (NamedConstant (override_number m o)) t found)
+          (override_before h o)
+      over_before tree_of h (expression.ZeroValue ty) at below t found =
+          built_before h h (constructor inside.context (Handle ty) 0) [] tt t found
       over_before tree_of h (expression.Compose ty components) at below t found =
           let o = constructor inside.context (Handle ty) (length components.items) in
           let parts = then_some (built inside h o) (trees_of tree_of components.items) t found in
-          built_before h h o parts.0 (trees_leaves (Before h) tree_of h below components.items ((own_is m info accepted).below h (expression.Compose ty components) at) parts.0 parts.1) t parts.2
+          built_before h h o parts.0 (trees_leaves (Before h) tree_of h below components.items
+          ((own_is m info accepted).below h (expression.Compose ty components) at) parts.0 parts.1) t parts.2
       over_before tree_of h (expression.Splat size v) at below t found =
           let parts = then_some (λ u. built inside h (Splat size) (u ∷ [])) (tree_of v) t found in
           let low = and_parts (nat_lt v h) true ((own_is m info accepted).below h (expression.Splat size v) at) in
@@ -143,22 +158,28 @@ module _ (m : Module) (info : ModuleInfo) where
         joining = λ j ty l r one two. (one, two);
       }
 
-      computed_before : (tree_of : ℕ → Option ConstantTree) (h : ℕ) (e : Expression) → slice_get m.global_expressions h ≡ Some e →
-          ((k : ℕ) → k < h → (t : ConstantTree) → tree_of k ≡ Some t → EachLeaf AnyValue (Before h) t) → (t : ConstantTree) → computed_over inside tree_of h e ≡ Some t → EachLeaf AnyValue (Before h) t
+      computed_before : (tree_of : ℕ → Option ConstantTree) (h : ℕ) (e : Expression) →
+          slice_get m.global_expressions h ≡ Some e →
+          ((k : ℕ) → k < h → (t : ConstantTree) → tree_of k ≡ Some t → EachLeaf AnyValue (Before h) t) →
+          (t : ConstantTree) → computed_over inside tree_of h e ≡ Some t → EachLeaf AnyValue (Before h) t
       computed_before tree_of h e at below t found =
           of_computed inside tree_of (EachLeaf AnyValue (Before h)) (EachLeafOf AnyValue (Before h)) (made_before h) h e
-          (over_before tree_of h e at below) (each_below (expression_operands e) ((own_is m info accepted).below h e at))
+          (over_before tree_of h e at below) (each_below (expression_operands e)
+          ((own_is m info accepted).below h e at))
           (λ a applied silent ty ts all. all) t found
         where
-          each_below : (hs : List ℕ) → all_below h hs ≡ true → AllByRecursion (λ k. (t : ConstantTree) → tree_of k ≡ Some t → EachLeaf AnyValue (Before h) t) hs
+          each_below : (hs : List ℕ) → all_below h hs ≡ true →
+              AllByRecursion (λ k. (t : ConstantTree) → tree_of k ≡ Some t → EachLeaf AnyValue (Before h) t) hs
           each_below [] are = tt
           each_below (k ∷ hs) are =
               let low = and_parts (nat_lt k h) (all_below h hs) are in
               (below k (ltb-true k h low.0), each_below hs low.1)
 
-    named_before : (h : ℕ) (c : Constant) → slice_get m.constants h ≡ Some c → is_some c.name ≡ true → Before (suc c.init) (constant_number m h)
+    named_before : (h : ℕ) (c : Constant) → slice_get m.constants h ≡ Some c → is_some c.name ≡ true →
+        Before (suc c.init) (constant_number m h)
     named_before h c at named lt =
-        let rank : constant_rank (constant_number m h) ≡ c.init = ap (λ o. option_map_or (λ c. c.init) o 0) (named_at m.constants h c at named) in
+        let rank : constant_rank (constant_number m h) ≡ c.init =
+        ap (λ o. option_map_or (λ c. c.init) o 0) (named_at m.constants h c at named) in
         omega (arith, rank)
 
     -- each of the module's own expressions names none after it
@@ -168,14 +189,18 @@ module _ (m : Module) (info : ModuleInfo) where
     constants_before : (global : ℕ → Option ConstantTree) → GlobalsBefore global → AreBefore (constant_over m global)
     constants_before global are h c at t found =
         subst (EachLeaf AnyValue (Before (suc c.init)))
-        (same_Some (availability_tree m info accepted distinguished global h c) t (sym (ap (option_map (availability_tree m info accepted distinguished global h)) at) ∙ found))
+        (same_Some (availability_tree m info accepted distinguished global h c) t
+        (sym (ap (option_map (availability_tree m info accepted distinguished global h)) at) ∙ found))
         (by (is_some c.name) refl)
       where
-        or_zero : (o : Option ConstantTree) → global c.init ≡ o → EachLeaf AnyValue (Before (suc c.init)) (unwrap_or o (zero_of_type m c.ty))
+        or_zero : (o : Option ConstantTree) → global c.init ≡ o →
+            EachLeaf AnyValue (Before (suc c.init)) (unwrap_or o (zero_of_type m c.ty))
         or_zero None is = tt
         or_zero (Some t) is = before_more c.init (suc c.init) (omega arith) t (are c.init t is)
 
-        by : (b : Bool) → is_some c.name ≡ b → EachLeaf AnyValue (Before (suc c.init)) (if b then NamedConstant (constant_number m h) else unwrap_or (global c.init) (zero_of_type m c.ty))
+        by : (b : Bool) → is_some c.name ≡ b →
+            EachLeaf AnyValue (Before (suc c.init))
+            (if b then NamedConstant (constant_number m h) else unwrap_or (global c.init) (zero_of_type m c.ty))
         by true named = named_before h c at named
         by false named = or_zero (global c.init) refl
 
@@ -183,8 +208,11 @@ module _ (m : Module) (info : ModuleInfo) where
     globals_before zero h t found = absurd cc
     globals_before (suc levels) h t found =
         let global = global_tree_within levels m info in
-        let parts = then_some (computed_over (declared_over m (constant_over m global) (global_types_known info)) global h) (slice_get m.global_expressions h) t found in
-        computed_before (constant_over m global) (constants_before global (globals_before levels)) global h parts.0 parts.1
+        let parts = then_some
+        (computed_over (declared_over m (constant_over m global) (global_types_known info)) global h)
+        (slice_get m.global_expressions h) t found in
+        computed_before (constant_over m global) (constants_before global (globals_before levels)) global h
+        parts.0 parts.1
         (λ k lt u is. before_more k h (omega (arith, lt)) u (globals_before levels k u is)) t parts.2
 
     -- an initialiser names constants of smaller ranks alone
@@ -193,7 +221,9 @@ module _ (m : Module) (info : ModuleInfo) where
     initialiser_before i e at =
         let k = initialiser_of m info accepted distinguished i e at in
         let rank : constant_rank i ≡ k.constant.init = ap (λ o. option_map_or (λ c. c.init) o 0) k.named in
-        subst (λ n. EachLeaf AnyValue (Before n) e) (sym rank) (subst (EachLeaf AnyValue (Before k.constant.init)) k.is (by k.constant (global_tree m info k.constant.init) refl))
+        subst (λ n. EachLeaf AnyValue (Before n) e) (sym rank)
+        (subst (EachLeaf AnyValue (Before k.constant.init)) k.is
+        (by k.constant (global_tree m info k.constant.init) refl))
       where
         by : (c : Constant) (o : Option ConstantTree) → global_tree m info c.init ≡ o →
             EachLeaf AnyValue (Before c.init) (unwrap_or o (zero_of_type m c.ty))

@@ -24,8 +24,10 @@ use Rattle.naga_form.proofs.declarations.OwnExpressions.{constant_has_tree, cons
 
 pub constants_fit : (m : Module) (info : ModuleInfo) → IsTrue (is_accepted m info) →
     TypesAreDistinguished m → (n : ModuleNames) →
-    ((i : ℕ) (e : ConstantTree) → slice_get (module_shape m info).initialisers i ≡ Some e → EachWord (OperatesOutside (module_shape m info) n) e) →
-    ((i k : ℕ) → i < length (module_shape m info).constant_types → k < length (module_shape m info).constant_types → n.constant i ≡ n.constant k → i ≡ k) →
+    ((i : ℕ) (e : ConstantTree) → slice_get (module_shape m info).initialisers i ≡ Some e →
+    EachWord (OperatesOutside (module_shape m info) n) e) →
+    ((i k : ℕ) → i < length (module_shape m info).constant_types →
+    k < length (module_shape m info).constant_types → n.constant i ≡ n.constant k → i ≡ k) →
     ConstantsFit (module_shape m info) n
 constants_fit m info accepted distinguished n words distinct = record {
   counted = constants_within_types m info;

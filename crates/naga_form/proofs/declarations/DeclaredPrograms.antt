@@ -176,19 +176,26 @@ module _ (m : Module) (info : ModuleInfo) (accepted : IsTrue (is_accepted m info
       slice_get m.global_expressions h ≡ Some (expression.Literal value) →
       is_written_literal value ≡ true →
       IsExpression (tree_expressions.Constant (literal_form value))
-  literal_there h value at is = literal_is value is (global_names_in_range m info accepted h (expression.Literal value) at)
+  literal_there h value at is =
+      literal_is value is (global_names_in_range m info accepted h (expression.Literal value) at)
 
   formed_there : (ty : ℕ) → is_spelled m.types (Handle ty) ≡ true → HasFormAt (type_names m) ty
-  formed_there ty is = let t = tree_there (type_names m) (Handle ty) is in (t.0, t.1, tree_is m types (Handle ty) tt t.0 t.1)
+  formed_there ty is = let t = tree_there (type_names m) (Handle ty) is in
+      (t.0, t.1, tree_is m types (Handle ty) tt t.0 t.1)
 
-  override_there : (h o : ℕ) → slice_get m.global_expressions h ≡ Some (expression.Override o) → IsIdentifier ((type_names m).override_name o)
-  override_there h o at = override_identifier m o (ltb-true o (length m.overrides) (global_names_in_range m info accepted h (expression.Override o) at))
+  override_there : (h o : ℕ) → slice_get m.global_expressions h ≡ Some (expression.Override o) →
+      IsIdentifier ((type_names m).override_name o)
+  override_there h o at =
+      override_identifier m o (ltb-true o (length m.overrides)
+      (global_names_in_range m info accepted h (expression.Override o) at))
 
   -- each that is written is of the grammar, and so each constant
   pub written_global : (h : ℕ) → global_is_written m h ≡ true → IsExpression (global_form m (type_names m) h)
-  written_global h is = global_is m (type_names m) literal_there (constant_identifier m) override_there formed_there (suc h) h is
+  written_global h is = global_is m (type_names m) literal_there (constant_identifier m) override_there
+      formed_there (suc h) h is
 
-  pub written_constants : (c : ℕ) → constant_is_written m c ≡ true → IsExpression (written_constant_form m (type_names m) c)
+  pub written_constants : (c : ℕ) → constant_is_written m c ≡ true →
+      IsExpression (written_constant_form m (type_names m) c)
   written_constants = constant_is m (type_names m) literal_there (constant_identifier m) override_there formed_there
 
   -- ---- numbers

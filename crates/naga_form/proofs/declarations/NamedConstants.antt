@@ -56,7 +56,8 @@ pub count_is : (cs : List Constant) → length (filter is_named cs) ≡ named_co
 count_is [] = refl
 count_is (d ∷ cs) = by (count_is cs) (is_named d)
   where
-    by : length (filter is_named cs) ≡ named_count cs → (b : Bool) → length (if b then d ∷ filter is_named cs else filter is_named cs) ≡ if_there b + named_count cs
+    by : length (filter is_named cs) ≡ named_count cs → (b : Bool) →
+        length (if b then d ∷ filter is_named cs else filter is_named cs) ≡ if_there b + named_count cs
     by rest true = let at : 1 + named_count cs ≡ suc (named_count cs) = omega arith in ap (λ n. suc n) rest ∙ sym at
     by rest false = let at : 0 + named_count cs ≡ named_count cs = omega arith in rest ∙ sym at
 
@@ -69,7 +70,8 @@ handle_at k (d ∷ cs) zero c here named = by (is_named d) refl
     first : k ≡ k + 0
     first = omega arith
 
-    by : (b : Bool) → is_named d ≡ b → slice_get (if b then k ∷ named_handles (suc k) cs else named_handles (suc k) cs) 0 ≡ Some (k + 0)
+    by : (b : Bool) → is_named d ≡ b → slice_get (if b then k ∷ named_handles (suc k) cs else named_handles
+        (suc k) cs) 0 ≡ Some (k + 0)
     by true at = ap Some first
     by false at = absurd cc
 handle_at k (d ∷ cs) (suc h) c here named = by (handle_at (suc k) cs h c here named) (is_named d)
@@ -90,7 +92,8 @@ handles_count : (k : ℕ) (cs : List Constant) → length (named_handles k cs) �
 handles_count k [] = refl
 handles_count k (d ∷ cs) = by (handles_count (suc k) cs) (is_named d)
   where
-    by : length (named_handles (suc k) cs) ≡ named_count cs → (b : Bool) → length (if b then k ∷ named_handles (suc k) cs else named_handles (suc k) cs) ≡ if_there b + named_count cs
+    by : length (named_handles (suc k) cs) ≡ named_count cs → (b : Bool) →
+        length (if b then k ∷ named_handles (suc k) cs else named_handles (suc k) cs) ≡ if_there b + named_count cs
     by rest true = let at : 1 + named_count cs ≡ suc (named_count cs) = omega arith in ap (λ n. suc n) rest ∙ sym at
     by rest false = let at : 0 + named_count cs ≡ named_count cs = omega arith in rest ∙ sym at
 
@@ -172,7 +175,8 @@ which_constant m i lt = by (nat_lt i (named_count m.constants)) refl
         (slice_get_past (named_handles 0 m.constants) i (omega (arith, count, following))))
 
 -- what has the number of a constant with a name, and that of an override, has its name
-pub constant_numbered : (names : NameMap) (m : Module) (h : ℕ) (c : Constant) → slice_get m.constants h ≡ Some c → is_some c.name ≡ true →
+pub constant_numbered : (names : NameMap) (m : Module) (h : ℕ) (c : Constant) → slice_get m.constants h
+    ≡ Some c → is_some c.name ≡ true →
     (outer_names names m).constant (constant_number m h) ≡ constant_name names h
 constant_numbered names m h c here named =
     let first : 0 + h ≡ h = omega arith in
@@ -193,11 +197,14 @@ override_numbered names m o =
 
 -- an item of a list of types in front of others, and one of those after
 left_type : (xs ys : List ValueType) (i : ℕ) (x : ValueType) → slice_get xs i ≡ Some x → type_at (xs ++ ys) i ≡ x
-left_type xs ys i x here = get_or_append_left xs ys BooleanType i (slice_get_within xs i x here) ∙ get_or_from_slice_get xs i x BooleanType here
+left_type xs ys i x here = get_or_append_left xs ys BooleanType i (slice_get_within xs i x here)
+    ∙ get_or_from_slice_get xs i x BooleanType here
 
-right_type : (xs ys : List ValueType) (n i : ℕ) (y : ValueType) → length xs ≡ n → slice_get ys i ≡ Some y → type_at (xs ++ ys) (n + i) ≡ y
+right_type : (xs ys : List ValueType) (n i : ℕ) (y : ValueType) → length xs ≡ n → slice_get ys i ≡ Some y →
+    type_at (xs ++ ys) (n + i) ≡ y
 right_type xs ys n i y count here =
-    ap (λ k. type_at (xs ++ ys) (k + i)) (sym count) ∙ (get_or-append-add xs ys i BooleanType ∙ get_or_from_slice_get ys i y BooleanType here)
+    ap (λ k. type_at (xs ++ ys) (k + i)) (sym count)
+    ∙ (get_or-append-add xs ys i BooleanType ∙ get_or_from_slice_get ys i y BooleanType here)
 
 module _ (m : Module) (info : ModuleInfo) where
   abbrev pub type_of_constant : Constant → ValueType
@@ -216,7 +223,8 @@ module _ (m : Module) (info : ModuleInfo) where
   constants_count = length-map (named_constants m) type_of_constant ∙ count_is m.constants
 
   pub types_count : length (types_of_constants ++ types_of_overrides) ≡ length types_of_constants + length m.overrides
-  types_count = length-append types_of_constants types_of_overrides ∙ ap (λ k. length types_of_constants + k) (length-map m.overrides type_of_override)
+  types_count = length-append types_of_constants types_of_overrides ∙ ap (λ k. length types_of_constants + k)
+      (length-map m.overrides type_of_override)
 
   -- of named constants and overrides
   pub constants_length : length (module_shape m info).constant_types ≡ named_count m.constants + length m.overrides

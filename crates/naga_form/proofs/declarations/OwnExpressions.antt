@@ -54,8 +54,11 @@ module _ (m : Module) (info : ModuleInfo) where
     declared_in_range =
         let one = and_parts (sizes_fit m info) _ ranges in
         let two = and_parts (list_all type_is_fit m.types) _ one.1 in
-        let three = and_parts (module_in_range m) (all_known (resolution_fits (length m.overrides) (length m.types)) info) two.1 in
-        (and_parts (declarations_in_range m) (all_placed (function_in_range m) m.functions && list_all (entry_point_in_range m) m.entry_points.items) three.0).0
+        let three = and_parts (module_in_range m)
+        (all_known (resolution_fits (length m.overrides) (length m.types)) info) two.1 in
+        (and_parts (declarations_in_range m)
+        (all_placed (function_in_range m) m.functions
+        && list_all (entry_point_in_range m) m.entry_points.items) three.0).0
 
     abbrev pub Own : Group
     Own = own_group m info accepted
@@ -63,14 +66,16 @@ module _ (m : Module) (info : ModuleInfo) where
     pub own_is : IsSoundGroup m info None Own
     own_is = declarations_are m info accepted
 
-    own_parts : (list_all (constant_in_range (length m.types) (length m.global_expressions)) m.constants ≡ true) × (all_placed (global_expression_in_range m) m.global_expressions ≡ true)
+    own_parts : (list_all (constant_in_range (length m.types) (length m.global_expressions)) m.constants ≡ true)
+        × (all_placed (global_expression_in_range m) m.global_expressions ≡ true)
     own_parts =
         let types = length m.types in let own = length m.global_expressions in
         let declared = and_parts (types_in_range (length m.overrides) m.types) _ declared_in_range in
         let d1 = and_parts (special_types_fit types m.special_types) _ declared.1 in
         let d2 = and_parts (list_all (constant_in_range types own) m.constants) _ d1.1 in
         let d3 = and_parts (list_all (override_in_range types own) m.overrides) _ d2.1 in
-        let d4 = and_parts (list_all (global_in_range types own) m.global_variables) (all_placed (global_expression_in_range m) m.global_expressions) d3.1 in
+        let d4 = and_parts (list_all (global_in_range types own) m.global_variables)
+        (all_placed (global_expression_in_range m) m.global_expressions) d3.1 in
         (d2.0, d4.1)
 
     -- the constant that an expression names
@@ -79,12 +84,14 @@ module _ (m : Module) (info : ModuleInfo) where
         (slice_get m.constants c ≡ Some k)
     constant_named f g is h c at =
         let own = own_known m info f g is h (expression.Constant c) at in
-        let there = expected_there m info (types.constant_type m c) own.0 (is.typed h (expression.Constant c) own.0 at own.1) in
+        let there = expected_there m info (types.constant_type m c) own.0
+        (is.typed h (expression.Constant c) own.0 at own.1) in
         let item = map_some (λ c. Handle c.ty) (slice_get m.constants c) there.0 there.1 in
         (item.0, item.1)
 
     -- each initialiser is one of the module's own expressions
-    pub initialiser_within : (c : ℕ) (k : Constant) → slice_get m.constants c ≡ Some k → k.init < length m.global_expressions
+    pub initialiser_within : (c : ℕ) (k : Constant) → slice_get m.constants c ≡ Some k →
+        k.init < length m.global_expressions
     initialiser_within c k at =
         let own = and_parts (nat_lt k.ty (length m.types))
         (nat_lt k.init (length m.global_expressions))
@@ -94,17 +101,21 @@ module _ (m : Module) (info : ModuleInfo) where
 
     -- its operands and the initialisers of the constants that it names stand before one of the
     -- module's own expressions, and what it names is there
-    global_is_in_range : (h : ℕ) (e : Expression) → slice_get m.global_expressions h ≡ Some e → global_expression_in_range m h e ≡ true
+    global_is_in_range : (h : ℕ) (e : Expression) → slice_get m.global_expressions h ≡ Some e →
+        global_expression_in_range m h e ≡ true
     global_is_in_range h e at =
         let from : 0 + h ≡ h = omega arith in
-        sym (ap (λ n. global_expression_in_range m n e) from) ∙ placed_at (global_expression_in_range m) 0 m.global_expressions h e own_parts.1 at
+        sym (ap (λ n. global_expression_in_range m n e) from)
+        ∙ placed_at (global_expression_in_range m) 0 m.global_expressions h e own_parts.1 at
 
-    pub global_names_in_range : (h : ℕ) (e : Expression) → slice_get m.global_expressions h ≡ Some e → names_in_range m 0 0 e ≡ true
+    pub global_names_in_range : (h : ℕ) (e : Expression) → slice_get m.global_expressions h ≡ Some e →
+        names_in_range m 0 0 e ≡ true
     global_names_in_range h e at =
         let own = and_parts (expression_in_range m 0 0 h e) (initialiser_before m h e) (global_is_in_range h e at) in
         (and_parts (all_below h (expression_operands e)) (names_in_range m 0 0 e) own.0).1
 
-    pub initialiser_stands_before : (h c : ℕ) → slice_get m.global_expressions h ≡ Some (expression.Constant c) → (k : Constant) → slice_get m.constants c ≡ Some k → k.init < h
+    pub initialiser_stands_before : (h c : ℕ) → slice_get m.global_expressions h
+        ≡ Some (expression.Constant c) → (k : Constant) → slice_get m.constants c ≡ Some k → k.init < h
     initialiser_stands_before h c at k there =
         let before =
         (and_parts (expression_in_range m 0 0 h (expression.Constant c))
@@ -115,8 +126,10 @@ module _ (m : Module) (info : ModuleInfo) where
     module _ (distinguished : TypesAreDistinguished m) where
       -- ---- constants
       -- a tree stands for each constant
-      constant_stands : (global : ℕ → Option ConstantTree) (h : ℕ) (c : Constant) → slice_get m.constants h ≡ Some c → HasTree (constant_over m global h)
+      constant_stands : (global : ℕ → Option ConstantTree) (h : ℕ) (c : Constant) → slice_get m.constants h
+          ≡ Some c → HasTree (constant_over m global h)
       constant_stands global h c at = (_, ap (option_map (availability_tree m info accepted distinguished global h)) at)
 
-      pub constant_has_tree : (h : ℕ) (c : Constant) → slice_get m.constants h ≡ Some c → HasTree (written_constant m info h)
+      pub constant_has_tree : (h : ℕ) (c : Constant) → slice_get m.constants h ≡ Some c →
+          HasTree (written_constant m info h)
       constant_has_tree = constant_stands (global_tree m info)

@@ -72,12 +72,15 @@ key_numbered kind i =
 abbrev key_of : Bytes → NameKey
 key_of w = key_numbered (get_or w 1 0) (number_of w)
 
-key_distinguished : (asks : Bytes → Bool) (earlier : ℕ) (a : NameKey) → key_of (name_at (free_within asks earlier) a) ≡ a
+key_distinguished : (asks : Bytes → Bool) (earlier : ℕ) (a : NameKey) →
+    key_of (name_at (free_within asks earlier) a) ≡ a
 key_distinguished asks earlier (FixedKey (ArgumentName i)) = refl
 key_distinguished asks earlier _ = refl
 
-pub free_distinct : (asks : Bytes → Bool) (p : Module) (earlier : ℕ) (f : Function) → AreDistinct p (freely_named asks earlier f)
-free_distinct asks p earlier f a b is_a is_b e = sym (key_distinguished asks earlier a) ∙ (ap key_of e ∙ key_distinguished asks earlier b)
+pub free_distinct : (asks : Bytes → Bool) (p : Module) (earlier : ℕ) (f : Function) →
+    AreDistinct p (freely_named asks earlier f)
+free_distinct asks p earlier f a b is_a is_b e = sym (key_distinguished asks earlier a)
+    ∙ (ap key_of e ∙ key_distinguished asks earlier b)
 
 pub free_functions_distinct : (asks : Bytes → Bool) (p : Module) → ModuleNamesAreDistinct p (free_names asks)
 free_functions_distinct asks p = record { functions = λ g k lg lk e. ap number_of e }
@@ -89,7 +92,8 @@ free_constants_distinct asks p i k li lk e = ap number_of e
 
 -- ---- no word is a name
 -- every name begins so
-all_begin_free : (asks : Bytes → Bool) (earlier : ℕ) (a : NameKey) → begins_free (name_at (free_within asks earlier) a) ≡ true
+all_begin_free : (asks : Bytes → Bool) (earlier : ℕ) (a : NameKey) →
+    begins_free (name_at (free_within asks earlier) a) ≡ true
 all_begin_free asks earlier (FixedKey (ArgumentName i)) = refl
 all_begin_free asks earlier _ = refl
 
@@ -97,7 +101,8 @@ all_begin_free asks earlier _ = refl
 apart : (v w : Bytes) → begins_free v ≡ true → begins_free w ≡ false → v ≢ w
 apart v w is not_so e = true≢false (sym is ∙ (ap begins_free e ∙ not_so))
 
-pub word_stands_free : (asks : Bytes → Bool) (p : Module) (earlier : ℕ) (f : Function) (w : Bytes) → begins_free w ≡ false → StandsFree p (freely_named asks earlier f) w
+pub word_stands_free : (asks : Bytes → Bool) (p : Module) (earlier : ℕ) (f : Function) (w : Bytes) →
+    begins_free w ≡ false → StandsFree p (freely_named asks earlier f) w
 word_stands_free asks p earlier f w not_so = (
   λ g lt. apart (free_name 2 g) w refl not_so,
   λ a is. apart (name_at (free_within asks earlier) a) w (all_begin_free asks earlier a) not_so,
@@ -110,21 +115,26 @@ kind_in w = get_or w 1 0
 abbrev is_functions : Bytes → Bool
 is_functions w = nat_eq (kind_in w) 2
 
-none_is_functions : (asks : Bytes → Bool) (earlier : ℕ) (a : NameKey) → is_functions (name_at (free_within asks earlier) a) ≡ false
+none_is_functions : (asks : Bytes → Bool) (earlier : ℕ) (a : NameKey) →
+    is_functions (name_at (free_within asks earlier) a) ≡ false
 none_is_functions asks earlier (FixedKey (ArgumentName i)) = refl
 none_is_functions asks earlier _ = refl
 
-pub function_not_hidden : (asks : Bytes → Bool) (p : Module) (earlier : ℕ) (f : Function) (g : ℕ) → IsNoName p (freely_named asks earlier f) ((free_names asks).function g)
+pub function_not_hidden : (asks : Bytes → Bool) (p : Module) (earlier : ℕ) (f : Function) (g : ℕ) →
+    IsNoName p (freely_named asks earlier f) ((free_names asks).function g)
 function_not_hidden asks p earlier f g a is e = true≢false (sym (ap is_functions e) ∙ none_is_functions asks earlier a)
 
 -- ---- words that ask and words that don't
-pub asks_freely : (asks : Bytes → Bool) (p : Module) (earlier : ℕ) (f : Function) (w : Bytes) → begins_free w ≡ false → asks w ≡ true → AsksBy p (freely_named asks earlier f) w
+pub asks_freely : (asks : Bytes → Bool) (p : Module) (earlier : ℕ) (f : Function) (w : Bytes) →
+    begins_free w ≡ false → asks w ≡ true → AsksBy p (freely_named asks earlier f) w
 asks_freely asks p earlier f w not_so does = (does, word_stands_free asks p earlier f w not_so)
 
-pub operates_freely : (asks : Bytes → Bool) (p : Module) (earlier : ℕ) (f : Function) (w : Bytes) → begins_free w ≡ false → asks w ≡ false → OperatesBy p (freely_named asks earlier f) w
+pub operates_freely : (asks : Bytes → Bool) (p : Module) (earlier : ℕ) (f : Function) (w : Bytes) →
+    begins_free w ≡ false → asks w ≡ false → OperatesBy p (freely_named asks earlier f) w
 operates_freely asks p earlier f w not_so does = (does, refl, word_stands_free asks p earlier f w not_so)
 
-pub operates_outside : (asks : Bytes → Bool) (p : Module) (w : Bytes) → begins_free w ≡ false → asks w ≡ false → OperatesOutside p (free_names asks) w
+pub operates_outside : (asks : Bytes → Bool) (p : Module) (w : Bytes) → begins_free w ≡ false → asks w ≡ false →
+    OperatesOutside p (free_names asks) w
 operates_outside asks p w not_so does = record {
   asks_nothing = does;
   operates = refl;

@@ -58,7 +58,8 @@ mathematical_distinguished : list_all is_distinguished mathematical ≡ true
 unfolding is_distinguished free_request is_request
 mathematical_distinguished = refl
 
-distinguished_parts : (o : Operator) → is_distinguished o ≡ true → (begins_free (run_word o) ≡ false) × (free_request (run_word o) ≡ asks o)
+distinguished_parts : (o : Operator) → is_distinguished o ≡ true → (begins_free (run_word o) ≡ false)
+    × (free_request (run_word o) ≡ asks o)
 unfolding is_distinguished
 distinguished_parts o e =
     let parts = and_parts (not (begins_free (run_word o))) (alike (free_request (run_word o)) (asks o)) e in
@@ -103,8 +104,11 @@ by_text w false is not_own = λ i. is i || not_own i
 
 spelling_is_distinguished : (w : List ℕ) → SpellsAType w → (begins_free w ≡ false) ×
     (free_request w ≡ false)
-spelling_is_distinguished w is =
-    (no_number w (type_begins w is), by_text w false (asks_as_distinguished (Convert w) w is refl) (no_own_request w is))
+spelling_is_distinguished w is = (
+  no_number w (type_begins w is),
+  by_text w false (asks_as_distinguished (Convert w) w is refl)
+      (no_own_request w is),
+)
 
 unsupported_distinguished : (x : Unsupported) → free_request (unsupported_word x) ≡ unsupported_asks x
 unfolding free_request is_request
@@ -117,19 +121,24 @@ unsupported_is_free _ = refl
 
 typed_is_distinguished : (o : Operator) → is_untyped o ≡ false → TypeIsSound o →
     WordIsDistinguished o
-typed_is_distinguished (Construct w n) u is = let parts = spelling_is_distinguished w is in record { free = parts.0; asking = parts.1 }
-typed_is_distinguished (Convert w) u is = let parts = spelling_is_distinguished w is in record { free = parts.0; asking = parts.1 }
+typed_is_distinguished (Construct w n) u is = let parts = spelling_is_distinguished w is in
+    record { free = parts.0; asking = parts.1 }
+typed_is_distinguished (Convert w) u is = let parts = spelling_is_distinguished w is in
+    record { free = parts.0; asking = parts.1 }
 typed_is_distinguished (Reinterpret w) u is = record {
   free = refl;
-  asking = by_text (with_type (codes "bitcast") w) false (asks_as_distinguished (Reinterpret w) (with_type (codes "bitcast") w) is refl) refl;
+  asking = by_text (with_type (codes "bitcast") w) false
+      (asks_as_distinguished (Reinterpret w) (with_type (codes "bitcast") w) is refl) refl;
 }
 typed_is_distinguished (CooperativeLoad false w) u is = record {
   free = refl;
-  asking = by_text (with_type (codes "coopLoad") w) true (asks_as_distinguished (CooperativeLoad false w) (with_type (codes "coopLoad") w) is refl) refl;
+  asking = by_text (with_type (codes "coopLoad") w) true
+      (asks_as_distinguished (CooperativeLoad false w) (with_type (codes "coopLoad") w) is refl) refl;
 }
 typed_is_distinguished (CooperativeLoad true w) u is = record {
   free = refl;
-  asking = by_text (with_type (codes "coopLoadT") w) true (asks_as_distinguished (CooperativeLoad true w) (with_type (codes "coopLoadT") w) is refl) refl;
+  asking = by_text (with_type (codes "coopLoadT") w) true
+      (asks_as_distinguished (CooperativeLoad true w) (with_type (codes "coopLoadT") w) is refl) refl;
 }
 typed_is_distinguished (WithoutForm x) u is =
     record { free = unsupported_is_free x; asking = unsupported_distinguished x }

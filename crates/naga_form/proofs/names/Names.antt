@@ -112,13 +112,16 @@ text_is_word (c ∷ w) e =
 
 -- ---- the two tables
 same_either_way : (a b : List ℕ) → bytes_eq a b ≡ bytes_eq b a
-same_either_way a b = one_answer (bytes_eq a b) (bytes_eq b a) (bytes_eq-Decides a b) ((λ e. sym ((bytes_eq-Decides b a).0 e)), (λ e. (bytes_eq-Decides b a).1 (sym e)))
+same_either_way a b = one_answer (bytes_eq a b) (bytes_eq b a) (bytes_eq-Decides a b)
+    ((λ e. sym ((bytes_eq-Decides b a).0 e)), (λ e. (bytes_eq-Decides b a).1 (sym e)))
 
-stands_as_any : {K : Type 0} (read : K → List ℕ) (ks : List K) (w : List ℕ) → list_any (λ k. bytes_eq w (read k)) ks ≡ stands_in (map read ks) w
+stands_as_any : {K : Type 0} (read : K → List ℕ) (ks : List K) (w : List ℕ) →
+    list_any (λ k. bytes_eq w (read k)) ks ≡ stands_in (map read ks) w
 stands_as_any read [] w = refl
 stands_as_any read (k ∷ ks) w = λ i. same_either_way w (read k) i || stands_as_any read ks w i
 
-contains_words : {K : Type 0} (read : K → List ℕ) (ks : List K) (w : List ℕ) → set.contains (texts_of read ks) w ≡ stands_in (map read ks) w
+contains_words : {K : Type 0} (read : K → List ℕ) (ks : List K) (w : List ℕ) → set.contains (texts_of read ks) w
+    ≡ stands_in (map read ks) w
 contains_words read ks w = contains-texts_of read ks w ∙ stands_as_any read ks w
 
 -- names that keep off these words do, of items and of members
@@ -126,16 +129,20 @@ keeps_off_reserved : (start : NamerNames) → start.keywords ≡ wgsl_names.keyw
     (earlier : List (List ℕ)) (label : List ℕ) → is_reserved (name_after start earlier label) ≡ false
 unfolding wgsl_names reserved_words is_reserved
 keeps_off_reserved start same earlier label =
-    let plain = plain_ends (map (λ word. word.now) RESERVED.now) (words_are (map (λ word. word.now) RESERVED.now) refl) in
+    let plain = plain_ends (map (λ word. word.now) RESERVED.now)
+    (words_are (map (λ word. word.now) RESERVED.now) refl) in
     sym (contains_words (λ word. word.now) RESERVED.now (name_after start earlier label))
     ∙ ap (λ words. set.contains words (name_after start earlier label)) (sym same)
     ∙ name_after_no_keyword start earlier label (subst HasPlainEnds (sym same) plain)
 
-keeps_off_builtin : (earlier : List (List ℕ)) (label : List ℕ) → is_builtin (name_after wgsl_names earlier label) ≡ false
+keeps_off_builtin : (earlier : List (List ℕ)) (label : List ℕ) →
+    is_builtin (name_after wgsl_names earlier label) ≡ false
 unfolding wgsl_names builtin_words is_builtin
 keeps_off_builtin earlier label =
     sym (contains_words (λ word. word.now) BUILTIN_IDENTIFIERS.now (name_after wgsl_names earlier label))
-    ∙ name_after_no_builtin wgsl_names earlier label (plain_ends (map (λ word. word.now) BUILTIN_IDENTIFIERS.now) (words_are (map (λ word. word.now) BUILTIN_IDENTIFIERS.now) refl))
+    ∙ name_after_no_builtin wgsl_names earlier label
+    (plain_ends (map (λ word. word.now) BUILTIN_IDENTIFIERS.now)
+    (words_are (map (λ word. word.now) BUILTIN_IDENTIFIERS.now) refl))
 
 -- they are words of the grammar
 pub is_word_after : (start : NamerNames) → start.keywords ≡ wgsl_names.keywords →
@@ -174,7 +181,8 @@ no_blanks w (suc h) word e = absurd (no (sym (ap is_word e) ∙ word))
     no : false ≡ true → ⊥
     no q = cc
 
-not_text : (w : List ℕ) (b : Bool) (h : ℕ) → is_word w ≡ true → (w ≡ codes "_e" ++ decimal h → ⊥) → w ≡ numbered_text b h → ⊥
+not_text : (w : List ℕ) (b : Bool) (h : ℕ) → is_word w ≡ true → (w ≡ codes "_e" ++ decimal h → ⊥) →
+    w ≡ numbered_text b h → ⊥
 not_text w true h word not_so is = not_so is
 not_text w false h word not_so is = no_blanks w h word is
 
@@ -195,7 +203,8 @@ no_blank : (k : ℕ) (w : List ℕ) → codes "_e" ++ w ≡ replicate k 32 → �
 no_blank zero w e = true≢false (ap begins e)
 no_blank (suc k) w e = true≢false (ap begins e)
 
-texts_distinct : (a b : Bool) (h k : ℕ) → (a ≡ true → h < 2 ^ 64) → (b ≡ true → k < 2 ^ 64) → numbered_text a h ≡ numbered_text b k → h ≡ k
+texts_distinct : (a b : Bool) (h k : ℕ) → (a ≡ true → h < 2 ^ 64) → (b ≡ true → k < 2 ^ 64) → numbered_text a h
+    ≡ numbered_text b k → h ≡ k
 texts_distinct true true h k p q e = decimal_injective h k (p refl) (q refl) (ap (drop 2) e)
 texts_distinct true false h k p q e = absurd (no_blank k (decimal h) e)
 texts_distinct false true h k p q e = absurd (no_blank h (decimal k) (sym e))
@@ -203,7 +212,8 @@ texts_distinct false false h k p q e = sym (length-replicate h) ∙ ap length e 
 
 pub numbered_distinct : (h k : ℕ) → numbered_name h ≡ numbered_name k → h ≡ k
 unfolding numbered_name
-numbered_distinct h k e = texts_distinct (nat_lt h (2 ^ 64)) (nat_lt k (2 ^ 64)) h k (ltb-true h (2 ^ 64)) (ltb-true k (2 ^ 64)) e
+numbered_distinct h k e = texts_distinct (nat_lt h (2 ^ 64)) (nat_lt k (2 ^ 64)) h k (ltb-true h (2 ^ 64))
+    (ltb-true k (2 ^ 64)) e
 
 -- ---- the items of a module
 module _ (m : Module) where
@@ -215,24 +225,32 @@ module _ (m : Module) where
   pub name_there : (item : LabelledItem) (s : Stands (labelled_items wgsl_names m) item) →
       module_names m item.0 ≡
       Some (name_after wgsl_names (labels_of (take s.place (labelled_items wgsl_names m))) item.1)
-  name_there item s = put_at wgsl_names (λ _. None) (module_names m) (labelled_items wgsl_names m) puts (items_apart wgsl_names m) s.place item s.there s.outside
+  name_there item s = put_at wgsl_names (λ _. None) (module_names m) (labelled_items wgsl_names m) puts
+      (items_apart wgsl_names m) s.place item s.there s.outside
 
   pub name_is : (item : LabelledItem) (s : Stands (labelled_items wgsl_names m) item) →
       name_in (module_names m) item.0 ≡ name_after wgsl_names
       (labels_of (take s.place (labelled_items wgsl_names m))) item.1
   name_is item s = ap (λ o. unwrap_or o []) (name_there item s)
 
-  pub item_is_identifier : (item : LabelledItem) → Stands (labelled_items wgsl_names m) item → IsIdentifier (name_in (module_names m) item.0)
-  item_is_identifier item s = subst IsIdentifier (sym (name_is item s)) (is_identifier (labels_of (take s.place (labelled_items wgsl_names m))) item.1)
+  pub item_is_identifier : (item : LabelledItem) → Stands (labelled_items wgsl_names m) item →
+      IsIdentifier (name_in (module_names m) item.0)
+  item_is_identifier item s =
+      subst IsIdentifier (sym (name_is item s))
+      (is_identifier (labels_of (take s.place (labelled_items wgsl_names m))) item.1)
 
-  pub item_not_numbered : (item : LabelledItem) (h : ℕ) → Stands (labelled_items wgsl_names m) item → name_in (module_names m) item.0 ≢ numbered_name h
+  pub item_not_numbered : (item : LabelledItem) (h : ℕ) → Stands (labelled_items wgsl_names m) item →
+      name_in (module_names m) item.0 ≢ numbered_name h
   item_not_numbered item h s e =
       let earlier = labels_of (take s.place (labelled_items wgsl_names m)) in
-      unnumbered (name_after wgsl_names earlier item.1) h (name_after_is_word wgsl_names earlier item.1) (name_after_not_numbered wgsl_names earlier item.1 h) (sym (name_is item s) ∙ e)
+      unnumbered (name_after wgsl_names earlier item.1) h (name_after_is_word wgsl_names earlier item.1)
+      (name_after_not_numbered wgsl_names earlier item.1 h) (sym (name_is item s) ∙ e)
 
-  pub items_tell : (a b : LabelledItem) → Stands (labelled_items wgsl_names m) a → Stands (labelled_items wgsl_names m) b → name_in (module_names m) a.0 ≡ name_in (module_names m) b.0 → a ≡ b
+  pub items_tell : (a b : LabelledItem) → Stands (labelled_items wgsl_names m) a →
+      Stands (labelled_items wgsl_names m) b → name_in (module_names m) a.0 ≡ name_in (module_names m) b.0 → a ≡ b
   items_tell a b s t e =
-      let place = item_names_tell wgsl_names (labelled_items wgsl_names m) s.place t.place a b s.there t.there s.outside t.outside (sym (name_is a s) ∙ e ∙ name_is b t) in
+      let place = item_names_tell wgsl_names (labelled_items wgsl_names m) s.place t.place a b s.there t.there
+      s.outside t.outside (sym (name_is a s) ∙ e ∙ name_is b t) in
       ap (λ o. unwrap_or o a) (sym s.there ∙ ap (slice_get (labelled_items wgsl_names m)) place ∙ t.there)
 
   -- the label of a function, or of an entry point

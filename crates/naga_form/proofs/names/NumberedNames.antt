@@ -26,7 +26,8 @@ digits_are_bytes (c ∷ w) e =
 abbrev begins_numbered : List ℕ → Bool
 begins_numbered w = nat_eq (get_or w 0 0) 95 && nat_eq (get_or w 1 0) 101
 
-none_begins : (ws : List (List ℕ)) (d : List ℕ) → list_all (λ w. not (begins_numbered w)) ws ≡ true → stands_in ws (codes "_e" ++ d) ≡ false
+none_begins : (ws : List (List ℕ)) (d : List ℕ) → list_all (λ w. not (begins_numbered w)) ws ≡ true →
+    stands_in ws (codes "_e" ++ d) ≡ false
 none_begins [] d e = refl
 none_begins (w ∷ ws) d e =
     neither (bytes_eq w (codes "_e" ++ d)) (stands_in ws (codes "_e" ++ d))

@@ -54,7 +54,8 @@ use Rattle.naga_back.specs.declared.flags.WriterFlags.{WriterFlags}
 use Rattle.naga_back.specs.Flags.{annotates_types}
 
 -- the arguments and locals of a function in range are its own
-module _ (m : Module) (info : ModuleInfo) (callees : ℕ) (f : ir_function.Function) (ranges : function_in_range m callees f ≡ true) (es : List ExpressionInfo) where
+module _ (m : Module) (info : ModuleInfo) (callees : ℕ) (f : ir_function.Function)
+    (ranges : function_in_range m callees f ≡ true) (es : List ExpressionInfo) where
   abbrev own : shapes.Function
   own = function_shape m info f es
 
@@ -71,7 +72,9 @@ module _ (m : Module) (info : ModuleInfo) (callees : ℕ) (f : ir_function.Funct
       (ltb-true n (length f.arguments.items)
       (names_are_in_range m callees f ranges h (expression.FunctionArgument n) at))
   leaf_stands h (expression.LocalVariable v) at =
-      subst (λ count. v < count) (sym (mapped_length (λ l. l.init) f.local_variables)) (ltb-true v (length f.local_variables) (names_are_in_range m callees f ranges h (expression.LocalVariable v) at))
+      subst (λ count. v < count) (sym (mapped_length (λ l. l.init) f.local_variables))
+      (ltb-true v (length f.local_variables)
+      (names_are_in_range m callees f ranges h (expression.LocalVariable v) at))
   leaf_stands h (expression.Load pointer) at = by (is_atomic_pointer d.context pointer)
     where
       by : (atomic : Bool) →
@@ -97,13 +100,16 @@ module _ (m : Module) (info : ModuleInfo) (callees : ℕ) (f : ir_function.Funct
 
 module _ (m : Module) (info : ModuleInfo) (named : LabelNames)
     (accepted : IsTrue (is_accepted m info)) where
-  leaves_stand : (g : ℕ) (fs : List ir_function.Function) (ess : List (List ExpressionInfo)) → ((i : ℕ) (f : ir_function.Function) → slice_get fs i ≡ Some f → slice_get (all_functions m) (g + i) ≡ Some f) →
-      (following : List Naming) → LeavesStand following → LeavesStand (reverse_aux (namings_from named (module_names m) m g (function_shapes m info fs ess)) following)
+  leaves_stand : (g : ℕ) (fs : List ir_function.Function) (ess : List (List ExpressionInfo)) →
+      ((i : ℕ) (f : ir_function.Function) → slice_get fs i ≡ Some f → slice_get (all_functions m) (g + i) ≡ Some f) →
+      (following : List Naming) → LeavesStand following →
+      LeavesStand (reverse_aux (namings_from named (module_names m) m g (function_shapes m info fs ess)) following)
   leaves_stand g [] ess there following all = all
   leaves_stand g (f ∷ fs) [] there following all = all
   leaves_stand g (f ∷ fs) (es ∷ ess) there following all =
       let here : g + 0 ≡ g = omega arith in
-      let known = function_there m info accepted g f (subst (λ h. slice_get (all_functions m) h ≡ Some f) here (there 0 f refl)) in
+      let known = function_there m info accepted g f
+      (subst (λ h. slice_get (all_functions m) h ≡ Some f) here (there 0 f refl)) in
       let is = accepted_at m info accepted g f known.0 known.1 in
       leaves_stand (g + 1) fs ess (further (all_functions m) g f fs there)
       (function_naming (module_names m) (named g) m info g f es ∷ following)

@@ -23,7 +23,8 @@ use Rattle.naga_form.proofs.operators.AgreeingUses.{all_distinguished_alike, val
 use Rattle.naga_form.proofs.types.SameValues.{TypesAreCounted}
 use Rattle.naga_form.proofs.operators.Signatures.{IsOfExpression}
 
-module _ (m : Module) (info : ModuleInfo) (accepted : IsTrue (is_accepted m info)) (named : TypesAreDistinguished m) where
+module _ (m : Module) (info : ModuleInfo) (accepted : IsTrue (is_accepted m info))
+    (named : TypesAreDistinguished m) where
   abbrev pub are : TypesAreCounted m
   are = types_are_counted m info accepted named
 
@@ -37,7 +38,8 @@ module _ (m : Module) (info : ModuleInfo) (accepted : IsTrue (is_accepted m info
     operands_are = operands_known m info a.function a.group a.sound a.handle a.expression a.there
 
     -- where its operator asks for one type, its own is alike to it
-    pub own_is : (r : TypeResolution) → expected_type m a.function a.group.known a.expression ≡ LikeThis r → identity_at m.types a.group.known a.handle ≡ type_identity m.types r
+    pub own_is : (r : TypeResolution) → expected_type m a.function a.group.known a.expression ≡ LikeThis r →
+        identity_at m.types a.group.known a.handle ≡ type_identity m.types r
     own_is r wanted =
         let own = own_type in
         ap (λ o. option_map_or (type_identity m.types) o []) own.1
@@ -59,20 +61,26 @@ module _ (m : Module) (info : ModuleInfo) (accepted : IsTrue (is_accepted m info
   -- ---- two of them
   module _ {x y : Signature} (a : IsOfExpression m info x) (b : IsOfExpression m info y) where
     -- told alike, they are of one type
-    pub by_identity : identity_at m.types a.group.known a.handle ≡ identity_at m.types b.group.known b.handle → x.result ≡ y.result
+    pub by_identity : identity_at m.types a.group.known a.handle ≡ identity_at m.types b.group.known b.handle →
+        x.result ≡ y.result
     by_identity e =
         let one = own_type a in let two = own_type b in
-        a.result ∙ (valued_alike m info are a.group.known b.group.known a.sound.fits b.sound.fits a.handle b.handle one.0 one.1 two.0 two.1 e ∙ sym b.result)
+        a.result ∙ (valued_alike m info are a.group.known b.group.known a.sound.fits b.sound.fits a.handle
+        b.handle one.0 one.1 two.0 two.1 e ∙ sym b.result)
 
     module _ (operands : x.operands ≡ y.operands) where
-      pub same_values : map (value_at m info a.group.known) (expression_operands a.expression) ≡ map (value_at m info b.group.known) (expression_operands b.expression)
+      pub same_values : map (value_at m info a.group.known) (expression_operands a.expression)
+          ≡ map (value_at m info b.group.known) (expression_operands b.expression)
       same_values = sym a.operands ∙ (operands ∙ b.operands)
 
-      pub same_operands : map (identity_at m.types a.group.known) (expression_operands a.expression) ≡ map (identity_at m.types b.group.known) (expression_operands b.expression)
+      pub same_operands : map (identity_at m.types a.group.known) (expression_operands a.expression)
+          ≡ map (identity_at m.types b.group.known) (expression_operands b.expression)
       same_operands = all_distinguished_alike m info are a.group.known b.group.known a.sound.fits
           b.sound.fits (expression_operands a.expression) (expression_operands b.expression)
           (operands_are a) (operands_are b) same_values
 
       -- of one key, they are of one type
-      pub by_key : (k l : List ℕ) → operator_key m.types a.group.known a.expression ≡ Some k → operator_key m.types b.group.known b.expression ≡ Some l → k ≡ l → x.result ≡ y.result
-      by_key k l one two e = by_identity (uses_agree m info (agree m info accepted) (use_of a k one) (use_of b l two) e same_operands)
+      pub by_key : (k l : List ℕ) → operator_key m.types a.group.known a.expression ≡ Some k →
+          operator_key m.types b.group.known b.expression ≡ Some l → k ≡ l → x.result ≡ y.result
+      by_key k l one two e = by_identity (uses_agree m info (agree m info accepted) (use_of a k one)
+          (use_of b l two) e same_operands)

@@ -42,7 +42,8 @@ use Rattle.naga_form.proofs.operators.AgreeingUses.{AreKnown, value_at}
 use Rattle.naga_form.proofs.types.SameValues.{IsFit}
 use Rattle.naga_form.proofs.operators.Signatures.{IsOfExpression, IsOfZero, declared_for}
 
-module _ (m : Module) (info : ModuleInfo) (accepted : IsTrue (is_accepted m info)) (distinguished : ItemsAreDistinguished m) where
+module _ (m : Module) (info : ModuleInfo) (accepted : IsTrue (is_accepted m info))
+    (distinguished : ItemsAreDistinguished m) where
   -- a type's parts stand before it
   pub types_stand : PartsStand m
   types_stand = parts_stand m (and_parts _ _ (types_range m info accepted)).0
@@ -73,8 +74,12 @@ module _ (m : Module) (info : ModuleInfo) (accepted : IsTrue (is_accepted m info
         Named m info b.r index s
     part_is base index s is selected b =
         part_named m info a.group types_stand b.r (fit b.r (a.sound.fits base b.r b.there)) index s
-        (sym (ap (λ o. option_and_then (λ r. option_and_then (λ it. selector (declared_for m info a.group) (handle_of r) it index) (inner_of r m.types)) o) b.there) ∙ selected)
-        (sym (ap (λ o. option_map_or (λ it. is_part_number m.types it index) (option_and_then (λ r. inner_of r m.types) o) false) b.there) ∙ demanded (expression.AccessIndex base index) is)
+        (sym (ap (λ o. option_and_then (λ r. option_and_then
+        (λ it. selector (declared_for m info a.group) (handle_of r) it index) (inner_of r m.types)) o)
+        b.there) ∙ selected)
+        (sym (ap (λ o. option_map_or (λ it. is_part_number m.types it index)
+        (option_and_then (λ r. inner_of r m.types) o) false) b.there)
+        ∙ demanded (expression.AccessIndex base index) is)
 
     -- what is swizzled is a vector
     swizzled_is_none : (size : VectorSize) (vector : ℕ) (pattern : List SwizzleComponent) →
@@ -86,12 +91,15 @@ module _ (m : Module) (info : ModuleInfo) (accepted : IsTrue (is_accepted m info
         (option_and_then (λ r. inner_of r m.types) o) false) b.there)
         ∙ demanded (expression.Swizzle size vector pattern) is)
       where
-        by : (o : Option TypeInner) → inner_of b.r m.types ≡ o → option_map_or (is_swizzled size pattern) o false ≡ true → struct_distinguished (type_identity m.types b.r) ≡ None
+        by : (o : Option TypeInner) → inner_of b.r m.types ≡ o →
+            option_map_or (is_swizzled size pattern) o false ≡ true →
+            struct_distinguished (type_identity m.types b.r) ≡ None
         by (Some (inner.Vector n scalar)) at fits = vector_is_none m info b.r n scalar at
         by (Some _) at fits = absurd cc
         by None at fits = absurd cc
 
-    four : (size : VectorSize) (vector : ℕ) (pattern : List SwizzleComponent) → a.expression ≡ expression.Swizzle size vector pattern → length pattern ≡ 4
+    four : (size : VectorSize) (vector : ℕ) (pattern : List SwizzleComponent) →
+        a.expression ≡ expression.Swizzle size vector pattern → length pattern ≡ 4
     four size vector pattern is = a.sound.patterns a.handle size vector pattern (a.there ∙ ap Some is)
 
   -- ---- two of one word
@@ -113,11 +121,14 @@ module _ (m : Module) (info : ModuleInfo) (accepted : IsTrue (is_accepted m info
   part_index : {A : Type 0} (s : Selector) → PartWord s ≡ IndexWord → A
   part_index s e = absurd cc
 
-  module _ {x y : Signature} (a : IsOfExpression m info x) (b : IsOfExpression m info y) (operands : x.operands ≡ y.operands) where
+  module _ {x y : Signature} (a : IsOfExpression m info x) (b : IsOfExpression m info y)
+      (operands : x.operands ≡ y.operands) where
     bases_alike : (i j : ℕ) (p : IsBase a i) (q : IsBase b j) → type_identity m.types p.r ≡ type_identity m.types q.r
     bases_alike i j p q =
         let all : identity_at m.types a.group.known i ∷ [] ≡ identity_at m.types b.group.known j ∷ [] =
-        ap (map (identity_at m.types a.group.known)) (sym p.operands) ∙ (same_operands m info accepted distinguished.types a b operands ∙ ap (map (identity_at m.types b.group.known)) q.operands) in
+        ap (map (identity_at m.types a.group.known)) (sym p.operands)
+        ∙ (same_operands m info accepted distinguished.types a b operands
+        ∙ ap (map (identity_at m.types b.group.known)) q.operands) in
         sym (ap (λ o. option_map_or (type_identity m.types) o []) p.there)
         ∙ (ap (λ xs. get_or xs 0 []) all ∙ ap (λ o. option_map_or (type_identity m.types) o []) q.there)
 
@@ -132,8 +143,10 @@ module _ (m : Module) (info : ModuleInfo) (accepted : IsTrue (is_accepted m info
         part_selector (declared_for m info b.group) j l ≡ Some s → x.result ≡ y.result
     both_parts i j k l s one two first second =
         let p = base_of a i (ap expression_operands one) in let q = base_of b j (ap expression_operands two) in
-        let same = one_number m info distinguished p.r q.r k l s (bases_alike i j p q) (part_is a i k s one first p) (part_is b j l s two second q) in
-        by_key m info accepted distinguished.types a b operands (one_key 4 k) (one_key 4 l) (key_of a _ _ one refl) (key_of b _ _ two refl) (ap (one_key 4) same)
+        let same = one_number m info distinguished p.r q.r k l s (bases_alike i j p q)
+        (part_is a i k s one first p) (part_is b j l s two second q) in
+        by_key m info accepted distinguished.types a b operands (one_key 4 k) (one_key 4 l)
+        (key_of a _ _ one refl) (key_of b _ _ two refl) (ap (one_key 4) same)
 
     -- a part is not a swizzle
     part_swizzle : (i j k : ℕ) (s : Selector) (size : VectorSize)
@@ -143,38 +156,54 @@ module _ (m : Module) (info : ModuleInfo) (accepted : IsTrue (is_accepted m info
         s ≡ MemberNamed (swizzle_letters size pattern) → ⊥
     part_swizzle i j k s size pattern one two selected is =
         let p = base_of a i (ap expression_operands one) in let q = base_of b j (ap expression_operands two) in
-        no_part m info p.r q.r k s (swizzle_letters size pattern) (bases_alike i j p q) (swizzled_is_none b size j pattern two q) is
+        no_part m info p.r q.r k s (swizzle_letters size pattern) (bases_alike i j p q)
+        (swizzled_is_none b size j pattern two q) is
         (letters_are_several size pattern (four b size j pattern two)) (part_is a i k s one selected p)
 
     both_swizzles : (i j : ℕ) (n k : VectorSize) (v w : List SwizzleComponent) →
         a.expression ≡ expression.Swizzle n i v → b.expression ≡ expression.Swizzle k j w →
         swizzle_letters n v ≡ swizzle_letters k w → x.result ≡ y.result
     both_swizzles i j n k v w one two e =
-        by_key m info accepted distinguished.types a b operands (swizzle_key n v) (swizzle_key k w) (key_of a _ _ one refl) (key_of b _ _ two refl)
-        (sym (swizzle_distinguished n v (four a n i v one)) ∙ (ap key_read e ∙ swizzle_distinguished k w (four b k j w two)))
+        by_key m info accepted distinguished.types a b operands (swizzle_key n v) (swizzle_key k w)
+        (key_of a _ _ one refl) (key_of b _ _ two refl)
+        (sym (swizzle_distinguished n v (four a n i v one))
+        ∙ (ap key_read e ∙ swizzle_distinguished k w (four b k j w two)))
 
-    both_indexed : (i j k l : ℕ) → a.expression ≡ expression.Access i k → b.expression ≡ expression.Access j l → x.result ≡ y.result
-    both_indexed i j k l one two = by_key m info accepted distinguished.types a b operands (one_key 3 0) (one_key 3 0) (key_of a _ _ one refl) (key_of b _ _ two refl) refl
+    both_indexed : (i j k l : ℕ) → a.expression ≡ expression.Access i k → b.expression ≡ expression.Access j l →
+        x.result ≡ y.result
+    both_indexed i j k l one two = by_key m info accepted distinguished.types a b operands (one_key 3 0)
+        (one_key 3 0) (key_of a _ _ one refl) (key_of b _ _ two refl) refl
 
   -- the same, by how they are called
-  calls_agree : {x y : Signature} (a : IsOfExpression m info x) (b : IsOfExpression m info y) → x.operands ≡ y.operands → x.word ≡ y.word →
-      Call m info accepted distinguished.types a.group a.expression x.word → Call m info accepted distinguished.types b.group b.expression y.word → x.result ≡ y.result
+  calls_agree : {x y : Signature} (a : IsOfExpression m info x) (b : IsOfExpression m info y) →
+      x.operands ≡ y.operands → x.word ≡ y.word →
+      Call m info accepted distinguished.types a.group a.expression x.word →
+      Call m info accepted distinguished.types b.group b.expression y.word → x.result ≡ y.result
   calls_agree a b operands e (Composed ty n k wanted ao ak formed v) (Composed uy l h other bo bk bf w) =
-      both_values m info accepted distinguished.types a b (Handle ty) (Handle uy) n l tt tt (wanted a.function) (other b.function) (spelled_word _ _ (sym v ∙ (e ∙ w)))
+      both_values m info accepted distinguished.types a b (Handle ty) (Handle uy) n l tt tt (wanted a.function)
+      (other b.function) (spelled_word _ _ (sym v ∙ (e ∙ w)))
   calls_agree a b operands e (Composed ty n k wanted ao ak formed v) (Zeroed uy other none w) =
-      both_values m info accepted distinguished.types a b (Handle ty) (Handle uy) n 0 tt tt (wanted a.function) (other b.function) (spelled_word _ _ (sym v ∙ (e ∙ w)))
+      both_values m info accepted distinguished.types a b (Handle ty) (Handle uy) n 0 tt tt (wanted a.function)
+      (other b.function) (spelled_word _ _ (sym v ∙ (e ∙ w)))
   calls_agree a b operands e (Composed ty n k wanted ao ak formed v) (Applied p l bo bk bf h hs some w) =
-      composed_applied m info accepted distinguished.types a b operands ty n k ao ak formed p l bo bk bf (spelled_word _ _ (sym v ∙ (e ∙ w)))
+      composed_applied m info accepted distinguished.types a b operands ty n k ao ak formed p l bo bk bf
+      (spelled_word _ _ (sym v ∙ (e ∙ w)))
   calls_agree a b operands e (Zeroed ty wanted none v) (Composed uy l h other bo bk bf w) =
-      both_values m info accepted distinguished.types a b (Handle ty) (Handle uy) 0 l tt tt (wanted a.function) (other b.function) (spelled_word _ _ (sym v ∙ (e ∙ w)))
+      both_values m info accepted distinguished.types a b (Handle ty) (Handle uy) 0 l tt tt (wanted a.function)
+      (other b.function) (spelled_word _ _ (sym v ∙ (e ∙ w)))
   calls_agree a b operands e (Zeroed ty wanted none v) (Zeroed uy other nothing w) =
-      both_values m info accepted distinguished.types a b (Handle ty) (Handle uy) 0 0 tt tt (wanted a.function) (other b.function) (spelled_word _ _ (sym v ∙ (e ∙ w)))
-  calls_agree a b operands e (Zeroed ty wanted none v) (Applied p l bo bk bf h hs some w) = absurd (zeroed_applied m info accepted distinguished.types a b operands none h hs some)
+      both_values m info accepted distinguished.types a b (Handle ty) (Handle uy) 0 0 tt tt (wanted a.function)
+      (other b.function) (spelled_word _ _ (sym v ∙ (e ∙ w)))
+  calls_agree a b operands e (Zeroed ty wanted none v) (Applied p l bo bk bf h hs some w) =
+      absurd (zeroed_applied m info accepted distinguished.types a b operands none h hs some)
   calls_agree a b operands e (Applied o k ao ak af h hs some v) (Composed uy l i other bo bk bf w) =
-      sym (composed_applied m info accepted distinguished.types b a (sym operands) uy l i bo bk bf o k ao ak af (spelled_word _ _ (sym w ∙ (sym e ∙ v))))
-  calls_agree a b operands e (Applied o k ao ak af h hs some v) (Zeroed uy other none w) = absurd (zeroed_applied m info accepted distinguished.types b a (sym operands) none h hs some)
+      sym (composed_applied m info accepted distinguished.types b a (sym operands) uy l i bo bk bf o k ao ak af
+      (spelled_word _ _ (sym w ∙ (sym e ∙ v))))
+  calls_agree a b operands e (Applied o k ao ak af h hs some v) (Zeroed uy other none w) =
+      absurd (zeroed_applied m info accepted distinguished.types b a (sym operands) none h hs some)
   calls_agree a b operands e (Applied o k ao ak af h hs some v) (Applied p l bo bk bf i is more w) =
-      both_applied m info accepted distinguished.types a b operands o p k l ao ak af bo bk bf (spelled_word _ _ (sym v ∙ (e ∙ w)))
+      both_applied m info accepted distinguished.types a b operands o p k l ao ak af bo bk bf
+      (spelled_word _ _ (sym v ∙ (e ∙ w)))
   calls_agree a b operands e (Indexed i k one v) (Indexed j l two w) = both_indexed a b operands i j k l one two
   calls_agree a b operands e (Selected i k s one first v) (Selected j l t two second w) =
       both_parts a b operands i j k l s one two first (second ∙ ap Some (part_word _ _ (sym w ∙ (sym e ∙ v))))
@@ -184,31 +213,46 @@ module _ (m : Module) (info : ModuleInfo) (accepted : IsTrue (is_accepted m info
       absurd (part_swizzle b a (sym operands) j i l t n pattern two one second (part_word _ _ (sym w ∙ (sym e ∙ v))))
   calls_agree a b operands e (Lettered n i pattern one v) (Lettered k j other two w) =
       both_swizzles a b operands i j n k pattern other one two (member_word _ _ (part_word _ _ (sym v ∙ (e ∙ w))))
-  calls_agree a b operands e (Composed ty n k wanted ao ak formed v) (Indexed j l two w) = spelled_index _ (sym v ∙ (e ∙ w))
+  calls_agree a b operands e (Composed ty n k wanted ao ak formed v) (Indexed j l two w) =
+      spelled_index _ (sym v ∙ (e ∙ w))
   calls_agree a b operands e (Zeroed ty wanted none v) (Indexed j l two w) = spelled_index _ (sym v ∙ (e ∙ w))
   calls_agree a b operands e (Applied o k ao ak af h hs some v) (Indexed j l two w) = spelled_index _ (sym v ∙ (e ∙ w))
-  calls_agree a b operands e (Indexed i k one v) (Composed uy l h other bo bk bf w) = spelled_index _ (sym w ∙ (sym e ∙ v))
+  calls_agree a b operands e (Indexed i k one v) (Composed uy l h other bo bk bf w) =
+      spelled_index _ (sym w ∙ (sym e ∙ v))
   calls_agree a b operands e (Indexed i k one v) (Zeroed uy other none w) = spelled_index _ (sym w ∙ (sym e ∙ v))
-  calls_agree a b operands e (Indexed i k one v) (Applied p l bo bk bf h hs some w) = spelled_index _ (sym w ∙ (sym e ∙ v))
-  calls_agree a b operands e (Composed ty n k wanted ao ak formed v) (Selected j l t two second w) = spelled_part _ _ (sym v ∙ (e ∙ w))
-  calls_agree a b operands e (Zeroed ty wanted none v) (Selected j l t two second w) = spelled_part _ _ (sym v ∙ (e ∙ w))
-  calls_agree a b operands e (Applied o k ao ak af h hs some v) (Selected j l t two second w) = spelled_part _ _ (sym v ∙ (e ∙ w))
-  calls_agree a b operands e (Selected i k s one first v) (Composed uy l h other bo bk bf w) = spelled_part _ _ (sym w ∙ (sym e ∙ v))
-  calls_agree a b operands e (Selected i k s one first v) (Zeroed uy other none w) = spelled_part _ _ (sym w ∙ (sym e ∙ v))
-  calls_agree a b operands e (Selected i k s one first v) (Applied p l bo bk bf h hs some w) = spelled_part _ _ (sym w ∙ (sym e ∙ v))
-  calls_agree a b operands e (Composed ty n k wanted ao ak formed v) (Lettered l j other two w) = spelled_part _ _ (sym v ∙ (e ∙ w))
+  calls_agree a b operands e (Indexed i k one v) (Applied p l bo bk bf h hs some w) =
+      spelled_index _ (sym w ∙ (sym e ∙ v))
+  calls_agree a b operands e (Composed ty n k wanted ao ak formed v) (Selected j l t two second w) =
+      spelled_part _ _ (sym v ∙ (e ∙ w))
+  calls_agree a b operands e (Zeroed ty wanted none v) (Selected j l t two second w) =
+      spelled_part _ _ (sym v ∙ (e ∙ w))
+  calls_agree a b operands e (Applied o k ao ak af h hs some v) (Selected j l t two second w) =
+      spelled_part _ _ (sym v ∙ (e ∙ w))
+  calls_agree a b operands e (Selected i k s one first v) (Composed uy l h other bo bk bf w) =
+      spelled_part _ _ (sym w ∙ (sym e ∙ v))
+  calls_agree a b operands e (Selected i k s one first v) (Zeroed uy other none w) =
+      spelled_part _ _ (sym w ∙ (sym e ∙ v))
+  calls_agree a b operands e (Selected i k s one first v) (Applied p l bo bk bf h hs some w) =
+      spelled_part _ _ (sym w ∙ (sym e ∙ v))
+  calls_agree a b operands e (Composed ty n k wanted ao ak formed v) (Lettered l j other two w) =
+      spelled_part _ _ (sym v ∙ (e ∙ w))
   calls_agree a b operands e (Zeroed ty wanted none v) (Lettered l j other two w) = spelled_part _ _ (sym v ∙ (e ∙ w))
-  calls_agree a b operands e (Applied o k ao ak af h hs some v) (Lettered l j other two w) = spelled_part _ _ (sym v ∙ (e ∙ w))
-  calls_agree a b operands e (Lettered n i pattern one v) (Composed uy l h other bo bk bf w) = spelled_part _ _ (sym w ∙ (sym e ∙ v))
-  calls_agree a b operands e (Lettered n i pattern one v) (Zeroed uy other none w) = spelled_part _ _ (sym w ∙ (sym e ∙ v))
-  calls_agree a b operands e (Lettered n i pattern one v) (Applied p l bo bk bf h hs some w) = spelled_part _ _ (sym w ∙ (sym e ∙ v))
+  calls_agree a b operands e (Applied o k ao ak af h hs some v) (Lettered l j other two w) =
+      spelled_part _ _ (sym v ∙ (e ∙ w))
+  calls_agree a b operands e (Lettered n i pattern one v) (Composed uy l h other bo bk bf w) =
+      spelled_part _ _ (sym w ∙ (sym e ∙ v))
+  calls_agree a b operands e (Lettered n i pattern one v) (Zeroed uy other none w) =
+      spelled_part _ _ (sym w ∙ (sym e ∙ v))
+  calls_agree a b operands e (Lettered n i pattern one v) (Applied p l bo bk bf h hs some w) =
+      spelled_part _ _ (sym w ∙ (sym e ∙ v))
   calls_agree a b operands e (Selected i k s one first v) (Indexed j l two w) = part_index _ (sym v ∙ (e ∙ w))
   calls_agree a b operands e (Lettered n i pattern one v) (Indexed j l two w) = part_index _ (sym v ∙ (e ∙ w))
   calls_agree a b operands e (Indexed i k one v) (Selected j l t two second w) = part_index _ (sym w ∙ (sym e ∙ v))
   calls_agree a b operands e (Indexed i k one v) (Lettered n j pattern two w) = part_index _ (sym w ∙ (sym e ∙ v))
 
   -- called alike over operands of equal types, signatures of expressions have results of one type
-  pub signatures_agree : (x y : Signature) → IsOfExpression m info x → IsOfExpression m info y → x.word ≡ y.word → x.operands ≡ y.operands → x.result ≡ y.result
+  pub signatures_agree : (x y : Signature) → IsOfExpression m info x → IsOfExpression m info y →
+      x.word ≡ y.word → x.operands ≡ y.operands → x.result ≡ y.result
   signatures_agree x y a b word operands =
       calls_agree a b operands word
       (call m info accepted distinguished.types a.group a.expression x.word a.called)

@@ -41,7 +41,7 @@ use Rattle.module_meaning.specs.OperatorTable.{WithoutForm, ValueOf, Construct, 
 use Rattle.module_meaning.specs.OperatorTable.{one_word, asks}
 use Rattle.module_meaning.specs.Types.{word_of_values}
 use Rattle.module_meaning.specs.TypeIdentity.{identity, identity_at, identity_code, Itself, Nothing}
-use Rattle.module_meaning.specs.TypeIdentity.{StructAt, word_of_unspelled_type, vector_number}
+use Rattle.module_meaning.specs.TypeIdentity.{StructAt, word_of_unspelled_type, component_count}
 use Rattle.module_meaning.specs.Types.{called_spelling, type_names, spelled_resolution}
 use Rattle.module_meaning.specs.Undeclared.{is_undeclared, is_undeclared_struct}
 use Rattle.module_meaning.proofs.ExpressionForms.{called_spelled}
@@ -59,22 +59,29 @@ use Rattle.naga_form.proofs.operators.Signatures.{by_part, by_letters, IsOfExpre
 use Rattle.naga_form.proofs.operators.Signatures.{group_context, declared_for}
 use Rattle.naga_form.proofs.operators.TypedWords.{no_blank, share_a_word}
 
-module _ (m : Module) (info : ModuleInfo) (accepted : IsTrue (is_accepted m info)) (distinguished : TypesAreDistinguished m) where
+module _ (m : Module) (info : ModuleInfo) (accepted : IsTrue (is_accepted m info))
+    (distinguished : TypesAreDistinguished m) where
   -- how the runs call an expression: as a value of a type, from components or none; as an operator
   -- over operands; or as a part
   pub data Call (g : Group) (e : Expression) (w : Word) : Type 0 where
     Composed : (ty n : ℕ) (k : List ℕ) → ((f : Option Function) → expected_type m f g.known e ≡ LikeThis (Handle ty)) →
-        applied_operator (group_context m info g) e ≡ Some (constructor (group_context m info g) (Handle ty) n) → operator_key m.types g.known e ≡ Some k →
+        applied_operator (group_context m info g) e
+        ≡ Some (constructor (group_context m info g) (Handle ty) n) → operator_key m.types g.known e ≡ Some k →
         (is_some (called_spelling m (Handle ty)) ≡ true → IsFormed m (are m info accepted distinguished) e) →
         w ≡ Spelled (run_word (constructor (group_context m info g) (Handle ty) n)) → Call g e w
-    Zeroed : (ty : ℕ) → ((f : Option Function) → expected_type m f g.known e ≡ LikeThis (Handle ty)) → expression_operands e ≡ [] →
+    Zeroed : (ty : ℕ) → ((f : Option Function) → expected_type m f g.known e ≡ LikeThis (Handle ty)) →
+        expression_operands e ≡ [] →
         w ≡ Spelled (run_word (constructor (group_context m info g) (Handle ty) 0)) → Call g e w
-    Applied : (o : Operator) (k : List ℕ) → applied_operator (group_context m info g) e ≡ Some o → operator_key m.types g.known e ≡ Some k →
-        IsFormed m (are m info accepted distinguished) e → (h : ℕ) (hs : List ℕ) → expression_operands e ≡ h ∷ hs → w ≡ Spelled (run_word o) → Call g e w
+    Applied : (o : Operator) (k : List ℕ) → applied_operator (group_context m info g) e ≡ Some o →
+        operator_key m.types g.known e ≡ Some k →
+        IsFormed m (are m info accepted distinguished) e → (h : ℕ) (hs : List ℕ) → expression_operands e
+        ≡ h ∷ hs → w ≡ Spelled (run_word o) → Call g e w
     Indexed : (base index : ℕ) → e ≡ expression.Access base index → w ≡ IndexWord → Call g e w
-    Selected : (base index : ℕ) (s : Selector) → e ≡ expression.AccessIndex base index → part_selector (declared_for m info g) base index ≡ Some s → w ≡ PartWord s → Call g e w
-    Lettered : (size : VectorSize) (vector : ℕ) (pattern : List SwizzleComponent) → e ≡ expression.Swizzle size vector pattern →
-        w ≡ PartWord (MemberNamed (flat_map letter (take (vector_number size) pattern))) → Call g e w
+    Selected : (base index : ℕ) (s : Selector) → e ≡ expression.AccessIndex base index →
+        part_selector (declared_for m info g) base index ≡ Some s → w ≡ PartWord s → Call g e w
+    Lettered : (size : VectorSize) (vector : ℕ) (pattern : List SwizzleComponent) →
+        e ≡ expression.Swizzle size vector pattern →
+        w ≡ PartWord (MemberNamed (flat_map letter (take (component_count size) pattern))) → Call g e w
 
   -- ---- what applies an operator without asking
   asking : (o p : Operator) → Some p ≡ Some o → asks p ≡ true → asks o ≡ false → ⊥
@@ -97,33 +104,41 @@ module _ (m : Module) (info : ModuleInfo) (accepted : IsTrue (is_accepted m info
   loads_ask columns rows role row_major None = refl
   loads_ask columns rows role row_major (Some w) = refl
 
-  applied : (g : Group) (e : Expression) (o : Operator) → applied_operator (group_context m info g) e ≡ Some o → asks o ≡ false → Call g e (Spelled (run_word o))
-  applied g (expression.Compose ty parts) o a silent = Composed ty _ _ (λ f. refl) refl refl (λ has. has) (ap (λ o. Spelled (run_word o)) (sym (same_Some _ o a)))
+  applied : (g : Group) (e : Expression) (o : Operator) → applied_operator (group_context m info g) e ≡ Some o →
+      asks o ≡ false → Call g e (Spelled (run_word o))
+  applied g (expression.Compose ty parts) o a silent = Composed ty _ _ (λ f. refl) refl refl (λ has. has)
+      (ap (λ o. Spelled (run_word o)) (sym (same_Some _ o a)))
   applied g (expression.As operand kind convert) o a silent = Applied o _ a refl tt operand [] refl refl
   applied g (expression.AccessIndex base index) o a silent = Applied o _ a refl tt base [] refl refl
   applied g (expression.Load pointer) o a silent = by (is_atomic_pointer (group_context m info g) pointer) a
     where
-      by : (b : Bool) → (if b then Some AtomicLoad else None) ≡ Some o → Call g (expression.Load pointer) (Spelled (run_word o))
+      by : (b : Bool) → (if b then Some AtomicLoad else None) ≡ Some o →
+          Call g (expression.Load pointer) (Spelled (run_word o))
       by true a = absurd (asking o AtomicLoad a refl silent)
       by false a = absurd cc
-  applied g (expression.ImageSample image sampler gather coordinate array_index offset level depth_ref clamp) o a silent =
+  applied g (expression.ImageSample image sampler gather coordinate array_index offset level depth_ref clamp) o
+      a silent =
       absurd (asking o _ a (samples_ask _ gather _ _ _ _ _) silent)
   applied g (expression.ImageQuery image q) o a silent = absurd (asking o (query_operator q) a (queries_ask q) silent)
   applied g (expression.CooperativeLoad columns rows role place) o a silent =
-      absurd (asking o (matrix_load (group_context m info g) columns rows role place) a (loads_ask columns rows role place.row_major _) silent)
+      absurd (asking o (matrix_load (group_context m info g) columns rows role place) a
+      (loads_ask columns rows role place.row_major _) silent)
   -- any other has a key and operands, or applies none that does not ask
   applied g e o a silent =
       Applied o (unwrap_or (operator_key m.types g.known e) []) a (cc) tt
       (get_or (expression_operands e) 0 0) (drop 1 (expression_operands e)) (cc) refl
 
-  zeroed : (g : Group) (e : Expression) (ty : ℕ) → e ≡ expression.ZeroValue ty → Call g e (Spelled (run_word (constructor (group_context m info g) (Handle ty) 0)))
+  zeroed : (g : Group) (e : Expression) (ty : ℕ) → e ≡ expression.ZeroValue ty →
+      Call g e (Spelled (run_word (constructor (group_context m info g) (Handle ty) 0)))
   zeroed g e ty is = Zeroed ty (λ f. ap (expected_type m f g.known) is) (ap expression_operands is) refl
 
   -- a constant that counts as the zero value of its type
-  constant_zeroed : (g : Group) (e : Expression) (c : ℕ) (k : Constant) → e ≡ expression.Constant c → slice_get m.constants c ≡ Some k →
+  constant_zeroed : (g : Group) (e : Expression) (c : ℕ) (k : Constant) → e ≡ expression.Constant c →
+      slice_get m.constants c ≡ Some k →
       Call g e (Spelled (run_word (constructor (group_context m info g) (Handle k.ty) 0)))
   constant_zeroed g e c k is there =
-      Zeroed k.ty (λ f. ap (expected_type m f g.known) is ∙ ap (λ o. only (option_map (λ c. Handle c.ty) o)) there) (ap expression_operands is) refl
+      Zeroed k.ty (λ f. ap (expected_type m f g.known) is
+      ∙ ap (λ o. only (option_map (λ c. Handle c.ty) o)) there) (ap expression_operands is) refl
 
   pub call : (g : Group) (e : Expression) (w : Word) → IsCalled m info g e w → Call g e w
   call g e _ (by_operator o a silent) = applied g e o a silent
@@ -135,7 +150,9 @@ module _ (m : Module) (info : ModuleInfo) (accepted : IsTrue (is_accepted m info
 
   -- ---- the types of values
   abbrev value_word : Option (List ℕ) → TypeResolution → (components : ℕ) → List ℕ
-  value_word o r n = run_word (option_map_or (λ spelling. Construct spelling n) o (WithoutForm (ValueOf (identity_code (identity m.types r)) n)))
+  value_word o r n =
+      run_word (option_map_or (λ spelling. Construct spelling n) o
+      (WithoutForm (ValueOf (identity_code (identity m.types r)) n)))
 
   -- what is called by its type has the type's word
   called_word : (r : TypeResolution) (w : List ℕ) → called_spelling m r ≡ Some w →
@@ -221,8 +238,12 @@ module _ (m : Module) (info : ModuleInfo) (accepted : IsTrue (is_accepted m info
       by None at None bt e = not_called_alike r s at bt (ap (drop 2) e)
 
   -- an operator over operands is not a value of a type without a form
-  not_unsupported : (o : Operator) (count : ℕ) (k numbers : List ℕ) (n : ℕ) → IsKeyed m (are m info accepted distinguished) o count k → run_word o ≡ run_word (WithoutForm (ValueOf numbers n)) → ⊥
-  not_unsupported o count k numbers n keyed e = by keyed (share_a_word o (WithoutForm (ValueOf numbers n)) (sound m (are m info accepted distinguished) o count k keyed) tt e)
+  not_unsupported : (o : Operator) (count : ℕ) (k numbers : List ℕ) (n : ℕ) →
+      IsKeyed m (are m info accepted distinguished) o count k →
+      run_word o ≡ run_word (WithoutForm (ValueOf numbers n)) → ⊥
+  not_unsupported o count k numbers n keyed e =
+      by keyed (share_a_word o (WithoutForm (ValueOf numbers n))
+      (sound m (are m info accepted distinguished) o count k keyed) tt e)
     where
       no_key : None ≡ Some k → ⊥
       no_key none = absurd cc
@@ -311,7 +332,8 @@ module _ (m : Module) (info : ModuleInfo) (accepted : IsTrue (is_accepted m info
       both_applied o p k l ao ak af bo bk bf e =
           a.result
           ∙ (results_agree m info (are m info accepted distinguished) (agree m info accepted)
-          (use_of m info accepted distinguished a k ak) (use_of m info accepted distinguished b l bk) (applies a k ak o ao af) (applies b l bk p bo bf) e
+          (use_of m info accepted distinguished a k ak) (use_of m info accepted distinguished b l bk)
+          (applies a k ak o ao af) (applies b l bk p bo bf) e
           (same_values m info accepted distinguished a b operands) ∙ sym b.result)
 
       -- a composition and an operator
@@ -319,7 +341,8 @@ module _ (m : Module) (info : ModuleInfo) (accepted : IsTrue (is_accepted m info
           applied_operator (group_context m info a.group) a.expression ≡
           Some (constructor (group_context m info a.group) (Handle ty) n) →
           operator_key m.types a.group.known a.expression ≡ Some k →
-          (is_some (called_spelling m (Handle ty)) ≡ true → IsFormed m (are m info accepted distinguished) a.expression) →
+          (is_some (called_spelling m (Handle ty)) ≡ true →
+          IsFormed m (are m info accepted distinguished) a.expression) →
           (p : Operator) (l : List ℕ) →
           applied_operator (group_context m info b.group) b.expression ≡ Some p →
           operator_key m.types b.group.known b.expression ≡ Some l →
@@ -335,9 +358,11 @@ module _ (m : Module) (info : ModuleInfo) (accepted : IsTrue (is_accepted m info
               (sym e ∙ ap (λ o. value_word o (Handle ty) n) at))
 
       -- an operator has operands
-      pub zeroed_applied : expression_operands a.expression ≡ [] → (h : ℕ) (hs : List ℕ) → expression_operands b.expression ≡ h ∷ hs → ⊥
+      pub zeroed_applied : expression_operands a.expression ≡ [] → (h : ℕ) (hs : List ℕ) →
+          expression_operands b.expression ≡ h ∷ hs → ⊥
       zeroed_applied none h hs some =
           let values = same_values m info accepted distinguished a b operands in
           let empty : [] ≡ value_at m info b.group.known h ∷ map (value_at m info b.group.known) hs =
-          ap (map (value_at m info a.group.known)) (sym none) ∙ (values ∙ ap (map (value_at m info b.group.known)) some) in
+          ap (map (value_at m info a.group.known)) (sym none)
+          ∙ (values ∙ ap (map (value_at m info b.group.known)) some) in
           absurd cc

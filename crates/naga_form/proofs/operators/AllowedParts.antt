@@ -230,7 +230,8 @@ member_well m h index t at lt =
     member_is_word m h t at index member.0 member.1
 
 -- what a conversion that is written takes, and what it gives, which has a form
-pub record Conversion (m : Module) (a : ExpressionContext) (operand : ℕ) (kind : ScalarKind) (convert : Option ℕ) : Type 0 where
+pub record Conversion (m : Module) (a : ExpressionContext) (operand : ℕ) (kind : ScalarKind)
+    (convert : Option ℕ) : Type 0 where
   pub from : TypeInner
   pub known : type_known a operand ≡ Some from
   pub to : TypeInner
@@ -252,8 +253,10 @@ pub record LoadedMatrix (m : Module) (a : ExpressionContext) (columns rows : Coo
 pub target_fit : (m : Module) (from to : TypeInner) (kind : ScalarKind) (convert : Option ℕ) →
     conversion_target from kind convert ≡ Some to → IsFit m (Value to)
 target_fit m (inner.Scalar s) to kind convert is = subst (λ it. IsFit m (Value it)) (same_Some _ to is) (refl, tt, refl)
-target_fit m (inner.Vector size s) to kind convert is = subst (λ it. IsFit m (Value it)) (same_Some _ to is) (refl, tt, refl)
-target_fit m (inner.Matrix columns rows s) to kind convert is = subst (λ it. IsFit m (Value it)) (same_Some _ to is) (refl, tt, refl)
+target_fit m (inner.Vector size s) to kind convert is = subst (λ it. IsFit m (Value it)) (same_Some _ to is)
+    (refl, tt, refl)
+target_fit m (inner.Matrix columns rows s) to kind convert is =
+    subst (λ it. IsFit m (Value it)) (same_Some _ to is) (refl, tt, refl)
 target_fit m _ to kind convert is = absurd cc
 
 module _ (m : Module) (info : ModuleInfo) (es : List ExpressionInfo) where

@@ -64,7 +64,8 @@ module _ (m : Module) (info : ModuleInfo) where
     made_built : (h : ℕ) (o : Operator) (ts : List ConstantTree) → AreBuilt (trees ts) →
         (t : ConstantTree) → built inside h o ts ≡ Some t → IsBuilt t
     made_built h o ts are t e =
-        let parts = map_some (λ r. Constructed (run_word o) (inside.value_type r) (trees ts)) (global_types_known info h) t e in
+        let parts = map_some (λ r. Constructed (run_word o) (inside.value_type r) (trees ts))
+        (global_types_known info h) t e in
         subst IsBuilt parts.2 are
 
     constant_built : (c : ℕ) → constant_is_written_over m own c ≡ true → (t : ConstantTree) →

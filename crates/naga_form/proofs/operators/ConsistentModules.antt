@@ -22,7 +22,8 @@ use Rattle.naga_form.proofs.ModulePlaces.{function_at}
 use Rattle.naga_form.proofs.operators.Signatures.{IsOfExpression, IsOfZero}
 use Rattle.naga_form.proofs.operators.SpelledSignatures.{of_spelled}
 
-module _ (m : ir_module.Module) (info : ModuleInfo) (accepted : IsTrue (is_accepted m info)) (distinguished : ItemsAreDistinguished m) where
+module _ (m : ir_module.Module) (info : ModuleInfo) (accepted : IsTrue (is_accepted m info))
+    (distinguished : ItemsAreDistinguished m) where
   -- what expressions over pointers or truth values give, in each function of the module
   parts : (place : ℕ) (f : Function) → slice_get (module_shape m info).functions place ≡ Some f → (h : ℕ) →
       PartsFit (module_shape m info).parts f (handle_type f h) (expression_of f h)
@@ -42,7 +43,8 @@ module _ (m : ir_module.Module) (info : ModuleInfo) (accepted : IsTrue (is_accep
   -- what is spelled is of an expression, or of a zero value
   spelled : (x : Signature) → IsSpelled (module_shape m info) x →
       IsOfExpression m info x ⊎ IsOfZero m info x
-  spelled = of_spelled m info (tree_spelled m info accepted distinguished.types) accepted distinguished.types (initialiser_spelled m info accepted distinguished.types)
+  spelled = of_spelled m info (tree_spelled m info accepted distinguished.types) accepted distinguished.types
+      (initialiser_spelled m info accepted distinguished.types)
 
   pub consistent : OperatorsAreConsistent m info
   consistent = record {

@@ -397,7 +397,8 @@ module _ (a : ExpressionContext) (t : TypeNames) (constant part : ℕ → Expres
       built_is ty (length components.items) is.0 (map part components.items)
       (parts_are components.items is.1)
   over_is (expression.Splat size value) is =
-      called_words.expression (Named (run_word (Splat size))) (part value ∷ []) (word_is_called (Splat size) refl refl refl)
+      called_words.expression (Named (run_word (Splat size))) (part value ∷ [])
+      (word_is_called (Splat size) refl refl refl)
       (is, tt)
   over_is _ is = tt
 

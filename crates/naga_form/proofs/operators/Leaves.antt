@@ -82,11 +82,13 @@ local_fit m ty = (refl, tt, refl)
 held_by_space : (m : Module) (g : GlobalVariable) → is_handle_space g.space ≡ is_held (variable_shape m g)
 held_by_space m g = by (is_handle_space g.space)
   where
-    by : (b : Bool) → b ≡ is_held (if b then Held (declared_type m g.ty) else AtPlace (word_of_values m (variable_type g.space g.ty)))
+    by : (b : Bool) → b ≡ is_held (if b then Held (declared_type m g.ty) else AtPlace
+        (word_of_values m (variable_type g.space g.ty)))
     by true = refl
     by false = refl
 
-typed_by_space : (m : Module) (g : GlobalVariable) → type_of_values m (variable_type g.space g.ty) ≡ shapes.variable_type (variable_shape m g)
+typed_by_space : (m : Module) (g : GlobalVariable) → type_of_values m (variable_type g.space g.ty)
+    ≡ shapes.variable_type (variable_shape m g)
 typed_by_space m g = by g.space
   where
     by : (at : AddressSpace) → type_of_values m (variable_type at g.ty) ≡ shapes.variable_type
@@ -133,7 +135,8 @@ swizzled_values n letters (inner.Vector size s) w is = tt
 swizzled_values n letters _ w is = absurd cc
 
 -- ---- one function
-module _ (m : Module) (info : ModuleInfo) (f : Function) (es : List ExpressionInfo) (are : TypesAreCounted m) (group : IsSoundGroup m info (Some f) (function_group f es)) where
+module _ (m : Module) (info : ModuleInfo) (f : Function) (es : List ExpressionInfo) (are : TypesAreCounted m)
+    (group : IsSoundGroup m info (Some f) (function_group f es)) where
   abbrev shape : shapes.Function
   shape = function_shape m info f es
 
@@ -164,7 +167,8 @@ module _ (m : Module) (info : ModuleInfo) (f : Function) (es : List ExpressionIn
   argument_at h n at =
       let one =
       typed_only h (expression.FunctionArgument n) at (argument_type (Some f) n) (λ r fits. fits)
-      (λ s is. let found = map_some (λ a. Handle a.ty) (slice_get f.arguments.items n) s is in subst (IsFit m) found.2 tt) in
+      (λ s is. let found = map_some (λ a. Handle a.ty) (slice_get f.arguments.items n) s is in subst
+      (IsFit m) found.2 tt) in
       let found = map_some (λ a. Handle a.ty) (slice_get f.arguments.items n) one.0 one.1 in
       one.2 ∙ (ap (type_of_values m) (sym found.2) ∙
       sym (type_at_mapped (λ a. type_of_values m (Handle a.ty)) f.arguments.items n found.0 found.1))
@@ -174,17 +178,22 @@ module _ (m : Module) (info : ModuleInfo) (f : Function) (es : List ExpressionIn
   local_at h n at =
       let one =
       typed_only h (expression.LocalVariable n) at (local_type (Some f) n) (λ r fits. fits)
-      (λ s is. let found = map_some (λ l. Value (inner.Pointer l.ty space.Function)) (slice_get f.local_variables n) s is in subst (IsFit m) found.2 (local_fit m found.0.ty)) in
-      let found = map_some (λ l. Value (inner.Pointer l.ty space.Function)) (slice_get f.local_variables n) one.0 one.1 in
+      (λ s is. let found = map_some (λ l. Value (inner.Pointer l.ty space.Function))
+      (slice_get f.local_variables n) s is in subst (IsFit m) found.2 (local_fit m found.0.ty)) in
+      let found = map_some (λ l. Value (inner.Pointer l.ty space.Function)) (slice_get f.local_variables n)
+      one.0 one.1 in
       one.2 ∙ (ap (type_of_values m) (sym found.2) ∙
-      ap PointerType (sym (mapped_at (λ l. word_of_values m (Value (inner.Pointer l.ty space.Function))) [] f.local_variables n found.0 found.1)))
+      ap PointerType
+      (sym (mapped_at (λ l. word_of_values m
+      (Value (inner.Pointer l.ty space.Function))) [] f.local_variables n found.0 found.1)))
 
   global_at : (h n : ℕ) → slice_get f.expressions h ≡ Some (expression.GlobalVariable n) →
       LeafFits (module_shape m info) shape (handle_type shape h) (Some (shapes.Global (is_handle_variable m n) n))
   global_at h n at =
       let one =
       typed_only h (expression.GlobalVariable n) at (global_type m n) (λ r fits. fits)
-      (λ s is. let found = map_some (λ g. variable_type g.space g.ty) (slice_get m.global_variables n) s is in subst (IsFit m) found.2 (variable_fit m found.0.space found.0.ty)) in
+      (λ s is. let found = map_some (λ g. variable_type g.space g.ty) (slice_get m.global_variables n) s is
+      in subst (IsFit m) found.2 (variable_fit m found.0.space found.0.ty)) in
       let found = map_some (λ g. variable_type g.space g.ty) (slice_get m.global_variables n) one.0 one.1 in
       let counted = mapped_length (variable_shape m) m.global_variables in
       let here = sym (mapped_at (variable_shape m) (Held BooleanType) m.global_variables n found.0 found.1) in (
@@ -198,7 +207,8 @@ module _ (m : Module) (info : ModuleInfo) (f : Function) (es : List ExpressionIn
       slice_get f.expressions h ≡ Some (expression.Swizzle n v letters) →
       IsNoPointer (handle_type shape v)
   swizzled_at h n v letters at =
-      let o = operand_at m.types known (is_swizzled n letters) v (group.demands h (expression.Swizzle n v letters) at) in
+      let o = operand_at m.types known (is_swizzled n letters) v
+      (group.demands h (expression.Swizzle n v letters) at) in
       subst IsNoPointer (sym (typed_known m info f es v o.type o.there ∙ values_are m o.type o.itself o.is))
       (swizzled_values n letters o.itself (word_of_values m o.type) o.taken)
 
@@ -261,7 +271,8 @@ module _ (m : Module) (info : ModuleInfo) (f : Function) (es : List ExpressionIn
         image sampler gather coordinate array_index offset level depth_ref clamp) at =
         zero_in_range (module_shape m info) level _ _
         (offset_in_range (module_shape m info) (option_and_then (constant_tree context f.expressions) offset)
-        (λ t is. let found = then_some (constant_tree context f.expressions) offset t is in constants.ranges found.0 t found.2))
+        (λ t is. let found = then_some (constant_tree context f.expressions) offset t is in constants.ranges
+        found.0 t found.2))
     leaf_at h (expression.ImageQuery image query) at = applied_fits h _ _
     leaf_at h (expression.Binary op left right) at = applied_fits h (BinarySign op) _
     leaf_at h (expression.As expr kind convert) at = applied_fits h _ _

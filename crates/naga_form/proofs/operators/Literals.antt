@@ -30,11 +30,13 @@ use Rattle.text_meaning.specs.Literals.{value_read, power_value, integer_of_sign
 use Rattle.std.specs.Str.{bytes_eq}
 use Rattle.naga_ir.specs.declared.types.ScalarKind.TheVariants as kind
 
-integer_read : (n : ℕ) (b : Bool) → (n == 2147483647) ≡ b → value_read (if b then LeastInteger else Suffixed true (suc n) SuffixI) ≡ Whole (codes "i32") (negsuc n)
+integer_read : (n : ℕ) (b : Bool) → (n == 2147483647) ≡ b →
+    value_read (if b then LeastInteger else Suffixed true (suc n) SuffixI) ≡ Whole (codes "i32") (negsuc n)
 integer_read n true e = ap (λ k. Whole (codes "i32") (negsuc k)) (sym (eqb-true n 2147483647 e))
 integer_read n false e = refl
 
-long_read : (n : ℕ) (b : Bool) → (n == 9223372036854775807) ≡ b → value_read (if b then LeastLong else Suffixed true (suc n) SuffixLi) ≡ Whole (codes "i64") (negsuc n)
+long_read : (n : ℕ) (b : Bool) → (n == 9223372036854775807) ≡ b →
+    value_read (if b then LeastLong else Suffixed true (suc n) SuffixLi) ≡ Whole (codes "i64") (negsuc n)
 long_read n true e = ap (λ k. Whole (codes "i64") (negsuc k)) (sym (eqb-true n 9223372036854775807 e))
 long_read n false e = refl
 
@@ -64,7 +66,8 @@ power_read (pos (suc n)) small = ap (integer_of_sign false) (decimal_is_IsNumera
 power_read (negsuc n) small = ap (integer_of_sign true) (decimal_is_IsNumeral (suc n) small).1
 
 -- a literal that is written is read with its value
-pub literal_read : (v : ir_literal.Literal) → is_written_literal v ≡ true → value_read (literal_form v) ≡ literal_value v
+pub literal_read : (v : ir_literal.Literal) → is_written_literal v ≡ true → value_read (literal_form v)
+    ≡ literal_value v
 literal_read (literal.I32 (negsuc n)) w = integer_read n (n == 2147483647) refl
 literal_read (literal.I64 (negsuc n)) w = long_read n (n == 9223372036854775807) refl
 literal_read (literal.I32 (pos n)) w = refl
@@ -78,26 +81,34 @@ literal_read (literal.U64 n) w = refl
 literal_read (literal.DecimalF64 numeral) w =
     let fits = digits_fit numeral w in
     let d = double_written numeral fits (exponent_fits numeral w) in
-    ap (λ e. Opaque (codes "f64") (to_bits binary64 (told binary64 numeral.negative (double_whole numeral) (double_fraction numeral) e))) (power_read (double_exponent numeral) d.small)
+    ap (λ e. Opaque (codes "f64")
+    (to_bits binary64 (told binary64 numeral.negative (double_whole numeral) (double_fraction numeral) e)))
+    (power_read (double_exponent numeral) d.small)
     ∙ ap (λ x. Opaque (codes "f64") (to_bits binary64 x)) (double_told binary64 numeral fits)
-literal_read (literal.DecimalF32 numeral) w = ap (λ x. Opaque (codes "f32") (to_bits binary32 x)) (told_is binary32 numeral (digits_fit numeral w))
-literal_read (literal.DecimalF16 numeral) w = ap (λ n. Opaque (codes "f16") n) (told_half_is numeral (digits_fit numeral w))
+literal_read (literal.DecimalF32 numeral) w = ap (λ x. Opaque (codes "f32") (to_bits binary32 x))
+    (told_is binary32 numeral (digits_fit numeral w))
+literal_read (literal.DecimalF16 numeral) w =
+    ap (λ n. Opaque (codes "f16") n) (told_half_is numeral (digits_fit numeral w))
 literal_read _ w = absurd (false≢true w)
 
 -- of the grammar
 
-least_or : (n : ℕ) (b : Bool) → (n == 2147483647) ≡ b → n < 2 ^ 31 → IsLiteral (if b then LeastInteger else Suffixed true (suc n) SuffixI)
+least_or : (n : ℕ) (b : Bool) → (n == 2147483647) ≡ b → n < 2 ^ 31 →
+    IsLiteral (if b then LeastInteger else Suffixed true (suc n) SuffixI)
 least_or n true e lt = tt
 least_or n false e lt = let other : n ≡ 2147483647 → ⊥ = eqb-false n 2147483647 e in omega (arith, lt, other)
 
-least_long_or : (n : ℕ) (b : Bool) → (n == 9223372036854775807) ≡ b → n < 2 ^ 63 → IsLiteral (if b then LeastLong else Suffixed true (suc n) SuffixLi)
+least_long_or : (n : ℕ) (b : Bool) → (n == 9223372036854775807) ≡ b → n < 2 ^ 63 →
+    IsLiteral (if b then LeastLong else Suffixed true (suc n) SuffixLi)
 least_long_or n true e lt = tt
-least_long_or n false e lt = let other : n ≡ 9223372036854775807 → ⊥ = eqb-false n 9223372036854775807 e in omega (arith, lt, other)
+least_long_or n false e lt = let other : n ≡ 9223372036854775807 → ⊥ = eqb-false n 9223372036854775807 e in
+    omega (arith, lt, other)
 
 are_digits : (ds : List ℕ) → 0 < length ds → AllDigits 10 ds → AreDigits ds
 are_digits ds some is = record { some = some; digits = own_digits.from ds is }
 
-decimal_is : (d : Decimal) (precision : Precision) → d.digits < 2 ^ 64 → IsPrecision precision → IsFloating (whole_digits d) (fraction_digits d) precision
+decimal_is : (d : Decimal) (precision : Precision) → d.digits < 2 ^ 64 → IsPrecision precision →
+    IsFloating (whole_digits d) (fraction_digits d) precision
 decimal_is d precision fits is =
     let s = decimal_split d fits in
     record {
@@ -108,10 +119,12 @@ decimal_is d precision fits is =
 
 power_is : (e : ℤ) → nat_abs e < 2 ^ 64 → IsPower (power_form e)
 power_is (pos zero) small = tt
-power_is (pos (suc n)) small = (let is = (decimal_is_IsNumeral (suc n) small).0 in are_digits (decimal (suc n)) is.0 is.1)
+power_is (pos (suc n)) small = (let is = (decimal_is_IsNumeral (suc n) small).0 in are_digits
+    (decimal (suc n)) is.0 is.1)
 power_is (negsuc n) small = (let is = (decimal_is_IsNumeral (suc n) small).0 in are_digits (decimal (suc n)) is.0 is.1)
 
-pub literal_is : (v : ir_literal.Literal) → IsTrue (is_written_literal v) → IsTrue (literal_is_within v) → IsLiteral (literal_form v)
+pub literal_is : (v : ir_literal.Literal) → IsTrue (is_written_literal v) → IsTrue (literal_is_within v) →
+    IsLiteral (literal_form v)
 literal_is (literal.Bool b) w e = tt
 literal_is (literal.I32 (pos n)) w e = ltb-true n (2 ^ 31) e
 literal_is (literal.I32 (negsuc n)) w e = least_or n (n == 2147483647) refl (ltb-true n (2 ^ 31) e)
@@ -166,7 +179,8 @@ literal_of (Opaque w n) =
     if bytes_eq w (codes "f16") then literal.F16 n else (
     if bytes_eq w (codes "f32") then literal.F32 n else (
     if bytes_eq w (codes "f64") then literal.F64 n else (
-    if bytes_eq w (abstract_word kind.AbstractInt) then literal.AbstractInt (integer_of n) else literal.AbstractFloat n)))
+    if bytes_eq w (abstract_word kind.AbstractInt) then literal.AbstractInt
+    (integer_of n) else literal.AbstractFloat n)))
 literal_of (Truth b) = literal.Bool b
 literal_of _ = literal.U32 0
 

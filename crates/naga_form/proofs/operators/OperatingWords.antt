@@ -146,7 +146,8 @@ head_free (c ∷ rest) stands = by (nat_eq c 60 || nat_eq c 32) refl stands
         (is_signed (c ∷ rest) && (not (is_word (c ∷ rest)) || is_builtin (c ∷ rest)))) ≡ true
     by true at stands = absurd (false≢true stands)
     by false at stands =
-        let passed = passes (λ w. begins_plainly w && is_builtin w) request_words (c ∷ head_word rest) plain_requests stands in
+        let passed = passes (λ w. begins_plainly w && is_builtin w) request_words
+        (c ∷ head_word rest) plain_requests stands in
         let plain = (and_parts (not (nat_eq c 95)) (is_builtin (c ∷ head_word rest)) passed).0 in
         and_from (not (nat_eq c 95)) _ plain
         (and_from (is_signed (c ∷ rest)) _

@@ -69,7 +69,8 @@ mathematical_alike : list_all asks_alike mathematical ≡ true
 unfolding asks_alike is_request
 mathematical_alike = refl
 
-untyped_stands : (o : Operator) (w : List ℕ) → operator_word o ≡ Some w → asks_alike (one_word o) ≡ true → same (is_request w) (asks o) ≡ true
+untyped_stands : (o : Operator) (w : List ℕ) → operator_word o ≡ Some w → asks_alike (one_word o) ≡ true →
+    same (is_request w) (asks o) ≡ true
 unfolding asks_alike
 untyped_stands o w e holds =
     ap (λ b. same (is_request w) b) (sym (keeps_asking o))
@@ -97,7 +98,8 @@ no_types : all_words no_type request_words ≡ true
 unfolding no_type is_builtin
 no_types = refl
 
-no_type_parts : (v : List ℕ) → no_type v ≡ true → (is_type (Named v) ≡ false) × (takes_none (rule_among type_templates v) ≡ true)
+no_type_parts : (v : List ℕ) → no_type v ≡ true → (is_type (Named v) ≡ false)
+    × (takes_none (rule_among type_templates v) ≡ true)
 unfolding no_type
 no_type_parts v e =
     let parts = and_parts (not (is_type (Named v))) (takes_none (rule_among type_templates v)) e in
@@ -109,7 +111,8 @@ no_request t is = by (stands_in request_words (head_of t)) refl
     by : (b : Bool) → stands_in request_words (head_of t) ≡ b → b ≡ false
     by true at =
         let parts = no_type_parts (head_of t) (passes no_type request_words (head_of t) no_types at) in
-        absurd (no_type_begins (head_of t) parts.0 (none_taken (rule_among type_templates (head_of t)) parts.1) t is refl)
+        absurd (no_type_begins (head_of t) parts.0 (none_taken (rule_among type_templates (head_of t)) parts.1)
+        t is refl)
     by false at = refl
 
 type_asks_nothing : (t : TypeSpecifier) → IsType t → is_request (type_layout t) ≡ false
@@ -131,7 +134,8 @@ transposed_asks : (w : List ℕ) → is_request (with_type (codes "coopLoadT") w
 unfolding is_request
 transposed_asks w = refl
 
-typed_asks : (o : Operator) (w : List ℕ) → is_untyped o ≡ false → TypeIsSound o → operator_word o ≡ Some w → is_request (run_word o) ≡ asks o
+typed_asks : (o : Operator) (w : List ℕ) → is_untyped o ≡ false → TypeIsSound o → operator_word o ≡ Some w →
+    is_request (run_word o) ≡ asks o
 typed_asks (CooperativeLoad false x) w u is e = load_asks x
 typed_asks (CooperativeLoad true x) w u is e = transposed_asks x
 typed_asks (Construct x n) w u is e = spelling_asks_nothing x is
@@ -140,7 +144,8 @@ typed_asks (Reinterpret x) w u is e = reinterpret_asks x
 typed_asks (WithoutForm x) w u is e = absurd (cc)
 typed_asks _ w u is e = absurd (true≢false u)
 
-pub asks_as_distinguished : (o : Operator) (w : List ℕ) → TypeIsSound o → operator_word o ≡ Some w → is_request w ≡ asks o
+pub asks_as_distinguished : (o : Operator) (w : List ℕ) → TypeIsSound o → operator_word o ≡ Some w →
+    is_request w ≡ asks o
 asks_as_distinguished o w is e = by (is_untyped o) refl
   where
     by : (b : Bool) → is_untyped o ≡ b → is_request w ≡ asks o

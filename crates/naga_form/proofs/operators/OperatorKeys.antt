@@ -65,16 +65,19 @@ module _ (m : Module) (are : TypesAreCounted m) where
 
   -- the key of an operator: a negation shares its word with a difference, and has one operand
   pub data IsKeyed (o : Operator) (count : ℕ) (x : List ℕ) : Type 0 where
-    Negated : one_word o ≡ BinarySign binary.Subtract → count ≡ 1 → x ≡ one_key 6 (tag_of unary_operators unary.Negate) → IsKeyed o count x
+    Negated : one_word o ≡ BinarySign binary.Subtract → count ≡ 1 →
+        x ≡ one_key 6 (tag_of unary_operators unary.Negate) → IsKeyed o count x
     Keyed : KeyIn (one_word o) count x → IsKeyed o count x
 
-  spelled_word : (r : TypeResolution) (w : List ℕ) → spelled_resolution (type_names m) r ≡ Some w → word_of_values m r ≡ w
+  spelled_word : (r : TypeResolution) (w : List ℕ) → spelled_resolution (type_names m) r ≡ Some w →
+      word_of_values m r ≡ w
   spelled_word r w at = ap (λ o. unwrap_or o (word_of_unspelled_type (identity m.types r))) at
 
   typed_once : (w : List ℕ) (bits : Bool) (x y : List ℕ) → IsTyped w bits x → IsTyped w bits y → x ≡ y
   typed_once w bits x y a b =
       let words = spelled_word a.typed w a.spelled ∙ sym (spelled_word b.typed w b.spelled) in
-      a.key ∙ (ap (λ numbers. 0 ∷ truth_number bits ∷ numbers) (numbers_by_words m are a.typed b.typed a.fit b.fit words) ∙ sym b.key)
+      a.key ∙ (ap (λ numbers. 0 ∷ truth_number bits ∷ numbers)
+      (numbers_by_words m are a.typed b.typed a.fit b.fit words) ∙ sym b.key)
 
   key_once : (o : Operator) (n : ℕ) (x y : List ℕ) → KeyIn o n x → KeyIn o n y → x ≡ y
   key_once (BinarySign op) n x y a b = same_Some x y (sym a.1 ∙ b.1)
@@ -89,7 +92,8 @@ module _ (m : Module) (are : TypesAreCounted m) where
   one_two e = omega (arith, e)
 
   -- operators that one operator stands for have one key, over as many operands
-  one_key_each : (o p : Operator) (n : ℕ) (x y : List ℕ) → IsKeyed o n x → IsKeyed p n y → one_word o ≡ one_word p → x ≡ y
+  one_key_each : (o p : Operator) (n : ℕ) (x y : List ℕ) → IsKeyed o n x → IsKeyed p n y →
+      one_word o ≡ one_word p → x ≡ y
   one_key_each o p n x y (Negated a one k) (Negated b two l) e = k ∙ sym l
   one_key_each o p n x y (Keyed k) (Keyed l) e = key_once (one_word p) n x y (subst (λ c. KeyIn c n x) e k) l
   one_key_each o p n x y (Negated a one k) (Keyed l) e =
@@ -105,24 +109,29 @@ module _ (m : Module) (are : TypesAreCounted m) where
 
   -- a type has a form where it is spelled
   pub form_spelled : (r : TypeResolution) → is_some (spelled_resolution (type_names m) r) ≡ is_spelled m.types r
-  form_spelled r = ap is_some (spelling_of m are r ∙ ap (option_map type_layout) (tree_of m are r)) ∙ by (type_key m.types r)
+  form_spelled r = ap is_some (spelling_of m are r ∙ ap (option_map type_layout) (tree_of m are r))
+      ∙ by (type_key m.types r)
     where
-      by : (o : Option (List ℕ)) → is_some (option_map type_layout (option_map (form_read (type_names m)) o)) ≡ is_some o
+      by : (o : Option (List ℕ)) → is_some (option_map type_layout (option_map (form_read (type_names m)) o))
+          ≡ is_some o
       by None = refl
       by (Some w) = refl
 
   spelled_none : (r : TypeResolution) → is_spelled m.types r ≡ false → spelled_resolution (type_names m) r ≡ None
   spelled_none r has = by (spelled_resolution (type_names m) r) refl (form_spelled r ∙ has)
     where
-      by : (o : Option (List ℕ)) → spelled_resolution (type_names m) r ≡ o → is_some o ≡ false → spelled_resolution (type_names m) r ≡ None
+      by : (o : Option (List ℕ)) → spelled_resolution (type_names m) r ≡ o → is_some o ≡ false →
+          spelled_resolution (type_names m) r ≡ None
       by (Some w) at is = absurd (cc)
       by None at is = at
 
   -- its word is a type of the grammar
-  pub spells : (r : TypeResolution) → IsFit m r → (w : List ℕ) → spelled_resolution (type_names m) r ≡ Some w → SpellsAType w
+  pub spells : (r : TypeResolution) → IsFit m r → (w : List ℕ) → spelled_resolution (type_names m) r ≡ Some w →
+      SpellsAType w
   spells r fit w at = by (resolution_tree (type_names m) r) refl (sym (spelling_of m are r) ∙ at)
     where
-      by : (o : Option TypeSpecifier) → resolution_tree (type_names m) r ≡ o → option_map type_layout o ≡ Some w → SpellsAType w
+      by : (o : Option TypeSpecifier) → resolution_tree (type_names m) r ≡ o → option_map type_layout o
+          ≡ Some w → SpellsAType w
       by (Some t) is e = (t, (tree_is m are.types r fit t is, same_Some (type_layout t) w e))
       by None is e = absurd (cc)
 
@@ -131,9 +140,11 @@ module _ (m : Module) (are : TypesAreCounted m) where
       (bits : Bool) (kind : ScalarKind) (convert : Option ℕ) →
       IsKeyed (option_map_or (cast_to bits) (spelled_resolution (type_names m) (Value it))
       (WithoutForm (Cast kind convert))) 1 (target_key m.types kind convert bits it)
-  target_keyed it fit bits kind convert = by (spelled_resolution (type_names m) (Value it)) refl (is_spelled m.types (Value it)) (form_spelled (Value it))
+  target_keyed it fit bits kind convert = by (spelled_resolution (type_names m) (Value it)) refl
+      (is_spelled m.types (Value it)) (form_spelled (Value it))
     where
-      typed : (b : Bool) (w : List ℕ) → spelled_resolution (type_names m) (Value it) ≡ Some w → IsKeyed (cast_to b w) 1 (typed_key m.types b (Value it))
+      typed : (b : Bool) (w : List ℕ) → spelled_resolution (type_names m) (Value it) ≡ Some w →
+          IsKeyed (cast_to b w) 1 (typed_key m.types b (Value it))
       typed false w at = Keyed (record { typed = Value it; fit = fit; spelled = at; key = refl })
       typed true w at = Keyed (record { typed = Value it; fit = fit; spelled = at; key = refl })
 
@@ -152,12 +163,18 @@ module _ (m : Module) (are : TypesAreCounted m) where
   cast_keyed : (known : List TypeResolution) (kind : ScalarKind) (convert : Option ℕ)
       (it : Option TypeInner) →
       IsKeyed (cast (context known) kind convert it) 1 (conversion_key m.types kind convert it)
-  cast_keyed known kind None (Some (inner.Scalar s)) = target_keyed (inner.Scalar (converted_scalar s kind None)) (refl, tt, refl) true kind None
-  cast_keyed known kind (Some width) (Some (inner.Scalar s)) = target_keyed (inner.Scalar (converted_scalar s kind (Some width))) (refl, tt, refl) false kind (Some width)
-  cast_keyed known kind None (Some (inner.Vector n s)) = target_keyed (inner.Vector n (converted_scalar s kind None)) (refl, tt, refl) true kind None
-  cast_keyed known kind (Some width) (Some (inner.Vector n s)) = target_keyed (inner.Vector n (converted_scalar s kind (Some width))) (refl, tt, refl) false kind (Some width)
-  cast_keyed known kind None (Some (inner.Matrix c r s)) = target_keyed (inner.Matrix c r (converted_scalar s kind None)) (refl, tt, refl) false kind None
-  cast_keyed known kind (Some width) (Some (inner.Matrix c r s)) = target_keyed (inner.Matrix c r (converted_scalar s kind (Some width))) (refl, tt, refl) false kind (Some width)
+  cast_keyed known kind None (Some (inner.Scalar s)) =
+      target_keyed (inner.Scalar (converted_scalar s kind None)) (refl, tt, refl) true kind None
+  cast_keyed known kind (Some width) (Some (inner.Scalar s)) =
+      target_keyed (inner.Scalar (converted_scalar s kind (Some width))) (refl, tt, refl) false kind (Some width)
+  cast_keyed known kind None (Some (inner.Vector n s)) =
+      target_keyed (inner.Vector n (converted_scalar s kind None)) (refl, tt, refl) true kind None
+  cast_keyed known kind (Some width) (Some (inner.Vector n s)) =
+      target_keyed (inner.Vector n (converted_scalar s kind (Some width))) (refl, tt, refl) false kind (Some width)
+  cast_keyed known kind None (Some (inner.Matrix c r s)) =
+      target_keyed (inner.Matrix c r (converted_scalar s kind None)) (refl, tt, refl) false kind None
+  cast_keyed known kind (Some width) (Some (inner.Matrix c r s)) =
+      target_keyed (inner.Matrix c r (converted_scalar s kind (Some width))) (refl, tt, refl) false kind (Some width)
   cast_keyed known kind convert _ = Keyed refl
 
   -- a constructor that is called by its type
@@ -175,7 +192,12 @@ module _ (m : Module) (are : TypesAreCounted m) where
           let spelled = (called_spelled m (Handle ty) w at).1 in
           let has : is_spelled m.types (Handle ty) ≡ true =
           sym (form_spelled (Handle ty)) ∙ ap is_some spelled in
-          Keyed (record { typed = Handle ty; fit = tt; spelled = spelled; key = ap (λ b. if b then typed_key m.types false (Handle ty) else one_key 0 ty) has })
+          Keyed (record {
+            typed = Handle ty;
+            fit = tt;
+            spelled = spelled;
+            key = ap (λ b. if b then typed_key m.types false (Handle ty) else one_key 0 ty) has;
+          })
       by None at is = absurd (cc)
 
   -- what is composed is called by its type
@@ -183,7 +205,8 @@ module _ (m : Module) (are : TypesAreCounted m) where
   IsFormed (expression.Compose ty parts) = is_some (called_spelling m (Handle ty)) ≡ true
   IsFormed _ = Unit {0}
 
-  same_keyed : (o p : Operator) (n : ℕ) (x y : List ℕ) → IsKeyed o n x → Some x ≡ Some y → Some o ≡ Some p → IsKeyed p n y
+  same_keyed : (o p : Operator) (n : ℕ) (x y : List ℕ) → IsKeyed o n x → Some x ≡ Some y → Some o ≡ Some p →
+      IsKeyed p n y
   same_keyed o p n x y k e f =
       subst (λ q. IsKeyed q n y) (same_operator f) (subst (λ z. IsKeyed o n z) (same_Some x y e) k)
     where
@@ -216,8 +239,10 @@ module _ (m : Module) (are : TypesAreCounted m) where
   pub keyed : (known : List TypeResolution) (e : Expression) (x : List ℕ) (o : Operator) →
       operator_key m.types known e ≡ Some x → applied_operator (context known) e ≡ Some o →
       IsFormed e → IsKeyed o (length (expression_operands e)) x
-  keyed known (expression.Compose ty parts) x o k a is = same_keyed _ o _ _ x (constructor_keyed known ty (length parts.items) is) k a
-  keyed known (expression.As operand kind convert) x o k a is = same_keyed _ o _ _ x (cast_keyed known kind convert (known_inner m.types known operand)) k a
+  keyed known (expression.Compose ty parts) x o k a is =
+      same_keyed _ o _ _ x (constructor_keyed known ty (length parts.items) is) k a
+  keyed known (expression.As operand kind convert) x o k a is =
+      same_keyed _ o _ _ x (cast_keyed known kind convert (known_inner m.types known operand)) k a
   keyed known (expression.Access base index) x o k a is = absurd cc
   keyed known (expression.AccessIndex base index) x o k a is = by _ a
     where
@@ -226,7 +251,8 @@ module _ (m : Module) (are : TypesAreCounted m) where
       by false a = same_keyed (WithoutForm (PartAt index)) o 1 (one_key 4 index) x (Keyed refl) k a
   keyed known (expression.Swizzle size vector pattern) x o k a is = absurd cc
   keyed known (expression.Load pointer) x o k a is = absurd cc
-  keyed known (expression.ImageSample image sampler gather coordinate array_index offset l depth clamp) x o k a is = absurd cc
+  keyed known (expression.ImageSample image sampler gather coordinate array_index offset l depth clamp) x o k a
+      is = absurd cc
   keyed known (expression.ImageQuery image query) x o k a is = absurd cc
   keyed known (expression.Unary op operand) x o k a is = same_keyed (UnarySign op) o 1 _ x (unary_keyed op) k a
   keyed known (expression.Binary op left right) x o k a is = same_keyed (BinarySign op) o 2 _ x (Keyed (refl, refl)) k a
@@ -248,5 +274,6 @@ module _ (m : Module) (are : TypesAreCounted m) where
   sound _ n x k = tt
 
   -- operators that the runs call by one word, over as many operands, have one key
-  pub one_key_of_word : (o p : Operator) (n : ℕ) (x y : List ℕ) → IsKeyed o n x → IsKeyed p n y → run_word o ≡ run_word p → x ≡ y
+  pub one_key_of_word : (o p : Operator) (n : ℕ) (x y : List ℕ) → IsKeyed o n x → IsKeyed p n y →
+      run_word o ≡ run_word p → x ≡ y
   one_key_of_word o p n x y k l e = one_key_each o p n x y k l (share_a_word o p (sound o n x k) (sound p n y l) e)

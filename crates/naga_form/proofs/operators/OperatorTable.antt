@@ -238,7 +238,8 @@ derivative_distinguished axis.Width control.Coarse = refl
 derivative_distinguished axis.Width _ = refl
 
 -- with an array index or an offset or without
-sample_distinguished : (l : Level) (compares clamped arrayed offset : Bool) → IsDistinguishedBy (Sample l compares clamped arrayed offset)
+sample_distinguished : (l : Level) (compares clamped arrayed offset : Bool) →
+    IsDistinguishedBy (Sample l compares clamped arrayed offset)
 sample_distinguished Automatic true true arrayed offset = refl
 sample_distinguished Automatic true false arrayed offset = refl
 sample_distinguished Automatic false true arrayed offset = refl
@@ -260,7 +261,8 @@ sample_distinguished Graded true false arrayed offset = refl
 sample_distinguished Graded false true arrayed offset = refl
 sample_distinguished Graded false false arrayed offset = refl
 
-gather_distinguished : (l : Level) (compares clamped arrayed offset : Bool) (c : Option SwizzleComponent) → IsDistinguishedBy (Gather c l compares clamped arrayed offset)
+gather_distinguished : (l : Level) (compares clamped arrayed offset : Bool) (c : Option SwizzleComponent) →
+    IsDistinguishedBy (Gather c l compares clamped arrayed offset)
 gather_distinguished Automatic true true arrayed offset None = refl
 gather_distinguished Automatic true true arrayed offset (Some component.X) = refl
 gather_distinguished Automatic true true arrayed offset (Some _) = refl
@@ -401,8 +403,10 @@ distinguished (WithoutForm x) u = absurd (false≢true u)
 distinguished _ u = refl
 
 -- two that take no type, and have one word, have one operator that stands for them
-pub untyped_share : (a b : Operator) → is_untyped a ≡ true → is_untyped b ≡ true → run_word a ≡ run_word b → one_word a ≡ one_word b
-untyped_share a b ua ub e = same_Some (one_word a) (one_word b) (sym (distinguished a ua) ∙ (ap operator_of e ∙ distinguished b ub))
+pub untyped_share : (a b : Operator) → is_untyped a ≡ true → is_untyped b ≡ true → run_word a ≡ run_word b →
+    one_word a ≡ one_word b
+untyped_share a b ua ub e = same_Some (one_word a) (one_word b) (sym (distinguished a ua)
+    ∙ (ap operator_of e ∙ distinguished b ub))
 
 -- ---- what all of the table have
 -- what is found by a word has it, and passes a test that all operators of the list pass
@@ -470,7 +474,8 @@ distinguished_by_count (WithoutForm (ValueOf numbers components)) t = refl
 distinguished_by_count (WithoutForm _) t = refl
 distinguished_by_count _ t = refl
 
-pub counted_apart : (a b : Operator) → is_distinguished a ≡ true → is_distinguished b ≡ true → one_word a ≡ one_word b → operand_count a ≡ operand_count b → a ≡ b
+pub counted_apart : (a b : Operator) → is_distinguished a ≡ true → is_distinguished b ≡ true →
+    one_word a ≡ one_word b → operand_count a ≡ operand_count b → a ≡ b
 counted_apart a b ta tb e n =
     sym (distinguished_by_count a ta) ∙ ((λ i. by_count (e i) (n i)) ∙ distinguished_by_count b tb)
 

@@ -84,7 +84,8 @@ pub value_is_one : (p : PlainForm) → IsPlainForm p → IsExpression (as_value 
 value_is_one (ValueForm e) is = is
 value_is_one (ReferenceForm e) is = is.0
 
-pub reference_is_one : (p : PlainForm) → IsPlainForm p → IsExpression (as_reference p) × IsTrue (is_reference (as_reference p))
+pub reference_is_one : (p : PlainForm) → IsPlainForm p → IsExpression (as_reference p)
+    × IsTrue (is_reference (as_reference p))
 reference_is_one (ValueForm e) is = (is, refl)
 reference_is_one (ReferenceForm e) is = is
 
@@ -110,7 +111,8 @@ selected_is pointer (ElementAt index) well base is =
     part_is pointer (selected_part (ElementAt index)) base is (λ e is. (is, well)) (λ e is. is)
 
 -- a variable of the module is one of the grammar, as its name is
-variable_is : (is_handle : Bool) (w : List ℕ) → IsIdentifier w → IsPlainForm (variable_plain is_handle (tree_expressions.Name w))
+variable_is : (is_handle : Bool) (w : List ℕ) → IsIdentifier w →
+    IsPlainForm (variable_plain is_handle (tree_expressions.Name w))
 variable_is true w is = is
 variable_is false w is = (is, refl)
 
@@ -250,10 +252,12 @@ module _ (flags : WriterFlags) (m : Module) (info : ModuleInfo) (g : ℕ) (f : i
       (ltb-true v (length m.global_variables)
       (names_are_in_range m callees f ranges h (expression.GlobalVariable v) at)))
   own_is operand h (expression.FunctionArgument n) at is all =
-      let a = element f.arguments.items n (ltb-true n (length f.arguments.items) (names_are_in_range m callees f ranges h (expression.FunctionArgument n) at)) in
+      let a = element f.arguments.items n (ltb-true n (length f.arguments.items)
+      (names_are_in_range m callees f ranges h (expression.FunctionArgument n) at)) in
       item_is_identifier m (argument_item m g n a.0) (argument_there m g f n a.0 found a.1)
   own_is operand h (expression.LocalVariable v) at is all =
-      let l = element f.local_variables v (ltb-true v (length f.local_variables) (names_are_in_range m callees f ranges h (expression.LocalVariable v) at)) in
+      let l = element f.local_variables v (ltb-true v (length f.local_variables)
+      (names_are_in_range m callees f ranges h (expression.LocalVariable v) at)) in
       (item_is_identifier m (local_item m g v l.0) (local_there m g f v l.0 found l.1), refl)
   own_is operand h (expression.ZeroValue ty) at is all =
       let form = type_at ty (spelled_of_spellable m (Handle ty) is.0) in
@@ -267,15 +271,18 @@ module _ (flags : WriterFlags) (m : Module) (info : ModuleInfo) (g : ℕ) (f : i
       by : (x : Selector) × (part_selector d base index ≡ Some x) →
           IsPlainForm (own_plain own source operand (expression.AccessIndex base index))
       by s =
-          let lt = ltb-true index (2 ^ 32) (names_are_in_range m callees f ranges h (expression.AccessIndex base index) at) in
-          let part = list_all_at (operands_fit m.types (map (λ e. e.ty) es)) f.expressions h (expression.AccessIndex base index) demands at in
+          let lt = ltb-true index (2 ^ 32) (names_are_in_range m callees f ranges h
+          (expression.AccessIndex base index) at) in
+          let part = list_all_at (operands_fit m.types (map (λ e. e.ty) es)) f.expressions h
+          (expression.AccessIndex base index) demands at in
           subst
           (λ o. IsPlainForm
           (option_map_or
           (λ x. part_plain (is_pointer d.context base) (selected_part x) (operand base)) o
           (applied_plain no_form None operand (base ∷ []) (Some (WithoutForm (PartAt index))))))
           (sym s.1)
-          (selected_is (is_pointer d.context base) s.0 (selected_well m info es base index is.0 part fits lt s.0 s.1) (operand base) all.0)
+          (selected_is (is_pointer d.context base) s.0
+          (selected_well m info es base index is.0 part fits lt s.0 s.1) (operand base) all.0)
   own_is operand h (expression.Swizzle size v pattern) at is all =
       let whole =
       names_are_in_range m callees f ranges h (expression.Swizzle size v pattern) at in
@@ -312,7 +319,8 @@ module _ (flags : WriterFlags) (m : Module) (info : ModuleInfo) (g : ℕ) (f : i
       ((has_form_parts m es f.expressions e (written h e at w)).0, offset_is h e at w)
       (all_map all (expression_operands e) (closed.operands h e at w))
 
-  availability_is : (s : Availability) (p : PlainForm) → ((x : List ℕ) → s ≡ Bound x → IsIdentifier x) → IsPlainForm p → IsPlainForm (availability_plain s p)
+  availability_is : (s : Availability) (p : PlainForm) → ((x : List ℕ) → s ≡ Bound x → IsIdentifier x) →
+      IsPlainForm p → IsPlainForm (availability_plain s p)
   availability_is (Bound x) p named_well is = named_well x refl
   availability_is _ p named_well is = is
 

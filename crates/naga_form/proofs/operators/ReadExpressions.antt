@@ -218,14 +218,16 @@ module _ (m : Module) (n : Naming) (code : Source)
       (Some
       (constant_shape
       (option_map
-      (λ r. Constructed (run_word (constructor code.declared.context (Handle ty) 0)) (code.declared.value_type r) no_constant)
+      (λ r. Constructed (run_word (constructor code.declared.context (Handle ty) 0))
+      (code.declared.value_type r) no_constant)
       o)))
   zero_reads operand like ty declared (Some r) known =
       ap AsValue
       (zero_read operand (λ h. plain_read (operand h))
       (type_tree code.type_names ty)
       (constructor code.declared.context (Handle ty) 0)
-      (constructor_spelled code.declared.context (Handle ty) 0 (type_tree code.type_names ty) (spells (Handle ty) declared)))
+      (constructor_spelled code.declared.context (Handle ty) 0 (type_tree code.type_names ty)
+      (spells (Handle ty) declared)))
   zero_reads operand like ty declared None known = absurd cc
 
   -- what is written out as a constant is read as that

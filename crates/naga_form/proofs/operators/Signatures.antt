@@ -25,7 +25,7 @@ use Rattle.module_meaning.specs.ExpressionOperators.{constructor}
 use Rattle.module_meaning.specs.ExpressionShapes.{Declared, part_selector, letter}
 use Rattle.module_meaning.specs.OperatorTable.{Operator, run_word, asks}
 use Rattle.module_meaning.specs.ExpressionContexts.{expression_context, declared}
-use Rattle.module_meaning.specs.TypeIdentity.{vector_number}
+use Rattle.module_meaning.specs.TypeIdentity.{component_count}
 use Rattle.module_meaning.specs.Types.{type_of_values}
 use Rattle.naga_form.proofs.declarations.AcceptedGroups.{IsSoundGroup}
 use Rattle.naga_form.proofs.operators.AgreeingUses.{value_at}
@@ -66,7 +66,7 @@ module _ (m : Module) (info : ModuleInfo) where
         part_selector (declared_for g) base index ≡ Some s → IsCalled g e (PartWord s)
     by_letters : (size : VectorSize) (vector : ℕ) (pattern : List SwizzleComponent) →
         e ≡ expression.Swizzle size vector pattern →
-        IsCalled g e (PartWord (MemberNamed (flat_map letter (take (vector_number size) pattern))))
+        IsCalled g e (PartWord (MemberNamed (flat_map letter (take (component_count size) pattern))))
 
   -- the signature of an expression of a sound group
   pub record IsOfExpression (x : Signature) : Type 0 where

@@ -27,21 +27,40 @@ record IsOfFunctions (fs : List Function) (ess : List (List ExpressionInfo)) (g 
   there : slice_get ess place ≡ Some known
   same : function_group function known ≡ g
 
-of_functions : (fs : List Function) (ess : List (List ExpressionInfo)) (i : ℕ) (g : Group) → slice_get (function_groups fs ess) i ≡ Some g → IsOfFunctions fs ess g
+of_functions : (fs : List Function) (ess : List (List ExpressionInfo)) (i : ℕ) (g : Group) →
+    slice_get (function_groups fs ess) i ≡ Some g → IsOfFunctions fs ess g
 of_functions [] ess i g at = absurd cc
 of_functions (f ∷ fs) [] i g at = absurd cc
 of_functions (f ∷ fs) (es ∷ ess) zero g at =
-    record { place = 0; function = f; known = es; here = refl; there = refl; same = same_Some (function_group f es) g at }
+    record {
+      place = 0;
+      function = f;
+      known = es;
+      here = refl;
+      there = refl;
+      same = same_Some (function_group f es) g at;
+    }
 of_functions (f ∷ fs) (es ∷ ess) (suc i) g at =
     let k = of_functions fs ess i g at in
-    record { place = suc k.place; function = k.function; known = k.known; here = k.here; there = k.there; same = k.same }
+    record {
+      place = suc k.place;
+      function = k.function;
+      known = k.known;
+      here = k.here;
+      there = k.there;
+      same = k.same;
+    }
 
 module _ (m : Module) (info : ModuleInfo) (accepted : IsTrue (is_accepted m info)) where
   pub groups_are : (g : Group) → IsIn (groups_of m info) g → (f : Option Function) × IsSoundGroup m info f g
-  groups_are g place = by (in_row (function_groups m.functions info.functions.items) (further_groups_of m info) place.0 g place.1)
+  groups_are g place =
+      by (in_row (function_groups m.functions info.functions.items) (further_groups_of m info) place.0 g place.1)
     where
-      further : ((k : ℕ) × (slice_get (function_groups (map (λ p. p.function) m.entry_points.items) info.entry_points.items) k ≡ Some g)) ⊎
-          ((k : ℕ) × (slice_get (own_group m info accepted ∷ []) k ≡ Some g)) → (f : Option Function) × IsSoundGroup m info f g
+      further : ((k : ℕ)
+          × (slice_get (function_groups (map (λ p. p.function) m.entry_points.items) info.entry_points.items) k
+          ≡ Some g)) ⊎
+          ((k : ℕ) × (slice_get (own_group m info accepted ∷ []) k ≡ Some g)) → (f : Option Function)
+          × IsSoundGroup m info f g
       further (inl here) =
           let k = of_functions (map (λ p. p.function) m.entry_points.items) info.entry_points.items here.0 g here.1 in
           let p = in_image (λ p. p.function) m.entry_points.items k.place k.function k.here in (
@@ -49,13 +68,19 @@ module _ (m : Module) (info : ModuleInfo) (accepted : IsTrue (is_accepted m info
             subst (IsSoundGroup m info (Some p.0.function)) (ap (λ f. function_group f k.known) p.2 ∙ k.same)
                 (entry_points_are m info accepted k.place p.0 k.known p.1 k.there),
           )
-      further (inr (zero, same)) = (None, subst (IsSoundGroup m info None) (same_Some _ g same) (declarations_are m info accepted))
+      further (inr (zero, same)) =
+          (None, subst (IsSoundGroup m info None) (same_Some _ g same) (declarations_are m info accepted))
       further (inr (suc k, same)) = absurd cc
 
       by : ((k : ℕ) × (slice_get (function_groups m.functions info.functions.items) k ≡ Some g)) ⊎
           ((k : ℕ) × (slice_get (further_groups_of m info) k ≡ Some g)) → (f : Option Function) ×
           IsSoundGroup m info f g
       by (inl here) =
-          let k = of_functions m.functions info.functions.items here.0 g here.1 in
-          (Some k.function, subst (IsSoundGroup m info (Some k.function)) k.same (functions_are m info accepted k.place k.function k.known k.here k.there))
-      by (inr later) = further (in_row (function_groups (map (λ p. p.function) m.entry_points.items) info.entry_points.items) _ later.0 g later.1)
+          let k = of_functions m.functions info.functions.items here.0 g here.1 in (
+            Some k.function,
+            subst (IsSoundGroup m info (Some k.function)) k.same
+                (functions_are m info accepted k.place k.function k.known k.here k.there),
+          )
+      by (inr later) =
+          further (in_row (function_groups (map (λ p. p.function) m.entry_points.items) info.entry_points.items)
+          _ later.0 g later.1)

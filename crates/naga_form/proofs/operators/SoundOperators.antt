@@ -47,10 +47,12 @@ untyped_is_sound (Reinterpret spelling) u = absurd cc
 untyped_is_sound _ u = tt
 
 module _ (m : Module) (are : TypesAreCounted m) where
-  spells : (r : TypeResolution) → IsFit m r → (w : List ℕ) → spelled_resolution (type_names m) r ≡ Some w → SpellsAType w
+  spells : (r : TypeResolution) → IsFit m r → (w : List ℕ) → spelled_resolution (type_names m) r ≡ Some w →
+      SpellsAType w
   spells r fit w at = by (resolution_tree (type_names m) r) refl (sym (spelling_of m are r) ∙ at)
     where
-      by : (o : Option TypeSpecifier) → resolution_tree (type_names m) r ≡ o → option_map type_layout o ≡ Some w → SpellsAType w
+      by : (o : Option TypeSpecifier) → resolution_tree (type_names m) r ≡ o → option_map type_layout o
+          ≡ Some w → SpellsAType w
       by (Some t) is e = (t, (tree_is m are.types r fit t is, same_Some (type_layout t) w e))
       by None is e = absurd (cc)
 
@@ -74,22 +76,33 @@ module _ (m : Module) (are : TypesAreCounted m) where
         (WithoutForm (Cast kind convert)))
     target_is_sound it fit bits kind convert = by (spelled_resolution (type_names m) (Value it)) refl bits
       where
-        by : (o : Option (List ℕ)) → spelled_resolution (type_names m) (Value it) ≡ o → (bits : Bool) → TypeIsSound (option_map_or (cast_to bits) o (WithoutForm (Cast kind convert)))
+        by : (o : Option (List ℕ)) → spelled_resolution (type_names m) (Value it) ≡ o → (bits : Bool) →
+            TypeIsSound (option_map_or (cast_to bits) o (WithoutForm (Cast kind convert)))
         by None is bits = tt
         by (Some w) is true = spells (Value it) fit w is
         by (Some w) is false = spells (Value it) fit w is
 
-    cast_is_sound : (kind : ScalarKind) (convert : Option ℕ) (it : Option TypeInner) → TypeIsSound (cast context kind convert it)
-    cast_is_sound kind None (Some (inner.Scalar s)) = target_is_sound (inner.Scalar (converted_scalar s kind None)) (refl, tt, refl) true kind None
-    cast_is_sound kind (Some width) (Some (inner.Scalar s)) = target_is_sound (inner.Scalar (converted_scalar s kind (Some width))) (refl, tt, refl) false kind (Some width)
-    cast_is_sound kind None (Some (inner.Vector n s)) = target_is_sound (inner.Vector n (converted_scalar s kind None)) (refl, tt, refl) true kind None
-    cast_is_sound kind (Some width) (Some (inner.Vector n s)) = target_is_sound (inner.Vector n (converted_scalar s kind (Some width))) (refl, tt, refl) false kind (Some width)
-    cast_is_sound kind None (Some (inner.Matrix c r s)) = target_is_sound (inner.Matrix c r (converted_scalar s kind None)) (refl, tt, refl) false kind None
-    cast_is_sound kind (Some width) (Some (inner.Matrix c r s)) = target_is_sound (inner.Matrix c r (converted_scalar s kind (Some width))) (refl, tt, refl) false kind (Some width)
+    cast_is_sound : (kind : ScalarKind) (convert : Option ℕ) (it : Option TypeInner) →
+        TypeIsSound (cast context kind convert it)
+    cast_is_sound kind None (Some (inner.Scalar s)) =
+        target_is_sound (inner.Scalar (converted_scalar s kind None)) (refl, tt, refl) true kind None
+    cast_is_sound kind (Some width) (Some (inner.Scalar s)) =
+        target_is_sound (inner.Scalar (converted_scalar s kind (Some width))) (refl, tt, refl) false kind (Some width)
+    cast_is_sound kind None (Some (inner.Vector n s)) =
+        target_is_sound (inner.Vector n (converted_scalar s kind None)) (refl, tt, refl) true kind None
+    cast_is_sound kind (Some width) (Some (inner.Vector n s)) =
+        target_is_sound (inner.Vector n (converted_scalar s kind (Some width))) (refl, tt, refl) false kind (Some width)
+    cast_is_sound kind None (Some (inner.Matrix c r s)) =
+        target_is_sound (inner.Matrix c r (converted_scalar s kind None)) (refl, tt, refl) false kind None
+    cast_is_sound kind (Some width) (Some (inner.Matrix c r s)) =
+        target_is_sound (inner.Matrix c r (converted_scalar s kind (Some width))) (refl, tt, refl) false kind
+        (Some width)
     cast_is_sound kind convert _ = tt
 
-    load_is_sound : (columns rows : CooperativeSize) (role : CooperativeRole) (place : CooperativeData) → TypeIsSound (matrix_load context columns rows role place)
-    load_is_sound columns rows role place = by (option_and_then (pointee_scalar m.types) (type_known context place.pointer))
+    load_is_sound : (columns rows : CooperativeSize) (role : CooperativeRole) (place : CooperativeData) →
+        TypeIsSound (matrix_load context columns rows role place)
+    load_is_sound columns rows role place =
+        by (option_and_then (pointee_scalar m.types) (type_known context place.pointer))
       where
         spelled : (s : Scalar) (o : Option (List ℕ)) →
             spelled_resolution (type_names m) (Value (inner.CooperativeMatrix columns rows s role))
@@ -106,7 +119,8 @@ module _ (m : Module) (are : TypesAreCounted m) where
             (Value (inner.CooperativeMatrix columns rows s role))) s)
             (WithoutForm (MatrixLoad columns rows role place.row_major)))
         by None = tt
-        by (Some s) = spelled s (spelled_resolution (type_names m) (Value (inner.CooperativeMatrix columns rows s role))) refl
+        by (Some s) =
+            spelled s (spelled_resolution (type_names m) (Value (inner.CooperativeMatrix columns rows s role))) refl
 
     pub atomic_is_sound : (pointer : ℕ) (o : Operator) → load_operator context pointer ≡ Some o → TypeIsSound o
     atomic_is_sound pointer o e = by (is_atomic_pointer context pointer) e
@@ -138,7 +152,10 @@ module _ (m : Module) (are : TypesAreCounted m) where
     applied_is_sound (expression.Compose ty parts) o e = same_sound _ o e (constructor_is_sound ty _)
     applied_is_sound (expression.AccessIndex base index) o e = part_is_sound base index o e
     applied_is_sound (expression.Load pointer) o e = atomic_is_sound pointer o e
-    applied_is_sound (expression.ImageSample image sampler gather coordinate array_index offset level depth_ref clamp) o e = same_sound _ o e (sampling_is_sound _ gather _ _ clamp _ _).0
-    applied_is_sound (expression.As operand kind convert) o e = same_sound _ o e (cast_is_sound kind convert (type_known context operand))
-    applied_is_sound (expression.CooperativeLoad columns rows role place) o e = same_sound _ o e (load_is_sound columns rows role place)
+    applied_is_sound (expression.ImageSample image sampler gather coordinate array_index offset level depth_ref
+        clamp) o e = same_sound _ o e (sampling_is_sound _ gather _ _ clamp _ _).0
+    applied_is_sound (expression.As operand kind convert) o e =
+        same_sound _ o e (cast_is_sound kind convert (type_known context operand))
+    applied_is_sound (expression.CooperativeLoad columns rows role place) o e =
+        same_sound _ o e (load_is_sound columns rows role place)
     applied_is_sound e o is = untyped_is_sound o (own_is_untyped e o is)

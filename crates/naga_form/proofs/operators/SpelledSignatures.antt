@@ -38,7 +38,7 @@ use Rattle.module_meaning.specs.ModuleShapes.{module_shape}
 use Rattle.module_meaning.specs.OperatorTable.{Operator as TableOperator, BinarySign, WithoutForm}
 use Rattle.module_meaning.specs.OperatorTable.{PartAt, run_word, asks}
 use Rattle.module_meaning.specs.Shapes.{operator_shape}
-use Rattle.module_meaning.specs.TypeIdentity.{vector_number}
+use Rattle.module_meaning.specs.TypeIdentity.{component_count}
 use Rattle.shader_runs.specs.Premises.{handle_types}
 use Rattle.shader_runs.specs.Program.{ConstantTree, Fixed, no_constant, Expression}
 use Rattle.shader_runs.specs.Program.{Function, Load, Module, Request, Result, expression_of}
@@ -73,26 +73,33 @@ module _ (d : Declared) (index : ℕ) where
   no_own_selector whole (inner.Struct members span) none = absurd cc
   no_own_selector whole _ none = refl
 
-  no_pointee_selector : (base : ℕ) (o : Option TypeInner) → option_and_then (λ it. own_selector d (Some base) it index) o ≡ None → option_map_or is_composite o false ≡ false
+  no_pointee_selector : (base : ℕ) (o : Option TypeInner) →
+      option_and_then (λ it. own_selector d (Some base) it index) o ≡ None → option_map_or is_composite o false ≡ false
   no_pointee_selector base (Some it) none = no_own_selector (Some base) it none
   no_pointee_selector base None none = refl
 
-  no_selector : (whole : Option ℕ) (it : TypeInner) → selector d whole it index ≡ None → has_parts d.context.types it ≡ false
+  no_selector : (whole : Option ℕ) (it : TypeInner) → selector d whole it index ≡ None →
+      has_parts d.context.types it ≡ false
   no_selector whole (inner.Pointer base space) none = no_pointee_selector base (type_with d.context.types base) none
   no_selector whole (inner.ValuePointer (Some size) s space) none = absurd cc
   no_selector whole (inner.ValuePointer None s space) none = refl
   no_selector whole it none = no_own_selector whole it none
 
-  no_selector_of : (whole : Option ℕ) (o : Option TypeInner) → option_and_then (λ it. selector d whole it index) o ≡ None → option_map_or (has_parts d.context.types) o false ≡ false
+  no_selector_of : (whole : Option ℕ) (o : Option TypeInner) →
+      option_and_then (λ it. selector d whole it index) o ≡ None →
+      option_map_or (has_parts d.context.types) o false ≡ false
   no_selector_of whole (Some it) none = no_selector whole it none
   no_selector_of whole None none = refl
 
   -- where an expression has no part, an operator by itself is applied
-  part_is_applied : (base : ℕ) → part_selector d base index ≡ None → part_operator d.context base index ≡ Some (WithoutForm (PartAt index))
+  part_is_applied : (base : ℕ) → part_selector d base index ≡ None → part_operator d.context base index
+      ≡ Some (WithoutForm (PartAt index))
   part_is_applied base none =
       ap (λ b. if b then None else Some (WithoutForm (PartAt index))) (by (d.context.known base) none)
     where
-      by : (o : Option TypeResolution) → option_and_then (λ r. option_and_then (λ it. selector d (handle_of r) it index) (inner_of r d.context.types)) o ≡ None →
+      by : (o : Option TypeResolution) →
+          option_and_then (λ r. option_and_then (λ it. selector d (handle_of r) it index)
+          (inner_of r d.context.types)) o ≡ None →
           option_map_or (has_parts d.context.types) (option_and_then (λ r. inner_of r d.context.types) o) false ≡ false
       by (Some r) none = no_selector_of (handle_of r) (inner_of r d.context.types) none
       by None none = refl
@@ -121,9 +128,18 @@ module _ (m : ir_module.Module) (info : ModuleInfo)
 
     -- the one signature over the operands of the expression
     of_one : (w : Word) → IsCalled m info g e w →
-        IsOneOf x (record { word = w; operands = handle_types own (expression_operands e); result = handle_type own h } ∷ []) → IsOfExpression m info x
+        IsOneOf x (record {
+          word = w;
+          operands = handle_types own (expression_operands e);
+          result = handle_type own h;
+        } ∷ []) → IsOfExpression m info x
     of_one w called among =
-        let same = only_signature x (record { word = w; operands = handle_types own (expression_operands e); result = handle_type own h }) among in
+        let same = only_signature x
+        (record {
+          word = w;
+          operands = handle_types own (expression_operands e);
+          result = handle_type own h;
+        }) among in
         record {
           function = Some function;
           group = g;
@@ -137,8 +153,10 @@ module _ (m : ir_module.Module) (info : ModuleInfo)
         }
 
     -- an operator that is applied; one that asks spells nothing
-    of_applied : (otherwise : Expression) → signatures_of p own (handle_type own h) (Some otherwise) ≡ [] → (o : Option TableOperator) → applied_operator d.context e ≡ o →
-        IsOneOf x (signatures_of p own (handle_type own h) (Some (applied_or otherwise (expression_operands e) o))) → IsOfExpression m info x
+    of_applied : (otherwise : Expression) → signatures_of p own (handle_type own h) (Some otherwise) ≡ [] →
+        (o : Option TableOperator) → applied_operator d.context e ≡ o →
+        IsOneOf x (signatures_of p own (handle_type own h)
+        (Some (applied_or otherwise (expression_operands e) o))) → IsOfExpression m info x
     of_applied otherwise none None is among = absurd (no_signature x (subst (IsOneOf x) none among))
     of_applied otherwise none (Some o) is among = by (asks o) refl among
       where
@@ -155,35 +173,44 @@ module _ (m : ir_module.Module) (info : ModuleInfo)
     tree_here : constant_tree d g.expressions h ≡ tree_over d (tree_within h d g.expressions) h e
     tree_here = ap (option_and_then (tree_over d (tree_within h d g.expressions) h)) at
 
-    of_constant : (o : Option ConstantTree) → constant_tree d g.expressions h ≡ o → IsOneOf x (constant_signatures p (unwrap_or o (Fixed (Truth false)))) → IsOfExpression m info x
+    of_constant : (o : Option ConstantTree) → constant_tree d g.expressions h ≡ o →
+        IsOneOf x (constant_signatures p (unwrap_or o (Fixed (Truth false)))) → IsOfExpression m info x
     of_constant (Some t) is among = of_trees (Some function) g sound h t is x among
     of_constant None is among = absurd (no_signature x among)
 
     -- ---- images
     -- a level of zero that is written spells nothing
-    zero_spells : (l : SampleLevel) (unwritten : Bool) (ts : List ConstantTree) → constants_signatures p (trees (written_zero l unwritten ++ ts)) ≡ constants_signatures p (trees ts)
+    zero_spells : (l : SampleLevel) (unwritten : Bool) (ts : List ConstantTree) →
+        constants_signatures p (trees (written_zero l unwritten ++ ts)) ≡ constants_signatures p (trees ts)
     zero_spells level.Zero false ts = refl
     zero_spells level.Zero true ts = refl
     zero_spells _ unwritten ts = refl
 
     -- an offset that is written spells what its tree does
-    of_offset : (offset : Option ℕ) → IsOneOf x (constants_signatures p (trees (option_to_list (option_and_then (constant_tree d g.expressions) offset)))) → IsOfExpression m info x
+    of_offset : (offset : Option ℕ) →
+        IsOneOf x (constants_signatures p
+        (trees (option_to_list (option_and_then (constant_tree d g.expressions) offset)))) → IsOfExpression m info x
     of_offset None among = absurd (no_signature x among)
     of_offset (Some k) among = by (constant_tree d g.expressions k) refl among
       where
-        by : (o : Option ConstantTree) → constant_tree d g.expressions k ≡ o → IsOneOf x (constants_signatures p (trees (option_to_list o))) → IsOfExpression m info x
+        by : (o : Option ConstantTree) → constant_tree d g.expressions k ≡ o →
+            IsOneOf x (constants_signatures p (trees (option_to_list o))) → IsOfExpression m info x
         by None is among = absurd (no_signature x among)
         by (Some t) is among =
-            either_signature x (constant_signatures p t) [] (of_trees (Some function) g sound k t is x) (λ none. absurd (no_signature x none)) among
+            either_signature x (constant_signatures p t) [] (of_trees (Some function) g sound k t is x)
+            (λ none. absurd (no_signature x none)) among
 
     of_sample : (l : SampleLevel) (unwritten : Bool) (offset : Option ℕ) →
         IsOneOf x (constants_signatures p
         (trees (written_zero l unwritten ++ option_to_list
         (option_and_then (constant_tree d g.expressions) offset)))) → IsOfExpression m info x
     of_sample l unwritten offset among =
-        of_offset offset (subst (IsOneOf x) (zero_spells l unwritten (option_to_list (option_and_then (constant_tree d g.expressions) offset))) among)
+        of_offset offset
+        (subst (IsOneOf x) (zero_spells l unwritten
+        (option_to_list (option_and_then (constant_tree d g.expressions) offset))) among)
 
-  module _ (function : ir_function.Function) (es : List ExpressionInfo) (sound : IsSoundGroup m info (Some function) (function_group function es)) (h : ℕ) where
+  module _ (function : ir_function.Function) (es : List ExpressionInfo)
+      (sound : IsSoundGroup m info (Some function) (function_group function es)) (h : ℕ) where
     abbrev context : Declared
     context = declared_for m info (function_group function es)
 
@@ -197,10 +224,15 @@ module _ (m : ir_module.Module) (info : ModuleInfo)
         (Some (shape_of context function.expressions h e))) → IsOfExpression m info x
     spelled_by (expression.Literal value) at x among = absurd (no_signature x among)
     spelled_by (expression.Constant handle) at x among =
-        let e = expression.Constant handle in of_constant function es sound h e at x (context.constant_tree handle) (tree_here function es sound h e at x) among
+        let e = expression.Constant handle in
+        of_constant function es sound h e at x (context.constant_tree handle)
+        (tree_here function es sound h e at x) among
     spelled_by (expression.Override handle) at x among = absurd (no_signature x among)
     spelled_by (expression.ZeroValue ty) at x among =
-        let e = expression.ZeroValue ty in of_constant function es sound h e at x (built context h (constructor context.context (Handle ty) 0) []) (tree_here function es sound h e at x) among
+        let e = expression.ZeroValue ty in
+        of_constant function es sound h e at x
+        (built context h (constructor context.context (Handle ty) 0) [])
+        (tree_here function es sound h e at x) among
     spelled_by (expression.FunctionArgument number) at x among = absurd (no_signature x among)
     spelled_by (expression.GlobalVariable handle) at x among = absurd (no_signature x among)
     spelled_by (expression.LocalVariable handle) at x among = absurd (no_signature x among)
@@ -208,28 +240,38 @@ module _ (m : ir_module.Module) (info : ModuleInfo)
         of_one function es sound h (expression.Access base index) at x IndexWord (by_index base index refl) among
     spelled_by (expression.AccessIndex base index) at x among = by (part_selector context base index) refl among
       where
-        by : (o : Option Selector) → part_selector context base index ≡ o → IsOneOf x (signatures_of p shape (handle_type shape h) (Some (part_shape base index o))) → IsOfExpression m info x
+        by : (o : Option Selector) → part_selector context base index ≡ o →
+            IsOneOf x (signatures_of p shape (handle_type shape h) (Some (part_shape base index o))) →
+            IsOfExpression m info x
         by (Some s) is among =
-            of_one function es sound h (expression.AccessIndex base index) at x (PartWord s) (by_part base index s refl is) among
+            of_one function es sound h (expression.AccessIndex base index) at x (PartWord s)
+            (by_part base index s refl is) among
         by None is among =
-            of_applied function es sound h (expression.AccessIndex base index) at x Result refl (Some (WithoutForm (PartAt index))) (part_is_applied context index base is) among
+            of_applied function es sound h (expression.AccessIndex base index) at x Result refl
+            (Some (WithoutForm (PartAt index))) (part_is_applied context index base is) among
     spelled_by (expression.Swizzle size vector pattern) at x among =
         of_one function es sound h (expression.Swizzle size vector pattern) at x
-        (PartWord (MemberNamed (flat_map letter (take (vector_number size) pattern))))
+        (PartWord (MemberNamed (flat_map letter (take (component_count size) pattern))))
         (by_letters size vector pattern refl) among
     spelled_by (expression.Load pointer) at x among =
-        of_applied function es sound h (expression.Load pointer) at x (Load pointer) refl (load_operator context.context pointer) refl among
-    spelled_by (expression.ImageSample image sampler gather coordinate array_index offset level depth_ref clamp) at x among =
+        of_applied function es sound h (expression.Load pointer) at x (Load pointer) refl
+        (load_operator context.context pointer) refl among
+    spelled_by (expression.ImageSample image sampler gather coordinate array_index offset level depth_ref clamp)
+        at x among =
         of_sample function es sound h
         (expression.ImageSample image sampler gather coordinate array_index offset level
         depth_ref clamp) at x level (is_some gather || (is_some depth_ref || clamp)) offset
         among
-    spelled_by e at x among = of_applied function es sound h e at x Result refl (applied_operator context.context e) refl among
+    spelled_by e at x among = of_applied function es sound h e at x Result refl
+        (applied_operator context.context e) refl among
 
     -- what is spelled at a handle
-    spelled_at : (x : Signature) → IsOneOf x (signatures_of p shape (handle_type shape h) (expression_of shape h)) → IsOfExpression m info x
+    spelled_at : (x : Signature) →
+        IsOneOf x (signatures_of p shape (handle_type shape h) (expression_of shape h)) → IsOfExpression m info x
     spelled_at x among =
-        by (slice_get function.expressions h) refl (subst (λ o. IsOneOf x (signatures_of p shape (handle_type shape h) o)) (expression_is m info function es h) among)
+        by (slice_get function.expressions h) refl
+        (subst (λ o. IsOneOf x (signatures_of p shape (handle_type shape h) o))
+        (expression_is m info function es h) among)
       where
         by : (o : Option ir.Expression) → slice_get function.expressions h ≡ o →
             IsOneOf x (signatures_of p shape (handle_type shape h)

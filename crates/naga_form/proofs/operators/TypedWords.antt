@@ -49,13 +49,15 @@ head_before : (w rest : List ℕ) → all_word_bytes w ≡ true → head_word (w
 head_before [] rest e = refl
 head_before (b ∷ bytes) rest e =
     let parts = and_parts (is_word_byte b) (all_word_bytes bytes) e in
-    ap (λ x. if x then [] else b ∷ head_word (bytes ++ (60 ∷ rest))) (word_byte_goes_on b parts.0) ∙ ap (λ bs. b ∷ bs) (head_before bytes rest parts.1)
+    ap (λ x. if x then [] else b ∷ head_word (bytes ++ (60 ∷ rest))) (word_byte_goes_on b parts.0)
+    ∙ ap (λ bs. b ∷ bs) (head_before bytes rest parts.1)
 
 head_alone : (w : List ℕ) → all_word_bytes w ≡ true → head_word w ≡ w
 head_alone [] e = refl
 head_alone (b ∷ bytes) e =
     let parts = and_parts (is_word_byte b) (all_word_bytes bytes) e in
-    ap (λ x. if x then [] else b ∷ head_word bytes) (word_byte_goes_on b parts.0) ∙ ap (λ bs. b ∷ bs) (head_alone bytes parts.1)
+    ap (λ x. if x then [] else b ∷ head_word bytes) (word_byte_goes_on b parts.0)
+    ∙ ap (λ bs. b ∷ bs) (head_alone bytes parts.1)
 
 -- ---- no other operator's word is one of these
 -- a word with a `<` after it
@@ -70,14 +72,18 @@ is_function w = not (is_word_text w) || (is_builtin w && not (stands_in plain_ty
 abbrev all_words : (List ℕ → Bool) → List Operator → Bool
 all_words p os = list_all (λ o. p (run_word o)) os
 
-none_among : (p : List ℕ → Bool) (w : List ℕ) → p w ≡ false → (os : List Operator) → all_words p os ≡ true → first_with w os ≡ None
+none_among : (p : List ℕ → Bool) (w : List ℕ) → p w ≡ false → (os : List Operator) → all_words p os ≡ true →
+    first_with w os ≡ None
 none_among p w fails [] all = refl
 none_among p w fails (o ∷ os) all =
     let parts = and_parts (p (run_word o)) (all_words p os) all in
     by (bytes_eq w (run_word o)) refl (none_among p w fails os parts.1)
   where
-    by : (b : Bool) → bytes_eq w (run_word o) ≡ b → first_with w os ≡ None → (if b then Some o else first_with w os) ≡ None
-    by true same more = absurd (false≢true (sym fails ∙ (ap p ((bytes_eq-Decides w (run_word o)).0 same) ∙ (and_parts (p (run_word o)) (all_words p os) all).0)))
+    by : (b : Bool) → bytes_eq w (run_word o) ≡ b → first_with w os ≡ None →
+        (if b then Some o else first_with w os) ≡ None
+    by true same more =
+        absurd (false≢true (sym fails
+        ∙ (ap p ((bytes_eq-Decides w (run_word o)).0 same) ∙ (and_parts (p (run_word o)) (all_words p os) all).0)))
     by false same more = more
 
 not_open : List ℕ → Bool
@@ -99,16 +105,19 @@ functions_mathematical : all_words is_function mathematical ≡ true
 unfolding is_builtin
 functions_mathematical = refl
 
-no_operator : (p : List ℕ → Bool) (w : List ℕ) → p w ≡ false → all_words p others ≡ true → all_words p mathematical ≡ true → operator_of w ≡ None
+no_operator : (p : List ℕ → Bool) (w : List ℕ) → p w ≡ false → all_words p others ≡ true →
+    all_words p mathematical ≡ true → operator_of w ≡ None
 no_operator p w fails one two =
-    ap (λ o. option_or o (first_with w mathematical)) (none_among p w fails others one) ∙ none_among p w fails mathematical two
+    ap (λ o. option_or o (first_with w mathematical)) (none_among p w fails others one)
+    ∙ none_among p w fails mathematical two
 
 -- ---- the layouts of types
 word_bytes : (w : List ℕ) → is_word_text w ≡ true → all_word_bytes w ≡ true
 word_bytes [] e = refl
 word_bytes (b ∷ bytes) e = letter_first b bytes (and_parts (is_letter b) (all_word_bytes bytes) e)
   where
-    letter_first : (b : ℕ) (bytes : List ℕ) → (is_letter b ≡ true) × (all_word_bytes bytes ≡ true) → (is_word_byte b && all_word_bytes bytes) ≡ true
+    letter_first : (b : ℕ) (bytes : List ℕ) → (is_letter b ≡ true) × (all_word_bytes bytes ≡ true) →
+        (is_word_byte b && all_word_bytes bytes) ≡ true
     letter_first b bytes p = λ i. (p.0 i || is_ascii_digit b) && p.1 i
 
 -- an identifier asks for no event
@@ -132,28 +141,34 @@ head_text (Template w parts) is = (type_template w parts is.0).word.text
 
 pub head_is : (t : TypeSpecifier) → IsTemplateArgument t → head_word (type_layout t) ≡ head_of t
 head_is (Named w) is = ap head_word (named_text w) ∙ head_alone w (word_bytes w is.text)
-head_is (Template w parts) is = head_before w (text (template_pieces parts (has_gaps w))) (word_bytes w (head_text (Template w parts) is))
+head_is (Template w parts) is = head_before w (text (template_pieces parts (has_gaps w)))
+    (word_bytes w (head_text (Template w parts) is))
 
 -- ---- which words these are
 any_after : (w rest : List ℕ) → list_any (nat_eq 60) (w ++ (60 ∷ rest)) ≡ true
 any_after [] rest = refl
 any_after (b ∷ bytes) rest = by (nat_eq 60 b) (any_after bytes rest)
   where
-    by : (x : Bool) → list_any (nat_eq 60) (bytes ++ (60 ∷ rest)) ≡ true → (x || list_any (nat_eq 60) (bytes ++ (60 ∷ rest))) ≡ true
+    by : (x : Bool) → list_any (nat_eq 60) (bytes ++ (60 ∷ rest)) ≡ true →
+        (x || list_any (nat_eq 60) (bytes ++ (60 ∷ rest))) ≡ true
     by true e = refl
     by false e = e
 
-template_opens : (w : List ℕ) (parts : TemplateArguments) → IsTemplateArgument (Template w parts) → not_open (type_layout (Template w parts)) ≡ false
+template_opens : (w : List ℕ) (parts : TemplateArguments) → IsTemplateArgument (Template w parts) →
+    not_open (type_layout (Template w parts)) ≡ false
 unfolding not_open
 template_opens w parts is =
     let following = text (template_pieces parts (has_gaps w)) in
-    λ i. not ((ap is_word_text (head_is (Template w parts) is) ∙ head_text (Template w parts) is) i && any_after w following i)
+    λ i. not ((ap is_word_text (head_is (Template w parts) is) ∙ head_text (Template w parts) is) i
+    && any_after w following i)
 
 named_is_none : (w : List ℕ) → IsType (Named w) → is_function (type_layout (Named w)) ≡ false
 named_is_none w is =
-    ap is_function (named_text w) ∙ by (is_word_text w) is.part.text (stands_in plain_type_words w) (is_builtin w) is.whole
+    ap is_function (named_text w) ∙ by (is_word_text w) is.part.text (stands_in plain_type_words w)
+    (is_builtin w) is.whole
   where
-    by : (x : Bool) → x ≡ true → (plain builtin : Bool) → (plain || not builtin) ≡ true → (not x || (builtin && not plain)) ≡ false
+    by : (x : Bool) → x ≡ true → (plain builtin : Bool) → (plain || not builtin) ≡ true →
+        (not x || (builtin && not plain)) ≡ false
     by true e true true whole = refl
     by true e true false whole = refl
     by true e false false whole = refl
@@ -161,8 +176,10 @@ named_is_none w is =
     by false e plain builtin whole = absurd (false≢true e)
 
 type_is_none : (t : TypeSpecifier) → IsType t → operator_of (type_layout t) ≡ None
-type_is_none (Named w) is = no_operator is_function (type_layout (Named w)) (named_is_none w is) functions_others functions_mathematical
-type_is_none (Template w parts) is = no_operator not_open (type_layout (Template w parts)) (template_opens w parts is.part) none_open_others none_open_mathematical
+type_is_none (Named w) is = no_operator is_function (type_layout (Named w))
+    (named_is_none w is) functions_others functions_mathematical
+type_is_none (Template w parts) is = no_operator not_open (type_layout (Template w parts))
+    (template_opens w parts is.part) none_open_others none_open_mathematical
 
 open_is_none : (w : List ℕ) → not_open w ≡ false → operator_of w ≡ None
 open_is_none w e = no_operator not_open w e none_open_others none_open_mathematical
@@ -208,7 +225,8 @@ unsupported_begins _ = refl
 
 unsupported_is_none : (x : Unsupported) → operator_of (unsupported_word x) ≡ None
 unsupported_is_none x =
-    no_operator not_unsupported (unsupported_word x) (unsupported_begins x) none_unsupported_others none_unsupported_mathematical
+    no_operator not_unsupported (unsupported_word x) (unsupported_begins x) none_unsupported_others
+    none_unsupported_mathematical
 
 typed_is_none : (o : Operator) → is_untyped o ≡ false → TypeIsSound o → operator_of (run_word o) ≡ None
 typed_is_none (CooperativeLoad false w) u is = open_is_none (with_type (codes "coopLoad") w) (load_opens w)
@@ -221,10 +239,12 @@ typed_is_none _ u is = absurd (true≢false u)
 
 -- ---- two words with types
 -- a type does not begin with the word of a function
-pub no_type_begins : (v : List ℕ) → is_type (Named v) ≡ false → rule_among type_templates v ≡ TakesNone → (t : TypeSpecifier) → IsType t → head_of t ≡ v → ⊥
+pub no_type_begins : (v : List ℕ) → is_type (Named v) ≡ false → rule_among type_templates v ≡ TakesNone →
+    (t : TypeSpecifier) → IsType t → head_of t ≡ v → ⊥
 no_type_begins v named rule (Named w) is e = false≢true (sym named ∙ (ap (λ x. is_type (Named x)) (sym e) ∙ is.whole))
 no_type_begins v named rule (Template w parts) is e =
-    false≢true (sym (fits_none parts) ∙ (ap (λ r. fits r parts) (sym rule ∙ ap (rule_among type_templates) (sym e)) ∙ is.part.0))
+    false≢true (sym (fits_none parts)
+    ∙ (ap (λ r. fits r parts) (sym rule ∙ ap (rule_among type_templates) (sym e)) ∙ is.part.0))
 
 -- a function that takes a type
 record TakesType (v : List ℕ) : Type 0 where
@@ -251,9 +271,11 @@ type_is_no_call v takes w x is e =
 
 same_call : (v w x : List ℕ) → with_type v w ≡ with_type v x → w ≡ x
 same_call v w x e =
-    append_cancel_right w x (codes ">") (ap (drop 1) (append_cancel_left v (codes "<" ++ (w ++ codes ">")) (codes "<" ++ (x ++ codes ">")) e))
+    append_cancel_right w x (codes ">")
+    (ap (drop 1) (append_cancel_left v (codes "<" ++ (w ++ codes ">")) (codes "<" ++ (x ++ codes ">")) e))
 
-other_call : (v u : List ℕ) → TakesType v → TakesType u → bytes_eq v u ≡ false → (w x : List ℕ) → with_type v w ≡ with_type u x → ⊥
+other_call : (v u : List ℕ) → TakesType v → TakesType u → bytes_eq v u ≡ false → (w x : List ℕ) →
+    with_type v w ≡ with_type u x → ⊥
 other_call v u a b apart w x e =
     false≢true (sym apart ∙ (bytes_eq-Decides v u).1 (sym (a.head w) ∙ (ap head_word e ∙ b.head x)))
 
@@ -264,7 +286,8 @@ unsupported_of code =
     if nat_eq (get_or code 0 0) 32 then get_or (
     Cast (kind_of (get_or code 2 0)) (slice_get code 3) ∷ PartAt (get_or code 2 0) ∷ ValueOf (drop 2 code) 1 ∷
     []) (get_or code 1 0) (PartAt 0)
-    else MatrixLoad (cooperative_of (get_or code 10 0)) (cooperative_of (get_or code 11 0)) (role_of (get_or code 12 0)) (truth_of (get_or code 13 0))
+    else MatrixLoad (cooperative_of (get_or code 10 0)) (cooperative_of (get_or code 11 0))
+    (role_of (get_or code 12 0)) (truth_of (get_or code 13 0))
 
 unsupported_distinguished : (x : Unsupported) → unsupported_of (unsupported_word x) ≡ one_unsupported x
 unsupported_distinguished (Cast kind None) = λ i. Cast (kind_distinguished kind i) None
@@ -272,16 +295,19 @@ unsupported_distinguished (Cast kind (Some width)) = λ i. Cast (kind_distinguis
 unsupported_distinguished (PartAt index) = refl
 unsupported_distinguished (ValueOf numbers components) = refl
 unsupported_distinguished (MatrixLoad columns rows role row_major) =
-    λ i. MatrixLoad (cooperative_distinguished columns i) (cooperative_distinguished rows i) (role_distinguished role i) (truth_distinguished row_major i)
+    λ i. MatrixLoad (cooperative_distinguished columns i) (cooperative_distinguished rows i)
+    (role_distinguished role i) (truth_distinguished row_major i)
 
-unsupported_share : (x y : Unsupported) → unsupported_word x ≡ unsupported_word y → one_unsupported x ≡ one_unsupported y
+unsupported_share : (x y : Unsupported) → unsupported_word x ≡ unsupported_word y → one_unsupported x
+    ≡ one_unsupported y
 unsupported_share x y e = sym (unsupported_distinguished x)
     ∙ (ap unsupported_of e ∙ unsupported_distinguished y)
 
 -- no type is spelled so
 pub no_blank : (w code : List ℕ) → SpellsAType w → w ≡ 32 ∷ code → ⊥
 no_blank w code is e =
-    false≢true (ap is_word_text (sym (ap head_word (is.1.1 ∙ e)) ∙ head_is is.0 is.1.0.part) ∙ head_text is.0 is.1.0.part)
+    false≢true (ap is_word_text (sym (ap head_word (is.1.1 ∙ e)) ∙ head_is is.0 is.1.0.part)
+    ∙ head_text is.0 is.1.0.part)
 
 no_unsupported : (w : List ℕ) (x : Unsupported) → SpellsAType w → w ≡ unsupported_word x → ⊥
 no_unsupported w (Cast kind width) is e = no_blank w (unsupported_code (Cast kind width)) is e
@@ -311,32 +337,53 @@ no_unsupported_transposed w _ e = false≢true (ap (has_byte 0 32) e)
 some_none : (o : Operator) → Some o ≡ None → ⊥
 some_none o e = cc
 
-typed_share : (a b : Operator) → is_untyped a ≡ false → is_untyped b ≡ false → TypeIsSound a → TypeIsSound b → run_word a ≡ run_word b → one_word a ≡ one_word b
+typed_share : (a b : Operator) → is_untyped a ≡ false → is_untyped b ≡ false → TypeIsSound a → TypeIsSound b →
+    run_word a ≡ run_word b → one_word a ≡ one_word b
 typed_share (Construct w n) (Construct x m) ua ub sa sb e = ap (λ y. Construct y 1) e
 typed_share (Construct w n) (Convert x) ua ub sa sb e = ap (λ y. Construct y 1) e
-typed_share (Construct w n) (Reinterpret x) ua ub sa sb e = absurd (type_is_no_call (codes "bitcast") reinterpret_takes w x sa e)
-typed_share (Construct w n) (CooperativeLoad false x) ua ub sa sb e = absurd (type_is_no_call (codes "coopLoad") load_takes w x sa e)
-typed_share (Construct w n) (CooperativeLoad true x) ua ub sa sb e = absurd (type_is_no_call (codes "coopLoadT") transposed_takes w x sa e)
+typed_share (Construct w n) (Reinterpret x) ua ub sa sb e =
+    absurd (type_is_no_call (codes "bitcast") reinterpret_takes w x sa e)
+typed_share (Construct w n) (CooperativeLoad false x) ua ub sa sb e =
+    absurd (type_is_no_call (codes "coopLoad") load_takes w x sa e)
+typed_share (Construct w n) (CooperativeLoad true x) ua ub sa sb e =
+    absurd (type_is_no_call (codes "coopLoadT") transposed_takes w x sa e)
 typed_share (Convert w) (Construct x m) ua ub sa sb e = ap (λ y. Construct y 1) e
 typed_share (Convert w) (Convert x) ua ub sa sb e = ap (λ y. Construct y 1) e
-typed_share (Convert w) (Reinterpret x) ua ub sa sb e = absurd (type_is_no_call (codes "bitcast") reinterpret_takes w x sa e)
-typed_share (Convert w) (CooperativeLoad false x) ua ub sa sb e = absurd (type_is_no_call (codes "coopLoad") load_takes w x sa e)
-typed_share (Convert w) (CooperativeLoad true x) ua ub sa sb e = absurd (type_is_no_call (codes "coopLoadT") transposed_takes w x sa e)
-typed_share (Reinterpret w) (Construct x m) ua ub sa sb e = absurd (type_is_no_call (codes "bitcast") reinterpret_takes x w sb (sym e))
-typed_share (Reinterpret w) (Convert x) ua ub sa sb e = absurd (type_is_no_call (codes "bitcast") reinterpret_takes x w sb (sym e))
+typed_share (Convert w) (Reinterpret x) ua ub sa sb e =
+    absurd (type_is_no_call (codes "bitcast") reinterpret_takes w x sa e)
+typed_share (Convert w) (CooperativeLoad false x) ua ub sa sb e =
+    absurd (type_is_no_call (codes "coopLoad") load_takes w x sa e)
+typed_share (Convert w) (CooperativeLoad true x) ua ub sa sb e =
+    absurd (type_is_no_call (codes "coopLoadT") transposed_takes w x sa e)
+typed_share (Reinterpret w) (Construct x m) ua ub sa sb e =
+    absurd (type_is_no_call (codes "bitcast") reinterpret_takes x w sb (sym e))
+typed_share (Reinterpret w) (Convert x) ua ub sa sb e =
+    absurd (type_is_no_call (codes "bitcast") reinterpret_takes x w sb (sym e))
 typed_share (Reinterpret w) (Reinterpret x) ua ub sa sb e = ap Reinterpret (same_call (codes "bitcast") w x e)
-typed_share (Reinterpret w) (CooperativeLoad false x) ua ub sa sb e = absurd (other_call (codes "bitcast") (codes "coopLoad") reinterpret_takes load_takes refl w x e)
-typed_share (Reinterpret w) (CooperativeLoad true x) ua ub sa sb e = absurd (other_call (codes "bitcast") (codes "coopLoadT") reinterpret_takes transposed_takes refl w x e)
-typed_share (CooperativeLoad false w) (Construct x m) ua ub sa sb e = absurd (type_is_no_call (codes "coopLoad") load_takes x w sb (sym e))
-typed_share (CooperativeLoad false w) (Convert x) ua ub sa sb e = absurd (type_is_no_call (codes "coopLoad") load_takes x w sb (sym e))
-typed_share (CooperativeLoad false w) (Reinterpret x) ua ub sa sb e = absurd (other_call (codes "coopLoad") (codes "bitcast") load_takes reinterpret_takes refl w x e)
-typed_share (CooperativeLoad false w) (CooperativeLoad false x) ua ub sa sb e = ap (CooperativeLoad false) (same_call (codes "coopLoad") w x e)
-typed_share (CooperativeLoad false w) (CooperativeLoad true x) ua ub sa sb e = absurd (other_call (codes "coopLoad") (codes "coopLoadT") load_takes transposed_takes refl w x e)
-typed_share (CooperativeLoad true w) (Construct x m) ua ub sa sb e = absurd (type_is_no_call (codes "coopLoadT") transposed_takes x w sb (sym e))
-typed_share (CooperativeLoad true w) (Convert x) ua ub sa sb e = absurd (type_is_no_call (codes "coopLoadT") transposed_takes x w sb (sym e))
-typed_share (CooperativeLoad true w) (Reinterpret x) ua ub sa sb e = absurd (other_call (codes "coopLoadT") (codes "bitcast") transposed_takes reinterpret_takes refl w x e)
-typed_share (CooperativeLoad true w) (CooperativeLoad false x) ua ub sa sb e = absurd (other_call (codes "coopLoadT") (codes "coopLoad") transposed_takes load_takes refl w x e)
-typed_share (CooperativeLoad true w) (CooperativeLoad true x) ua ub sa sb e = ap (CooperativeLoad true) (same_call (codes "coopLoadT") w x e)
+typed_share (Reinterpret w) (CooperativeLoad false x) ua ub sa sb e =
+    absurd (other_call (codes "bitcast") (codes "coopLoad") reinterpret_takes load_takes refl w x e)
+typed_share (Reinterpret w) (CooperativeLoad true x) ua ub sa sb e =
+    absurd (other_call (codes "bitcast") (codes "coopLoadT") reinterpret_takes transposed_takes refl w x e)
+typed_share (CooperativeLoad false w) (Construct x m) ua ub sa sb e =
+    absurd (type_is_no_call (codes "coopLoad") load_takes x w sb (sym e))
+typed_share (CooperativeLoad false w) (Convert x) ua ub sa sb e =
+    absurd (type_is_no_call (codes "coopLoad") load_takes x w sb (sym e))
+typed_share (CooperativeLoad false w) (Reinterpret x) ua ub sa sb e =
+    absurd (other_call (codes "coopLoad") (codes "bitcast") load_takes reinterpret_takes refl w x e)
+typed_share (CooperativeLoad false w) (CooperativeLoad false x) ua ub sa sb e =
+    ap (CooperativeLoad false) (same_call (codes "coopLoad") w x e)
+typed_share (CooperativeLoad false w) (CooperativeLoad true x) ua ub sa sb e =
+    absurd (other_call (codes "coopLoad") (codes "coopLoadT") load_takes transposed_takes refl w x e)
+typed_share (CooperativeLoad true w) (Construct x m) ua ub sa sb e =
+    absurd (type_is_no_call (codes "coopLoadT") transposed_takes x w sb (sym e))
+typed_share (CooperativeLoad true w) (Convert x) ua ub sa sb e =
+    absurd (type_is_no_call (codes "coopLoadT") transposed_takes x w sb (sym e))
+typed_share (CooperativeLoad true w) (Reinterpret x) ua ub sa sb e =
+    absurd (other_call (codes "coopLoadT") (codes "bitcast") transposed_takes reinterpret_takes refl w x e)
+typed_share (CooperativeLoad true w) (CooperativeLoad false x) ua ub sa sb e =
+    absurd (other_call (codes "coopLoadT") (codes "coopLoad") transposed_takes load_takes refl w x e)
+typed_share (CooperativeLoad true w) (CooperativeLoad true x) ua ub sa sb e =
+    ap (CooperativeLoad true) (same_call (codes "coopLoadT") w x e)
 typed_share (WithoutForm x) (WithoutForm y) ua ub sa sb e = ap WithoutForm (unsupported_share x y e)
 typed_share (WithoutForm x) (Construct w n) ua ub sa sb e = absurd (no_unsupported w x sb (sym e))
 typed_share (WithoutForm x) (Convert w) ua ub sa sb e = absurd (no_unsupported w x sb (sym e))
@@ -362,6 +409,8 @@ share_a_word a b sa sb e = by (is_untyped a) refl (is_untyped b) refl
   where
     by : (x : Bool) → is_untyped a ≡ x → (y : Bool) → is_untyped b ≡ y → one_word a ≡ one_word b
     by true ua true ub = untyped_share a b ua ub e
-    by true ua false ub = absurd (some_none (one_word a) (sym (distinguished a ua) ∙ (ap operator_of e ∙ typed_is_none b ub sb)))
-    by false ua true ub = absurd (some_none (one_word b) (sym (distinguished b ub) ∙ (ap operator_of (sym e) ∙ typed_is_none a ua sa)))
+    by true ua false ub =
+        absurd (some_none (one_word a) (sym (distinguished a ua) ∙ (ap operator_of e ∙ typed_is_none b ub sb)))
+    by false ua true ub =
+        absurd (some_none (one_word b) (sym (distinguished b ub) ∙ (ap operator_of (sym e) ∙ typed_is_none a ua sa)))
     by false ua false ub = typed_share a b ua ub sa sb e

@@ -128,12 +128,16 @@ case_value_reads (switch_value.U32 n) = refl
 case_value_reads switch_value.Default = refl
 
 -- a case value after others
-case_values_with : (labels : List tree.CaseValue) (value : SwitchValue) → map case_value_read (labels ++ case_value_form value ∷ []) ≡ map case_value_read labels ++ case_value_shape value ∷ []
+case_values_with : (labels : List tree.CaseValue) (value : SwitchValue) →
+    map case_value_read (labels ++ case_value_form value ∷ []) ≡ map case_value_read labels
+    ++ case_value_shape value ∷ []
 case_values_with labels value =
     map-append case_value_read labels (case_value_form value ∷ [])
     ∙ ap (λ l. map case_value_read labels ++ l ∷ []) (case_value_reads value)
 
-case_values_read_as : (labels : List tree.CaseValue) (value : SwitchValue) → case_values_read (case_values_form labels (case_value_form value)) ≡ map case_value_read labels ++ case_value_shape value ∷ []
+case_values_read_as : (labels : List tree.CaseValue) (value : SwitchValue) →
+    case_values_read (case_values_form labels (case_value_form value)) ≡ map case_value_read labels
+    ++ case_value_shape value ∷ []
 case_values_read_as [] value = ap (λ l. l ∷ []) (case_value_reads value)
 case_values_read_as (l ∷ ls) value = ap (λ more. case_value_read l ∷ more) (case_values_read_as ls value)
 
@@ -160,7 +164,8 @@ ConstantsAreRead m info =
     IsReadAs (outer_names (module_names m) m) (written_constant m info c)
     (written_constant_form m (type_names m) c)
 
-availability_reads : (s : Availability) (p : PlainForm) (q : Plain) → plain_read p ≡ q → plain_read (availability_plain s p) ≡ runs.availability_form s q
+availability_reads : (s : Availability) (p : PlainForm) (q : Plain) → plain_read p ≡ q →
+    plain_read (availability_plain s p) ≡ runs.availability_form s q
 availability_reads (Bound x) p q e = refl
 availability_reads _ p q e = e
 
@@ -237,7 +242,8 @@ module _ (flags : WriterFlags) (named : ℕ → List ℕ) (m : Module) (info : M
   -- a handle's expression, over operands that are read so
   handle_reads : (operand : ℕ → PlainForm) (like : ℕ → Plain) →
       ((x : ℕ) → W x → plain_read (operand x) ≡ like x) → (h : ℕ) → W h →
-      plain_read (own_if own source operand (slice_get f.expressions h)) ≡ runs.own_form own like (expression_of own.function h)
+      plain_read (own_if own source operand (slice_get f.expressions h))
+      ≡ runs.own_form own like (expression_of own.function h)
   handle_reads operand like same h w =
       own_if_reads m own source types_spelled places_are f.expressions es operand like h (slice_get f.expressions h)
       (λ e at. all_map same (expression_operands e) (closed.operands h e at w))
@@ -254,16 +260,19 @@ module _ (flags : WriterFlags) (named : ℕ → List ℕ) (m : Module) (info : M
       (handle_reads (plain_below own source s k) (written_below own s k) (below_reads s k) h w)
 
   plain_reads : (s : Handles) (h : ℕ) → W h → plain_read (plain_form own source s h) ≡ runs.written_form own s h
-  plain_reads s h w = below_reads s (length f.expressions) h w ∙ ap (λ k. written_below own s k h) (sym (shapes_length d f.expressions 0 f.expressions))
+  plain_reads s h w = below_reads s (length f.expressions) h w ∙ ap (λ k. written_below own s k h)
+      (sym (shapes_length d f.expressions 0 f.expressions))
 
   value_reads : (s : Handles) (h : ℕ) → W h → expression_read (value_form own source s h) ≡ runs.value_at own s h
   value_reads s h w = value_is (plain_form own source s h) ∙ ap runs.value_form (plain_reads s h w)
 
-  value_if_reads : (s : Handles) (v : Option ℕ) → AllByRecursion W (option_to_list v) → option_map expression_read (option_map (value_form own source s) v) ≡ runs.value_if own s v
+  value_if_reads : (s : Handles) (v : Option ℕ) → AllByRecursion W (option_to_list v) →
+      option_map expression_read (option_map (value_form own source s) v) ≡ runs.value_if own s v
   value_if_reads s None w = refl
   value_if_reads s (Some h) w = ap Some (value_reads s h w.0)
 
-  let_reads : (annotated : Option TypeSpecifier) (x : List ℕ) (e : tree_expressions.Expression) → statement_read (let_form annotated x e) ≡ Let x (expression_read e)
+  let_reads : (annotated : Option TypeSpecifier) (x : List ℕ) (e : tree_expressions.Expression) →
+      statement_read (let_form annotated x e) ≡ Let x (expression_read e)
   let_reads None x e = refl
   let_reads (Some t) x e = refl
 
@@ -298,7 +307,8 @@ module _ (flags : WriterFlags) (named : ℕ → List ℕ) (m : Module) (info : M
       following = lets_form own annotated source (named_after own.function h k) hs (after_one own k h s) rest
 
       by : (b : Bool) → bound h ≡ b → Writes (if b then h ∷ filter bound hs else filter bound hs) →
-          (Writes (filter bound hs) → statements_read following ≡ runs.lets own (named_after own.function h k) hs (after_one own k h s) (statements_read rest)) →
+          (Writes (filter bound hs) → statements_read following
+          ≡ runs.lets own (named_after own.function h k) hs (after_one own k h s) (statements_read rest)) →
           statements_read
           (then_if b (let_form (annotated h) (bound_name own k h) (as_value e)) following) ≡
           let_if b (bound_name own k h)
@@ -309,11 +319,13 @@ module _ (flags : WriterFlags) (named : ℕ → List ℕ) (m : Module) (info : M
       by true is w more =
           then_if_reads true (annotated h) (bound_name own k h) (as_value e) following
           ∙ λ i. let_if true (bound_name own k h)
-          ((value_is e ∙ ap runs.value_form (handle_reads (plain_form own source s) (runs.written_form own s) (plain_reads s) h w.0)) i)
+          ((value_is e ∙ ap runs.value_form (handle_reads (plain_form own source s) (runs.written_form own s)
+          (plain_reads s) h w.0)) i)
           (more w.1 i)
       by false is w more = more w
 
-  return_reads : (s : Handles) (v : Option ℕ) → Writes (option_to_list v) → statement_read (return_line own source s v) ≡ JumpLine (shapes.Return (runs.value_if own s v))
+  return_reads : (s : Handles) (v : Option ℕ) → Writes (option_to_list v) →
+      statement_read (return_line own source s v) ≡ JumpLine (shapes.Return (runs.value_if own s v))
   return_reads s None w = refl
   return_reads s (Some h) w = ap (λ e. JumpLine (shapes.Return (Some e))) (value_reads s h w.0)
 
@@ -354,11 +366,14 @@ module _ (flags : WriterFlags) (named : ℕ → List ℕ) (m : Module) (info : M
       runs.form own k st s (statements_read rest)
   shape_reads annotated k (shapes.Emit first count) s rest none w = lets_read annotated k (from first count) s rest w
   shape_reads annotated k (shapes.Store pointer value) s rest none w =
-      λ i. before (Assign ((place_is (plain_form own source s pointer) ∙ ap runs.place_form (plain_reads s pointer w.0)) i) (value_reads s value w.1.0 i)) (statements_read rest)
+      λ i. before (Assign
+      ((place_is (plain_form own source s pointer) ∙ ap runs.place_form (plain_reads s pointer w.0)) i)
+      (value_reads s value w.1.0 i)) (statements_read rest)
   shape_reads annotated k (shapes.Act action xs outcome) s rest none w =
       ap (λ l. before l (statements_read rest)) (act_reads annotated (runs.word_of own.names action) xs outcome s w)
   shape_reads annotated k (shapes.Barrier bits) s rest none w = barrier_reads (barrier_words bits) rest
-  shape_reads annotated k (shapes.Jumps (shapes.Return value)) s rest none w = ap (λ l. before l (statements_read rest)) (return_reads s value w)
+  shape_reads annotated k (shapes.Jumps (shapes.Return value)) s rest none w =
+      ap (λ l. before l (statements_read rest)) (return_reads s value w)
   shape_reads annotated k (shapes.Jumps _) s rest none w = refl
   shape_reads annotated k _ s rest none w = absurd cc
 
@@ -383,15 +398,18 @@ module _ (flags : WriterFlags) (named : ℕ → List ℕ) (m : Module) (info : M
         statements_read (line_form own annotated source k st s rest) ≡ runs.form own k
         (statement_shape d.context st) s (statements_read rest)
     line_reads annotated k (simple st) s rest w = simple_reads annotated k st s rest w
-    line_reads annotated k (block b) s rest w = ap (λ ls. before (Braces ls) (statements_read rest)) (lines_read annotated k b s w)
+    line_reads annotated k (block b) s rest w = ap (λ ls. before (Braces ls) (statements_read rest))
+        (lines_read annotated k b s w)
     line_reads annotated k (branch condition accept reject) s rest w =
         let following = named_by_all own.function (statements_shape d.context accept) k in
         let one = all_front W (block_roots bound accept) (block_roots bound reject) w.1 in
         let other = all_rest W (block_roots bound accept) (block_roots bound reject) w.1 in
         λ i. before (IfElse (value_reads s condition w.0 i) (lines_read annotated k accept s one i)
-        ((optional_reads annotated following reject s ∙ lines_read annotated following reject s other) i)) (statements_read rest)
+        ((optional_reads annotated following reject s ∙ lines_read annotated following reject s other) i))
+        (statements_read rest)
     line_reads annotated k (switch selector cases) s rest w =
-        λ i. before (SwitchOn (value_reads s selector w.0 i) (cases_read_as annotated k [] cases s w.1 i)) (statements_read rest)
+        λ i. before (SwitchOn (value_reads s selector w.0 i) (cases_read_as annotated k [] cases s w.1 i))
+        (statements_read rest)
     line_reads annotated k (loop body continuing break_if) s rest w =
         let following = named_by_all own.function (statements_shape d.context body) k in
         let inside = after_all own k (statements_shape d.context body) s in
@@ -400,9 +418,13 @@ module _ (flags : WriterFlags) (named : ℕ → List ℕ) (m : Module) (info : M
         let more = all_rest W (block_roots bound body) (block_roots bound continuing ++ option_to_list break_if) w in
         let other = all_front W (block_roots bound continuing) (option_to_list break_if) more in
         let value = all_rest W (block_roots bound continuing) (option_to_list break_if) more in
-        ap (λ l. before l (statements_read rest)) (loop_reads (lines_form own annotated source k body s) continuing (lines_form own annotated source following continuing inside)
+        ap (λ l. before l (statements_read rest))
+        (loop_reads (lines_form own annotated source k body s) continuing
+        (lines_form own annotated source following continuing inside)
         (option_map (value_form own source last) break_if) (optional_reads annotated following continuing inside))
-        ∙ λ i. before (LoopOf (lines_read annotated k body s one i) (lines_read annotated following continuing inside other i) (value_if_reads last break_if value i)) (statements_read rest)
+        ∙ λ i. before (LoopOf (lines_read annotated k body s one i)
+        (lines_read annotated following continuing inside other i) (value_if_reads last break_if value i))
+        (statements_read rest)
 
     lines_read : (annotated : ℕ → Option TypeSpecifier) (k : ℕ) (b : BlockTree) (s : Handles) →
         Writes (block_roots bound b) →
@@ -412,7 +434,9 @@ module _ (flags : WriterFlags) (named : ℕ → List ℕ) (m : Module) (info : M
     lines_read annotated k (statement st b) s w =
         let one = all_front W (statement_roots bound st) (block_roots bound b) w in
         let more = all_rest W (statement_roots bound st) (block_roots bound b) w in
-        line_reads annotated k st s (lines_form own annotated source (named_by own.function (statement_shape d.context st) k) b (after own k (statement_shape d.context st) s)) one
+        line_reads annotated k st s (lines_form own annotated source
+        (named_by own.function (statement_shape d.context st) k) b
+        (after own k (statement_shape d.context st) s)) one
         ∙ ap (runs.form own k (statement_shape d.context st) s)
         (lines_read annotated (named_by own.function (statement_shape d.context st) k) b
         (after own k (statement_shape d.context st) s) more)
@@ -431,10 +455,12 @@ module _ (flags : WriterFlags) (named : ℕ → List ℕ) (m : Module) (info : M
         let following = named_by_all own.function (statements_shape d.context body) k in
         let one = all_front W (block_roots bound body) (cases_roots bound cs) w in
         let more = all_rest W (block_roots bound body) (cases_roots bound cs) w in
-        λ i. group (case_values_read_as labels value i) (lines_read annotated k body s one i) (cases_read_as annotated following [] cs s more i)
+        λ i. group (case_values_read_as labels value i) (lines_read annotated k body s one i)
+        (cases_read_as annotated following [] cs s more i)
 
 -- the declared type of a local tells the spelling of a pointer to it
-pointer_reads : (m : Module) (ty : ℕ) (t : TypeSpecifier) → type_tree (type_names m) ty ≡ Some t → local_pointer_read (type_form (type_names m) ty) ≡ local_pointer m ty
+pointer_reads : (m : Module) (ty : ℕ) (t : TypeSpecifier) → type_tree (type_names m) ty ≡ Some t →
+    local_pointer_read (type_form (type_names m) ty) ≡ local_pointer m ty
 pointer_reads m ty t at =
     ap (λ o. local_pointer_read (unwrap_or o (TypeSpecifier.Named []))) at
     ∙ sym (ap (λ o. unwrap_or o (word_of_unspelled_type (identity m.types (Value (inner.Pointer ty space.Function)))))
@@ -455,9 +481,11 @@ module _ (flags : WriterFlags) (named : ℕ → List ℕ) (m : Module) (info : M
       variables_from own_names l (map (λ v. v.init) vs)
   locals_read formed l [] at = refl
   locals_read formed l (v ∷ vs) at =
-      let here : slice_get f.local_variables l ≡ Some v = ap (slice_get f.local_variables) (sym (zero-add l)) ∙ sym (at 0) in
+      let here : slice_get f.local_variables l ≡ Some v = ap (slice_get f.local_variables) (sym (zero-add l))
+      ∙ sym (at 0) in
       let t = formed l v here in
-      let pointer = pointer_reads m v.ty t.0 t.1 ∙ sym (mapped_at (λ l. local_pointer m l.ty) [] f.local_variables l v here) in
+      let pointer = pointer_reads m v.ty t.0 t.1
+      ∙ sym (mapped_at (λ l. local_pointer m l.ty) [] f.local_variables l v here) in
       let rest = locals_read formed (l + 1) vs later in
       λ i.
       record {
@@ -478,7 +506,9 @@ module _ (flags : WriterFlags) (named : ℕ → List ℕ) (m : Module) (info : M
 pub locals_have_forms : (told : Bool) (m : Module) (info : ModuleInfo)
     (f : ir_function.Function) (es : List ExpressionInfo) → WrittenHaveForms told m info f es →
     LocalsHaveForms (type_names m) f.local_variables
-locals_have_forms told m info f es have l v at = tree_there (type_names m) (Handle v.ty) (spelled_of_spellable m (Handle v.ty) (have.types (Handle v.ty) (OfLocal l v at)))
+locals_have_forms told m info f es have l v at =
+    tree_there (type_names m) (Handle v.ty)
+    (spelled_of_spellable m (Handle v.ty) (have.types (Handle v.ty) (OfLocal l v at)))
 
 -- whatever is written of a function is read as its shape is
 pub written_reads : (flags : WriterFlags) (named : ℕ → List ℕ) (m : Module) (info : ModuleInfo) (g : ℕ)
@@ -490,10 +520,12 @@ pub written_reads : (flags : WriterFlags) (named : ℕ → List ℕ) (m : Module
     (function_naming (module_names m) named m info g f es)
 written_reads flags named m info g f es size formed W closed written constants =
     let names = module_names m in
-    let locals = locals_read flags named m info g f es size W closed written constants formed 0 f.local_variables (λ k. ap (slice_get f.local_variables) (sym (add-zero k))) in
+    let locals = locals_read flags named m info g f es size W closed written constants formed 0
+    f.local_variables (λ k. ap (slice_get f.local_variables) (sym (add-zero k))) in
     λ i. record {
       name = function_name m names g;
-      parameters = (names_counted names m g 0 f.arguments.items ∙ ap (names_from (argument_name m names g) 0) (sym (mapped_length (λ a. declared_type m a.ty) f.arguments.items))) i;
+      parameters = (names_counted names m g 0 f.arguments.items ∙ ap (names_from (argument_name m names g) 0)
+          (sym (mapped_length (λ a. declared_type m a.ty) f.arguments.items))) i;
       variables = locals i;
       lines = lines_read flags named m info g f es size W closed written constants
           (annotated_type (annotates_types flags) m (type_names m) es) 0 f.body

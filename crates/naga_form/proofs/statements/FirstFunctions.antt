@@ -91,7 +91,8 @@ module _ (m : Module) (info : ModuleInfo) (accepted : IsTrue (is_accepted m info
   pub shapes_parted : (count : ℕ) → others count ++ first_shapes count ≡ p.functions
   shapes_parted count =
       sym (reverse-append (map shape_of (take count known)) (map shape_of (drop count known)))
-      ∙ ap reverse (sym (map-append shape_of (take count known) (drop count known)) ∙ ap (map shape_of) (take-append-drop count known))
+      ∙ ap reverse (sym (map-append shape_of (take count known) (drop count known))
+      ∙ ap (map shape_of) (take-append-drop count known))
 
   pub first_shapes_counted : (count : ℕ) → count ≤ length p.functions → length (first_shapes count) ≡ count
   first_shapes_counted count within =
@@ -103,7 +104,8 @@ module _ (m : Module) (info : ModuleInfo) (accepted : IsTrue (is_accepted m info
   pub first_shapes_tell : (count : ℕ) → Tells (shape_numbered m info accepted) (first_shapes count)
   first_shapes_tell count g lt =
       let joined = length-append (others count) (first_shapes count) in
-      let all = subst (Tells (shape_numbered m info accepted)) (sym (shapes_parted count)) (all_distinguished m info accepted) in
+      let all = subst (Tells (shape_numbered m info accepted)) (sym (shapes_parted count))
+      (all_distinguished m info accepted) in
       sym (first_numbered (others count) (first_shapes count) g lt) ∙ all g (omega (arith, lt, joined))
 
   module _ (flags : WriterFlags) (named : LabelNames) (are : AreLabelNames m named) where
@@ -255,7 +257,8 @@ module _ (m : Module) (info : ModuleInfo) (accepted : IsTrue (is_accepted m info
 
         within : g < length p.functions
         within =
-            let all : length p.functions ≡ length known = length-reverse (map shape_of known) ∙ length-map known shape_of in
+            let all : length p.functions ≡ length known = length-reverse (map shape_of known)
+            ∙ length-map known shape_of in
             let lt = slice_get_within known g (f, es) at in
             omega (arith, all, lt)
 

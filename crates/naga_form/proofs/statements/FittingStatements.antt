@@ -113,7 +113,8 @@ module _ (n : Naming) (a : ExpressionContext) (callees expressions : ℕ)
       statement_fits breaks continues (block b) within sound has = all_fit breaks continues b within sound has
       statement_fits breaks continues (branch condition accept reject) within sound has =
           let ranges = and_parts (nat_lt condition expressions) _ within in
-          let both = and_parts (block_in_range callees expressions accept) (block_in_range callees expressions reject) ranges.1 in
+          let both = and_parts (block_in_range callees expressions accept)
+          (block_in_range callees expressions reject) ranges.1 in
           let one = and_parts (is_condition m.types known condition) _ sound in
           let two =
           and_parts (block_is_sound m f known breaks continues accept)
@@ -122,11 +123,13 @@ module _ (n : Naming) (a : ExpressionContext) (callees expressions : ℕ)
           (all_fit breaks continues accept both.0 two.0 forms.0, all_fit breaks continues reject both.1 two.1 forms.1)
       statement_fits breaks continues (switch selector cs) within sound has =
           let ranges = and_parts (nat_lt selector expressions) (cases_in_range callees expressions cs) within in
-          let one = and_parts (is_selection m.types known selector cs) (cases_are_sound m f known true continues cs) sound in
+          let one = and_parts (is_selection m.types known selector cs)
+          (cases_are_sound m f known true continues cs) sound in
           (has_one_default m.types known selector cs one.0, cases_fit continues cs ranges.1 one.1 has)
       statement_fits breaks continues (loop body continuing break_if) within sound has =
           let ranges = and_parts (block_in_range callees expressions body) _ within in
-          let both = and_parts (block_in_range callees expressions continuing) (is_below expressions break_if) ranges.1 in
+          let both = and_parts (block_in_range callees expressions continuing) (is_below expressions break_if)
+          ranges.1 in
           let one = and_parts (block_is_sound m f known true true body) _ sound in
           let two =
           and_parts (block_is_sound m f known false false continuing)
@@ -139,8 +142,10 @@ module _ (n : Naming) (a : ExpressionContext) (callees expressions : ℕ)
           block_is_sound m f known breaks continues b ≡ true → block_has_forms b ≡ true → AllFit n a b
       all_fit breaks continues no_statements within sound has = tt
       all_fit breaks continues (statement s b) within sound has =
-          let ranges = and_parts (statement_in_range callees expressions s) (block_in_range callees expressions b) within in
-          let one = and_parts (statement_is_sound m f known breaks continues s) (block_is_sound m f known breaks continues b) sound in
+          let ranges = and_parts (statement_in_range callees expressions s)
+          (block_in_range callees expressions b) within in
+          let one = and_parts (statement_is_sound m f known breaks continues s)
+          (block_is_sound m f known breaks continues b) sound in
           let forms = and_parts (statement_has_form s) (block_has_forms b) has in
           (statement_fits breaks continues s ranges.0 one.0 forms.0, all_fit breaks continues b ranges.1 one.1 forms.1)
 
@@ -149,9 +154,12 @@ module _ (n : Naming) (a : ExpressionContext) (callees expressions : ℕ)
       cases_fit continues no_cases within sound has = tt
       cases_fit continues (case value body falls cs) within sound has =
           let labels = and_parts (case_value_fits_32_bits value) _ within in
-          let ranges = and_parts (block_in_range callees expressions body) (cases_in_range callees expressions cs) labels.1 in
-          let one = and_parts (block_is_sound m f known true continues body) (cases_are_sound m f known true continues cs) sound in
-          let empty = and_parts (not falls || has_no_statements body) (block_has_forms body && cases_have_forms cs) has in
+          let ranges = and_parts (block_in_range callees expressions body)
+          (cases_in_range callees expressions cs) labels.1 in
+          let one = and_parts (block_is_sound m f known true continues body)
+          (cases_are_sound m f known true continues cs) sound in
+          let empty = and_parts (not falls || has_no_statements body)
+          (block_has_forms body && cases_have_forms cs) has in
           let forms = and_parts (block_has_forms body) (cases_have_forms cs) empty.1 in
           (labels.0, all_fit true continues body ranges.0 one.0 forms.0, cases_fit continues cs ranges.1 one.1 forms.1)
 

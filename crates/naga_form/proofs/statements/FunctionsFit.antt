@@ -59,7 +59,8 @@ turned : (at : ℕ → Option shapes.Function) (xs following : List shapes.Funct
 turned at [] following tells each = tells
 turned at (f ∷ xs) following tells each =
     turned at xs (f ∷ following)
-    (one_more at f following tells (let same : length following ≡ length following + 0 = omega arith in ap at same ∙ each 0 f refl))
+    (one_more at f following tells (let same : length following ≡ length following
+    + 0 = omega arith in ap at same ∙ each 0 f refl))
     (λ i g there. let same : suc (length following) + i ≡ length following + suc i = omega arith in
     ap at same ∙ each (suc i) g there)
 

@@ -86,13 +86,15 @@ module _ (named : LabelNames) (flags : WriterFlags) (names : NameMap) (m : Modul
   each_at T M g zero (f ∷ fs) (es ∷ ess) same =
       let here : g + 0 ≡ g = omega arith in
       ap Some
-      (subst (λ h. T (function_form flags names (named h) m info h f es) ≡ M (function_naming names (named h) m info h f es)) here
+      (subst (λ h. T (function_form flags names (named h) m info h f es)
+      ≡ M (function_naming names (named h) m info h f es)) here
       (same f es refl refl))
   each_at T M g (suc i) (f ∷ fs) (es ∷ ess) same =
       let next : g + suc i ≡ (g + 1) + i = omega arith in
       each_at T M (g + 1) i fs ess
       (λ f es at known.
-      subst (λ h. T (function_form flags names (named h) m info h f es) ≡ M (function_naming names (named h) m info h f es)) next
+      subst (λ h. T (function_form flags names (named h) m info h f es)
+      ≡ M (function_naming names (named h) m info h f es)) next
       (same f es at known))
 
   -- and what holds of it holds of the text with this number
@@ -129,8 +131,11 @@ module _ (m : Module) (info : ModuleInfo) (flags : WriterFlags) (named : LabelNa
       BindsAt named m info (annotates_types flags) (program_under named m info flags) g
   binds_at g have =
       record {
-        names = ap (λ fs. slice_get (map (λ (f : Function). lines_lets (statements_read f.body)) fs) g) (are_forms m info flags named accepted)
-            ∙ each_at named flags (module_names m) m info (λ (f : Function). lines_lets (statements_read f.body)) bound_names 0 g (all_functions m) (all_infos info)
+        names = ap (λ fs. slice_get (map (λ (f : Function). lines_lets (statements_read f.body)) fs) g)
+            (are_forms m info flags named accepted)
+            ∙ each_at named flags (module_names m) m info
+            (λ (f : Function). lines_lets (statements_read f.body)) bound_names 0 g (all_functions m)
+            (all_infos info)
             (λ f es at known.
             let first : g ≡ 0 + g = omega arith in
             subst
@@ -154,23 +159,29 @@ module _ (m : Module) (info : ModuleInfo) (flags : WriterFlags) (named : LabelNa
         let within : g < length (module_shape m info).functions =
         subst (λ k. g < k) (sym (length-reverse (function_shapes m info (all_functions m) (all_infos info))))
         (slice_get_within (function_shapes m info (all_functions m) (all_infos info)) g (function_shape m info f es)
-        (slice_get-map (λ k. function_shape m info k.0 k.1) (functions_known m info) g ∙ ap (option_map (λ k. function_shape m info k.0 k.1)) there)) in
+        (slice_get-map (λ k. function_shape m info k.0 k.1) (functions_known m info) g
+        ∙ ap (option_map (λ k. function_shape m info k.0 k.1)) there)) in
         let callees = first_shapes m info accepted g in
         let counted = first_shapes_counted m info accepted g (omega (arith, within)) in
         let is = accepted_at m info accepted g f es there in
         let text = program_read (program_under named m info flags) in
         ap (text_function_targets (text_names text)) (read_at g have f es at known)
-        ∙ (ap (λ names. text_function_targets names (form_function (function_naming (module_names m) (named g) m info g f es))) (reads_names m info flags named accepted)
+        ∙ (ap (λ names. text_function_targets names
+        (form_function (function_naming (module_names m) (named g) m info g f es)))
+        (reads_names m info flags named accepted)
         ∙ function_resolves_as_meant (module_shape m info) (outer_names (module_names m) m) text.functions
         (items_fit m info flags named accepted) callees (omega (arith, counted, within))
         (function_naming (module_names m) (named g) m info g f es)
-        (function_fits_at m info accepted flags named are g f es there have scope callees counted (first_shapes_tell m info accepted g))
+        (function_fits_at m info accepted flags named are g f es there have scope callees counted
+        (first_shapes_tell m info accepted g))
         (leaves_are_own m info is.callees f is.ranges es))
 
     body_resolves : (g : ℕ) → WrittenHaveFormsAt (annotates_types flags) m info g → ScopeHoldsIn m info g →
         BodyResolves named m info (program_under named m info flags) g
     body_resolves g have scope =
-        let T : Function → List _ = λ f. text_function_targets (text_names (program_read (program_under named m info flags))) (function_read f) in
+        let T : Function → List _ =
+        λ f. text_function_targets (text_names (program_read (program_under named m info flags)))
+        (function_read f) in
         let M : Naming → List _ = λ f. map Some (function_targets f) in
         ap (λ fs. slice_get (map T fs) g) (are_forms m info flags named accepted)
         ∙ each_at named flags (module_names m) m info T M 0 g (all_functions m) (all_infos info)
@@ -207,7 +218,8 @@ module _ (m : Module) (info : ModuleInfo) (flags : WriterFlags) (named : LabelNa
 
     -- ---- runs
     -- where this is asked of those that it calls too
-    pub runs_at : ItemsHaveForms m → (g count : ℕ) → ((k : ℕ) → k ≤ g → k ≤ length m.functions → k ≤ count) → count ≤ g →
+    pub runs_at : ItemsHaveForms m → (g count : ℕ) → ((k : ℕ) → k ≤ g → k ≤ length m.functions → k ≤ count) →
+        count ≤ g →
         WrittenHaveFormsAt (annotates_types flags) m info g → ScopeHoldsIn m info g →
         WrittenHaveFormsBefore false m info count → ScopesHoldBefore m info count →
         RunsAt m info (program_under named m info flags) g
@@ -223,21 +235,27 @@ module _ (m : Module) (info : ModuleInfo) (flags : WriterFlags) (named : LabelNa
         let is = accepted_at m info accepted g own.0.0 own.0.1 own.1 in
         let enough = all is.callees is.before is.there in
         let first = first_namings m info accepted flags named are count have scopes in
-        let between = between m info accepted flags named are count have scopes g own.0.0 own.0.1 own.1 own_forms own_scope few enough in
-        let later = later m info accepted flags named are count have scopes g own.0.0 own.0.1 own.1 own_forms own_scope few enough in
+        let between = between m info accepted flags named are count have scopes g own.0.0 own.0.1 own.1
+        own_forms own_scope few enough in
+        let later = later m info accepted flags named are count have scopes g own.0.0 own.0.1 own.1 own_forms
+        own_scope few enough in
         let naming = function_naming (module_names m) (named g) m info g own.0.0 own.0.1 in
         let shape = module_shape m info in
         let outer = outer_names (module_names m) m in
         ap
-        (λ (vocabulary : Vocabulary). follow_module (program_read (program_under named m info flags)) shape.parts settings world meaning vocabulary turns (function_name m (module_names m) g) arguments past)
+        (λ (vocabulary : Vocabulary). follow_module (program_read (program_under named m info flags))
+        shape.parts settings world meaning vocabulary turns (function_name m (module_names m) g) arguments past)
         (one_vocabulary m info flags named)
         ∙ (ap
-        (λ (text : TextModule). follow_module text shape.parts settings world meaning outer.vocabulary turns (function_name m (module_names m) g) arguments past)
+        (λ (text : TextModule). follow_module text shape.parts settings world meaning outer.vocabulary turns
+        (function_name m (module_names m) g) arguments past)
         (reads_items m info flags named accepted items
         ∙ ap (form_module_with (p m info flags named) (n m info flags named))
-        (texts_around m info accepted flags named are count have scopes g own.0.0 own.0.1 own.1 own_forms own_scope few enough))
+        (texts_around m info accepted flags named are count have scopes g own.0.0 own.0.1 own.1 own_forms
+        own_scope few enough))
         ∙ one_runs_alike shape outer later naming between first
-        (one_fits m info accepted flags named are count have scopes g own.0.0 own.0.1 own.1 own_forms own_scope few enough)
+        (one_fits m info accepted flags named are count have scopes g own.0.0 own.0.1 own.1 own_forms own_scope
+        few enough)
         settings fit meaning typed arguments
         (subst (λ f. IsTrue (has_types shape.parts f.argument_types arguments)) (sym own.2) typed_arguments)
         world turns past keeps)
@@ -256,4 +274,5 @@ module _ (m : Module) (info : ModuleInfo) (flags : WriterFlags) (named : LabelNa
             RunsAt m info (program_under named m info flags) g
         by true is = runs_at items g g (λ k le there. le) (omega arith) own_forms own_scope
         by false is =
-            runs_at items g (length m.functions) (λ k le there. there) (ltb-false g (length m.functions) is) own_forms own_scope
+            runs_at items g (length m.functions) (λ k le there. there) (ltb-false g (length m.functions) is)
+            own_forms own_scope

@@ -215,7 +215,12 @@ module _ (m : Module) (info : ModuleInfo) (f : Function) (es : List ExpressionIn
         let two =
         and_parts (are_passed m.types known one.0.arguments.items xs) (is_answered one.0 g f r) one.2 in
         let callee = following.shape_of_callee g one.0 lt one.1 in (
-          (omega (arith, lt, earlier), no_name, subst (λ o. CallFits shape o xs r) (sym callee.2) (passed one.0.arguments.items xs two.0, answered one.0 g one.1 r two.1)),
+          (
+            omega (arith, lt, earlier),
+            no_name,
+            subst (λ o. CallFits shape o xs r) (sym callee.2)
+                (passed one.0.arguments.items xs two.0, answered one.0 g one.1 r two.1),
+          ),
           by one.0 r two.1,
         )
       where
@@ -239,7 +244,8 @@ module _ (m : Module) (info : ModuleInfo) (f : Function) (es : List ExpressionIn
     line_at breaks continues (return v) within fits worded = return_at f.result v refl fits
     line_at breaks continues (control_barrier flags) within fits worded = worded
     line_at breaks continues (memory_barrier flags) within fits worded = worded
-    line_at breaks continues (store pointer value) within fits worded = by (is_atomic_pointer context.context pointer) worded
+    line_at breaks continues (store pointer value) within fits worded =
+        by (is_atomic_pointer context.context pointer) worded
       where
         by : (to_atomic : Bool) → IsWorded p own (store_shape to_atomic pointer value) →
             IsRegular p callees own (store_shape to_atomic pointer value)
@@ -253,7 +259,8 @@ module _ (m : Module) (info : ModuleInfo) (f : Function) (es : List ExpressionIn
     line_at breaks continues (work_group_uniform_load pointer outcome) within fits worded =
         (worded, result_at is_uniform_load_result outcome (uniform_load_result context f.expressions outcome) fits)
     line_at breaks continues (call function arguments outcome) within fits worded =
-        call_at function arguments outcome (ltb-true function count (and_parts (nat_lt function count) _ within).0) fits worded
+        call_at function arguments outcome (ltb-true function count
+        (and_parts (nat_lt function count) _ within).0) fits worded
     line_at breaks continues (subgroup_ballot outcome predicate) within fits worded =
         (worded, result_at is_ballot_result outcome (ballot_result context f.expressions outcome) fits)
     line_at breaks continues (subgroup_gather mode argument outcome) within fits worded =

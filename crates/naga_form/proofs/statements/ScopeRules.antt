@@ -57,12 +57,16 @@ nothing_asked : (ns : List Naming) → AllAfter (λ callees n. Unit {0}) ns
 nothing_asked [] = tt
 nothing_asked (n ∷ ns) = (tt, nothing_asked ns)
 
-each_is_checked : (ns : List Naming) → AllAfter IsOrdered ns → (IsTrue (list_all fits_function ns) ↔ EachScopeHolds (functions_of ns))
+each_is_checked : (ns : List Naming) → AllAfter IsOrdered ns →
+    (IsTrue (list_all fits_function ns) ↔ EachScopeHolds (functions_of ns))
 each_is_checked [] all = (λ t. tt, λ r. refl)
 each_is_checked (n ∷ ns) all =
     let here = scope_check_is_the_rules n all.0 in
     let rest = each_is_checked ns all.1 in (
-      λ t. (here.0 (and_left (fits_function n) (list_all fits_function ns) t), rest.0 (and_right (fits_function n) (list_all fits_function ns) t)),
+      λ t. (
+        here.0 (and_left (fits_function n) (list_all fits_function ns) t),
+        rest.0 (and_right (fits_function n) (list_all fits_function ns) t),
+      ),
       λ r. and_from (fits_function n) (list_all fits_function ns) (here.1 r.0) (rest.1 r.1),
     )
 

@@ -101,7 +101,8 @@ name_given s well h y is j x at = by (nat_eq j h) at
     by false e = well j x e
 
 -- ---- what is in scope
-module _ (flags : WriterFlags) (m : Module) (info : ModuleInfo) (g : ℕ) (f : ir_function.Function) (es : List ExpressionInfo)
+module _ (flags : WriterFlags) (m : Module) (info : ModuleInfo) (g : ℕ) (f : ir_function.Function)
+    (es : List ExpressionInfo)
     (named : ℕ → List ℕ) (identifiers : (k : ℕ) → k < length (expression_labels f) →
     IsIdentifier (named k)) (few : length f.expressions ≤ 2 ^ 64) where
   abbrev own : Naming
@@ -127,20 +128,27 @@ module _ (flags : WriterFlags) (m : Module) (info : ModuleInfo) (g : ℕ) (f : i
   room_rest k j xs ys room is = let both = length-append xs ys in omega (arith, room, both, is)
 
   -- a bound handle's name
-  bound_is : (k h : ℕ) → binds own.function h ≡ true → HasRoom k (option_to_list (label_of f h)) → IsIdentifier (bound_name own k h)
-  bound_is k h bound room = subst (λ b. IsIdentifier (cond b (named k) (numbered_name h))) (sym (named_is m info f es h)) (by (label_of f h) room)
+  bound_is : (k h : ℕ) → binds own.function h ≡ true → HasRoom k (option_to_list (label_of f h)) →
+      IsIdentifier (bound_name own k h)
+  bound_is k h bound room = subst (λ b. IsIdentifier (cond b (named k) (numbered_name h)))
+      (sym (named_is m info f es h)) (by (label_of f h) room)
     where
       within : (o : Option ir.Expression) → slice_get f.expressions h ≡ o → h < 2 ^ 64
       within (Some e) at = let lt = slice_get_within f.expressions h e at in omega (arith, lt, few)
-      within None at = absurd (true≢false (sym bound ∙ ap (binds_as own.function h) (expression_is m info f es h ∙ ap (option_map (shape_of d f.expressions h)) at)))
+      within None at =
+          absurd (true≢false (sym bound ∙ ap (binds_as own.function h)
+          (expression_is m info f es h ∙ ap (option_map (shape_of d f.expressions h)) at)))
 
-      by : (o : Option (List ℕ)) → HasRoom k (option_to_list o) → IsIdentifier (cond (is_some o) (named k) (numbered_name h))
+      by : (o : Option (List ℕ)) → HasRoom k (option_to_list o) →
+          IsIdentifier (cond (is_some o) (named k) (numbered_name h))
       by (Some label) room = identifiers k (omega (arith, room))
       by None room = numbered_is h (within (slice_get f.expressions h) refl)
 
   -- one more handle
-  after_one_is : (k h : ℕ) (s : Handles) → NamesAre s → HasRoom k (option_to_list (label_of f h)) → NamesAre (after_one own k h s)
-  after_one_is k h s well room = emitted_is (binds own.function h) refl (is_pure (expression_of own.function h)) (usable_all own.function s (operands_of (expression_of own.function h)))
+  after_one_is : (k h : ℕ) (s : Handles) → NamesAre s → HasRoom k (option_to_list (label_of f h)) →
+      NamesAre (after_one own k h s)
+  after_one_is k h s well room = emitted_is (binds own.function h) refl (is_pure (expression_of own.function h))
+      (usable_all own.function s (operands_of (expression_of own.function h)))
     where
       updated : (a : Availability) → ((x : List ℕ) → a ≡ Bound x → IsIdentifier x) → NamesAre (update s h a)
       updated a here j x is = by (nat_eq j h) is
@@ -149,7 +157,8 @@ module _ (flags : WriterFlags) (m : Module) (info : ModuleInfo) (g : ℕ) (f : i
           by true e = here x e
           by false e = well j x e
 
-      unbound_is : (u : Bool) (a : Availability) → ((x : List ℕ) → a ≡ Bound x → IsIdentifier x) → (x : List ℕ) → availability_without_name u a ≡ Bound x → IsIdentifier x
+      unbound_is : (u : Bool) (a : Availability) → ((x : List ℕ) → a ≡ Bound x → IsIdentifier x) →
+          (x : List ℕ) → availability_without_name u a ≡ Bound x → IsIdentifier x
       unbound_is true a here x e = absurd (cc)
       unbound_is false Absent here x e = absurd (cc)
       unbound_is false Barred here x e = here x e
@@ -157,16 +166,19 @@ module _ (flags : WriterFlags) (m : Module) (info : ModuleInfo) (g : ℕ) (f : i
       unbound_is false Inline here x e = here x e
       unbound_is false (Bound y) here x e = here x e
 
-      emitted_is : (b : Bool) → binds own.function h ≡ b → (o u : Bool) → NamesAre (with_emitted_handle b o u (bound_name own k h) s h)
+      emitted_is : (b : Bool) → binds own.function h ≡ b → (o u : Bool) →
+          NamesAre (with_emitted_handle b o u (bound_name own k h) s h)
       emitted_is true bound o u = name_given s well h (bound_name own k h) (bound_is k h bound room)
       emitted_is false bound true u = updated (availability_without_name u (s h)) (unbound_is u (s h) (well h))
       emitted_is false bound false u = well
 
-  after_emit_is : (k : ℕ) (hs : List ℕ) (s : Handles) → NamesAre s → HasRoom k (labels_of_each f hs) → NamesAre (after_emit own k hs s)
+  after_emit_is : (k : ℕ) (hs : List ℕ) (s : Handles) → NamesAre s → HasRoom k (labels_of_each f hs) →
+      NamesAre (after_emit own k hs s)
   after_emit_is k [] s well room = well
   after_emit_is k (h ∷ hs) s well room =
       let here = option_to_list (label_of f h) in
-      after_emit_is (named_after own.function h k) hs (after_one own k h s) (after_one_is k h s well (room_front k here (labels_of_each f hs) room))
+      after_emit_is (named_after own.function h k) hs (after_one own k h s)
+      (after_one_is k h s well (room_front k here (labels_of_each f hs) room))
       (room_rest k (named_after own.function h k) here (labels_of_each f hs) room (named_one m info f es h k))
 
   -- the labels that a statement without blocks gives
@@ -198,12 +210,16 @@ module _ (flags : WriterFlags) (m : Module) (info : ModuleInfo) (g : ℕ) (f : i
   -- after a statement, and after a block
   room_after : (k : ℕ) (st : StatementTree) (b : BlockTree) → HasRoom k (labels_in f st ++ block_labels f b) →
       HasRoom (named_by own.function (statement_shape d.context st) k) (block_labels f b)
-  room_after k st b room = room_rest k (named_by own.function (statement_shape d.context st) k) (labels_in f st) (block_labels f b) room (named_by_is m info f es st k)
+  room_after k st b room = room_rest k (named_by own.function (statement_shape d.context st) k) (labels_in f st)
+      (block_labels f b) room (named_by_is m info f es st k)
 
-  room_beyond : (k : ℕ) (b : BlockTree) (rest : List (List ℕ)) → HasRoom k (block_labels f b ++ rest) → HasRoom (named_by_all own.function (statements_shape d.context b) k) rest
-  room_beyond k b rest room = room_rest k (named_by_all own.function (statements_shape d.context b) k) (block_labels f b) rest room (named_by_all_is m info f es b k)
+  room_beyond : (k : ℕ) (b : BlockTree) (rest : List (List ℕ)) → HasRoom k (block_labels f b ++ rest) →
+      HasRoom (named_by_all own.function (statements_shape d.context b) k) rest
+  room_beyond k b rest room = room_rest k (named_by_all own.function (statements_shape d.context b) k)
+      (block_labels f b) rest room (named_by_all_is m info f es b k)
 
-  after_all_is : (k : ℕ) (b : BlockTree) → AllFit own d.context b → (s : Handles) → NamesAre s → HasRoom k (block_labels f b) → NamesAre (after_all own k (statements_shape d.context b) s)
+  after_all_is : (k : ℕ) (b : BlockTree) → AllFit own d.context b → (s : Handles) → NamesAre s →
+      HasRoom k (block_labels f b) → NamesAre (after_all own k (statements_shape d.context b) s)
   after_all_is k no_statements fit s well room = well
   after_all_is k (statement st b) fit s well room =
       by (holds_continue (statement_shape d.context st))
@@ -213,14 +229,16 @@ module _ (flags : WriterFlags) (m : Module) (info : ModuleInfo) (g : ℕ) (f : i
       (room_after k st b room))
     where
       last : Handles
-      last = after_all own (named_by own.function (statement_shape d.context st) k) (statements_shape d.context b) (after own k (statement_shape d.context st) s)
+      last = after_all own (named_by own.function (statement_shape d.context st) k)
+          (statements_shape d.context b) (after own k (statement_shape d.context st) s)
 
       by : (continues : Bool) → NamesAre last → NamesAre (forgotten_if continues s last)
       by true last_well = λ h x e. well h x (forgotten_bound (s h) (last h) x e)
       by false last_well = last_well
 
   pub start_is : NamesAre (at_start own.function)
-  start_is h x e = by (is_pure (expression_of own.function h) && is_constant_below own.function (length own.function.expressions) h) e
+  start_is h x e = by (is_pure (expression_of own.function h) && is_constant_below own.function
+      (length own.function.expressions) h) e
     where
       by : (b : Bool) → start_availability b ≡ Bound x → IsIdentifier x
       by true e = absurd (cc)
@@ -246,7 +264,8 @@ module _ (flags : WriterFlags) (m : Module) (info : ModuleInfo) (g : ℕ) (f : i
     lets_are k (h ∷ hs) s well room rest is w =
         then_is (bound h) refl w
         (lets_are (named_after own.function h k) hs (after_one own k h s) (after_one_is k h s well here)
-        (room_rest k (named_after own.function h k) (option_to_list (label_of f h)) (labels_of_each f hs) room (named_one m info f es h k)) rest is)
+        (room_rest k (named_after own.function h k) (option_to_list (label_of f h)) (labels_of_each f hs) room
+        (named_one m info f es h k)) rest is)
       where
         here : HasRoom k (option_to_list (label_of f h))
         here = room_front k (option_to_list (label_of f h)) (labels_of_each f hs) room
@@ -268,7 +287,8 @@ module _ (flags : WriterFlags) (m : Module) (info : ModuleInfo) (g : ℕ) (f : i
         )
         then_is false is_bound w more = more w
 
-    return_is : (s : Handles) → NamesAre s → (v : Option ℕ) → Writes (option_to_list v) → IsStatement (return_line own source s v)
+    return_is : (s : Handles) → NamesAre s → (v : Option ℕ) → Writes (option_to_list v) →
+        IsStatement (return_line own source s v)
     return_is s well None w = tt
     return_is s well (Some h) w = value_at_is s well h w.0
 
@@ -293,7 +313,8 @@ module _ (flags : WriterFlags) (m : Module) (info : ModuleInfo) (g : ℕ) (f : i
               (values_are operand xs (all_map (plain_is s well) xs w)),
           is,
         )
-    shape_is k (Barrier bits) fit s well room rest is w = barriers_are (barrier_words bits) (barriers_called bits) rest is
+    shape_is k (Barrier bits) fit s well room rest is w =
+        barriers_are (barrier_words bits) (barriers_called bits) rest is
     shape_is k (Jumps (Return v)) fit s well room rest is w = (return_is s well v w, is)
     shape_is k (Jumps _) fit s well room rest is w = (tt, is)
     shape_is k _ fit s well room rest is w = is
@@ -320,12 +341,19 @@ module _ (flags : WriterFlags) (m : Module) (info : ModuleInfo) (g : ℕ) (f : i
             (
               value_at_is s well condition w.0,
               lines_are k accept fit.0 s well (room_front k (block_labels f accept) (block_labels f reject) room) one,
-              optional_is reject _ (lines_are following reject fit.1 s well (room_beyond k accept (block_labels f reject) room) other),
+              optional_is reject _ (lines_are following reject fit.1 s well
+                  (room_beyond k accept (block_labels f reject) room) other),
             ),
             is,
           )
-      line_is k (switch selector cs) fit s well room rest is w =
-          ((value_at_is s well selector w.0, cases_are k [] tt cs fit.1 s well room w.1, one_is_written own annotated source k cs fit.0 s), is)
+      line_is k (switch selector cs) fit s well room rest is w = (
+        (
+          value_at_is s well selector w.0,
+          cases_are k [] tt cs fit.1 s well room w.1,
+          one_is_written own annotated source k cs fit.0 s,
+        ),
+        is,
+      )
       line_is k (loop body continuing break_if) fit s well room rest is w =
           let front = room_front k (block_labels f body) (block_labels f continuing) room in
           let beyond = room_beyond k body (block_labels f continuing) room in
@@ -367,7 +395,9 @@ module _ (flags : WriterFlags) (m : Module) (info : ModuleInfo) (g : ℕ) (f : i
           (all_rest W (block_roots bound body) (cases_roots bound cs) w)
       cases_are k labels are (case value body false cs) fit s well room w = (
         labels_are labels value are fit.0,
-        lines_are k body fit.1 s well (room_front k (block_labels f body) (cases_labels f cs) room) (all_front W (block_roots bound body) (cases_roots bound cs) w),
-        cases_are (named_by_all own.function (statements_shape d.context body) k) [] tt cs fit.2 s well (room_beyond k body (cases_labels f cs) room)
+        lines_are k body fit.1 s well (room_front k (block_labels f body) (cases_labels f cs) room)
+            (all_front W (block_roots bound body) (cases_roots bound cs) w),
+        cases_are (named_by_all own.function (statements_shape d.context body) k) [] tt cs fit.2 s well
+            (room_beyond k body (cases_labels f cs) room)
             (all_rest W (block_roots bound body) (cases_roots bound cs) w),
       )

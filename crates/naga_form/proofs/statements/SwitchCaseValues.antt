@@ -81,7 +81,8 @@ module _ (m : Module) (f : Function) (known : List TypeResolution) where
         let forms = and_parts (block_has_forms accept) (block_has_forms reject) has in
         (block_ends breaks continues accept two.0 forms.0, block_ends breaks continues reject two.1 forms.1)
     statement_ends breaks continues (switch selector cs) sound has =
-        let one = and_parts (is_selection m.types known selector cs) (cases_are_sound m f known true continues cs) sound in
+        let one = and_parts (is_selection m.types known selector cs)
+        (cases_are_sound m f known true continues cs) sound in
         (last_stays m.types known selector cs one.0, each_ends continues cs one.1 has)
     statement_ends breaks continues (loop body continuing break_if) sound has =
         let one = and_parts (block_is_sound m f known true true body) _ sound in
@@ -95,7 +96,8 @@ module _ (m : Module) (f : Function) (known : List TypeResolution) where
         block_is_sound m f known breaks continues b ≡ true → block_has_forms b ≡ true → AllEnd b
     block_ends breaks continues no_statements sound has = tt
     block_ends breaks continues (statement s b) sound has =
-        let one = and_parts (statement_is_sound m f known breaks continues s) (block_is_sound m f known breaks continues b) sound in
+        let one = and_parts (statement_is_sound m f known breaks continues s)
+        (block_is_sound m f known breaks continues b) sound in
         let forms = and_parts (statement_has_form s) (block_has_forms b) has in
         (statement_ends breaks continues s one.0 forms.0, block_ends breaks continues b one.1 forms.1)
 
@@ -103,7 +105,8 @@ module _ (m : Module) (f : Function) (known : List TypeResolution) where
         cases_are_sound m f known true continues cs ≡ true → cases_have_forms cs ≡ true → CasesEnd cs
     each_ends continues no_cases sound has = tt
     each_ends continues (case value body falls cs) sound has =
-        let one = and_parts (block_is_sound m f known true continues body) (cases_are_sound m f known true continues cs) sound in
+        let one = and_parts (block_is_sound m f known true continues body)
+        (cases_are_sound m f known true continues cs) sound in
         let empty = and_parts (not falls || has_no_statements body) (block_has_forms body && cases_have_forms cs) has in
         let forms = and_parts (block_has_forms body) (cases_have_forms cs) empty.1 in
         (empty.0, block_ends true continues body one.0 forms.0, each_ends continues cs one.1 forms.1)

@@ -82,7 +82,8 @@ one_default (case switch_value.Default body falls cs) differ has =
 abbrev pub HasOneDefault : CaseTrees → Type 0
 HasOneDefault cs = (last_falls_through false cs ≡ false) × (defaults_in cs ≡ 1)
 
-module _ (types : List Type_) (known : List TypeResolution) (selector : ℕ) (cs : CaseTrees) (fits : is_selection types known selector cs ≡ true) where
+module _ (types : List Type_) (known : List TypeResolution) (selector : ℕ) (cs : CaseTrees)
+    (fits : is_selection types known selector cs ≡ true) where
   pub has_one_default : HasOneDefault cs
   has_one_default = let o = operand_at types known (selection_fits cs) selector fits in by o.itself o.taken
     where
@@ -91,7 +92,8 @@ module _ (types : List Type_) (known : List TypeResolution) (selector : ℕ) (cs
           let one = and_parts (selects s) (case_values_fit s cs) fits in
           let two =
           and_parts (case_values_are_of s cs)
-          (case_values_differ cs && (has_case_value switch_value.Default cs && not (last_falls_through false cs))) one.1 in
+          (case_values_differ cs && (has_case_value switch_value.Default cs
+          && not (last_falls_through false cs))) one.1 in
           let three =
           and_parts (case_values_differ cs)
           (has_case_value switch_value.Default cs && not (last_falls_through false cs)) two.1 in

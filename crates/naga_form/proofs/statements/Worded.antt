@@ -156,6 +156,7 @@ module _ (all : Bool) (p : shapes.Module) (f : Naming) (free : AsksFreely all p 
           let ranges =
           and_parts (block_in_range count expressions b) (cases_in_range count expressions cs)
           (and_parts (case_value_fits_32_bits v) _ within).1 in
-          let formed = each_part all (not falls || has_no_statements b) (block_has_forms b && cases_have_forms cs) has in
+          let formed = each_part all (not falls || has_no_statements b)
+          (block_has_forms b && cases_have_forms cs) has in
           let words = each_part all (block_has_forms b) (cases_have_forms cs) formed.1 in
           (worded b ranges.0 words.0, cases_worded cs ranges.1 words.1)

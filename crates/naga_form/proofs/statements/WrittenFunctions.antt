@@ -62,7 +62,8 @@ module _ (flags : WriterFlags) (named : LabelNames) (names : NameMap) (m : Modul
   form_at g (x ∷ fs) [] i f es at known = absurd cc
   form_at g (x ∷ fs) (ks ∷ ess) zero f es at known =
       let here : g ≡ g + 0 = omega arith in
-      λ j. Some (function_form flags names (named (here j)) m info (here j) (same_Some x f at j) (same_Some ks es known j))
+      λ j. Some (function_form flags names (named (here j)) m info (here j) (same_Some x f at j)
+      (same_Some ks es known j))
   form_at g (x ∷ fs) (ks ∷ ess) (suc i) f es at known =
       let next : (g + 1) + i ≡ g + suc i = omega arith in
       form_at (g + 1) fs ess i f es at known

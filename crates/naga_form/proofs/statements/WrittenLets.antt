@@ -73,10 +73,13 @@ module _ (n : Naming) (annotated : ℕ → Option TypeSpecifier) (source : Sourc
   abbrev annotated_of : List NamedLet → List (Option (List ℕ))
   annotated_of bs = map (λ b. option_map type_layout (annotated b.handle)) bs
 
-  annotated_both : {us vs : List (Option (List ℕ))} (first second : List NamedLet) → us ≡ annotated_of first → vs ≡ annotated_of second → us ++ vs ≡ annotated_of (first ++ second)
-  annotated_both first second a b = (λ i. a i ++ b i) ∙ sym (map-append (λ b. option_map type_layout (annotated b.handle)) first second)
+  annotated_both : {us vs : List (Option (List ℕ))} (first second : List NamedLet) → us ≡ annotated_of first →
+      vs ≡ annotated_of second → us ++ vs ≡ annotated_of (first ++ second)
+  annotated_both first second a b = (λ i. a i ++ b i)
+      ∙ sym (map-append (λ b. option_map type_layout (annotated b.handle)) first second)
 
-  let_tells : (t : Option TypeSpecifier) (x : List ℕ) (e : tree_expressions.Expression) → statement_annotations (let_form t x e) ≡ option_map type_layout t ∷ []
+  let_tells : (t : Option TypeSpecifier) (x : List ℕ) (e : tree_expressions.Expression) →
+      statement_annotations (let_form t x e) ≡ option_map type_layout t ∷ []
   let_tells None x e = refl
   let_tells (Some t) x e = refl
 
@@ -102,7 +105,8 @@ module _ (n : Naming) (annotated : ℕ → Option TypeSpecifier) (source : Sourc
       statements_annotations (lets_form n annotated source k hs s rest) ≡ annotated_of
       (emit_named_lets n k hs) ++ statements_annotations rest
   lets_tell k [] s rest = refl
-  lets_tell k (h ∷ hs) s rest = by (binds n.function h) (lets_tell (named_after n.function h k) hs (after_one n k h s) rest)
+  lets_tell k (h ∷ hs) s rest = by (binds n.function h) (lets_tell (named_after n.function h k) hs
+      (after_one n k h s) rest)
     where
       line : tree.Statement
       line = let_form (annotated h) (bound_name n k h) (as_value (unnamed_form n source s h))
@@ -141,7 +145,8 @@ module _ (n : Naming) (annotated : ℕ → Option TypeSpecifier) (source : Sourc
       ap (λ ts. ts ++ statements_annotations rest)
       (act_tells (word_of n.names action) (operands (value_forms (plain_form n source s) xs)) outcome)
   shape_tells k (shapes.Barrier bits) none s rest = barriers_tell (barrier_words bits) rest
-  shape_tells k (shapes.Jumps (shapes.Return v)) none s rest = ap (λ ts. ts ++ statements_annotations rest) (return_tells s v)
+  shape_tells k (shapes.Jumps (shapes.Return v)) none s rest = ap (λ ts. ts ++ statements_annotations rest)
+      (return_tells s v)
   shape_tells k (shapes.Jumps _) none s rest = refl
   shape_tells k _ none s rest = absurd cc
 
@@ -166,7 +171,8 @@ module _ (n : Naming) (annotated : ℕ → Option TypeSpecifier) (source : Sourc
         let k1 = named_by_all n.function (statements_shape source.declared.context body) k in
         let inside = after_all n k (statements_shape source.declared.context body) s in
         ap (λ ts. ts ++ statements_annotations rest)
-        (loop_tells (lines_form n annotated source k body s) continuing (lines_form n annotated source k1 continuing inside) _
+        (loop_tells (lines_form n annotated source k body s) continuing
+        (lines_form n annotated source k1 continuing inside) _
         (optional_tells k1 continuing inside)
         ∙ annotated_both (statements_named_lets n k (statements_shape source.declared.context body))
         (statements_named_lets n k1 (statements_shape source.declared.context continuing))
@@ -178,7 +184,8 @@ module _ (n : Naming) (annotated : ℕ → Option TypeSpecifier) (source : Sourc
     lines_tell k no_statements s = refl
     lines_tell k (statement st b) s =
         let k1 = named_by n.function (statement_shape source.declared.context st) k in
-        line_tells k st s (lines_form n annotated source k1 b (after n k (statement_shape source.declared.context st) s))
+        line_tells k st s (lines_form n annotated source k1 b
+        (after n k (statement_shape source.declared.context st) s))
         ∙ annotated_both (statement_named_lets n k (statement_shape source.declared.context st))
         (statements_named_lets n k1 (statements_shape source.declared.context b)) refl
         (lines_tell k1 b (after n k (statement_shape source.declared.context st) s))
@@ -188,7 +195,8 @@ module _ (n : Naming) (annotated : ℕ → Option TypeSpecifier) (source : Sourc
         annotated_of (cases_named_lets n k (cases_shape source.declared.context cs))
     cases_tell k labels no_cases s = refl
     cases_tell k labels (case value body true cs) s =
-        cases_tell (named_by_all n.function (statements_shape source.declared.context body) k) (labels ++ case_value_form value ∷ []) cs s
+        cases_tell (named_by_all n.function (statements_shape source.declared.context body) k)
+        (labels ++ case_value_form value ∷ []) cs s
     cases_tell k labels (case value body false cs) s =
         let k1 = named_by_all n.function (statements_shape source.declared.context body) k in
         annotated_both (statements_named_lets n k (statements_shape source.declared.context body))
@@ -225,7 +233,8 @@ functions_tell flags named names m info g (f ∷ fs) [] = refl
 functions_tell flags named names m info g (f ∷ fs) (es ∷ ess) =
     let n = function_naming names (named g) m info g f es in
     let t = names_of m.types names in
-    let line = lines_tell n (annotated_type (annotates_types flags) m t es) (function_source flags m info f es) 0 f.body (at_start n.function)
+    let line = lines_tell n (annotated_type (annotates_types flags) m t es) (function_source flags m info f es)
+    0 f.body (at_start n.function)
     ∙ (λ i. map (λ b. annotated_spells (annotates_types flags) m t es b.handle i) (function_named_lets n)) in
     λ i. line i ∷ functions_tell flags named names m info (g + 1) fs ess i
 

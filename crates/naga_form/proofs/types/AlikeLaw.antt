@@ -42,15 +42,18 @@ itself_back None = refl
 itself_back (Some it) = refl
 
 module _ (types : List Type_) where
-  pub distinguished_by_itself : (r : TypeResolution) → resolution_is_fit r ≡ true → type_key types r ≡ None → identity types r ≡ by_itself (inner_of r types)
+  pub distinguished_by_itself : (r : TypeResolution) → resolution_is_fit r ≡ true → type_key types r ≡ None →
+      identity types r ≡ by_itself (inner_of r types)
   unfolding handle_key
   distinguished_by_itself (Handle h) fit unsupported = found (slice_get types h) unsupported
     where
-      named : (it : TypeInner) (b : Bool) (form : Option (List ℕ)) → (if b then Some (level 8 h 0 0 0 0) else form) ≡ None → (if b then StructAt h else Itself it) ≡ Itself it
+      named : (it : TypeInner) (b : Bool) (form : Option (List ℕ)) →
+          (if b then Some (level 8 h 0 0 0 0) else form) ≡ None → (if b then StructAt h else Itself it) ≡ Itself it
       named it true form e = absurd (cc)
       named it false form e = refl
 
-      found : (o : Option Type_) → found_key_by (key_within h types) h o ≡ None → identity_at h (option_map (λ t. t.inner) o) ≡ by_itself (option_map (λ t. t.inner) o)
+      found : (o : Option Type_) → found_key_by (key_within h types) h o ≡ None →
+          identity_at h (option_map (λ t. t.inner) o) ≡ by_itself (option_map (λ t. t.inner) o)
       found None e = refl
       found (Some t) e = named t.inner (is_struct t.inner) (inner_key_by (key_within h types) t.inner) e
   distinguished_by_itself (Value it) fit unsupported =
@@ -59,7 +62,8 @@ module _ (types : List Type_) where
 
   module _ (named : (h : ℕ) (t : Type_) → slice_get types h ≡ Some t → is_handle_pointer t.inner ≡ false) where
     -- the numbers of a form are not those of a type without one
-    pub form_apart : (r : TypeResolution) → resolution_is_fit r ≡ true → (it code : List ℕ) → type_key types r ≡ Some it → it ≡ 32 ∷ code → ⊥
+    pub form_apart : (r : TypeResolution) → resolution_is_fit r ≡ true → (it code : List ℕ) → type_key types r
+        ≡ Some it → it ≡ 32 ∷ code → ⊥
     form_apart r fit it code at e =
         let distinguished : Some it ≡
         Some ((tree_numbers own_handle) (form_read (handle_names types) it)) =
@@ -77,26 +81,31 @@ module _ (types : List Type_) where
         let other : 32 ∷ code ≡ [] = sym e ∙ nothing in
         absurd (cc)
 
-    from_numbers : (a b : TypeResolution) → resolution_is_fit a ≡ true → resolution_is_fit b ≡ true → type_identity types a ≡ type_identity types b → AreAlike types a b
+    from_numbers : (a b : TypeResolution) → resolution_is_fit a ≡ true → resolution_is_fit b ≡ true →
+        type_identity types a ≡ type_identity types b → AreAlike types a b
     from_numbers a b p q e = by (type_key types a) refl (type_key types b) refl e
       where
         by : (x : Option (List ℕ)) → type_key types a ≡ x → (y : Option (List ℕ)) →
             type_key types b ≡ y → unwrap_or x (word_of_unspelled_type (identity types a)) ≡
             unwrap_or y (word_of_unspelled_type (identity types b)) → AreAlike types a b
         by (Some x) at (Some y) bt e =
-            SpelledAlike (form_read (handle_names types) x) (form_is_read (handle_names types) a ∙ ap (option_map (form_read (handle_names types))) at)
-            (form_is_read (handle_names types) b ∙ ap (option_map (form_read (handle_names types))) (bt ∙ ap Some (sym e)))
+            SpelledAlike (form_read (handle_names types) x)
+            (form_is_read (handle_names types) a ∙ ap (option_map (form_read (handle_names types))) at)
+            (form_is_read (handle_names types) b ∙ ap (option_map (form_read (handle_names types)))
+            (bt ∙ ap Some (sym e)))
         by (Some x) at None bt e = absurd (form_apart a p x (identity_code (identity types b)) at e)
         by None at (Some y) bt e = absurd (form_apart b q y (identity_code (identity types a)) bt (sym e))
         by None at None bt e =
-            let same = sym (distinguished_by_itself a p at) ∙ (word_tells types a b e ∙ distinguished_by_itself b q bt) in
+            let same = sym (distinguished_by_itself a p at)
+            ∙ (word_tells types a b e ∙ distinguished_by_itself b q bt) in
             Unsupported (form_is_read (handle_names types) a
             ∙ ap (option_map (form_read (handle_names types))) at)
             (form_is_read (handle_names types) b
             ∙ ap (option_map (form_read (handle_names types))) bt)
             (sym (itself_back (inner_of a types)) ∙ (ap itself same ∙ itself_back (inner_of b types)))
 
-    to_numbers : (a b : TypeResolution) → resolution_is_fit a ≡ true → resolution_is_fit b ≡ true → AreAlike types a b → type_identity types a ≡ type_identity types b
+    to_numbers : (a b : TypeResolution) → resolution_is_fit a ≡ true → resolution_is_fit b ≡ true →
+        AreAlike types a b → type_identity types a ≡ type_identity types b
     to_numbers a b p q (SpelledAlike t x y) =
         let of_a = form_is_distinguished own_handle (handle_names types)
         (handles_are_distinguished types) named a (resolution_is_distinguished types a) p
@@ -104,7 +113,8 @@ module _ (types : List Type_) where
         let of_b = form_is_distinguished own_handle (handle_names types)
         (handles_are_distinguished types) named b (resolution_is_distinguished types b) q
         ∙ ap (option_map (tree_numbers own_handle)) y in
-        ap (λ o. unwrap_or o (word_of_unspelled_type (identity types a))) of_a ∙ sym (ap (λ o. unwrap_or o (word_of_unspelled_type (identity types b))) of_b)
+        ap (λ o. unwrap_or o (word_of_unspelled_type (identity types a))) of_a
+        ∙ sym (ap (λ o. unwrap_or o (word_of_unspelled_type (identity types b))) of_b)
     to_numbers a b p q (Unsupported x y same) =
         let of_a = form_is_distinguished own_handle (handle_names types)
         (handles_are_distinguished types) named a (resolution_is_distinguished types a) p
@@ -119,7 +129,8 @@ module _ (types : List Type_) where
         ∙ sym (ap (λ o. unwrap_or o (word_of_unspelled_type (identity types b))) of_b))
 
 -- each type of a module that has only such types
-pub each_named : (types : List Type_) → list_all type_is_fit types ≡ true → (h : ℕ) (t : Type_) → slice_get types h ≡ Some t → is_handle_pointer t.inner ≡ false
+pub each_named : (types : List Type_) → list_all type_is_fit types ≡ true → (h : ℕ) (t : Type_) →
+    slice_get types h ≡ Some t → is_handle_pointer t.inner ≡ false
 each_named types fits h t at = not-true (is_handle_pointer t.inner) (list_all_at type_is_fit types h t fits at)
 
 pub alike_by_numbers : (types : List Type_) (a b : TypeResolution) →

@@ -47,7 +47,7 @@ use Rattle.naga_words.specs.Spelling.{is_struct}
 use Rattle.module_meaning.specs.acceptance.InfoSizes.{is_handle_pointer, is_handle_space}
 use Rattle.module_meaning.specs.acceptance.InfoSizes.{resolution_is_fit}
 use Rattle.module_meaning.specs.TypeIdentity.{level}
-use Rattle.module_meaning.specs.TypeIdentity.{kind_number, vector_number, cooperative_number}
+use Rattle.module_meaning.specs.TypeIdentity.{kind_number, component_count, cooperative_number}
 use Rattle.module_meaning.specs.TypeIdentity.{role_number, dimension_number, truth_number}
 use Rattle.module_meaning.proofs.TypeIdentity.{formats}
 use Rattle.module_meaning.specs.AlikeTypes.{value_key, scalar_key, pointer_key}
@@ -67,13 +67,17 @@ use Rattle.wgsl_text.specs.Words.{IsIdentifier, is_builtin, is_reserved}
 -- ---- words without parts: types, and what else stands in a type
 abbrev first_row : {X : Type 0} → X → List (List ℕ × X) → List ℕ → X
 first_row {X = X} other [] w = other
-first_row {X = X} other (row ∷ rows) w = elim (bytes_eq w row.0) as (λ b. X) [ true ↦ row.1 | false ↦ first_row other rows w ]
+first_row {X = X} other (row ∷ rows) w =
+    elim (bytes_eq w row.0) as (λ b. X) [ true ↦ row.1 | false ↦ first_row other rows w ]
 
 abbrev format_row : StorageFormat → List ℕ × List ℕ
 format_row f = (format_word f, level 23 (tag_of format_names f) 0 0 0 0)
 
 abbrev depth_row : (multi : Bool) → ImageDimension → (arrayed : Bool) → List ℕ × List ℕ
-depth_row multi dim arrayed = (image_word (codes "texture_depth_") multi dim arrayed, level 9 (dimension_number dim) (truth_number arrayed) 1 (truth_number multi) 0)
+depth_row multi dim arrayed = (
+  image_word (codes "texture_depth_") multi dim arrayed,
+  level 9 (dimension_number dim) (truth_number arrayed) 1 (truth_number multi) 0,
+)
 
 abbrev word_rows : List (List ℕ × List ℕ)
 word_rows =
@@ -132,13 +136,15 @@ word_numbers distinguished (x ∷ y ∷ w) =
     first_row (level 8 (distinguished (x ∷ y ∷ w)) 0 0 0 0) word_rows (x ∷ y ∷ w)
 
 -- a word that has no row
-no_row : {X : Type 0} (is : List ℕ → Bool) (other : X) (rows : List (List ℕ × X)) (w : List ℕ) → list_all (λ row. is row.0) rows ≡ true → is w ≡ false → first_row other rows w ≡ other
+no_row : {X : Type 0} (is : List ℕ → Bool) (other : X) (rows : List (List ℕ × X)) (w : List ℕ) →
+    list_all (λ row. is row.0) rows ≡ true → is w ≡ false → first_row other rows w ≡ other
 no_row is other [] w all not_so = refl
 no_row {X = X} is other (row ∷ rows) w all not_so =
     let parts = and_parts (is row.0) (list_all (λ row. is row.0) rows) all in
     by parts.0 (no_row is other rows w parts.1 not_so) (bytes_eq w row.0) refl
   where
-    by : is row.0 ≡ true → first_row other rows w ≡ other → (b : Bool) → bytes_eq w row.0 ≡ b → elim b as (λ b. X) [ true ↦ row.1 | false ↦ first_row other rows w ] ≡ other
+    by : is row.0 ≡ true → first_row other rows w ≡ other → (b : Bool) → bytes_eq w row.0 ≡ b →
+        elim b as (λ b. X) [ true ↦ row.1 | false ↦ first_row other rows w ] ≡ other
     by taken more true at = absurd (true≢false (sym taken ∙ (ap is (sym ((bytes_eq-Decides w row.0).0 at)) ∙ not_so)))
     by taken more false at = more
 
@@ -150,12 +156,14 @@ unfolding is_builtin is_reserved
 rows_are_taken = refl
 
 -- an identifier has no row
-pub named_numbers : (distinguished : List ℕ → ℕ) (w : List ℕ) → IsIdentifier w → word_numbers distinguished w ≡ level 8 (distinguished w) 0 0 0 0
+pub named_numbers : (distinguished : List ℕ → ℕ) (w : List ℕ) → IsIdentifier w → word_numbers distinguished w
+    ≡ level 8 (distinguished w) 0 0 0 0
 unfolding word_numbers
 named_numbers distinguished [] is = absurd (true≢false (sym is.word.text))
 named_numbers distinguished (h ∷ []) is = refl
 named_numbers distinguished (x ∷ y ∷ w) is =
-    no_row is_taken (level 8 (distinguished (x ∷ y ∷ w)) 0 0 0 0) word_rows (x ∷ y ∷ w) rows_are_taken (λ i. is.own i || is.word.free i)
+    no_row is_taken (level 8 (distinguished (x ∷ y ∷ w)) 0 0 0 0) word_rows (x ∷ y ∷ w) rows_are_taken
+    (λ i. is.own i || is.word.free i)
 
 -- ---- words with parts
 -- how the numbers of the parts make those of the whole
@@ -169,19 +177,25 @@ pub data Filling : Type 0 where
   WithReturn : (tag : ℕ) → Filling
 
 abbrev vector_row : VectorSize → List ℕ × Filling
-vector_row n = (vector_word n, OverScalar 1 (vector_number n) 0)
+vector_row n = (vector_word n, OverScalar 1 (component_count n) 0)
 
 abbrev matrix_row : (columns rows : VectorSize) → List ℕ × Filling
-matrix_row c r = (matrix_word c r, OverScalar 2 (vector_number c) (vector_number r))
+matrix_row c r = (matrix_word c r, OverScalar 2 (component_count c) (component_count r))
 
 abbrev cooperative_row : (columns rows : CooperativeSize) → List ℕ × Filling
 cooperative_row c r = (cooperative_word c r, OverRole (cooperative_number c) (cooperative_number r))
 
 abbrev sampled_row : (multi : Bool) → ImageDimension → (arrayed : Bool) → List ℕ × Filling
-sampled_row multi dim arrayed = (image_word (codes "texture_") multi dim arrayed, SampledImage (dimension_number dim) (truth_number arrayed) (truth_number multi))
+sampled_row multi dim arrayed = (
+  image_word (codes "texture_") multi dim arrayed,
+  SampledImage (dimension_number dim) (truth_number arrayed) (truth_number multi),
+)
 
 abbrev storage_row : ImageDimension → (arrayed : Bool) → List ℕ × Filling
-storage_row dim arrayed = (image_word (codes "texture_storage_") false dim arrayed, StorageImage (dimension_number dim) (truth_number arrayed))
+storage_row dim arrayed = (
+  image_word (codes "texture_storage_") false dim arrayed,
+  StorageImage (dimension_number dim) (truth_number arrayed),
+)
 
 abbrev template_rows : List (List ℕ × Filling)
 template_rows =
@@ -257,13 +271,15 @@ filled (OverScalar tag third fourth) letter parts = level tag (number_at parts 0
 filled (OverRole c r) letter parts = level 3 (number_at parts 0 1) (number_at parts 0 2) c r (role_at letter)
 filled (SampledImage dim arrayed multi) letter parts = level 9 dim arrayed 0 (number_at parts 0 1) multi
 filled (StorageImage dim arrayed) letter parts = level 9 dim arrayed 2 (number_at parts 0 1) (number_at parts 1 1)
-filled (ArrayOf tag) letter parts = level tag (length_tag (number_at parts 1 0)) (number_at parts 1 1) 0 0 0 ++ get_or parts 0 []
+filled (ArrayOf tag) letter parts = level tag (length_tag (number_at parts 1 0)) (number_at parts 1 1) 0 0 0
+    ++ get_or parts 0 []
 filled (WithReturn tag) letter parts = level tag 1 0 0 0 0
 
 abbrev mutual
   pub tree_numbers : (distinguished : List ℕ → ℕ) → TypeSpecifier → List ℕ
   tree_numbers distinguished (Named w) = word_numbers distinguished w
-  tree_numbers distinguished (Template w parts) = filled (filling_of w) (letter_in parts) (parts_numbers distinguished parts)
+  tree_numbers distinguished (Template w parts) =
+      filled (filling_of w) (letter_in parts) (parts_numbers distinguished parts)
 
   parts_numbers : (distinguished : List ℕ → ℕ) → TemplateArguments → List (List ℕ)
   parts_numbers distinguished NoTemplateArguments = []
@@ -278,7 +294,8 @@ no_numbers distinguished = refl
 
 -- a length that is an override is told by the override's name
 abbrev pub LengthIsDistinguished : (distinguished : List ℕ → ℕ) → Names → ArraySize → Type 0
-LengthIsDistinguished distinguished under (size.Pending o) = word_numbers distinguished (under.override_name o) ≡ level 8 o 0 0 0 0
+LengthIsDistinguished distinguished under (size.Pending o) = word_numbers distinguished (under.override_name o)
+    ≡ level 8 o 0 0 0 0
 LengthIsDistinguished distinguished under _ = Unit {0}
 
 abbrev pub InnerIsDistinguished : (distinguished : List ℕ → ℕ) → Names → TypeInner → Type 0
@@ -296,25 +313,28 @@ ResolutionIsDistinguished distinguished under (Value it) =
 
 -- the words of structs and of overrides tell their handles
 pub record AreDistinguished (distinguished : List ℕ → ℕ) (under : Names) : Type 0 where
-  pub structs : (h : ℕ) (t : Type_) → slice_get under.types h ≡ Some t → is_struct t.inner ≡ true → word_numbers distinguished (under.struct_name h) ≡ level 8 h 0 0 0 0
-  pub lengths : (h : ℕ) (t : Type_) → slice_get under.types h ≡ Some t → InnerIsDistinguished distinguished under t.inner
+  pub structs : (h : ℕ) (t : Type_) → slice_get under.types h ≡ Some t → is_struct t.inner ≡ true →
+      word_numbers distinguished (under.struct_name h) ≡ level 8 h 0 0 0 0
+  pub lengths : (h : ℕ) (t : Type_) → slice_get under.types h ≡ Some t →
+      InnerIsDistinguished distinguished under t.inner
 
 abbrev length_part : Names → ℕ → TemplateArguments
 length_part under o = TypeArgument (Named (under.override_name o)) NoTemplateArguments
 
 module _ (distinguished : List ℕ → ℕ) where
   -- ---- each word's row
-  format_numbers : (f : StorageFormat) → word_numbers distinguished (format_word f) ≡ level 23 (tag_of format_names f) 0 0 0 0
+  format_numbers : (f : StorageFormat) → word_numbers distinguished (format_word f)
+      ≡ level 23 (tag_of format_names f) 0 0 0 0
   unfolding word_numbers
   format_numbers format.R8Unorm = refl
   format_numbers _ = refl
 
-  vector_filling : (n : VectorSize) → filling_of (vector_word n) ≡ OverScalar 1 (vector_number n) 0
+  vector_filling : (n : VectorSize) → filling_of (vector_word n) ≡ OverScalar 1 (component_count n) 0
   unfolding filling_of
   vector_filling Bi = refl
   vector_filling _ = refl
 
-  matrix_filling : (c r : VectorSize) → filling_of (matrix_word c r) ≡ OverScalar 2 (vector_number c) (vector_number r)
+  matrix_filling : (c r : VectorSize) → filling_of (matrix_word c r) ≡ OverScalar 2 (component_count c) (component_count r)
   unfolding filling_of
   matrix_filling Bi Bi = refl
   matrix_filling Bi Tri = refl
@@ -326,7 +346,8 @@ module _ (distinguished : List ℕ → ℕ) where
   matrix_filling Quad Tri = refl
   matrix_filling Quad Quad = refl
 
-  cooperative_filling : (c r : CooperativeSize) → filling_of (cooperative_word c r) ≡ OverRole (cooperative_number c) (cooperative_number r)
+  cooperative_filling : (c r : CooperativeSize) → filling_of (cooperative_word c r)
+      ≡ OverRole (cooperative_number c) (cooperative_number r)
   unfolding filling_of
   cooperative_filling Eight Eight = refl
   cooperative_filling Eight Sixteen = refl
@@ -354,7 +375,9 @@ module _ (distinguished : List ℕ → ℕ) where
   sampled_filling true Cube false = refl
   sampled_filling true Cube true = refl
 
-  storage_filling : (dim : ImageDimension) (arrayed : Bool) → filling_of (image_word (codes "texture_storage_") false dim arrayed) ≡ StorageImage (dimension_number dim) (truth_number arrayed)
+  storage_filling : (dim : ImageDimension) (arrayed : Bool) →
+      filling_of (image_word (codes "texture_storage_") false dim arrayed) ≡ StorageImage (dimension_number dim)
+      (truth_number arrayed)
   unfolding filling_of
   storage_filling D1 false = refl
   storage_filling D1 true = refl
@@ -419,12 +442,16 @@ module _ (distinguished : List ℕ → ℕ) where
           ap (word_numbers distinguished) (sym word) ∙ one ∙ ap (λ x. level 0 k x 0 0 0) (sym width)
       by false at e = more e
 
-  scalar_numbers : (k : ScalarKind) (n : ℕ) (w : List ℕ) → scalar_word_of k n ≡ Some w → IsScalarNumbers (kind_number k) n w
+  scalar_numbers : (k : ScalarKind) (n : ℕ) (w : List ℕ) → scalar_word_of k n ≡ Some w →
+      IsScalarNumbers (kind_number k) n w
   unfolding word_numbers
   scalar_numbers kind.Bool n w e = scalar_choice 3 n 1 (codes "bool") None w refl (λ e. absurd (cc)) e
-  scalar_numbers kind.Sint n w e = scalar_choice 0 n 2 (codes "i16") _ w refl (scalar_choice 0 n 4 (codes "i32") _ w refl (scalar_choice 0 n 8 (codes "i64") None w refl (λ e. absurd (cc)))) e
-  scalar_numbers kind.Uint n w e = scalar_choice 1 n 2 (codes "u16") _ w refl (scalar_choice 1 n 4 (codes "u32") _ w refl (scalar_choice 1 n 8 (codes "u64") None w refl (λ e. absurd (cc)))) e
-  scalar_numbers kind.Float n w e = scalar_choice 2 n 2 (codes "f16") _ w refl (scalar_choice 2 n 4 (codes "f32") _ w refl (scalar_choice 2 n 8 (codes "f64") None w refl (λ e. absurd (cc)))) e
+  scalar_numbers kind.Sint n w e = scalar_choice 0 n 2 (codes "i16") _ w refl
+      (scalar_choice 0 n 4 (codes "i32") _ w refl (scalar_choice 0 n 8 (codes "i64") None w refl (λ e. absurd (cc)))) e
+  scalar_numbers kind.Uint n w e = scalar_choice 1 n 2 (codes "u16") _ w refl
+      (scalar_choice 1 n 4 (codes "u32") _ w refl (scalar_choice 1 n 8 (codes "u64") None w refl (λ e. absurd (cc)))) e
+  scalar_numbers kind.Float n w e = scalar_choice 2 n 2 (codes "f16") _ w refl
+      (scalar_choice 2 n 4 (codes "f32") _ w refl (scalar_choice 2 n 8 (codes "f64") None w refl (λ e. absurd (cc)))) e
   scalar_numbers kind.AbstractInt n w e = absurd (cc)
   scalar_numbers kind.AbstractFloat n w e = absurd (cc)
 
@@ -455,9 +482,11 @@ module _ (distinguished : List ℕ → ℕ) where
       (level 0 (kind_number s.kind) s.width 0 0 0 ∷ [])
   scalar_part word filling row s w e = λ i. filled (row i) 0 (scalar_numbers s.kind s.width w e i ∷ [])
 
-  value_is_distinguished : (n : Option VectorSize) (s : Scalar) → value_key n s ≡ option_map (tree_numbers distinguished) (value_tree n s)
+  value_is_distinguished : (n : Option VectorSize) (s : Scalar) →
+      value_key n s ≡ option_map (tree_numbers distinguished) (value_tree n s)
   value_is_distinguished None s = scalar_is_distinguished s
-  value_is_distinguished (Some n) s = over_is_distinguished (scalar_word s) (of_one (vector_word n)) _ (scalar_part (vector_word n) _ (vector_filling n) s)
+  value_is_distinguished (Some n) s = over_is_distinguished (scalar_word s) (of_one (vector_word n)) _
+      (scalar_part (vector_word n) _ (vector_filling n) s)
 
   buffer_is_distinguished : (a s : Bool) (t : TypeSpecifier) →
       level 5 4 (if a then 2 else (if s then 1 else 0)) 0 0 0 ++ tree_numbers distinguished t ≡
@@ -477,7 +506,8 @@ module _ (distinguished : List ℕ → ℕ) where
   unfolding word_numbers filling_of
   pointer_is_distinguished at named p o e = ap (pointer_key at) e ∙ by o
     where
-      nothing : (word access : Option (List ℕ)) → None ≡ option_map (tree_numbers distinguished) (pointer_tree_in word access None)
+      nothing : (word access : Option (List ℕ)) → None ≡ option_map (tree_numbers distinguished)
+          (pointer_tree_in word access None)
       nothing None access = refl
       nothing (Some word) access = refl
 
@@ -485,11 +515,13 @@ module _ (distinguished : List ℕ → ℕ) where
           pointer_key at (Some (tree_numbers distinguished t)) ≡ option_map
           (tree_numbers distinguished)
           (pointer_tree_in (space_word at) (space_access_word at) (Some t))
-      pointee (space.Storage access) named t = ap Some (buffer_is_distinguished (has atomic_bit access) (has store_bit access) t)
+      pointee (space.Storage access) named t =
+          ap Some (buffer_is_distinguished (has atomic_bit access) (has store_bit access) t)
       pointee space.Handle named t = absurd (true≢false named)
       pointee _ named t = refl
 
-      by : (o : Option TypeSpecifier) → pointer_key at (option_map (tree_numbers distinguished) o) ≡ option_map (tree_numbers distinguished) (pointer_tree_in (space_word at) (space_access_word at) o)
+      by : (o : Option TypeSpecifier) → pointer_key at (option_map (tree_numbers distinguished) o)
+          ≡ option_map (tree_numbers distinguished) (pointer_tree_in (space_word at) (space_access_word at) o)
       by None = nothing (space_word at) (space_access_word at)
       by (Some t) = pointee at named t
 
@@ -506,14 +538,16 @@ module _ (distinguished : List ℕ → ℕ) where
       pointer_is_distinguished space.WorkGroup refl p o e
   value_pointer_is_distinguished space.Uniform p o e =
       pointer_is_distinguished space.Uniform refl p o e
-  value_pointer_is_distinguished (space.Storage access) p o e = pointer_is_distinguished (space.Storage access) refl p o e
+  value_pointer_is_distinguished (space.Storage access) p o e =
+      pointer_is_distinguished (space.Storage access) refl p o e
   value_pointer_is_distinguished space.Immediate p o e =
       pointer_is_distinguished space.Immediate refl p o e
   value_pointer_is_distinguished space.TaskPayload p o e =
       pointer_is_distinguished space.TaskPayload refl p o e
   value_pointer_is_distinguished space.RayPayload p o e =
       pointer_is_distinguished space.RayPayload refl p o e
-  value_pointer_is_distinguished space.IncomingRayPayload p o e = pointer_is_distinguished space.IncomingRayPayload refl p o e
+  value_pointer_is_distinguished space.IncomingRayPayload p o e =
+      pointer_is_distinguished space.IncomingRayPayload refl p o e
 
   array_is_distinguished : (under : Names) (word : List ℕ) (tag : ℕ) →
       filling_of word ≡ ArrayOf tag →
@@ -531,15 +565,19 @@ module _ (distinguished : List ℕ → ℕ) where
       by (size.Constant number) is None = refl
       by (size.Pending handle) is None = refl
       by size.Dynamic is None = refl
-      by (size.Constant number) is (Some t) = λ i. Some (filled (sym row i) 0 (parts_numbers distinguished (TypeArgument t (SizeArgument (non_zero_u32_get number) NoTemplateArguments))))
+      by (size.Constant number) is (Some t) =
+          λ i. Some (filled (sym row i) 0 (parts_numbers distinguished
+          (TypeArgument t (SizeArgument (non_zero_u32_get number) NoTemplateArguments))))
       by (size.Pending handle) is (Some t) =
           (λ i. Some (level tag (length_tag (get_or (sym is i) 0 0)) (get_or (sym is i) 1 0) 0 0 0
           ++ tree_numbers distinguished t))
           ∙ (λ i. Some (filled (sym row i) (letter_in (TypeArgument t (length_part under handle)))
           (parts_numbers distinguished (TypeArgument t (length_part under handle)))))
-      by size.Dynamic is (Some t) = λ i. Some (filled (sym row i) 0 (parts_numbers distinguished (TypeArgument t NoTemplateArguments)))
+      by size.Dynamic is (Some t) =
+          λ i. Some (filled (sym row i) 0 (parts_numbers distinguished (TypeArgument t NoTemplateArguments)))
 
-  image_is_distinguished : (dim : ImageDimension) (arrayed : Bool) (c : ImageClass) → image_key dim arrayed c ≡ option_map (tree_numbers distinguished) (image_tree dim arrayed c)
+  image_is_distinguished : (dim : ImageDimension) (arrayed : Bool) (c : ImageClass) → image_key dim arrayed c
+      ≡ option_map (tree_numbers distinguished) (image_tree dim arrayed c)
   unfolding word_numbers
   image_is_distinguished dim arrayed (class.Sampled k multi) =
       let s : Scalar = record { kind = k; width = 4 } in
@@ -549,25 +587,30 @@ module _ (distinguished : List ℕ → ℕ) where
       ap Some (sym (depth_numbers multi dim arrayed))
   image_is_distinguished dim arrayed class.External = refl
   image_is_distinguished dim arrayed (class.Storage f access) =
-      let access_distinguished = image_access_numbers (has atomic_bit access) (has load_bit access) (has store_bit access) in
+      let access_distinguished = image_access_numbers (has atomic_bit access) (has load_bit access)
+      (has store_bit access) in
       sym ((λ i. Some
       (filled (storage_filling dim arrayed i)
       (letter_in (TypeArgument (Named [])
       (TypeArgument (Named (image_access_word access)) NoTemplateArguments)))
       (format_numbers f i ∷ word_numbers distinguished (image_access_word access) ∷ []))) ∙
-      ap (λ x. Some (level 9 (dimension_number dim) (truth_number arrayed) 2 (tag_of format_names f) x)) access_distinguished)
+      ap (λ x. Some (level 9 (dimension_number dim) (truth_number arrayed) 2 (tag_of format_names f) x))
+      access_distinguished)
 
-  sampler_is_distinguished : (b : Bool) → Some (level 10 (truth_number b) 0 0 0 0) ≡ Some (word_numbers distinguished (sampler_word b))
+  sampler_is_distinguished : (b : Bool) → Some (level 10 (truth_number b) 0 0 0 0)
+      ≡ Some (word_numbers distinguished (sampler_word b))
   unfolding word_numbers
   sampler_is_distinguished true = refl
   sampler_is_distinguished false = refl
 
-  structure_is_distinguished : (b : Bool) → Some (level 11 (truth_number b) 0 0 0 0) ≡ Some (tree_numbers distinguished (ray_tree (codes "acceleration_structure") b))
+  structure_is_distinguished : (b : Bool) → Some (level 11 (truth_number b) 0 0 0 0)
+      ≡ Some (tree_numbers distinguished (ray_tree (codes "acceleration_structure") b))
   unfolding word_numbers filling_of
   structure_is_distinguished true = refl
   structure_is_distinguished false = refl
 
-  query_is_distinguished : (b : Bool) → Some (level 12 (truth_number b) 0 0 0 0) ≡ Some (tree_numbers distinguished (ray_tree (codes "ray_query") b))
+  query_is_distinguished : (b : Bool) → Some (level 12 (truth_number b) 0 0 0 0)
+      ≡ Some (tree_numbers distinguished (ray_tree (codes "ray_query") b))
   unfolding word_numbers filling_of
   query_is_distinguished true = refl
   query_is_distinguished false = refl
@@ -581,16 +624,25 @@ module _ (distinguished : List ℕ → ℕ) where
     unfolding filling_of
     inner_is_distinguished f g same (inner.Scalar s) is named = scalar_is_distinguished s
     inner_is_distinguished f g same (inner.Vector n s) is named = value_is_distinguished (Some n) s
-    inner_is_distinguished f g same (inner.Matrix c r s) is named = over_is_distinguished (scalar_word s) (of_one (matrix_word c r)) _ (scalar_part (matrix_word c r) _ (matrix_filling c r) s)
+    inner_is_distinguished f g same (inner.Matrix c r s) is named =
+        over_is_distinguished (scalar_word s) (of_one (matrix_word c r)) _
+        (scalar_part (matrix_word c r) _ (matrix_filling c r) s)
     inner_is_distinguished f g same (inner.CooperativeMatrix c r s role) is named =
         over_is_distinguished (scalar_word s) (λ t. of_two (cooperative_word c r) t (Named (role_word role))) _
-        (λ w e. (λ i. filled (cooperative_filling c r i) (letter_in (role_parts role)) (scalar_numbers s.kind s.width w e i ∷ word_numbers distinguished (role_word role) ∷ [])) ∙
-        ap (λ x. level 3 (kind_number s.kind) s.width (cooperative_number c) (cooperative_number r) x) (role_numbers role))
-    inner_is_distinguished f g same (inner.Atomic s) is named = over_is_distinguished (scalar_word s) (of_one (codes "atomic")) _ (scalar_part (codes "atomic") _ refl s)
-    inner_is_distinguished f g same (inner.Pointer base at) is named = pointer_is_distinguished at named (f base) (g base) (same base)
-    inner_is_distinguished f g same (inner.ValuePointer n s at) is named = value_pointer_is_distinguished at (value_key n s) (value_tree n s) (value_is_distinguished n s)
-    inner_is_distinguished f g same (inner.Array base n stride) is named = array_is_distinguished under (codes "array") 6 refl n is (f base) (g base) (same base)
-    inner_is_distinguished f g same (inner.BindingArray base n) is named = array_is_distinguished under (codes "binding_array") 7 refl n is (f base) (g base) (same base)
+        (λ w e. (λ i. filled (cooperative_filling c r i) (letter_in (role_parts role))
+        (scalar_numbers s.kind s.width w e i ∷ word_numbers distinguished (role_word role) ∷ [])) ∙
+        ap (λ x. level 3 (kind_number s.kind) s.width (cooperative_number c) (cooperative_number r) x)
+        (role_numbers role))
+    inner_is_distinguished f g same (inner.Atomic s) is named =
+        over_is_distinguished (scalar_word s) (of_one (codes "atomic")) _ (scalar_part (codes "atomic") _ refl s)
+    inner_is_distinguished f g same (inner.Pointer base at) is named =
+        pointer_is_distinguished at named (f base) (g base) (same base)
+    inner_is_distinguished f g same (inner.ValuePointer n s at) is named =
+        value_pointer_is_distinguished at (value_key n s) (value_tree n s) (value_is_distinguished n s)
+    inner_is_distinguished f g same (inner.Array base n stride) is named =
+        array_is_distinguished under (codes "array") 6 refl n is (f base) (g base) (same base)
+    inner_is_distinguished f g same (inner.BindingArray base n) is named =
+        array_is_distinguished under (codes "binding_array") 7 refl n is (f base) (g base) (same base)
     inner_is_distinguished f g same (inner.Struct members span) is named = refl
     inner_is_distinguished f g same (inner.Image dim arrayed c) is named =
         image_is_distinguished dim arrayed c
@@ -600,14 +652,16 @@ module _ (distinguished : List ℕ → ℕ) where
         structure_is_distinguished b
     inner_is_distinguished f g same (inner.RayQuery b) is named = query_is_distinguished b
 
-    module _ (are : AreDistinguished distinguished under) (named : (h : ℕ) (t : Type_) → slice_get under.types h ≡ Some t → is_handle_pointer t.inner ≡ false) where
+    module _ (are : AreDistinguished distinguished under)
+        (named : (h : ℕ) (t : Type_) → slice_get under.types h ≡ Some t → is_handle_pointer t.inner ≡ false) where
       found_is_distinguished : (f : ℕ → Option (List ℕ)) (g : ℕ → Option TypeSpecifier) →
           ((h : ℕ) → f h ≡ option_map (tree_numbers distinguished) (g h)) →
           (h : ℕ) (o : Option Type_) → slice_get under.types h ≡ o →
           found_key_by f h o ≡ option_map (tree_numbers distinguished) (found_tree_by under g h o)
       unfolding word_numbers
       found_is_distinguished f g same h None at = refl
-      found_is_distinguished f g same h (Some t) at = by (is_struct t.inner) refl _ _ (inner_is_distinguished f g same t.inner (are.lengths h t at) (named h t at))
+      found_is_distinguished f g same h (Some t) at =
+          by (is_struct t.inner) refl _ _ (inner_is_distinguished f g same t.inner (are.lengths h t at) (named h t at))
         where
           by : (b : Bool) → is_struct t.inner ≡ b →
               (x : Option (List ℕ)) (y : Option TypeSpecifier) →
@@ -617,11 +671,14 @@ module _ (distinguished : List ℕ → ℕ) where
           by true is x y e = ap Some (sym (are.structs h t at is))
           by false is x y e = e
 
-      within_is_distinguished : (levels h : ℕ) → key_within levels under.types h ≡ option_map (tree_numbers distinguished) (tree_within levels under h)
+      within_is_distinguished : (levels h : ℕ) → key_within levels under.types h
+          ≡ option_map (tree_numbers distinguished) (tree_within levels under h)
       within_is_distinguished zero h = refl
-      within_is_distinguished (suc levels) h = found_is_distinguished (key_within levels under.types) (tree_within levels under) (within_is_distinguished levels) h (slice_get under.types h) refl
+      within_is_distinguished (suc levels) h = found_is_distinguished (key_within levels under.types)
+          (tree_within levels under) (within_is_distinguished levels) h (slice_get under.types h) refl
 
-      handle_is_distinguished : (h : ℕ) → handle_key under.types h ≡ option_map (tree_numbers distinguished) (type_tree under h)
+      handle_is_distinguished : (h : ℕ) → handle_key under.types h ≡ option_map (tree_numbers distinguished)
+          (type_tree under h)
       unfolding type_tree handle_key
       handle_is_distinguished h = within_is_distinguished (suc h) h
 
@@ -630,7 +687,8 @@ module _ (distinguished : List ℕ → ℕ) where
           ResolutionIsDistinguished distinguished under r → resolution_is_fit r ≡ true →
           type_key under.types r ≡ option_map (tree_numbers distinguished) (resolution_tree under r)
       form_is_distinguished (Handle h) is fit = handle_is_distinguished h
-      form_is_distinguished (Value it) is fit = inner_is_distinguished (handle_key under.types) (type_tree under) handle_is_distinguished it is (not-true (is_handle_pointer it) (and_parts _ _ fit).1)
+      form_is_distinguished (Value it) is fit = inner_is_distinguished (handle_key under.types)
+          (type_tree under) handle_is_distinguished it is (not-true (is_handle_pointer it) (and_parts _ _ fit).1)
 
 -- ---- names that are handles
 abbrev pub own_handle : List ℕ → ℕ

@@ -45,7 +45,7 @@ use Rattle.module_meaning.specs.acceptance.Ranges.{parts_before, parts_stand_bef
 use Rattle.module_meaning.proofs.Lists.{placed_at}
 use Rattle.module_meaning.specs.TypeIdentity.{identity, identity_code, word_of_unspelled_type}
 use Rattle.module_meaning.specs.TypeIdentity.{level, kind_number, length_kind, length_number}
-use Rattle.module_meaning.specs.TypeIdentity.{vector_number, space_number, truth_number}
+use Rattle.module_meaning.specs.TypeIdentity.{component_count, space_number, truth_number}
 use Rattle.module_meaning.specs.TypeIdentity.{dimension_number}
 use Rattle.module_meaning.specs.TypeParts.{part_type, pointed_part, member_type, inner_at}
 use Rattle.module_meaning.specs.TypeParts.{element_count}
@@ -61,7 +61,8 @@ is_pointer (inner.ValuePointer n s at) = true
 is_pointer _ = false
 
 -- ---- kinds of parts
--- what the parts of a place are: none, elements or columns, so many where it is known, so many components, or the members of the
+-- what the parts of a place are: none, elements or columns, so many where it is known, so many
+-- components, or the members of the
 -- struct with this handle
 pub data PartKind : Type 0 where
   NoKind : PartKind
@@ -71,8 +72,8 @@ pub data PartKind : Type 0 where
 
 -- of a type of the module
 abbrev pub kind_at : (base : ℕ) → TypeInner → PartKind
-kind_at base (inner.Vector n s) = ComponentKind (vector_number n)
-kind_at base (inner.Matrix columns rows s) = ElementKind (Some (vector_number columns))
+kind_at base (inner.Vector n s) = ComponentKind (component_count n)
+kind_at base (inner.Matrix columns rows s) = ElementKind (Some (component_count columns))
 kind_at base (inner.Array item count stride) = ElementKind (element_count count)
 kind_at base (inner.BindingArray item count) = ElementKind (element_count count)
 kind_at base (inner.Struct members span) = MemberKind base
@@ -81,7 +82,7 @@ kind_at base _ = NoKind
 -- of what a pointer points to
 abbrev pub pointee_kind : List Type_ → TypeInner → PartKind
 pointee_kind types (inner.Pointer base at) = option_map_or (kind_at base) (inner_at types base) NoKind
-pointee_kind types (inner.ValuePointer (Some n) s at) = ComponentKind (vector_number n)
+pointee_kind types (inner.ValuePointer (Some n) s at) = ComponentKind (component_count n)
 pointee_kind types _ = NoKind
 
 -- the members of a struct
@@ -94,7 +95,8 @@ abbrev count_of_form : List ℕ → Option ℕ
 count_of_form y = if nat_eq (get_or y 1 0) 0 then Some (get_or y 2 0) else None
 
 -- it is how many the array has
-counted_by_form : (n : ArraySize) → element_count n ≡ (if nat_eq (length_kind n) 0 then Some (length_number n) else None)
+counted_by_form : (n : ArraySize) → element_count n
+    ≡ (if nat_eq (length_kind n) 0 then Some (length_number n) else None)
 counted_by_form (length.Constant number) = refl
 counted_by_form _ = refl
 
@@ -109,8 +111,10 @@ kind_of_form y =
 -- the form of a part, by the numbers of the space and the form of the whole, which is no struct
 abbrev part_form : (number access : ℕ) → List ℕ → Option (List ℕ)
 part_form number access y =
-    if nat_eq (get_or y 0 0) 1 then Some (level 5 number access 0 0 0 ++ level 0 (get_or y 1 0) (get_or y 2 0) 0 0 0) else (
-    if nat_eq (get_or y 0 0) 2 then Some (level 5 number access 0 0 0 ++ level 1 (get_or y 1 0) (get_or y 2 0) (get_or y 4 0) 0 0) else (
+    if nat_eq (get_or y 0 0) 1 then Some
+    (level 5 number access 0 0 0 ++ level 0 (get_or y 1 0) (get_or y 2 0) 0 0 0) else (
+    if nat_eq (get_or y 0 0) 2 then Some
+    (level 5 number access 0 0 0 ++ level 1 (get_or y 1 0) (get_or y 2 0) (get_or y 4 0) 0 0) else (
     if nat_eq (get_or y 0 0) 6 then Some (level 5 number access 0 0 0 ++ drop 6 y) else (
     if nat_eq (get_or y 0 0) 7 then Some (level 5 number access 0 0 0 ++ drop 6 y) else None)))
 
@@ -137,11 +141,13 @@ same_found f g h same (Some t) before = by t.inner (before t refl)
     by (inner.BindingArray base n) lt = ap (array_key 7 n) (same base (ltb-true base h lt))
     by _ lt = refl
 
-levels_agree : (m : Module) → PartsStand m → (n k h : ℕ) → h < n → h < k → key_within n m.types h ≡ key_within k m.types h
+levels_agree : (m : Module) → PartsStand m → (n k h : ℕ) → h < n → h < k → key_within n m.types h
+    ≡ key_within k m.types h
 levels_agree m stand zero k h p q = absurd (omega (arith, p))
 levels_agree m stand (suc n) zero h p q = absurd (omega (arith, q))
 levels_agree m stand (suc n) (suc k) h p q =
-    same_found (key_within n m.types) (key_within k m.types) h (λ b lt. levels_agree m stand n k b (omega (arith, p, lt)) (omega (arith, q, lt)))
+    same_found (key_within n m.types) (key_within k m.types) h
+    (λ b lt. levels_agree m stand n k b (omega (arith, p, lt)) (omega (arith, q, lt)))
     (slice_get m.types h) (stand h)
 
 pub at_depth : (m : Module) → PartsStand m → (n h : ℕ) → h < n → key_within n m.types h ≡ handle_key m.types h
@@ -167,9 +173,12 @@ module _ (m : Module) (are : TypesAreCounted m) (stand : PartsStand m) where
 
   -- what a pointer of this form points to: a type that is no struct, or one
   data Pointed (it : TypeInner) (form : List ℕ) : Type 0 where
-    Plain : (number access : ℕ) (y : List ℕ) → form ≡ level 5 number access 0 0 0 ++ y → nat_eq (get_or y 0 0) 8 ≡ false →
-        ((index : Option ℕ) → PartIs (part_form number access y) (part_type m.types it index)) → pointee_kind m.types it ≡ kind_of_form y → Pointed it form
-    Whole : (at : AddressSpace) (h : ℕ) → form ≡ following at (level 8 h 0 0 0 0) → it ≡ inner.Pointer h at → pointee_kind m.types it ≡ MemberKind h → Pointed it form
+    Plain : (number access : ℕ) (y : List ℕ) → form ≡ level 5 number access 0 0 0 ++ y → nat_eq (get_or y 0 0) 8
+        ≡ false →
+        ((index : Option ℕ) → PartIs (part_form number access y) (part_type m.types it index)) →
+        pointee_kind m.types it ≡ kind_of_form y → Pointed it form
+    Whole : (at : AddressSpace) (h : ℕ) → form ≡ following at (level 8 h 0 0 0 0) → it ≡ inner.Pointer h at →
+        pointee_kind m.types it ≡ MemberKind h → Pointed it form
 
   -- a space that is not that of handles has a word
   has_word : (at : AddressSpace) → is_handle_space at ≡ false → is_none (space_word at) ≡ false
@@ -177,19 +186,23 @@ module _ (m : Module) (are : TypesAreCounted m) (stand : PartsStand m) where
   has_word _ not_handle = refl
 
   -- a pointer to a value of a form
-  value_pointer : (at : AddressSpace) → is_none (space_word at) ≡ false → (form : Option (List ℕ)) (y : List ℕ) → form ≡ Some y → value_pointer_key at form ≡ Some (following at y)
+  value_pointer : (at : AddressSpace) → is_none (space_word at) ≡ false →
+      (form : Option (List ℕ)) (y : List ℕ) → form ≡ Some y → value_pointer_key at form ≡ Some (following at y)
   value_pointer at named form y is = (λ i. if named i then None else pointer_key at form) ∙ ap (pointer_key at) is
 
-  scalar_is : (tag : ℕ) (s : Scalar) (c d e : ℕ) → is_some (scalar_word s) ≡ true → over_scalar tag s c d e ≡ Some (level tag (kind_number s.kind) s.width c d e)
+  scalar_is : (tag : ℕ) (s : Scalar) (c d e : ℕ) → is_some (scalar_word s) ≡ true → over_scalar tag s c d e
+      ≡ Some (level tag (kind_number s.kind) s.width c d e)
   scalar_is tag s c d e word = λ i. if word i then Some (level tag (kind_number s.kind) s.width c d e) else None
 
   -- what has no parts
   abbrev OfNoParts : Option (List ℕ) → Type 0
   OfNoParts None = Unit {0}
   OfNoParts (Some y) =
-      (nat_eq (get_or y 0 0) 8 ≡ false) × ((number access : ℕ) → part_form number access y ≡ None) × (kind_of_form y ≡ NoKind)
+      (nat_eq (get_or y 0 0) 8 ≡ false) × ((number access : ℕ) → part_form number access y ≡ None)
+      × (kind_of_form y ≡ NoKind)
 
-  over_no_parts : (tag : ℕ) (s : Scalar) (c d e : ℕ) → OfNoParts (Some (level tag (kind_number s.kind) s.width c d e)) → OfNoParts (over_scalar tag s c d e)
+  over_no_parts : (tag : ℕ) (s : Scalar) (c d e : ℕ) →
+      OfNoParts (Some (level tag (kind_number s.kind) s.width c d e)) → OfNoParts (over_scalar tag s c d e)
   over_no_parts tag s c d e none = by (is_some (scalar_word s))
     where
       by : (b : Bool) → OfNoParts (if b then Some (level tag (kind_number s.kind) s.width c d e) else None)
@@ -210,7 +223,9 @@ module _ (m : Module) (are : TypesAreCounted m) (stand : PartsStand m) where
   image_no_parts : (dim : ImageDimension) (arrayed : Bool) (c : ImageClass) → OfNoParts (image_key dim arrayed c)
   image_no_parts dim arrayed (class.Sampled kind multi) = by (is_some (scalar_word (record { kind = kind; width = 4 })))
     where
-      by : (b : Bool) → OfNoParts (if b then Some (level 9 (dimension_number dim) (truth_number arrayed) 0 (kind_number kind) (truth_number multi)) else None)
+      by : (b : Bool) →
+          OfNoParts (if b then Some (level 9 (dimension_number dim) (truth_number arrayed) 0 (kind_number kind)
+          (truth_number multi)) else None)
       by true = (refl, λ number access. refl, refl)
       by false = tt
   image_no_parts dim arrayed (class.Depth multi) = (refl, λ number access. refl, refl)
@@ -218,27 +233,38 @@ module _ (m : Module) (are : TypesAreCounted m) (stand : PartsStand m) where
   image_no_parts dim arrayed class.External = (refl, λ number access. refl, refl)
 
   -- ---- a pointer to a type of the module
-  module _ (base : ℕ) (at : AddressSpace) (t : Type_) (there : slice_get m.types base ≡ Some t) (named : is_none (space_word at) ≡ false) where
-    parts_are : (it : TypeInner) → t.inner ≡ it → (index : Option ℕ) → part_type m.types (inner.Pointer base at) index ≡ pointed_part at it index
-    parts_are it is index = ap (λ o. option_and_then (λ it. pointed_part at it index) (option_map (λ t. t.inner) o)) there ∙ ap (λ it. pointed_part at it index) is
+  module _ (base : ℕ) (at : AddressSpace) (t : Type_) (there : slice_get m.types base ≡ Some t)
+      (named : is_none (space_word at) ≡ false) where
+    parts_are : (it : TypeInner) → t.inner ≡ it → (index : Option ℕ) →
+        part_type m.types (inner.Pointer base at) index ≡ pointed_part at it index
+    parts_are it is index =
+        ap (λ o. option_and_then (λ it. pointed_part at it index) (option_map (λ t. t.inner) o)) there
+        ∙ ap (λ it. pointed_part at it index) is
 
     kind_is : (it : TypeInner) → t.inner ≡ it → pointee_kind m.types (inner.Pointer base at) ≡ kind_at base it
-    kind_is it is = ap (λ o. option_map_or (kind_at base) (option_map (λ t. t.inner) o) NoKind) there ∙ ap (kind_at base) is
+    kind_is it is = ap (λ o. option_map_or (kind_at base) (option_map (λ t. t.inner) o) NoKind) there
+        ∙ ap (kind_at base) is
 
     plain : (it : TypeInner) → t.inner ≡ it → (y : List ℕ) → nat_eq (get_or y 0 0) 8 ≡ false →
-        ((index : Option ℕ) → PartIs (part_form (space_number at) (access_number at) y) (pointed_part at it index)) → kind_at base it ≡ kind_of_form y →
-        (form : Option (List ℕ)) → form ≡ Some y → (x : List ℕ) → form ≡ Some x → Pointed (inner.Pointer base at) (following at x)
+        ((index : Option ℕ) → PartIs (part_form (space_number at) (access_number at) y)
+        (pointed_part at it index)) → kind_at base it ≡ kind_of_form y →
+        (form : Option (List ℕ)) → form ≡ Some y → (x : List ℕ) → form ≡ Some x →
+        Pointed (inner.Pointer base at) (following at x)
     plain it is y other parts kind form f x g =
         Plain (space_number at) (access_number at) y (ap (following at) (same_Some x y (sym g ∙ f))) other
-        (λ index. subst (PartIs (part_form (space_number at) (access_number at) y)) (sym (parts_are it is index)) (parts index))
+        (λ index. subst (PartIs (part_form (space_number at) (access_number at) y))
+        (sym (parts_are it is index)) (parts index))
         (kind_is it is ∙ kind)
 
-    partless : (it : TypeInner) → t.inner ≡ it → ((index : Option ℕ) → pointed_part at it index ≡ None) → kind_at base it ≡ NoKind →
-        (form : Option (List ℕ)) → OfNoParts form → (x : List ℕ) → form ≡ Some x → Pointed (inner.Pointer base at) (following at x)
+    partless : (it : TypeInner) → t.inner ≡ it → ((index : Option ℕ) → pointed_part at it index ≡ None) →
+        kind_at base it ≡ NoKind →
+        (form : Option (List ℕ)) → OfNoParts form → (x : List ℕ) → form ≡ Some x →
+        Pointed (inner.Pointer base at) (following at x)
     partless it is none kind None lacks x g = absurd cc
     partless it is none kind (Some y) lacks x g =
         plain it is y lacks.0
-        (λ index. subst (λ o. PartIs o (pointed_part at it index)) (sym (lacks.1 (space_number at) (access_number at))) (subst (PartIs None) (sym (none index)) tt))
+        (λ index. subst (λ o. PartIs o (pointed_part at it index))
+        (sym (lacks.1 (space_number at) (access_number at))) (subst (PartIs None) (sym (none index)) tt))
         (kind ∙ sym lacks.2) (Some y) refl x g
 
     module _ (n : ℕ) (deep : base ≤ n) where
@@ -246,59 +272,79 @@ module _ (m : Module) (are : TypesAreCounted m) (stand : PartsStand m) where
       elements : (it : TypeInner) → t.inner ≡ it → (element : ℕ) (size : List ℕ → List ℕ) →
           ((z : List ℕ) → nat_eq (get_or (size z) 0 0) 8 ≡ false) →
           ((z : List ℕ) → part_form (space_number at) (access_number at) (size z) ≡ Some (following at z)) →
-          ((index : Option ℕ) → pointed_part at it index ≡ Some (Value (inner.Pointer element at))) → ((z : List ℕ) → kind_at base it ≡ kind_of_form (size z)) →
+          ((index : Option ℕ) → pointed_part at it index ≡ Some (Value (inner.Pointer element at))) →
+          ((z : List ℕ) → kind_at base it ≡ kind_of_form (size z)) →
           element < base →
-          (o : Option (List ℕ)) → key_within n m.types element ≡ o → (x : List ℕ) → option_map size o ≡ Some x → Pointed (inner.Pointer base at) (following at x)
+          (o : Option (List ℕ)) → key_within n m.types element ≡ o → (x : List ℕ) → option_map size o ≡ Some x →
+          Pointed (inner.Pointer base at) (following at x)
       elements it is element size other form parts kind before None f x g = absurd cc
       elements it is element size other form parts kind before (Some z) f x g =
           plain it is (size z) (other z)
-          (λ index. subst (λ o. PartIs o (pointed_part at it index)) (sym (form z)) (subst (PartIs (Some (following at z))) (sym (parts index))
+          (λ index. subst (λ o. PartIs o (pointed_part at it index)) (sym (form z))
+          (subst (PartIs (Some (following at z))) (sym (parts index))
           (ap (pointer_key at) (sym (at_depth m stand n element (depth before deep)) ∙ f))))
           (kind z) (Some (size z)) refl x g
         where
           depth : element < base → base ≤ n → element < n
           depth a b = omega (arith, a, b)
 
-      pointee : (it : TypeInner) → t.inner ≡ it → (x : List ℕ) → named_key_by (key_within n m.types) base it ≡ Some x → Pointed (inner.Pointer base at) (following at x)
-      pointee (inner.Scalar s) is x g = partless (inner.Scalar s) is (λ index. refl) refl _ (over_no_parts 0 s 0 0 0 (refl, λ number access. refl, refl)) x g
+      pointee : (it : TypeInner) → t.inner ≡ it → (x : List ℕ) → named_key_by (key_within n m.types) base it
+          ≡ Some x → Pointed (inner.Pointer base at) (following at x)
+      pointee (inner.Scalar s) is x g = partless (inner.Scalar s) is (λ index. refl) refl _
+          (over_no_parts 0 s 0 0 0 (refl, λ number access. refl, refl)) x g
       pointee (inner.Vector k s) is x g = by (is_some (scalar_word s)) refl g
         where
           by : (b : Bool) → is_some (scalar_word s) ≡ b →
-              (if b then Some (level 1 (kind_number s.kind) s.width (vector_number k) 0 0)
+              (if b then Some (level 1 (kind_number s.kind) s.width (component_count k) 0 0)
               else None) ≡ Some x → Pointed (inner.Pointer base at) (following at x)
           by false word g = absurd cc
           by true word g =
-              plain (inner.Vector k s) is (level 1 (kind_number s.kind) s.width (vector_number k) 0 0) refl
+              plain (inner.Vector k s) is (level 1 (kind_number s.kind) s.width (component_count k) 0 0) refl
               (λ index. value_pointer at named (over_scalar 0 s 0 0 0) _ (scalar_is 0 s 0 0 0 word)) refl _ refl x g
       pointee (inner.Matrix columns rows s) is x g = by (is_some (scalar_word s)) refl g
         where
           by : (b : Bool) → is_some (scalar_word s) ≡ b →
-              (if b then Some (level 2 (kind_number s.kind) s.width (vector_number columns)
-              (vector_number rows) 0) else None) ≡ Some x →
+              (if b then Some (level 2 (kind_number s.kind) s.width (component_count columns)
+              (component_count rows) 0) else None) ≡ Some x →
               Pointed (inner.Pointer base at) (following at x)
           by false word g = absurd cc
           by true word g =
-              plain (inner.Matrix columns rows s) is (level 2 (kind_number s.kind) s.width (vector_number columns) (vector_number rows) 0) refl
-              (λ index. value_pointer at named (over_scalar 1 s (vector_number rows) 0 0) _ (scalar_is 1 s (vector_number rows) 0 0 word)) refl _ refl x g
+              plain (inner.Matrix columns rows s) is
+              (level 2 (kind_number s.kind) s.width (component_count columns) (component_count rows) 0) refl
+              (λ index. value_pointer at named (over_scalar 1 s (component_count rows) 0 0) _
+              (scalar_is 1 s (component_count rows) 0 0 word)) refl _ refl x g
       pointee (inner.CooperativeMatrix columns rows s role) is x g =
-          partless (inner.CooperativeMatrix columns rows s role) is (λ index. refl) refl _ (over_no_parts 3 s _ _ _ (refl, λ number access. refl, refl)) x g
-      pointee (inner.Atomic s) is x g = partless (inner.Atomic s) is (λ index. refl) refl _ (over_no_parts 4 s 0 0 0 (refl, λ number access. refl, refl)) x g
-      pointee (inner.Pointer other to) is x g = partless (inner.Pointer other to) is (λ index. refl) refl _ (pointer_no_parts to (key_within n m.types other)) x g
-      pointee (inner.ValuePointer k s to) is x g = partless (inner.ValuePointer k s to) is (λ index. refl) refl _ (value_pointer_no_parts to (value_key k s)) x g
+          partless (inner.CooperativeMatrix columns rows s role) is (λ index. refl) refl _
+          (over_no_parts 3 s _ _ _ (refl, λ number access. refl, refl)) x g
+      pointee (inner.Atomic s) is x g = partless (inner.Atomic s) is (λ index. refl) refl _
+          (over_no_parts 4 s 0 0 0 (refl, λ number access. refl, refl)) x g
+      pointee (inner.Pointer other to) is x g = partless (inner.Pointer other to) is (λ index. refl) refl _
+          (pointer_no_parts to (key_within n m.types other)) x g
+      pointee (inner.ValuePointer k s to) is x g =
+          partless (inner.ValuePointer k s to) is (λ index. refl) refl _ (value_pointer_no_parts to (value_key k s)) x g
       pointee (inner.Array element size stride) is x g =
-          elements (inner.Array element size stride) is element (λ it. level 6 (length_kind size) (length_number size) 0 0 0 ++ it)
+          elements (inner.Array element size stride) is element
+          (λ it. level 6 (length_kind size) (length_number size) 0 0 0 ++ it)
           (λ z. refl) (λ z. refl) (λ index. refl) (λ z. ap ElementKind (counted_by_form size))
-          (ltb-true element base (sym (ap (parts_before base) is) ∙ stand base t there)) (key_within n m.types element) refl x g
+          (ltb-true element base (sym (ap (parts_before base) is) ∙ stand base t there))
+          (key_within n m.types element) refl x g
       pointee (inner.BindingArray element size) is x g =
-          elements (inner.BindingArray element size) is element (λ it. level 7 (length_kind size) (length_number size) 0 0 0 ++ it)
+          elements (inner.BindingArray element size) is element
+          (λ it. level 7 (length_kind size) (length_number size) 0 0 0 ++ it)
           (λ z. refl) (λ z. refl) (λ index. refl) (λ z. ap ElementKind (counted_by_form size))
-          (ltb-true element base (sym (ap (parts_before base) is) ∙ stand base t there)) (key_within n m.types element) refl x g
+          (ltb-true element base (sym (ap (parts_before base) is) ∙ stand base t there))
+          (key_within n m.types element) refl x g
       pointee (inner.Struct members span) is x g =
           Whole at base (ap (following at) (sym (same_Some _ x g))) refl (kind_is (inner.Struct members span) is)
-      pointee (inner.Image dim arrayed c) is x g = partless (inner.Image dim arrayed c) is (λ index. refl) refl _ (image_no_parts dim arrayed c) x g
-      pointee (inner.Sampler comparison) is x g = partless (inner.Sampler comparison) is (λ index. refl) refl _ (refl, λ number access. refl, refl) x g
-      pointee (inner.AccelerationStructure vertex_return) is x g = partless (inner.AccelerationStructure vertex_return) is (λ index. refl) refl _ (refl, λ number access. refl, refl) x g
-      pointee (inner.RayQuery vertex_return) is x g = partless (inner.RayQuery vertex_return) is (λ index. refl) refl _ (refl, λ number access. refl, refl) x g
+      pointee (inner.Image dim arrayed c) is x g =
+          partless (inner.Image dim arrayed c) is (λ index. refl) refl _ (image_no_parts dim arrayed c) x g
+      pointee (inner.Sampler comparison) is x g = partless (inner.Sampler comparison) is (λ index. refl) refl _
+          (refl, λ number access. refl, refl) x g
+      pointee (inner.AccelerationStructure vertex_return) is x g =
+          partless (inner.AccelerationStructure vertex_return) is (λ index. refl) refl _
+          (refl, λ number access. refl, refl) x g
+      pointee (inner.RayQuery vertex_return) is x g = partless (inner.RayQuery vertex_return) is
+          (λ index. refl) refl _ (refl, λ number access. refl, refl) x g
 
   -- what is pointed to stands in the module where it has a form
   pointed_module : (base : ℕ) (at : AddressSpace) → is_handle_space at ≡ false →
@@ -308,11 +354,13 @@ module _ (m : Module) (are : TypesAreCounted m) (stand : PartsStand m) where
   pointed_module base at free n deep (Some y) f x g =
       subst (Pointed (inner.Pointer base at)) (same_Some _ x g) (by (slice_get m.types base) refl f)
     where
-      by : (o : Option Type_) → slice_get m.types base ≡ o → found_key_by (key_within n m.types) base o ≡ Some y → Pointed (inner.Pointer base at) (following at y)
+      by : (o : Option Type_) → slice_get m.types base ≡ o → found_key_by (key_within n m.types) base o
+          ≡ Some y → Pointed (inner.Pointer base at) (following at y)
       by None there f = absurd cc
       by (Some t) there f = pointee base at t there (has_word at free) n deep t.inner refl y f
 
-  pointed_value : (size : Option VectorSize) (s : Scalar) (at : AddressSpace) (x : List ℕ) → value_pointer_key at (value_key size s) ≡ Some x → Pointed (inner.ValuePointer size s at) x
+  pointed_value : (size : Option VectorSize) (s : Scalar) (at : AddressSpace) (x : List ℕ) →
+      value_pointer_key at (value_key size s) ≡ Some x → Pointed (inner.ValuePointer size s at) x
   pointed_value size s at x g = by (is_none (space_word at)) refl g
     where
       after_word : (size : Option VectorSize) → is_none (space_word at) ≡ false →
@@ -320,20 +368,27 @@ module _ (m : Module) (are : TypesAreCounted m) (stand : PartsStand m) where
           (x : List ℕ) → pointer_key at (value_key size s) ≡ Some x →
           Pointed (inner.ValuePointer size s at) x
       after_word None named true word x g =
-          Plain (space_number at) (access_number at) (level 0 (kind_number s.kind) s.width 0 0 0) (same_Some x _ (sym g ∙ ap (pointer_key at) (scalar_is 0 s 0 0 0 word))) refl
+          Plain (space_number at) (access_number at) (level 0 (kind_number s.kind) s.width 0 0 0)
+          (same_Some x _ (sym g ∙ ap (pointer_key at) (scalar_is 0 s 0 0 0 word))) refl
           (λ index. tt) refl
       after_word (Some k) named true word x g =
           Plain (space_number at) (access_number at)
-          (level 1 (kind_number s.kind) s.width (vector_number k) 0 0)
+          (level 1 (kind_number s.kind) s.width (component_count k) 0 0)
           (same_Some x _ (sym g
-          ∙ ap (pointer_key at) (scalar_is 1 s (vector_number k) 0 0 word))) refl
+          ∙ ap (pointer_key at) (scalar_is 1 s (component_count k) 0 0 word))) refl
           (λ index. value_pointer at named (over_scalar 0 s 0 0 0) _ (scalar_is 0 s 0 0 0 word)) refl
       after_word None named false word x g =
-          let none : None ≡ Some x = sym (ap (λ b. pointer_key at (if b then Some (level 0 (kind_number s.kind) s.width 0 0 0) else None)) word) ∙ g in absurd cc
+          let none : None ≡ Some x =
+          sym (ap (λ b. pointer_key at (if b then Some (level 0 (kind_number s.kind) s.width 0 0 0)
+          else None)) word) ∙ g in absurd cc
       after_word (Some k) named false word x g =
-          let none : None ≡ Some x = sym (ap (λ b. pointer_key at (if b then Some (level 1 (kind_number s.kind) s.width (vector_number k) 0 0) else None)) word) ∙ g in absurd cc
+          let none : None ≡ Some x =
+          sym (ap (λ b. pointer_key at
+          (if b then Some (level 1 (kind_number s.kind) s.width (component_count k) 0 0) else None)) word)
+          ∙ g in absurd cc
 
-      by : (b : Bool) → is_none (space_word at) ≡ b → (if b then None else pointer_key at (value_key size s)) ≡ Some x → Pointed (inner.ValuePointer size s at) x
+      by : (b : Bool) → is_none (space_word at) ≡ b → (if b then None else pointer_key at (value_key size s))
+          ≡ Some x → Pointed (inner.ValuePointer size s at) x
       by true named g = absurd cc
       by false named g = after_word size named (is_some (scalar_word s)) refl x g
 
@@ -354,14 +409,19 @@ module _ (m : Module) (are : TypesAreCounted m) (stand : PartsStand m) where
     where
       by : (o : Option Type_) → slice_get m.types h ≡ o → option_map (λ t. t.inner) o ≡ Some it → IsFree it
       by None there at = absurd cc
-      by (Some t) there at = subst IsFree (same_Some t.inner it at) (free_by t.inner (each_named m.types are.types.fits h t there))
+      by (Some t) there at =
+          subst IsFree (same_Some t.inner it at) (free_by t.inner (each_named m.types are.types.fits h t there))
 
-  pointed : (r : TypeResolution) (it : TypeInner) → IsFree it → inner_of r m.types ≡ Some it → is_pointer it ≡ true → (x : List ℕ) → type_key m.types r ≡ Some x → Pointed it x
+  pointed : (r : TypeResolution) (it : TypeInner) → IsFree it → inner_of r m.types ≡ Some it →
+      is_pointer it ≡ true → (x : List ℕ) → type_key m.types r ≡ Some x → Pointed it x
   unfolding handle_key
-  pointed (Value it) other free at pointer x form = by other free pointer (ap (λ it. inner_key_by (handle_key m.types) it) (sym (same_Some it other at)) ∙ form)
+  pointed (Value it) other free at pointer x form =
+      by other free pointer (ap (λ it. inner_key_by (handle_key m.types) it) (sym (same_Some it other at)) ∙ form)
     where
-      by : (it : TypeInner) → IsFree it → is_pointer it ≡ true → inner_key_by (handle_key m.types) it ≡ Some x → Pointed it x
-      by (inner.Pointer base at) free pointer form = pointed_module base at free base (omega arith) (key_within (suc base) m.types base) refl x form
+      by : (it : TypeInner) → IsFree it → is_pointer it ≡ true → inner_key_by (handle_key m.types) it ≡ Some x →
+          Pointed it x
+      by (inner.Pointer base at) free pointer form = pointed_module base at free base (omega arith)
+          (key_within (suc base) m.types base) refl x form
       by (inner.ValuePointer n s at) free pointer form = pointed_value n s at x form
       by _ free pointer form = absurd (true≢false (sym pointer))
   pointed (Handle h) it free at pointer x form = by h (slice_get m.types h) refl at form
@@ -371,7 +431,8 @@ module _ (m : Module) (are : TypesAreCounted m) (stand : PartsStand m) where
           named_key_by (key_within h m.types) h it ≡ Some x → Pointed it x
       of_handle zero t there (inner.Pointer base at) is free pointer form = absurd cc
       of_handle (suc n) t there (inner.Pointer base at) is free pointer form =
-          pointed_module base at free n (depth (ltb-true base (suc n) (sym (ap (parts_before (suc n)) is) ∙ stand (suc n) t there)))
+          pointed_module base at free n
+          (depth (ltb-true base (suc n) (sym (ap (parts_before (suc n)) is) ∙ stand (suc n) t there)))
           (key_within (suc n) m.types base) refl x form
         where
           depth : base < suc n → base ≤ n
@@ -379,11 +440,13 @@ module _ (m : Module) (are : TypesAreCounted m) (stand : PartsStand m) where
       of_handle h t there (inner.ValuePointer k s at) is free pointer form = pointed_value k s at x form
       of_handle h t there _ is free pointer form = absurd (true≢false (sym pointer))
 
-      by : (h : ℕ) (o : Option Type_) → slice_get m.types h ≡ o → option_map (λ t. t.inner) o ≡ Some it → found_key_by (key_within h m.types) h (slice_get m.types h) ≡ Some x → Pointed it x
+      by : (h : ℕ) (o : Option Type_) → slice_get m.types h ≡ o → option_map (λ t. t.inner) o ≡ Some it →
+          found_key_by (key_within h m.types) h (slice_get m.types h) ≡ Some x → Pointed it x
       by h None there at form = absurd cc
       by h (Some t) there at form =
           of_handle h t there it (same_Some t.inner it at) free pointer
-          (ap (named_key_by (key_within h m.types) h) (sym (same_Some t.inner it at)) ∙ (sym (ap (found_key_by (key_within h m.types) h) there) ∙ form))
+          (ap (named_key_by (key_within h m.types) h) (sym (same_Some t.inner it at))
+          ∙ (sym (ap (found_key_by (key_within h m.types) h) there) ∙ form))
 
   -- ---- a part of a pointer is fit
   abbrev pub FitPart : Option TypeResolution → Type 0
@@ -396,7 +459,8 @@ module _ (m : Module) (are : TypesAreCounted m) (stand : PartsStand m) where
   pointer_fits : (ty : ℕ) (at : AddressSpace) → is_handle_space at ≡ false → IsFit m (Value (inner.Pointer ty at))
   pointer_fits ty at free = (not_false (is_handle_space at) free, tt, refl)
 
-  pointed_fits : (at : AddressSpace) → is_handle_space at ≡ false → (it : TypeInner) (index : Option ℕ) → FitPart (pointed_part at it index)
+  pointed_fits : (at : AddressSpace) → is_handle_space at ≡ false → (it : TypeInner) (index : Option ℕ) →
+      FitPart (pointed_part at it index)
   pointed_fits at free (inner.Vector n s) index = (refl, tt, refl)
   pointed_fits at free (inner.Matrix columns rows s) index = (refl, tt, refl)
   pointed_fits at free (inner.Array base count stride) index = pointer_fits base at free
@@ -408,7 +472,8 @@ module _ (m : Module) (are : TypesAreCounted m) (stand : PartsStand m) where
       by (Some ty) = pointer_fits ty at free
   pointed_fits at free _ index = tt
 
-  pub part_fits : (it : TypeInner) → IsFree it → is_pointer it ≡ true → (index : Option ℕ) → FitPart (part_type m.types it index)
+  pub part_fits : (it : TypeInner) → IsFree it → is_pointer it ≡ true → (index : Option ℕ) →
+      FitPart (part_type m.types it index)
   part_fits (inner.Pointer base at) free pointer index = by (inner_at m.types base)
     where
       by : (o : Option TypeInner) → FitPart (option_and_then (λ it. pointed_part at it index) o)
@@ -440,21 +505,27 @@ module _ (m : Module) (are : TypesAreCounted m) (stand : PartsStand m) where
       by (Some x) at None bt e = absurd (apart a p x (identity_code (identity m.types b)) at e)
       by None at (Some y) bt e = absurd (apart b q y (identity_code (identity m.types a)) bt (sym e))
       by None at None bt e =
-          let same = sym (distinguished_by_itself m.types a (fit_of a p) at) ∙ (word_tells m.types a b e ∙ distinguished_by_itself m.types b (fit_of b q) bt) in
+          let same = sym (distinguished_by_itself m.types a (fit_of a p) at)
+          ∙ (word_tells m.types a b e ∙ distinguished_by_itself m.types b (fit_of b q) bt) in
           Itselves (sym (itself_back (inner_of a m.types)) ∙ (ap itself same ∙ itself_back (inner_of b m.types)))
 
   parts_of_one : (o : Option TypeResolution) → FitPart o → PartsAlike o o
   parts_of_one None fit = tt
   parts_of_one (Some r) fit = (refl, fit, fit)
 
-  parts_of_form : (z : Option (List ℕ)) (o u : Option TypeResolution) → PartIs z o → PartIs z u → FitPart o → FitPart u → PartsAlike o u
+  parts_of_form : (z : Option (List ℕ)) (o u : Option TypeResolution) → PartIs z o → PartIs z u → FitPart o →
+      FitPart u → PartsAlike o u
   parts_of_form None None None f g p q = tt
   parts_of_form None (Some r) u f g p q = absurd f
   parts_of_form None None (Some s) f g p q = absurd g
   parts_of_form (Some z) None u f g p q = absurd f
   parts_of_form (Some z) (Some r) None f g p q = absurd g
-  parts_of_form (Some z) (Some r) (Some s) f g p q =
-      (ap (λ o. unwrap_or o (word_of_unspelled_type (identity m.types r))) f ∙ sym (ap (λ o. unwrap_or o (word_of_unspelled_type (identity m.types s))) g), p, q)
+  parts_of_form (Some z) (Some r) (Some s) f g p q = (
+    ap (λ o. unwrap_or o (word_of_unspelled_type (identity m.types r))) f
+        ∙ sym (ap (λ o. unwrap_or o (word_of_unspelled_type (identity m.types s))) g),
+    p,
+    q,
+  )
 
   -- levels that are the same are of one space and one pointee
   record OneLevel (n a : ℕ) (y : List ℕ) (k b : ℕ) (z : List ℕ) : Type 0 where
@@ -462,10 +533,15 @@ module _ (m : Module) (are : TypesAreCounted m) (stand : PartsStand m) where
     accesses : a ≡ b
     followings : y ≡ z
 
-  one_level : (n a : ℕ) (y : List ℕ) (k b : ℕ) (z : List ℕ) (x : List ℕ) → x ≡ level 5 n a 0 0 0 ++ y → x ≡ level 5 k b 0 0 0 ++ z → OneLevel n a y k b z
+  one_level : (n a : ℕ) (y : List ℕ) (k b : ℕ) (z : List ℕ) (x : List ℕ) → x ≡ level 5 n a 0 0 0 ++ y →
+      x ≡ level 5 k b 0 0 0 ++ z → OneLevel n a y k b z
   one_level n a y k b z x f g =
       let same : level 5 n a 0 0 0 ++ y ≡ level 5 k b 0 0 0 ++ z = sym f ∙ g in
-      record { numbers = ap (λ x. get_or x 1 0) same; accesses = ap (λ x. get_or x 2 0) same; followings = ap (drop 6) same }
+      record {
+        numbers = ap (λ x. get_or x 1 0) same;
+        accesses = ap (λ x. get_or x 2 0) same;
+        followings = ap (drop 6) same;
+      }
 
   -- a struct's form is none of a type that is none
   not_whole : {A : Type 0} (y : List ℕ) (h : ℕ) → nat_eq (get_or y 0 0) 8 ≡ false → y ≡ level 8 h 0 0 0 0 → A
@@ -476,9 +552,13 @@ module _ (m : Module) (are : TypesAreCounted m) (stand : PartsStand m) where
 
   -- where what is pointed to is no struct by its form, it is none
   no_members_of_form : (y : List ℕ) → has_members (kind_of_form y) ≡ false
-  no_members_of_form y = by (nat_eq (get_or y 0 0) 1) (nat_eq (get_or y 0 0) 2) (nat_eq (get_or y 0 0) 6) (nat_eq (get_or y 0 0) 7)
+  no_members_of_form y = by (nat_eq (get_or y 0 0) 1) (nat_eq (get_or y 0 0) 2) (nat_eq (get_or y 0 0) 6)
+      (nat_eq (get_or y 0 0) 7)
     where
-      by : (a b c d : Bool) → has_members (if a then ComponentKind (get_or y 3 0) else (if b then ElementKind (Some (get_or y 3 0)) else (if c then ElementKind (count_of_form y) else (if d then ElementKind (count_of_form y) else NoKind)))) ≡ false
+      by : (a b c d : Bool) →
+          has_members (if a then ComponentKind (get_or y 3 0) else
+          (if b then ElementKind (Some (get_or y 3 0)) else
+          (if c then ElementKind (count_of_form y) else (if d then ElementKind (count_of_form y) else NoKind)))) ≡ false
       by true b c d = refl
       by false true c d = refl
       by false false true d = refl
@@ -492,11 +572,14 @@ module _ (m : Module) (are : TypesAreCounted m) (stand : PartsStand m) where
     Same : ia ≡ ib → AlikePlaces ia ib
     OneKind : pointee_kind m.types ia ≡ pointee_kind m.types ib → has_members (pointee_kind m.types ia) ≡ false →
         ((index : Option ℕ) → PartsAlike (part_type m.types ia index) (part_type m.types ib index)) → AlikePlaces ia ib
-    OneStruct : (base : ℕ) (at to : AddressSpace) → ia ≡ inner.Pointer base at → ib ≡ inner.Pointer base to → pointee_kind m.types ia ≡ MemberKind base →
+    OneStruct : (base : ℕ) (at to : AddressSpace) → ia ≡ inner.Pointer base at → ib ≡ inner.Pointer base to →
+        pointee_kind m.types ia ≡ MemberKind base →
         ((o : Option (List ℕ)) → pointer_key at o ≡ pointer_key to o) → AlikePlaces ia ib
 
-  pub alike_places : (a b : TypeResolution) → IsFit m a → IsFit m b → type_identity m.types a ≡ type_identity m.types b →
-      (ia ib : TypeInner) → inner_of a m.types ≡ Some ia → inner_of b m.types ≡ Some ib → is_pointer ia ≡ true → is_pointer ib ≡ true → AlikePlaces ia ib
+  pub alike_places : (a b : TypeResolution) → IsFit m a → IsFit m b → type_identity m.types a
+      ≡ type_identity m.types b →
+      (ia ib : TypeInner) → inner_of a m.types ≡ Some ia → inner_of b m.types ≡ Some ib → is_pointer ia ≡ true →
+      is_pointer ib ≡ true → AlikePlaces ia ib
   alike_places a b p q e ia ib at bt first second = by (alike a b p q e)
     where
       free : IsFree ia
@@ -512,19 +595,25 @@ module _ (m : Module) (are : TypesAreCounted m) (stand : PartsStand m) where
       both : (x : List ℕ) → Pointed ia x → Pointed ib x → AlikePlaces ia ib
       both x (Plain n k y f other parts kind) (Plain l j z g another others other_kind) =
           let one = one_level n k y l j z x f g in
-          OneKind (one_kind (pointee_kind m.types ia) y z kind one.followings ∙ sym other_kind) (ap has_members kind ∙ no_members_of_form y) (λ index.
+          OneKind (one_kind (pointee_kind m.types ia) y z kind one.followings ∙ sym other_kind)
+          (ap has_members kind ∙ no_members_of_form y) (λ index.
           parts_of_form (part_form n k y) (part_type m.types ia index) (part_type m.types ib index) (parts index)
-          (subst (λ o. PartIs o (part_type m.types ib index)) (sym (λ i. part_form (one.numbers i) (one.accesses i) (one.followings i))) (others index))
+          (subst (λ o. PartIs o (part_type m.types ib index))
+          (sym (λ i. part_form (one.numbers i) (one.accesses i) (one.followings i))) (others index))
           (part_fits ia free first index) (part_fits ib loose second index))
       both x (Plain n k y f other parts kind) (Whole at h g is members) =
-          not_whole y h other (one_level n k y (space_number at) (access_number at) (level 8 h 0 0 0 0) x f g).followings
+          not_whole y h other (one_level n k y (space_number at) (access_number at)
+          (level 8 h 0 0 0 0) x f g).followings
       both x (Whole at h f is members) (Plain n k y g other parts kind) =
-          not_whole y h other (one_level n k y (space_number at) (access_number at) (level 8 h 0 0 0 0) x g f).followings
+          not_whole y h other (one_level n k y (space_number at) (access_number at)
+          (level 8 h 0 0 0 0) x g f).followings
       both x (Whole at h f is members) (Whole to j g other others) =
-          let one = one_level (space_number at) (access_number at) (level 8 h 0 0 0 0) (space_number to) (access_number to) (level 8 j 0 0 0 0) x f g in
+          let one = one_level (space_number at) (access_number at) (level 8 h 0 0 0 0) (space_number to)
+          (access_number to) (level 8 j 0 0 0 0) x f g in
           let bases : h ≡ j = ap (λ y. get_or y 1 0) one.followings in
           OneStruct h at to is (other ∙ ap (λ base. inner.Pointer base to) (sym bases)) members
-          (one_spelling (space_number at) (access_number at) (space_number to) (access_number to) one.numbers one.accesses)
+          (one_spelling (space_number at) (access_number at) (space_number to) (access_number to) one.numbers
+          one.accesses)
 
       by : Alike a b → AlikePlaces ia ib
       by (OneForm x f g) = both x (pointed a ia free at first x f) (pointed b ib loose bt second x g)
@@ -539,11 +628,13 @@ abbrev with_struct : (t : Type_) → List Type_
 with_struct t = record { name = None; inner = inner.Scalar (record { kind = kind.Bool; width = 4 }) } ∷ t ∷ []
 
 -- pointers to the struct, into storage that is read and storage of which nothing is said, are alike
-structs_alike : (t : Type_) → is_struct t.inner ≡ true → are_alike (with_struct t) (Value (inner.Pointer 1 (storage 0))) (Value (inner.Pointer 1 (storage 1))) ≡ true
+structs_alike : (t : Type_) → is_struct t.inner ≡ true →
+    are_alike (with_struct t) (Value (inner.Pointer 1 (storage 0))) (Value (inner.Pointer 1 (storage 1))) ≡ true
 unfolding handle_key
 structs_alike t e = rw e refl
 
 -- and those to its member, which has no form, are not
-members_apart : (t : Type_) → are_alike (with_struct t) (Value (inner.Pointer 0 (storage 0))) (Value (inner.Pointer 0 (storage 1))) ≡ false
+members_apart : (t : Type_) → are_alike (with_struct t) (Value (inner.Pointer 0 (storage 0)))
+    (Value (inner.Pointer 0 (storage 1))) ≡ false
 unfolding handle_key
 members_apart t = refl

@@ -56,8 +56,10 @@ scalar_read k n = Named (unwrap_or (scalar_word_of (kind_of k) n) [])
 
 abbrev space_read : ℕ → Option (List ℕ)
 space_read n =
-    get_or (Some (codes "function") ∷ Some (codes "private") ∷ Some (codes "workgroup") ∷ Some (codes "uniform") ∷ Some (codes "storage") ∷ None ∷
-    Some (codes "immediate") ∷ Some (codes "task_payload") ∷ Some (codes "ray_payload") ∷ Some (codes "incoming_ray_payload") ∷ []) n None
+    get_or (Some (codes "function") ∷ Some (codes "private") ∷ Some (codes "workgroup") ∷ Some (codes "uniform")
+    ∷ Some (codes "storage") ∷ None ∷
+    Some (codes "immediate") ∷ Some (codes "task_payload") ∷ Some (codes "ray_payload")
+    ∷ Some (codes "incoming_ray_payload") ∷ []) n None
 
 abbrev buffer_access_read : ℕ → Option (List ℕ)
 buffer_access_read n = get_or (None ∷ Some (codes "read_write") ∷ Some (codes "atomic") ∷ []) n None
@@ -68,7 +70,8 @@ pointer_read (Some word) access pointee = pointer_tree word access pointee
 
 abbrev array_read : (under : Names) → List ℕ → (length number : ℕ) → TypeSpecifier → TypeSpecifier
 array_read under word l n element =
-    get_or (Template word (TypeArgument element (SizeArgument n NoTemplateArguments)) ∷ of_two word element (Named (under.override_name n)) ∷ []) l (of_one word element)
+    get_or (Template word (TypeArgument element (SizeArgument n NoTemplateArguments)) ∷ of_two word element
+    (Named (under.override_name n)) ∷ []) l (of_one word element)
 
 abbrev access_read : ℕ → List ℕ
 access_read n = get_or (codes "write" ∷ codes "read" ∷ codes "read_write" ∷ codes "atomic" ∷ []) n []
@@ -81,7 +84,8 @@ image_read dim arrayed c d e =
     get_or (
     of_one (image_word (codes "texture_") (truth_of e) dim arrayed) (scalar_read d 4) ∷
     Named (image_word (codes "texture_depth_") (truth_of d) dim arrayed) ∷
-    of_two (image_word (codes "texture_storage_") false dim arrayed) (Named (format_word (format_read d))) (Named (access_read e)) ∷
+    of_two (image_word (codes "texture_storage_") false dim arrayed) (Named (format_word (format_read d)))
+    (Named (access_read e)) ∷
     []
     ) c (Named (codes "texture_external"))
 
@@ -123,7 +127,8 @@ space_is_read : (at : AddressSpace) → space_read (space_number at) ≡ space_w
 space_is_read space.Function = refl
 space_is_read _ = refl
 
-buffer_is_read : (a s : Bool) → buffer_access_read (if a then 2 else (if s then 1 else 0)) ≡ (if a then Some (codes "atomic") else (if s then Some (codes "read_write") else None))
+buffer_is_read : (a s : Bool) → buffer_access_read (if a then 2 else (if s then 1 else 0))
+    ≡ (if a then Some (codes "atomic") else (if s then Some (codes "read_write") else None))
 buffer_is_read true s = refl
 buffer_is_read false true = refl
 buffer_is_read false false = refl
@@ -154,7 +159,8 @@ over_is_read : (under : Names) →
 over_is_read under None over it e = refl
 over_is_read under (Some word) over it e = ap Some (sym e)
 
-scalar_form_is_read : (under : Names) → (s : Scalar) → option_map Named (scalar_word s) ≡ option_map (form_read under) (over_scalar 0 s 0 0 0)
+scalar_form_is_read : (under : Names) → (s : Scalar) → option_map Named (scalar_word s)
+    ≡ option_map (form_read under) (over_scalar 0 s 0 0 0)
 unfolding level_read
 scalar_form_is_read under s = by (scalar_word s) (scalar_is_read s)
   where
@@ -165,10 +171,12 @@ scalar_form_is_read under s = by (scalar_word s) (scalar_is_read s)
     by None e = refl
     by (Some word) e = ap Some (sym e)
 
-value_form_is_read : (under : Names) → (n : Option VectorSize) (s : Scalar) → value_tree n s ≡ option_map (form_read under) (value_key n s)
+value_form_is_read : (under : Names) → (n : Option VectorSize) (s : Scalar) → value_tree n s
+    ≡ option_map (form_read under) (value_key n s)
 unfolding level_read
 value_form_is_read under None s = scalar_form_is_read under s
-value_form_is_read under (Some n) s = over_is_read under (scalar_word s) (of_one (vector_word n)) _ (λ i. of_one (vector_word (vector_distinguished n i)) (scalar_is_read s i))
+value_form_is_read under (Some n) s = over_is_read under (scalar_word s) (of_one (vector_word n)) _
+    (λ i. of_one (vector_word (vector_distinguished n i)) (scalar_is_read s i))
 
 pointer_is_read : (under : Names) →
     (at : AddressSpace) (o : Option TypeSpecifier) (p : Option (List ℕ)) →
@@ -177,7 +185,8 @@ pointer_is_read : (under : Names) →
 unfolding level_read
 pointer_is_read under at o p e = ap (pointer_tree_in (space_word at) (space_access_word at)) e ∙ by p
   where
-    chosen : (word access : Option (List ℕ)) (t : TypeSpecifier) → pointer_tree_in word access (Some t) ≡ Some (pointer_read word access t)
+    chosen : (word access : Option (List ℕ)) (t : TypeSpecifier) → pointer_tree_in word access (Some t)
+        ≡ Some (pointer_read word access t)
     chosen None access t = refl
     chosen (Some word) access t = refl
 
@@ -185,7 +194,8 @@ pointer_is_read under at o p e = ap (pointer_tree_in (space_word at) (space_acce
     nothing None access = refl
     nothing (Some word) access = refl
 
-    by : (p : Option (List ℕ)) → pointer_tree_in (space_word at) (space_access_word at) (option_map (form_read under) p) ≡ option_map (form_read under) (pointer_key at p)
+    by : (p : Option (List ℕ)) → pointer_tree_in (space_word at) (space_access_word at)
+        (option_map (form_read under) p) ≡ option_map (form_read under) (pointer_key at p)
     by None = nothing (space_word at) (space_access_word at)
     by (Some it) =
         chosen (space_word at) (space_access_word at) (form_read under it) ∙
@@ -213,7 +223,8 @@ array_is_read : (under : Names) → (n : ArraySize) (o : Option TypeSpecifier) (
 unfolding level_read
 array_is_read under n o p e = ap (option_map (array_tree under (codes "array") n)) e ∙ by n p
   where
-    by : (n : ArraySize) (p : Option (List ℕ)) → option_map (array_tree under (codes "array") n) (option_map (form_read under) p) ≡ option_map (form_read under) (array_key 6 n p)
+    by : (n : ArraySize) (p : Option (List ℕ)) → option_map (array_tree under (codes "array") n)
+        (option_map (form_read under) p) ≡ option_map (form_read under) (array_key 6 n p)
     by (size.Constant number) None = refl
     by (size.Constant number) (Some it) = refl
     by (size.Pending o) None = refl
@@ -228,7 +239,8 @@ binding_array_is_read : (under : Names) →
 unfolding level_read
 binding_array_is_read under n o p e = ap (option_map (array_tree under (codes "binding_array") n)) e ∙ by n p
   where
-    by : (n : ArraySize) (p : Option (List ℕ)) → option_map (array_tree under (codes "binding_array") n) (option_map (form_read under) p) ≡ option_map (form_read under) (array_key 7 n p)
+    by : (n : ArraySize) (p : Option (List ℕ)) → option_map (array_tree under (codes "binding_array") n)
+        (option_map (form_read under) p) ≡ option_map (form_read under) (array_key 7 n p)
     by (size.Constant number) None = refl
     by (size.Constant number) (Some it) = refl
     by (size.Pending o) None = refl
@@ -236,18 +248,21 @@ binding_array_is_read under n o p e = ap (option_map (array_tree under (codes "b
     by size.Dynamic None = refl
     by size.Dynamic (Some it) = refl
 
-image_is_read : (under : Names) → (dim : ImageDimension) (arrayed : Bool) (c : ImageClass) → image_tree dim arrayed c ≡ option_map (form_read under) (image_key dim arrayed c)
+image_is_read : (under : Names) → (dim : ImageDimension) (arrayed : Bool) (c : ImageClass) →
+    image_tree dim arrayed c ≡ option_map (form_read under) (image_key dim arrayed c)
 unfolding level_read image_read
 image_is_read under dim arrayed (class.Sampled k multi) =
     let s : Scalar = record { kind = k; width = 4 } in
     over_is_read under (scalar_word s) (of_one (image_word (codes "texture_") multi dim arrayed)) _
-    (λ i. of_one (image_word (codes "texture_") (truth_distinguished multi i) (dimension_distinguished dim i) (truth_distinguished arrayed i)) (scalar_is_read s i))
+    (λ i. of_one (image_word (codes "texture_") (truth_distinguished multi i) (dimension_distinguished dim i)
+    (truth_distinguished arrayed i)) (scalar_is_read s i))
 image_is_read under dim arrayed (class.Depth multi) =
     λ i. Some (Named (image_word (codes "texture_depth_") (sym (truth_distinguished multi) i)
     (sym (dimension_distinguished dim) i) (sym (truth_distinguished arrayed) i)))
 image_is_read under dim arrayed class.External = refl
 image_is_read under dim arrayed (class.Storage f access) =
-    let access_distinguished = image_access_is_read (has atomic_bit access) (has load_bit access) (has store_bit access) in
+    let access_distinguished = image_access_is_read (has atomic_bit access) (has load_bit access)
+    (has store_bit access) in
     λ i. Some (of_two
     (image_word (codes "texture_storage_") false (sym (dimension_distinguished dim) i)
     (sym (truth_distinguished arrayed) i))
@@ -261,19 +276,26 @@ module _ (under : Names) where
   inner_is_read f g same (inner.Scalar s) = scalar_form_is_read under s
   inner_is_read f g same (inner.Vector n s) = value_form_is_read under (Some n) s
   inner_is_read f g same (inner.Matrix columns rows s) =
-      over_is_read under (scalar_word s) (of_one (matrix_word columns rows)) _ (λ i. of_one (matrix_word (vector_distinguished columns i) (vector_distinguished rows i)) (scalar_is_read s i))
+      over_is_read under (scalar_word s) (of_one (matrix_word columns rows)) _
+      (λ i. of_one (matrix_word (vector_distinguished columns i) (vector_distinguished rows i))
+      (scalar_is_read s i))
   inner_is_read f g same (inner.CooperativeMatrix columns rows s role) =
       over_is_read under (scalar_word s) (λ t. of_two (cooperative_word columns rows) t (Named (role_word role))) _
-      (λ i. of_two (cooperative_word (cooperative_distinguished columns i) (cooperative_distinguished rows i)) (scalar_is_read s i) (Named (role_word (role_distinguished role i))))
-  inner_is_read f g same (inner.Atomic s) = over_is_read under (scalar_word s) (of_one (codes "atomic")) _ (λ i. of_one (codes "atomic") (scalar_is_read s i))
+      (λ i. of_two (cooperative_word (cooperative_distinguished columns i) (cooperative_distinguished rows i))
+      (scalar_is_read s i) (Named (role_word (role_distinguished role i))))
+  inner_is_read f g same (inner.Atomic s) = over_is_read under (scalar_word s) (of_one (codes "atomic")) _
+      (λ i. of_one (codes "atomic") (scalar_is_read s i))
   inner_is_read f g same (inner.Pointer base at) = pointer_is_read under at (g base) (f base) (same base)
-  inner_is_read f g same (inner.ValuePointer n s at) = value_pointer_is_read under at (value_tree n s) (value_key n s) (value_form_is_read under n s)
+  inner_is_read f g same (inner.ValuePointer n s at) = value_pointer_is_read under at (value_tree n s)
+      (value_key n s) (value_form_is_read under n s)
   inner_is_read f g same (inner.Array base n stride) = array_is_read under n (g base) (f base) (same base)
   inner_is_read f g same (inner.BindingArray base n) = binding_array_is_read under n (g base) (f base) (same base)
   inner_is_read f g same (inner.Struct members span) = refl
   inner_is_read f g same (inner.Image dim arrayed c) = image_is_read under dim arrayed c
-  inner_is_read f g same (inner.Sampler comparison) = λ i. Some (Named (sampler_word (sym (truth_distinguished comparison) i)))
-  inner_is_read f g same (inner.AccelerationStructure b) = λ i. Some (ray_tree (codes "acceleration_structure") (sym (truth_distinguished b) i))
+  inner_is_read f g same (inner.Sampler comparison) =
+      λ i. Some (Named (sampler_word (sym (truth_distinguished comparison) i)))
+  inner_is_read f g same (inner.AccelerationStructure b) =
+      λ i. Some (ray_tree (codes "acceleration_structure") (sym (truth_distinguished b) i))
   inner_is_read f g same (inner.RayQuery b) = λ i. Some (ray_tree (codes "ray_query") (sym (truth_distinguished b) i))
 
   found_is_read : (f : ℕ → Option (List ℕ)) (g : ℕ → Option TypeSpecifier) →
@@ -290,15 +312,18 @@ module _ (under : Names) where
       by true x y e = refl
       by false x y e = e
 
-  within_is_read : (levels h : ℕ) → tree_within levels under h ≡ option_map (form_read under) (key_within levels under.types h)
+  within_is_read : (levels h : ℕ) → tree_within levels under h ≡ option_map (form_read under)
+      (key_within levels under.types h)
   within_is_read zero h = refl
-  within_is_read (suc levels) h = found_is_read (key_within levels under.types) (tree_within levels under) (within_is_read levels) h (slice_get under.types h)
+  within_is_read (suc levels) h = found_is_read (key_within levels under.types) (tree_within levels under)
+      (within_is_read levels) h (slice_get under.types h)
 
   handle_is_read : (h : ℕ) → type_tree under h ≡ option_map (form_read under) (handle_key under.types h)
   unfolding type_tree handle_key
   handle_is_read h = within_is_read (suc h) h
 
   -- a type's tree can be read off its numbers
-  pub form_is_read : (r : TypeResolution) → resolution_tree under r ≡ option_map (form_read under) (type_key under.types r)
+  pub form_is_read : (r : TypeResolution) → resolution_tree under r ≡ option_map (form_read under)
+      (type_key under.types r)
   form_is_read (Handle h) = handle_is_read h
   form_is_read (Value it) = inner_is_read (handle_key under.types) (type_tree under) handle_is_read it

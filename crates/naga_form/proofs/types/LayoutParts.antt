@@ -74,7 +74,8 @@ size_is (Some n) = refl
 place_is : (f : ℕ → Option Layout) (k : ir_member.StructMember) (p : Placed) → placed_member f k ≡ Some p →
     (k.binding ≡ None) × (f k.ty ≡ Some p.layout)
 place_is f k p is =
-    let parts = if_some (is_none k.binding) (option_map (λ l. record { layout = l; offset = k.offset }) (f k.ty)) p is in
+    let parts = if_some (is_none k.binding)
+    (option_map (λ l. record { layout = l; offset = k.offset }) (f k.ty)) p is in
     let own = map_some (λ (l : Layout). record { layout = l; offset = k.offset }) (f k.ty) p parts.1 in
     (none k.binding parts.0, own.1 ∙ ap (λ l. Some l) (ap (λ (p : Placed). p.layout) own.2))
   where
@@ -82,7 +83,8 @@ place_is f k p is =
     none None is = refl
     none (Some b) is = absurd cc
 
-more_placed : (f : ℕ → Option Layout) (k : ir_member.StructMember) (more : List ir_member.StructMember) (ks : List Placed) →
+more_placed : (f : ℕ → Option Layout) (k : ir_member.StructMember) (more : List ir_member.StructMember)
+    (ks : List Placed) →
     placed_members f (k ∷ more) ≡ Some ks →
     (p : Placed) × (ps : List Placed) × (placed_member f k ≡ Some p) × (placed_members f more ≡ Some ps) × (p ∷ ps ≡ ks)
 more_placed f k more ks is =
@@ -97,13 +99,15 @@ no_more (w ∷ ws) have = absurd have
 module _ (m : Module) (names : NameMap) (t : TypeNames) (h : ℕ) (f : List ℕ → Option Layout)
     (reads : (b : ℕ) (l : Layout) → b < h → layout_in m b ≡ Some l → type_layout_by f (type_form t b) ≡ Some l) where
   one_laid : (i : ℕ) (k : ir_member.StructMember) (p : Placed) (w : Member) →
-      placed_member (layout_in m) k ≡ Some p → nat_lt k.ty h ≡ true → w.layout ≡ p.layout → written_size m h i ≡ w.given →
+      placed_member (layout_in m) k ≡ Some p → nat_lt k.ty h ≡ true → w.layout ≡ p.layout → written_size m h i
+      ≡ w.given →
       member_laid f (member_form names t m h (i, k)) ≡ Some w
   one_laid i k p w placed before have given =
       let is = place_is (layout_in m) k p placed in
       ap (option_map (λ l. record { layout = l; given = size_read (member_attributes (written_size m h i) k.binding) }))
       (reads k.ty p.layout (ltb-true k.ty h before) is.1)
-      ∙ (ap (λ b. Some (record { layout = p.layout; given = size_read (member_attributes (written_size m h i) b) })) is.0
+      ∙ (ap (λ b. Some
+      (record { layout = p.layout; given = size_read (member_attributes (written_size m h i) b) })) is.0
       ∙ (ap (λ g. Some (record { layout = p.layout; given = g })) (size_is (written_size m h i) ∙ given)
       ∙ ap (λ l. Some (record { layout = l; given = w.given })) (sym have)))
 
@@ -119,7 +123,8 @@ module _ (m : Module) (names : NameMap) (t : TypeNames) (h : ℕ) (f : List ℕ 
       by ws own.0 own.1 own.2 parts.0 (subst (λ ks. HaveLayoutsOf ks ws) (sym own.4) have) sizes
       (λ ws. laid_from (i + 1) more own.1 ws own.3 parts.1)
     where
-      by : (ws : List Member) (p : Placed) (ps : List Placed) → placed_member (layout_in m) k ≡ Some p → nat_lt k.ty h ≡ true →
+      by : (ws : List Member) (p : Placed) (ps : List Placed) → placed_member (layout_in m) k ≡ Some p →
+          nat_lt k.ty h ≡ true →
           HaveLayoutsOf (p ∷ ps) ws →
           ((j : ℕ) (w : Member) → slice_get ws j ≡ Some w → written_size m h (i + j) ≡ w.given) →
           ((ws : List Member) → HaveLayoutsOf ps ws →
@@ -132,8 +137,10 @@ module _ (m : Module) (names : NameMap) (t : TypeNames) (h : ℕ) (f : List ℕ 
           let one = one_laid i k p w placed before have.0 (sym (ap (written_size m h) here) ∙ sizes 0 w refl) in
           let rest =
           left ws have.1
-          (λ j v at. let next : i + 1 + j ≡ i + suc j = omega arith in ap (written_size m h) next ∙ sizes (suc j) v at) in
-          ap (option_and_then (λ k. option_map (λ ks. k ∷ ks) (members_laid f (map (member_form names t m h) (enumerate_from (i + 1) more))))) one
+          (λ j v at. let next : i + 1 + j ≡ i + suc j = omega arith in ap (written_size m h) next
+          ∙ sizes (suc j) v at) in
+          ap (option_and_then (λ k. option_map (λ ks. k ∷ ks)
+          (members_laid f (map (member_form names t m h) (enumerate_from (i + 1) more))))) one
           ∙ ap (option_map (λ ks. w ∷ ks)) rest
 
 -- ---- types
@@ -143,7 +150,8 @@ pub record IsRead (structs : List Struct) (levels : ℕ) (l : Layout) (o : Optio
   pub is : o ≡ Some tree
   pub reads : type_layout_by (struct_within levels structs) tree ≡ Some l
 
-members_before : (h : ℕ) (it : TypeInner) → parts_before h it ≡ true → list_all (λ k. nat_lt k.ty h) (members_of it) ≡ true
+members_before : (h : ℕ) (it : TypeInner) → parts_before h it ≡ true →
+    list_all (λ k. nat_lt k.ty h) (members_of it) ≡ true
 members_before h (inner.Struct members span) before = before
 members_before h _ before = refl
 
@@ -162,9 +170,11 @@ module _ (m : Module) (structs : List Struct) (count : ℕ → ℕ) where
     pub next : count (suc h) ≡ suc (count h)
 
   abbrev pub AreFound : Type 0
-  AreFound = (h : ℕ) (ty : Type_) → slice_get m.types h ≡ Some ty → is_declared m.special_types h ty.inner ≡ true → IsFound h ty.inner
+  AreFound = (h : ℕ) (ty : Type_) → slice_get m.types h ≡ Some ty → is_declared m.special_types h ty.inner
+      ≡ true → IsFound h ty.inner
 
-module _ (m : Module) (structs : List Struct) (count : ℕ → ℕ) (order : StandInOrder m.types) (found : AreFound m structs count)
+module _ (m : Module) (structs : List Struct) (count : ℕ → ℕ) (order : StandInOrder m.types)
+    (found : AreFound m structs count)
     (more : (a b : ℕ) → a ≤ b → count a ≤ count b) where
   -- what is known of the type at a handle
   record IsTypeAt (h : ℕ) (it : TypeInner) : Type 0 where
@@ -192,9 +202,11 @@ module _ (m : Module) (structs : List Struct) (count : ℕ → ℕ) (order : Sta
     pub placed : placed_members (layout_in m) (members_of it) ≡ Some ks
     pub concerned : is_concerned ks ≡ true
 
-  pub concerned_parts : (h : ℕ) (it : TypeInner) (ks : List Placed) → concerned_of m h it ≡ Some ks → IsConcerned h it ks
+  pub concerned_parts : (h : ℕ) (it : TypeInner) (ks : List Placed) → concerned_of m h it ≡ Some ks →
+      IsConcerned h it ks
   concerned_parts h it ks is =
-      let parts = if_some (is_declared m.special_types h it) (option_and_then concerned_only (placed_members (layout_in m) (members_of it))) ks is in
+      let parts = if_some (is_declared m.special_types h it)
+      (option_and_then concerned_only (placed_members (layout_in m) (members_of it))) ks is in
       let own = then_some concerned_only (placed_members (layout_in m) (members_of it)) ks parts.1 in
       let only = only_concerned own.0 ks own.2 in record {
         declared = parts.0;
@@ -204,7 +216,8 @@ module _ (m : Module) (structs : List Struct) (count : ℕ → ℕ) (order : Sta
 
   concerned_from : (h : ℕ) (it : TypeInner) (ks : List Placed) → IsConcerned h it ks → concerned_of m h it ≡ Some ks
   concerned_from h it ks is =
-      ap (λ b. if b then option_and_then concerned_only (placed_members (layout_in m) (members_of it)) else None) is.declared
+      ap (λ b. if b then option_and_then concerned_only (placed_members (layout_in m) (members_of it))
+      else None) is.declared
       ∙ (ap (option_and_then concerned_only) is.placed ∙ ap (λ b. if b then Some ks else None) is.concerned)
 
   sizes_are : (h : ℕ) (it : TypeInner) (ks : List Placed) → IsTypeAt h it → IsConcerned h it ks → (j : ℕ) (w : Member) →
@@ -216,13 +229,16 @@ module _ (m : Module) (structs : List Struct) (count : ℕ → ℕ) (order : Sta
       ∙ (ap (λ span. size_among span j ks) type.span ∙ ap (option_and_then (λ k. k.given)) at))
 
   -- its members are laid out as they are written, where types before it are read
-  struct_members_read : (h : ℕ) (it : TypeInner) (ks : List Placed) (f : List ℕ → Option Layout) → IsTypeAt h it → IsConcerned h it ks →
+  struct_members_read : (h : ℕ) (it : TypeInner) (ks : List Placed) (f : List ℕ → Option Layout) →
+      IsTypeAt h it → IsConcerned h it ks →
       ((b : ℕ) (l : Layout) → b < h → layout_in m b ≡ Some l → type_layout_by f (type_form (type_names m) b) ≡ Some l) →
       members_named f structs ((type_names m).struct_name h) ≡ Some (written_members (span_of it) ks)
   struct_members_read h it ks f type is reads =
       ap (option_and_then (λ s. members_laid f s.members)) (type.declared is.declared).found
-      ∙ laid_from m (module_names m) (type_names m) h f reads 0 (members_of it) ks (written_members (span_of it) ks) is.placed
-      (members_before h it type.before) (sized_have_layouts (greatest_placed 0 ks) (span_of it) ks) (sizes_are h it ks type is)
+      ∙ laid_from m (module_names m) (type_names m) h f reads 0 (members_of it) ks
+      (written_members (span_of it) ks) is.placed
+      (members_before h it type.before) (sized_have_layouts (greatest_placed 0 ks) (span_of it) ks)
+      (sizes_are h it ks type is)
 
   -- ---- at a handle
   -- The type at a handle, if it has a layout, is read as it is, at depths and levels that suffice.
@@ -257,10 +273,12 @@ module _ (m : Module) (structs : List Struct) (count : ℕ → ℕ) (order : Sta
         struct_within levels structs ((type_names m).struct_name h) ≡ Some l
     named_read it ks l type is laid zero le = absurd (omega arith)
     named_read it ks l type is laid (suc levels) le =
-        ap (option_and_then struct_layout) (struct_members_read h it ks (struct_within levels structs) type is (forms_read levels (omega arith)))
+        ap (option_and_then struct_layout) (struct_members_read h it ks (struct_within levels structs) type is
+        (forms_read levels (omega arith)))
         ∙ laid
 
-    struct_is_read : (depth levels : ℕ) (it : TypeInner) (ks : List Placed) (l : Layout) → IsTypeAt h it → IsConcerned h it ks →
+    struct_is_read : (depth levels : ℕ) (it : TypeInner) (ks : List Placed) (l : Layout) → IsTypeAt h it →
+        IsConcerned h it ks →
         struct_layout (written_members (span_of it) ks) ≡ Some l → count (suc h) ≤ levels →
         IsRead structs levels l (Some (Named ((type_names m).struct_name h)))
     struct_is_read depth levels it ks l type is laid le =
@@ -268,12 +286,15 @@ module _ (m : Module) (structs : List Struct) (count : ℕ → ℕ) (order : Sta
           tree = Named ((type_names m).struct_name h);
           is = refl;
           reads =
-              ap (scalar_or_struct (struct_within levels structs) ((type_names m).struct_name h)) (no_scalar ((type_names m).struct_name h) own.named)
+              ap (scalar_or_struct (struct_within levels structs) ((type_names m).struct_name h))
+              (no_scalar ((type_names m).struct_name h) own.named)
               ∙ named_read it ks l type is laid levels (subst (λ c. c ≤ levels) own.next le);
         }
 
-    array_read : (n : ArraySize) (length : Option ℕ) → told_length n ≡ Some length → (f : List ℕ → Option Layout) (e : Layout) (tree : TypeSpecifier) →
-        type_layout_by f tree ≡ Some e → type_layout_by f (array_tree (type_names m) (codes "array") n tree) ≡ array_layout length e
+    array_read : (n : ArraySize) (length : Option ℕ) → told_length n ≡ Some length →
+        (f : List ℕ → Option Layout) (e : Layout) (tree : TypeSpecifier) →
+        type_layout_by f tree ≡ Some e → type_layout_by f (array_tree (type_names m) (codes "array") n tree)
+        ≡ array_layout length e
     array_read (size.Constant number) length told f e tree reads =
         ap (option_and_then (array_layout (Some (non_zero_u32_get number)))) reads
         ∙ ap (λ n. array_layout n e) (same_Some (Some (non_zero_u32_get number)) length told)
@@ -281,11 +302,14 @@ module _ (m : Module) (structs : List Struct) (count : ℕ → ℕ) (order : Sta
     array_read size.Dynamic length told f e tree reads =
         ap (option_and_then (array_layout None)) reads ∙ ap (λ n. array_layout n e) (same_Some None length told)
 
-    array_is_read : (depth levels base : ℕ) (n : ArraySize) (l : Layout) → h ≤ depth → count (suc h) ≤ levels → base < h →
+    array_is_read : (depth levels base : ℕ) (n : ArraySize) (l : Layout) → h ≤ depth → count (suc h) ≤ levels →
+        base < h →
         option_and_then (λ length. option_and_then (array_layout length) (layout_in m base)) (told_length n) ≡ Some l →
-        IsRead structs levels l (option_map (array_tree (type_names m) (codes "array") n) (tree_within depth (type_names m) base))
+        IsRead structs levels l (option_map (array_tree (type_names m) (codes "array") n)
+        (tree_within depth (type_names m) base))
     array_is_read depth levels base n l deep le lt is =
-        let told = then_some (λ length. option_and_then (array_layout length) (layout_in m base)) (told_length n) l is in
+        let told = then_some (λ length. option_and_then (array_layout length) (layout_in m base))
+        (told_length n) l is in
         let element = then_some (array_layout told.0) (layout_in m base) l told.2 in
         let fewer = more (suc base) (suc h) (omega arith) in
         let r = below base lt element.0 element.1 depth levels (omega arith) (omega arith) in record {
@@ -294,7 +318,8 @@ module _ (m : Module) (structs : List Struct) (count : ℕ → ℕ) (order : Sta
           reads = array_read n told.0 told.1 (struct_within levels structs) element.0 r.tree r.reads ∙ element.2;
         }
 
-    inner_is_read : (depth levels : ℕ) → h ≤ depth → count (suc h) ≤ levels → (it : TypeInner) → IsTypeAt h it → (l : Layout) →
+    inner_is_read : (depth levels : ℕ) → h ≤ depth → count (suc h) ≤ levels → (it : TypeInner) → IsTypeAt h it →
+        (l : Layout) →
         named_layout_by (module_rule m) (layout_in m) h it ≡ Some l →
         IsRead structs levels l (named_tree_by (type_names m) (tree_within depth (type_names m)) h it)
     inner_is_read depth levels deep le (inner.Scalar s) type l is =
@@ -323,12 +348,14 @@ module _ (m : Module) (structs : List Struct) (count : ℕ → ℕ) (order : Sta
         let r = atomic_is_read s p.0 in record {
           tree = of_one (codes "atomic") (Named r.word);
           is = ap (λ o. option_map (of_one (codes "atomic")) (option_map Named o)) r.spelled;
-          reads = atomic_over (struct_within levels structs) s r.word r.size (and_parts (is_number s.kind) (is_wide s.width) p.0).1 ∙ p.1;
+          reads = atomic_over (struct_within levels structs) s r.word r.size
+              (and_parts (is_number s.kind) (is_wide s.width) p.0).1 ∙ p.1;
         }
     inner_is_read depth levels deep le (inner.Array base n stride) type l is =
         array_is_read depth levels base n l deep le (ltb-true base h type.before) is
     inner_is_read depth levels deep le (inner.Struct members span) type l is =
-        let declared = if_some (not (is_undeclared m.special_types h)) (kept_struct (layout_in m) members.items span) l is in
+        let declared = if_some (not (is_undeclared m.special_types h))
+        (kept_struct (layout_in m) members.items span) l is in
         let kept = then_some (kept_members span) (placed_members (layout_in m) members.items) l declared.1 in
         let is = concerns kept.0 span l kept.2 in
         struct_is_read depth levels (inner.Struct members span) kept.0 l type
@@ -339,7 +366,8 @@ module _ (m : Module) (structs : List Struct) (count : ℕ → ℕ) (order : Sta
   has_type : (h : ℕ) (l : Layout) → layout_in m h ≡ Some l → (ty : Type_) × (slice_get m.types h ≡ Some ty)
   unfolding layout_at
   has_type h l is =
-      let found = then_some (λ ty. named_layout_by (module_rule m) (layout_within h (module_rule m) m.types) h ty.inner) (slice_get m.types h) l is in
+      let found = then_some (λ ty. named_layout_by (module_rule m) (layout_within h (module_rule m) m.types) h
+      ty.inner) (slice_get m.types h) l is in
       (found.0, found.1)
 
   below_read : (n h : ℕ) → h < n → Reads h
@@ -348,20 +376,25 @@ module _ (m : Module) (structs : List Struct) (count : ℕ → ℕ) (order : Sta
   below_read (suc n) h lt l is (suc depth) levels deep le =
       let own = has_type h l is in
       let named = sym (layout_is (module_rule m) m.types order h own.0 own.1) ∙ is in
-      subst (λ o. IsRead structs levels l (found_tree_by (type_names m) (tree_within depth (type_names m)) h o)) (sym own.1)
-      (inner_is_read h (λ b low. below_read n b (omega arith)) depth levels (omega arith) le own.0.inner (type_at h own.0 own.1) l named)
+      subst (λ o. IsRead structs levels l (found_tree_by (type_names m) (tree_within depth (type_names m)) h o))
+      (sym own.1)
+      (inner_is_read h (λ b low. below_read n b (omega arith)) depth levels (omega arith) le own.0.inner
+      (type_at h own.0 own.1) l named)
 
   -- ---- structs that are concerned, at as many levels as suffice
-  concerned_is : (h : ℕ) (ty : Type_) (ks : List Placed) → slice_get m.types h ≡ Some ty → concerned_members m h ≡ Some ks → IsConcerned h ty.inner ks
+  concerned_is : (h : ℕ) (ty : Type_) (ks : List Placed) → slice_get m.types h ≡ Some ty → concerned_members m h
+      ≡ Some ks → IsConcerned h ty.inner ks
   concerned_is h ty ks at is = concerned_parts h ty.inner ks (sym (type_at h ty at).concerned ∙ is)
 
-  module _ (h : ℕ) (ty : Type_) (ks : List Placed) (at : slice_get m.types h ≡ Some ty) (is : concerned_members m h ≡ Some ks)
+  module _ (h : ℕ) (ty : Type_) (ks : List Placed) (at : slice_get m.types h ≡ Some ty)
+      (is : concerned_members m h ≡ Some ks)
       (levels : ℕ) (le : count (suc h) ≤ levels) where
     enough : suc (count h) ≤ levels
     enough = subst (λ c. c ≤ levels) ((type_at h ty at).declared (concerned_is h ty ks at is).declared).next le
 
     pub members_are_read :
-        members_named (struct_within levels structs) structs ((type_names m).struct_name h) ≡ Some (written_members (span_at m h) ks)
+        members_named (struct_within levels structs) structs ((type_names m).struct_name h)
+        ≡ Some (written_members (span_at m h) ks)
     members_are_read =
         struct_members_read h ty.inner ks (struct_within levels structs) (type_at h ty at) (concerned_is h ty ks at is)
         (forms_read h (below_read h) levels (omega (arith, enough)))

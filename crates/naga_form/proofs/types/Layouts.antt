@@ -24,7 +24,7 @@ use Rattle.naga_layout.proofs.Left.{all_aligned, members_aligned}
 use Rattle.naga_layout.proofs.Levels.{layout_is}
 use Rattle.naga_layout.proofs.Told.{told_alike}
 use Rattle.naga_layout.specs.Types.{StandInOrder, kept_members, kept_struct, layout_at}
-use Rattle.naga_layout.specs.Types.{named_layout_by, placed_members, told_rule}
+use Rattle.naga_layout.specs.Types.{named_layout_by, placed_members, user_rule}
 use Rattle.naga_names.specs.Reset.{members_of}
 use Rattle.naga_names.specs.declared.key.NameKey.TheVariants as key
 use Rattle.module_meaning.proofs.Layouts.{stand_in_order}
@@ -65,7 +65,8 @@ module _ {X : Type 0} (test : X → Bool) where
   abbrev passing : ℕ → List X → ℕ
   passing n xs = length (filter test (take n xs))
 
-  one_more : (xs : List X) (n : ℕ) (x : X) → slice_get xs n ≡ Some x → test x ≡ true → passing (suc n) xs ≡ suc (passing n xs)
+  one_more : (xs : List X) (n : ℕ) (x : X) → slice_get xs n ≡ Some x → test x ≡ true → passing (suc n) xs
+      ≡ suc (passing n xs)
   one_more [] n x at is = absurd cc
   one_more (y ∷ xs) zero x at is =
       ap (λ b. length (if b then y ∷ [] else [])) (ap test (same_Some y x at) ∙ is)
@@ -100,7 +101,8 @@ module _ {X : Type 0} (test : X → Bool) where
       by true left = omega (arith, left)
       by false left = left
 
-  as_many : {Y : Type 0} (form : X → Y) (xs : List X) → length (filter_map (formed_if test form) xs) ≡ length (filter test xs)
+  as_many : {Y : Type 0} (form : X → Y) (xs : List X) → length (filter_map (formed_if test form) xs)
+      ≡ length (filter test xs)
   as_many form [] = refl
   as_many form (x ∷ xs) = by (test x) (as_many form xs)
     where
@@ -119,10 +121,12 @@ stands_there w (x ∷ xs) i s place at = by (bytes_eq w x.name) refl place (λ i
   where
     by : (b : Bool) → bytes_eq w x.name ≡ b →
         (if b then Some 0 else option_map (λ i. suc i) (place_among w (map (λ s. s.name) xs))) ≡ Some i →
-        ((i : ℕ) → place_among w (map (λ s. s.name) xs) ≡ Some i → slice_get xs i ≡ Some s → find (λ s. bytes_eq s.name w) xs ≡ Some s) →
+        ((i : ℕ) → place_among w (map (λ s. s.name) xs) ≡ Some i → slice_get xs i ≡ Some s →
+        find (λ s. bytes_eq s.name w) xs ≡ Some s) →
         (if bytes_eq x.name w then Some x else find (λ s. bytes_eq s.name w) xs) ≡ Some s
     by true same place left =
-        ap (λ b. if b then Some x else find (λ s. bytes_eq s.name w) xs) ((bytes_eq-Decides x.name w).1 (sym ((bytes_eq-Decides w x.name).0 same)))
+        ap (λ b. if b then Some x else find (λ s. bytes_eq s.name w) xs)
+        ((bytes_eq-Decides x.name w).1 (sym ((bytes_eq-Decides w x.name).0 same)))
         ∙ (ap (slice_get (x ∷ xs)) (same_Some 0 i place) ∙ at)
     by false other place left =
         let k = map_some (λ (i : ℕ). suc i) (place_among w (map (λ s. s.name) xs)) i place in
@@ -150,14 +154,16 @@ module _ (m : Module) (info : ModuleInfo) (flags : WriterFlags) (labels : LabelN
   }
 
   are_counted : (h : ℕ) → count h ≤ length program.structs
-  are_counted h = subst (λ n. count h ≤ n) (sym (as_many declares form (enumerate_from 0 m.types))) (in_all declares (enumerate_from 0 m.types) h)
+  are_counted h = subst (λ n. count h ≤ n) (sym (as_many declares form (enumerate_from 0 m.types)))
+      (in_all declares (enumerate_from 0 m.types) h)
 
   are_found : AreFound m program.structs count
   are_found h ty at is =
       let same = or_nothing (module_names m (key.Type_ h)) in
       let has = type_has m h ty at in record {
         found =
-            subst (λ w. struct_named program.structs w ≡ Some (record { name = w; members = (form (h, ty)).members })) (sym same)
+            subst (λ w. struct_named program.structs w
+            ≡ Some (record { name = w; members = (form (h, ty)).members })) (sym same)
             (stands_there (name_in (module_names m) (key.Type_ h)) program.structs (struct_number m h) (form (h, ty))
             (struct_found m info flags labels h ty at is) (struct_at m info flags labels h ty at is));
         named = subst IsIdentifier (sym same) (item_is_identifier m (key.Type_ h, has.0) has.1);
@@ -172,25 +178,33 @@ module _ (m : Module) (info : ModuleInfo) (flags : WriterFlags) (labels : LabelN
     more = no_fewer declares (enumerate_from 0 m.types)
 
     -- a struct that is concerned is kept, as no fault stands in it
-    are_kept_here : (h : ℕ) (ks : List Placed) → concerned_members m h ≡ Some ks → is_concerned ks ≡ true → are_kept None ks ≡ true
+    are_kept_here : (h : ℕ) (ks : List Placed) → concerned_members m h ≡ Some ks → is_concerned ks ≡ true →
+        are_kept None ks ≡ true
     are_kept_here h ks is concerned =
         all_kept ks concerned
-        (false_from_ne_true (is_off_alignment ks) (λ e. forms.offsets h OffAlignment (record { members = ks; concerned = is; stands = e })))
-        (false_from_ne_true (overlaps ks) (λ e. forms.offsets h Overlapping (record { members = ks; concerned = is; stands = e })))
+        (false_from_ne_true (is_off_alignment ks)
+        (λ e. forms.offsets h OffAlignment (record { members = ks; concerned = is; stands = e })))
+        (false_from_ne_true (overlaps ks) (λ e. forms.offsets h Overlapping
+        (record { members = ks; concerned = is; stands = e })))
 
-    keeps_one : (h : ℕ) (ty : Type_) (ks : List Placed) → slice_get m.types h ≡ Some ty → concerned_members m h ≡ Some ks →
-        AllAligned ks → is_concerned ks ≡ true → KeepsLayout program.structs ((type_names m).struct_name h) (span_at m h) ks
+    keeps_one : (h : ℕ) (ty : Type_) (ks : List Placed) → slice_get m.types h ≡ Some ty → concerned_members m h
+        ≡ Some ks →
+        AllAligned ks → is_concerned ks ≡ true → KeepsLayout program.structs ((type_names m).struct_name h)
+        (span_at m h) ks
     unfolding struct_layout_read
     keeps_one h ty [] at is aligned concerned = absurd cc
     keeps_one h ty (k ∷ left) at is aligned concerned =
         let kept = are_kept_here h (k ∷ left) is concerned in record {
           offsets =
-              ap (option_map offsets_of) (members_are_read m program.structs count order are_found more h ty (k ∷ left) at is (length program.structs) (are_counted (suc h)))
+              ap (option_map offsets_of) (members_are_read m program.structs count order are_found more h ty
+              (k ∷ left) at is (length program.structs) (are_counted (suc h)))
               ∙ ap (λ os. Some os) (offsets_kept (span_at m h) k left aligned kept);
           size = λ room.
               ap (option_and_then (λ l. l.size))
-              (struct_is_laid m program.structs count order are_found more h ty (k ∷ left) at is (length program.structs) (are_counted (suc h))
-              (ended (span_at m h) (greatest_placed 0 (k ∷ left)) (last_of k left)) (struct_kept (span_at m h) k left aligned kept))
+              (struct_is_laid m program.structs count order are_found more h ty (k ∷ left) at is
+              (length program.structs) (are_counted (suc h))
+              (ended (span_at m h) (greatest_placed 0 (k ∷ left)) (last_of k left))
+              (struct_kept (span_at m h) k left aligned kept))
               ∙ span_kept (span_at m h) k left aligned kept room;
         }
 
@@ -200,15 +214,17 @@ module _ (m : Module) (info : ModuleInfo) (flags : WriterFlags) (labels : LabelN
         struct_layout (written_members (span_of it) ks) ≡ Some l →
         named_layout_by (module_rule m) (layout_in m) h it ≡ Some l
     own_layout h (inner.Struct members span) ks l declared placed kept laid =
-        ap (λ b. if b then kept_struct (layout_in m) members.items span else None) (and_parts true (not (is_undeclared m.special_types h)) declared).1
+        ap (λ b. if b then kept_struct (layout_in m) members.items span else None)
+        (and_parts true (not (is_undeclared m.special_types h)) declared).1
         ∙ (ap (option_and_then (kept_members span)) placed
         ∙ (ap (λ b. if b then struct_layout (written_members span ks) else None) kept ∙ laid))
     own_layout h _ ks l declared placed kept laid = absurd cc
 
     -- what users are told of it is how the text's structs are laid out
-    tells_one : (h : ℕ) (ty : Type_) (ks : List Placed) (l : Layout) → slice_get m.types h ≡ Some ty → concerned_members m h ≡ Some ks →
+    tells_one : (h : ℕ) (ty : Type_) (ks : List Placed) (l : Layout) → slice_get m.types h ≡ Some ty →
+        concerned_members m h ≡ Some ks →
         AllAligned ks → is_concerned ks ≡ true → is_declared m.special_types h ty.inner ≡ true →
-        placed_members (layout_in m) (members_of ty.inner) ≡ Some ks → layout_at told_rule m.types h ≡ Some l →
+        placed_members (layout_in m) (members_of ty.inner) ≡ Some ks → layout_at user_rule m.types h ≡ Some l →
         struct_layout_read program.structs ((type_names m).struct_name h) ≡ Some l
     unfolding struct_layout_read
     tells_one h ty [] l at is aligned concerned declared placed told = absurd cc
@@ -217,7 +233,8 @@ module _ (m : Module) (info : ModuleInfo) (flags : WriterFlags) (labels : LabelN
         let kept = are_kept_here h (k ∷ left) is concerned in
         let whole = ended (span_at m h) (greatest_placed 0 (k ∷ left)) (last_of k left) in
         let laid = struct_kept (span_at m h) k left aligned kept in
-        struct_is_laid m program.structs count order are_found more h ty (k ∷ left) at is (length program.structs) (are_counted (suc h)) whole laid
+        struct_is_laid m program.structs count order are_found more h ty (k ∷ left) at is
+        (length program.structs) (are_counted (suc h)) whole laid
         ∙ ap (λ l. Some l)
         (sym (told_alike (module_rule m) m.types h l whole told
         (layout_is (module_rule m) m.types order h ty at
@@ -229,7 +246,8 @@ module _ (m : Module) (info : ModuleInfo) (flags : WriterFlags) (labels : LabelN
         let own = then_some (λ ty. concerned_of m h ty.inner) (slice_get m.types h) ks is in
         let parts = concerned_parts m program.structs count order are_found more h own.0.inner ks own.2 in
         subst (λ w. struct_layout_read program.structs w ≡ Some l) (or_nothing (module_names m (key.Type_ h)))
-        (tells_one h own.0 ks l own.1 is (members_aligned (layout_in m) (all_aligned (module_rule m) m.types) (members_of own.0.inner) ks parts.placed)
+        (tells_one h own.0 ks l own.1 is (members_aligned (layout_in m) (all_aligned (module_rule m) m.types)
+        (members_of own.0.inner) ks parts.placed)
         parts.concerned parts.declared parts.placed told)
 
     keeps : KeepsLayouts m program
@@ -237,14 +255,17 @@ module _ (m : Module) (info : ModuleInfo) (flags : WriterFlags) (labels : LabelN
         let own = then_some (λ ty. concerned_of m h ty.inner) (slice_get m.types h) ks is in
         let parts = concerned_parts m program.structs count order are_found more h own.0.inner ks own.2 in
         subst (λ w. KeepsLayout program.structs w (span_at m h) ks) (or_nothing (module_names m (key.Type_ h)))
-        (keeps_one h own.0 ks own.1 is (members_aligned (layout_in m) (all_aligned (module_rule m) m.types) (members_of own.0.inner) ks parts.placed) parts.concerned)
+        (keeps_one h own.0 ks own.1 is (members_aligned (layout_in m) (all_aligned (module_rule m) m.types)
+        (members_of own.0.inner) ks parts.placed) parts.concerned)
 
 -- an accepted module's layouts are kept, where all that it declares has a form
-pub keeps_layouts : (m : Module) (info : ModuleInfo) (flags : WriterFlags) (labels : LabelNames) → IsTrue (is_accepted m info) →
+pub keeps_layouts : (m : Module) (info : ModuleInfo) (flags : WriterFlags) (labels : LabelNames) →
+    IsTrue (is_accepted m info) →
     DeclarationsHaveForms m → KeepsLayouts m (program_under labels m info flags)
 keeps_layouts m info flags labels accepted forms = keeps m info flags labels accepted forms
 
 -- and users are told them
-pub tells_layouts : (m : Module) (info : ModuleInfo) (flags : WriterFlags) (labels : LabelNames) → IsTrue (is_accepted m info) →
+pub tells_layouts : (m : Module) (info : ModuleInfo) (flags : WriterFlags) (labels : LabelNames) →
+    IsTrue (is_accepted m info) →
     DeclarationsHaveForms m → TellsLayouts m (program_under labels m info flags)
 tells_layouts m info flags labels accepted forms = tells m info flags labels accepted forms

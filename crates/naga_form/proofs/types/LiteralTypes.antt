@@ -11,7 +11,8 @@ use Rattle.module_meaning.specs.Types.{type_of_values}
 use Rattle.shader_runs.specs.Premises.{literal_type, IsLiteral}
 
 module _ (m : Module) where
-  pub literal_typed : (v : Literal) → literal_type (literal_value v) ≡ type_of_values m (Value (inner.Scalar (literal_scalar v)))
+  pub literal_typed : (v : Literal) → literal_type (literal_value v)
+      ≡ type_of_values m (Value (inner.Scalar (literal_scalar v)))
   literal_typed (literal.F64 bits) = refl
   literal_typed _ = refl
 

@@ -40,14 +40,17 @@ use Rattle.naga_form.proofs.types.SameValues.{values_by_numbers}
 
 module _ (m : ir_module.Module) where
   -- a scalar has one form wherever it stands
-  scalar_distinguished : (r : TypeResolution) (s : Scalar) → inner_of r m.types ≡ Some (inner.Scalar s) → type_key m.types r ≡ scalar_key s
+  scalar_distinguished : (r : TypeResolution) (s : Scalar) → inner_of r m.types ≡ Some (inner.Scalar s) →
+      type_key m.types r ≡ scalar_key s
   unfolding handle_key
   scalar_distinguished (Value it) s is = ap (inner_key m.types) (same_Some _ _ is)
   scalar_distinguished (Handle h) s is = by (slice_get m.types h) refl is
     where
-      by : (o : Option Type_) → slice_get m.types h ≡ o → option_map (λ t. t.inner) o ≡ Some (inner.Scalar s) → type_key m.types (Handle h) ≡ scalar_key s
+      by : (o : Option Type_) → slice_get m.types h ≡ o → option_map (λ t. t.inner) o ≡ Some (inner.Scalar s) →
+          type_key m.types (Handle h) ≡ scalar_key s
       by None at is = absurd cc
-      by (Some t) at is = ap (found_key_by (key_within h m.types) h) at ∙ ap (named_key_by (key_within h m.types) h) (same_Some _ _ is)
+      by (Some t) at is = ap (found_key_by (key_within h m.types) h) at
+          ∙ ap (named_key_by (key_within h m.types) h) (same_Some _ _ is)
 
   abbrev distinguished_by : Option (List ℕ) → TypeResolution → List ℕ
   distinguished_by form r = unwrap_or form (word_of_unspelled_type (identity m.types r))
@@ -58,19 +61,24 @@ module _ (m : ir_module.Module) where
     boolean_kind kind.Bool is = refl
     boolean_kind _ is = absurd (omega (arith, is))
 
-    boolean_scalar : (r : TypeResolution) (s : Scalar) → inner_of r m.types ≡ Some (inner.Scalar s) → IsFit m r → type_of_values m r ≡ BooleanType → is_bool_of s.kind s.width ≡ true
+    boolean_scalar : (r : TypeResolution) (s : Scalar) → inner_of r m.types ≡ Some (inner.Scalar s) →
+        IsFit m r → type_of_values m r ≡ BooleanType → is_bool_of s.kind s.width ≡ true
     boolean_scalar r s at fit values =
         by (is_some (scalar_word s))
         (sym (ap (λ form. distinguished_by form r) (scalar_distinguished r s at))
         ∙ numbers_by_values m are r (Value (inner.Scalar (scalar_of kind.Bool 1))) fit
         (refl, tt, refl) values)
       where
-        by : (b : Bool) → distinguished_by (if b then Some (level 0 (kind_number s.kind) s.width 0 0 0) else None) r ≡ level 0 3 1 0 0 0 → is_bool_of s.kind s.width ≡ true
+        by : (b : Bool) →
+            distinguished_by (if b then Some (level 0 (kind_number s.kind) s.width 0 0 0) else None) r
+            ≡ level 0 3 1 0 0 0 → is_bool_of s.kind s.width ≡ true
         by true e =
-            ap (λ k. is_bool_of k s.width) (boolean_kind s.kind (ap (λ xs. get_or xs 1 0) e)) ∙ ap (λ w. is_bool_of kind.Bool w) (ap (λ xs. get_or xs 2 0) e)
+            ap (λ k. is_bool_of k s.width) (boolean_kind s.kind (ap (λ xs. get_or xs 1 0) e))
+            ∙ ap (λ w. is_bool_of kind.Bool w) (ap (λ xs. get_or xs 2 0) e)
         by false e = let blank : 32 ≡ 0 = ap (λ xs. get_or xs 0 0) e in absurd (omega (arith, blank))
 
-    boolean_values : (r : TypeResolution) → IsFit m r → type_of_values m r ≡ BooleanType → option_map_or is_bool (inner_of r m.types) false ≡ true
+    boolean_values : (r : TypeResolution) → IsFit m r → type_of_values m r ≡ BooleanType →
+        option_map_or is_bool (inner_of r m.types) false ≡ true
     boolean_values r fit values = by (inner_of r m.types) refl values
       where
         by : (o : Option TypeInner) → inner_of r m.types ≡ o →
@@ -99,10 +107,12 @@ module _ (m : ir_module.Module) (info : ModuleInfo) (are : TypesAreCounted m) (f
       operand = (operands_known m info f g sound h (expression.Binary op left right) at).0
 
       -- where one type is wanted, its own is alike to it
-      own_alike : (p : TypeResolution) → expected_type m f g.known (expression.Binary op left right) ≡ LikeThis p → type_identity m.types own.0 ≡ type_identity m.types p
+      own_alike : (p : TypeResolution) → expected_type m f g.known (expression.Binary op left right)
+          ≡ LikeThis p → type_identity m.types own.0 ≡ type_identity m.types p
       own_alike p wants =
           (bytes_eq-Decides (type_identity m.types own.0) (type_identity m.types p)).0
-          (sym (ap (λ w. is_expected m.types w own.0) wants) ∙ sound.typed h (expression.Binary op left right) own.0 at own.1)
+          (sym (ap (λ w. is_expected m.types w own.0) wants)
+          ∙ sound.typed h (expression.Binary op left right) own.0 at own.1)
 
       by : (x : ValueType) → value left ≡ x → (z : ValueType) → value h ≡ z → LogicalFits x z
       by BooleanType is z gives =
@@ -112,5 +122,6 @@ module _ (m : ir_module.Module) (info : ModuleInfo) (are : TypesAreCounted m) (f
           ∙ value_is m info g.known h own.0 own.1
           ∙ values_by_numbers m are own.0 boolean (sound.fits h own.0 own.1) (refl, tt, refl)
           (own_alike boolean (wanted ∙ (ap (λ o. logical_type (option_and_then (λ r. inner_of r m.types) o)) operand.1
-          ∙ ap (λ c. if c then LikeThis boolean else Anything) (boolean_values m are operand.0 (sound.fits left operand.0 operand.1) truth))))
+          ∙ ap (λ c. if c then LikeThis boolean else Anything)
+          (boolean_values m are operand.0 (sound.fits left operand.0 operand.1) truth))))
       by x is z gives = tt

@@ -45,7 +45,8 @@ module _ (m : Module) (info : ModuleInfo) (accepted : IsTrue (is_accepted m info
   type_before h t at =
       let here : 0 + h ≡ h = omega arith in
       ends_before h t.inner
-      (sym (ap (λ n. parts_before n t.inner) here) ∙ placed_at (λ here (t : Type_). parts_before here t.inner) 0 m.types h t
+      (sym (ap (λ n. parts_before n t.inner) here) ∙ placed_at (λ here (t : Type_). parts_before here t.inner) 0
+      m.types h t
       (and_parts (parts_stand_before m.types) _ (types_range m info accepted)).0 at)
 
   -- so do those of a type that is known

@@ -74,20 +74,28 @@ module _ (m : ir_module.Module) where
   integer_of _ w is = absurd cc
 
   -- an index is an integer
-  integer_values : (r : TypeResolution) → option_map_or is_integer (inner_of r m.types) false ≡ true → (w : Bytes) × (type_of_values m r ≡ IntegerType w)
+  integer_values : (r : TypeResolution) → option_map_or is_integer (inner_of r m.types) false ≡ true →
+      (w : Bytes) × (type_of_values m r ≡ IntegerType w)
   integer_values r is = by (inner_of r m.types) refl is
     where
-      by : (o : Option TypeInner) → inner_of r m.types ≡ o → option_map_or is_integer o false ≡ true → (w : Bytes) × (type_of_values m r ≡ IntegerType w)
+      by : (o : Option TypeInner) → inner_of r m.types ≡ o → option_map_or is_integer o false ≡ true →
+          (w : Bytes) × (type_of_values m r ≡ IntegerType w)
       by None at is = absurd cc
-      by (Some (inner.Scalar s)) at is = (word_of_values m r, values_are m r (inner.Scalar s) at ∙ integer_of s.kind (word_of_values m r) is)
+      by (Some (inner.Scalar s)) at is = (
+        word_of_values m r,
+        values_are m r (inner.Scalar s) at
+            ∙ integer_of s.kind (word_of_values m r) is,
+      )
       by (Some _) at is = absurd cc
 
-module _ (m : ir_module.Module) (info : ModuleInfo) (accepted : IsTrue (is_accepted m info)) (distinguished : ItemsAreDistinguished m) where
+module _ (m : ir_module.Module) (info : ModuleInfo) (accepted : IsTrue (is_accepted m info))
+    (distinguished : ItemsAreDistinguished m) where
   abbrev are : TypesAreCounted m
   are = types_are_counted m info accepted distinguished.types
 
   -- ---- expressions
-  module _ (function : ir_function.Function) (es : List ExpressionInfo) (sound : IsSoundGroup m info (Some function) (function_group function es)) (h : ℕ) where
+  module _ (function : ir_function.Function) (es : List ExpressionInfo)
+      (sound : IsSoundGroup m info (Some function) (function_group function es)) (h : ℕ) where
     abbrev g : Group
     g = function_group function es
 
@@ -117,13 +125,15 @@ module _ (m : ir_module.Module) (info : ModuleInfo) (accepted : IsTrue (is_accep
       own = let k = own_known m info (Some function) g sound h e at in known_as h k.0 k.1
 
       -- where one type is wanted, its own is alike to it
-      own_alike : (p : TypeResolution) → expected_type m (Some function) g.known e ≡ LikeThis p → type_identity m.types own.r ≡ type_identity m.types p
+      own_alike : (p : TypeResolution) → expected_type m (Some function) g.known e ≡ LikeThis p →
+          type_identity m.types own.r ≡ type_identity m.types p
       own_alike p wanted =
           (bytes_eq-Decides (type_identity m.types own.r) (type_identity m.types p)).0
           (sym (ap (λ w. is_expected m.types w own.r) wanted) ∙ sound.typed h e own.r at own.there)
 
     -- a pointer
-    pointer_is : (base : ℕ) (b : IsKnown base) (whole : Bytes) → type_of_values m b.r ≡ PointerType whole → IsPointer m info accepted distinguished b.r whole
+    pointer_is : (base : ℕ) (b : IsKnown base) (whole : Bytes) → type_of_values m b.r ≡ PointerType whole →
+        IsPointer m info accepted distinguished b.r whole
     pointer_is base b whole values =
         let k = points_as m b.r whole values in
         record {
@@ -139,40 +149,51 @@ module _ (m : ir_module.Module) (info : ModuleInfo) (accepted : IsTrue (is_accep
         }
 
     -- an index that is computed
-    module _ (base index : ℕ) (at : slice_get function.expressions h ≡ Some (expression.Access base index)) (b : IsKnown base) (i : IsKnown index) where
+    module _ (base index : ℕ) (at : slice_get function.expressions h ≡ Some (expression.Access base index))
+        (b : IsKnown base) (i : IsKnown index) where
       abbrev accessed : ir.Expression
       accessed = expression.Access base index
 
-      demanded : (operand_is m.types g.known (has_computed_parts m.types) base ≡ true) × (operand_is m.types g.known is_integer index ≡ true)
-      demanded = and_parts (operand_is m.types g.known (has_computed_parts m.types) base) (operand_is m.types g.known is_integer index) (sound.demands h accessed at)
+      demanded : (operand_is m.types g.known (has_computed_parts m.types) base ≡ true)
+          × (operand_is m.types g.known is_integer index ≡ true)
+      demanded = and_parts (operand_is m.types g.known (has_computed_parts m.types) base)
+          (operand_is m.types g.known is_integer index) (sound.demands h accessed at)
 
       index_values : (w : Bytes) × (type_of_values m i.r ≡ IntegerType w)
       index_values =
           integer_values m i.r
-          (sym (ap (λ o. option_map_or is_integer (option_and_then (λ r. inner_of r m.types) o) false) i.there) ∙ demanded.1)
+          (sym (ap (λ o. option_map_or is_integer (option_and_then (λ r. inner_of r m.types) o) false) i.there)
+          ∙ demanded.1)
 
-      element_fits : (whole : Bytes) → type_of_values m b.r ≡ PointerType whole → (n : ℤ) → IsPart (parts whole) (step_at (parts whole) n) (type_of_values m (own accessed at).r)
+      element_fits : (whole : Bytes) → type_of_values m b.r ≡ PointerType whole → (n : ℤ) →
+          IsPart (parts whole) (step_at (parts whole) n) (type_of_values m (own accessed at).r)
       element_fits whole is =
           let a = pointer_is base b whole is in
           let p = some_there (part_type m.types a.it None)
-          (sym (ap (λ o. option_map_or (has_computed_parts m.types) (option_and_then (λ r. inner_of r m.types) o) false) b.there
+          (sym (ap (λ o. option_map_or (has_computed_parts m.types)
+          (option_and_then (λ r. inner_of r m.types) o) false) b.there
           ∙ ap (λ o. option_map_or (has_computed_parts m.types) o false) a.itself) ∙ demanded.0) in
           element_at m info accepted distinguished b.r whole a p.0 p.1 (own accessed at).r (own accessed at).fit
           (own_alike accessed at p.0
-          (ap (λ o. only (option_and_then (λ it. part_type m.types it None) (option_and_then (λ r. inner_of r m.types) o))) b.there
+          (ap (λ o. only (option_and_then (λ it. part_type m.types it None)
+          (option_and_then (λ r. inner_of r m.types) o))) b.there
           ∙ (ap (λ o. only (option_and_then (λ it. part_type m.types it None) o)) a.itself ∙ ap only p.1)))
 
-      access_by : (x : ValueType) → type_of_values m b.r ≡ x → (y : ValueType) → type_of_values m i.r ≡ y → (z : ValueType) → type_of_values m (own accessed at).r ≡ z → AccessFits parts x y z
+      access_by : (x : ValueType) → type_of_values m b.r ≡ x → (y : ValueType) → type_of_values m i.r ≡ y →
+          (z : ValueType) → type_of_values m (own accessed at).r ≡ z → AccessFits parts x y z
       access_by (PointerType whole) is (IntegerType w) index_is z gives =
           λ n. subst (IsPart (parts whole) (step_at (parts whole) n)) gives (element_fits whole is n)
-      access_by (PointerType whole) is y index_is z gives = let same : y ≡ IntegerType index_values.0 = sym index_is ∙ index_values.1 in absurd cc
+      access_by (PointerType whole) is y index_is z gives =
+          let same : y ≡ IntegerType index_values.0 = sym index_is ∙ index_values.1 in absurd cc
       access_by x is y index_is z gives = tt
 
-    access_fits : (base index : ℕ) → slice_get function.expressions h ≡ Some (expression.Access base index) → AccessFits parts (handle_type shape base) (handle_type shape index) (handle_type shape h)
+    access_fits : (base index : ℕ) → slice_get function.expressions h ≡ Some (expression.Access base index) →
+        AccessFits parts (handle_type shape base) (handle_type shape index) (handle_type shape h)
     access_fits base index at =
         let operands = operands_known m info (Some function) g sound h (expression.Access base index) at in
         let b = known_as base operands.0.0 operands.0.1 in let i = known_as index operands.1.0.0 operands.1.0.1 in
-        access_by base index at b i (handle_type shape base) (sym b.values) (handle_type shape index) (sym i.values) (handle_type shape h) (sym (own (expression.Access base index) at).values)
+        access_by base index at b i (handle_type shape base) (sym b.values) (handle_type shape index)
+        (sym i.values) (handle_type shape h) (sym (own (expression.Access base index) at).values)
 
     -- a part that is named
     module _ (base index : ℕ)
@@ -182,30 +203,42 @@ module _ (m : ir_module.Module) (info : ModuleInfo) (accepted : IsTrue (is_accep
       abbrev named : ir.Expression
       named = expression.AccessIndex base index
 
-      part_fits_by : (whole : Bytes) → type_of_values m b.r ≡ PointerType whole → IsPart (parts whole) (step_to (parts whole) s) (type_of_values m (own named at).r)
+      part_fits_by : (whole : Bytes) → type_of_values m b.r ≡ PointerType whole →
+          IsPart (parts whole) (step_to (parts whole) s) (type_of_values m (own named at).r)
       part_fits_by whole is =
           supported
           (part_of m info (types_known es) index s a.it a.points (handle_of b.r)
-          (sym (ap (option_and_then (λ r. option_and_then (λ it. selector (declared m info (types_known es)) (handle_of r) it index) (inner_of r m.types))) b.there
-          ∙ ap (option_and_then (λ it. selector (declared m info (types_known es)) (handle_of b.r) it index)) a.itself) ∙ selected)
-          (sym (ap (λ o. option_map_or (λ it. is_part_number m.types it index) (option_and_then (λ r. inner_of r m.types) o) false) b.there
-          ∙ ap (λ o. option_map_or (λ it. is_part_number m.types it index) o false) a.itself) ∙ sound.demands h named at))
+          (sym (ap (option_and_then (λ r. option_and_then
+          (λ it. selector (declared m info (types_known es)) (handle_of r) it index) (inner_of r m.types))) b.there
+          ∙ ap (option_and_then (λ it. selector (declared m info (types_known es)) (handle_of b.r) it index))
+          a.itself) ∙ selected)
+          (sym (ap (λ o. option_map_or (λ it. is_part_number m.types it index)
+          (option_and_then (λ r. inner_of r m.types) o) false) b.there
+          ∙ ap (λ o. option_map_or (λ it. is_part_number m.types it index) o false) a.itself)
+          ∙ sound.demands h named at))
         where
           a : IsPointer m info accepted distinguished b.r whole
           a = pointer_is base b whole is
 
-          part_wanted : (p : TypeResolution) → part_type m.types a.it (Some index) ≡ Some p → type_identity m.types (own named at).r ≡ type_identity m.types p
+          part_wanted : (p : TypeResolution) → part_type m.types a.it (Some index) ≡ Some p →
+              type_identity m.types (own named at).r ≡ type_identity m.types p
           part_wanted p part =
               own_alike named at p
-              (ap (λ o. if_any (option_and_then (λ it. part_type m.types it (Some index)) (option_and_then (λ r. inner_of r m.types) o))) b.there
-              ∙ (ap (λ o. if_any (option_and_then (λ it. part_type m.types it (Some index)) o)) a.itself ∙ ap if_any part))
+              (ap (λ o. if_any (option_and_then (λ it. part_type m.types it (Some index))
+              (option_and_then (λ r. inner_of r m.types) o))) b.there
+              ∙ (ap (λ o. if_any (option_and_then (λ it. part_type m.types it (Some index)) o)) a.itself
+              ∙ ap if_any part))
 
-          supported : NamedPart m info (types_known es) a.it index s → IsPart (parts whole) (step_to (parts whole) s) (type_of_values m (own named at).r)
+          supported : NamedPart m info (types_known es) a.it index s →
+              IsPart (parts whole) (step_to (parts whole) s) (type_of_values m (own named at).r)
           supported (ElementPart p there any step) =
-              element_to m info accepted distinguished b.r whole a p any (own named at).r (own named at).fit (part_wanted p there) s (pos index) step
+              element_to m info accepted distinguished b.r whole a p any (own named at).r (own named at).fit
+              (part_wanted p there) s (pos index) step
           supported (MemberPart k) =
-              member_to m info accepted distinguished b.r whole a index s (types_known es) k (own named at).r (own named at).fit
-              (part_wanted (Value (inner.Pointer k.member.ty k.at)) (member_is m info (types_known es) a.it index s k)) (record {
+              member_to m info accepted distinguished b.r whole a index s (types_known es) k (own named at).r
+              (own named at).fit
+              (part_wanted (Value (inner.Pointer k.member.ty k.at))
+              (member_is m info (types_known es) a.it index s k)) (record {
                 function = Some function;
                 group = g;
                 sound = sound;
@@ -220,8 +253,10 @@ module _ (m : ir_module.Module) (info : ModuleInfo) (accepted : IsTrue (is_accep
                 selected = selected ∙ ap Some k.selected;
               })
 
-      named_by : (x : ValueType) → type_of_values m b.r ≡ x → (z : ValueType) → type_of_values m (own named at).r ≡ z → AccessIndexFits parts s x z
-      named_by (PointerType whole) is z gives = subst (IsPart (parts whole) (step_to (parts whole) s)) gives (part_fits_by whole is)
+      named_by : (x : ValueType) → type_of_values m b.r ≡ x → (z : ValueType) →
+          type_of_values m (own named at).r ≡ z → AccessIndexFits parts s x z
+      named_by (PointerType whole) is z gives = subst (IsPart (parts whole) (step_to (parts whole) s)) gives
+          (part_fits_by whole is)
       named_by x is z gives = tt
 
     part_fits : (base index : ℕ) →
@@ -231,11 +266,14 @@ module _ (m : ir_module.Module) (info : ModuleInfo) (accepted : IsTrue (is_accep
     part_fits base index at s selected =
         let operands = operands_known m info (Some function) g sound h (expression.AccessIndex base index) at in
         let b = known_as base operands.0.0 operands.0.1 in
-        named_by base index at b s selected (handle_type shape base) (sym b.values) (handle_type shape h) (sym (own (expression.AccessIndex base index) at).values)
+        named_by base index at b s selected (handle_type shape base) (sym b.values) (handle_type shape h)
+        (sym (own (expression.AccessIndex base index) at).values)
 
     -- `&&` and `||`
-    logical_fits : (op : BinaryOperator) (left right : ℕ) → slice_get function.expressions h ≡ Some (expression.Binary op left right) →
-        binary_type op (known_inner m.types g.known left) ≡ logical_type (known_inner m.types g.known left) → LogicalFits (handle_type shape left) (handle_type shape h)
+    logical_fits : (op : BinaryOperator) (left right : ℕ) → slice_get function.expressions h
+        ≡ Some (expression.Binary op left right) →
+        binary_type op (known_inner m.types g.known left) ≡ logical_type (known_inner m.types g.known left) →
+        LogicalFits (handle_type shape left) (handle_type shape h)
     logical_fits op left right at wanted =
         let same = λ (k : ℕ). handle_type_is m info function es k in
         subst (λ k. LogicalFits k (handle_type shape h)) (sym (same left))
@@ -263,19 +301,24 @@ module _ (m : ir_module.Module) (info : ModuleInfo) (accepted : IsTrue (is_accep
         by false = tt
     applied_fits otherwise hs fits (Some o) no_sign = tt
 
-    no_constructor : (r : TypeResolution) (n : ℕ) → IsNoSign (Some (constructor (expression_context m (types_known es)) r n))
+    no_constructor : (r : TypeResolution) (n : ℕ) →
+        IsNoSign (Some (constructor (expression_context m (types_known es)) r n))
     no_constructor r n = by (called_spelling m r)
       where
-        by : (o : Option Bytes) → IsNoSign (Some (option_map_or (λ spelling. Construct spelling n) o (WithoutForm (ValueOf (identity_code (identity m.types r)) n))))
+        by : (o : Option Bytes) →
+            IsNoSign (Some (option_map_or (λ spelling. Construct spelling n) o
+            (WithoutForm (ValueOf (identity_code (identity m.types r)) n))))
         by None = tt
         by (Some w) = tt
 
-    no_cast : (bits : Bool) (o : Option Bytes) (what : Unsupported) → IsNoSign (Some (option_map_or (cast_to bits) o (WithoutForm what)))
+    no_cast : (bits : Bool) (o : Option Bytes) (what : Unsupported) →
+        IsNoSign (Some (option_map_or (cast_to bits) o (WithoutForm what)))
     no_cast bits None what = tt
     no_cast true (Some w) what = tt
     no_cast false (Some w) what = tt
 
-    no_matrix_load : (row_major : Bool) (o : Option Bytes) (what : Unsupported) → IsNoSign (Some (option_map_or (CooperativeLoad row_major) o (WithoutForm what)))
+    no_matrix_load : (row_major : Bool) (o : Option Bytes) (what : Unsupported) →
+        IsNoSign (Some (option_map_or (CooperativeLoad row_major) o (WithoutForm what)))
     no_matrix_load row_major None what = tt
     no_matrix_load row_major (Some w) what = tt
 
@@ -295,9 +338,11 @@ module _ (m : ir_module.Module) (info : ModuleInfo) (accepted : IsTrue (is_accep
         PartsFit parts shape (handle_type shape h)
         (Some (shape_of (declared m info (types_known es)) function.expressions h e))
     shape_fits (expression.Access base index) at = access_fits base index at
-    shape_fits (expression.AccessIndex base index) at = by (part_selector (declared m info (types_known es)) base index) refl
+    shape_fits (expression.AccessIndex base index) at =
+        by (part_selector (declared m info (types_known es)) base index) refl
       where
-        by : (o : Option Selector) → part_selector (declared m info (types_known es)) base index ≡ o → PartsFit parts shape (handle_type shape h) (Some (part_shape base index o))
+        by : (o : Option Selector) → part_selector (declared m info (types_known es)) base index ≡ o →
+            PartsFit parts shape (handle_type shape h) (Some (part_shape base index o))
         by None is = tt
         by (Some s) is = part_fits base index at s is
     shape_fits (expression.Binary op left right) at = sign_fits op left right at
@@ -306,22 +351,28 @@ module _ (m : ir_module.Module) (info : ModuleInfo) (accepted : IsTrue (is_accep
         (Some (constructor (expression_context m (types_known es)) (Handle ty)
         (length components.items))) (no_constructor (Handle ty) (length components.items))
     shape_fits (expression.As operand to convert) at =
-        applied_fits Result (operand ∷ []) tt (Some (cast (expression_context m (types_known es)) to convert (type_known (expression_context m (types_known es)) operand))) (no_cast _ _ _)
+        applied_fits Result (operand ∷ []) tt
+        (Some (cast (expression_context m (types_known es)) to convert
+        (type_known (expression_context m (types_known es)) operand))) (no_cast _ _ _)
     shape_fits (expression.Load pointer) at = by (is_atomic_pointer (expression_context m (types_known es)) pointer)
       where
-        by : (b : Bool) → PartsFit parts shape (handle_type shape h) (Some (applied_or (Load pointer) (pointer ∷ []) (if b then Some AtomicLoad else None)))
+        by : (b : Bool) → PartsFit parts shape (handle_type shape h)
+            (Some (applied_or (Load pointer) (pointer ∷ []) (if b then Some AtomicLoad else None)))
         by true = tt
         by false = tt
     shape_fits (expression.ImageQuery image q) at = applied_fits Result _ tt (Some (query_operator q)) (no_query q)
     shape_fits (expression.CooperativeLoad columns rows role place) at =
-        applied_fits Result _ tt (Some (matrix_load (expression_context m (types_known es)) columns rows role place)) (no_matrix_load place.row_major _ _)
+        applied_fits Result _ tt
+        (Some (matrix_load (expression_context m (types_known es)) columns rows role place))
+        (no_matrix_load place.row_major _ _)
     shape_fits (expression.ImageSample image sampler gather coordinate array_index offset level depth_ref clamp) at = tt
     shape_fits e at = tt
 
     -- what stands at a handle fits the table
     pub parts_fit : PartsFit (module_shape m info).parts shape (handle_type shape h) (expression_of shape h)
     parts_fit =
-        subst (PartsFit parts shape (handle_type shape h)) (sym (expression_is m info function es h)) (by (slice_get function.expressions h) refl)
+        subst (PartsFit parts shape (handle_type shape h)) (sym (expression_is m info function es h))
+        (by (slice_get function.expressions h) refl)
       where
         by : (o : Option ir.Expression) → slice_get function.expressions h ≡ o →
             PartsFit parts shape (handle_type shape h)

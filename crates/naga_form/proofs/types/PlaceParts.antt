@@ -68,7 +68,8 @@ record IsFound {X : Type 0} (test : X → Bool) (xs : List X) : Type 0 where
   passes : test first ≡ true
   among : IsIn xs first
 
-first_found : {X : Type 0} (test : X → Bool) (xs : List X) (i : ℕ) (x : X) → slice_get xs i ≡ Some x → test x ≡ true → IsFound test xs
+first_found : {X : Type 0} (test : X → Bool) (xs : List X) (i : ℕ) (x : X) → slice_get xs i ≡ Some x →
+    test x ≡ true → IsFound test xs
 first_found test [] i x at passes = absurd cc
 first_found {X = X} test (y ∷ xs) zero x at passes =
     let here : test y ≡ true = ap test (same_Some y x at) ∙ passes in
@@ -92,17 +93,23 @@ member_found : (ms : List (Bytes × Bytes)) (i : ℕ) (k : Bytes × Bytes) → s
 member_found [] i k at only = absurd cc
 member_found (l ∷ ms) i k at only = by i at only (same_bytes k.0 l.0) refl (λ i at only. member_found ms i k at only)
   where
-    by : (i : ℕ) → slice_get (l ∷ ms) i ≡ Some k → ((j : ℕ) (x : Bytes × Bytes) → slice_get (l ∷ ms) j ≡ Some x → x.0 ≡ k.0 → i ≡ j) →
+    by : (i : ℕ) → slice_get (l ∷ ms) i ≡ Some k →
+        ((j : ℕ) (x : Bytes × Bytes) → slice_get (l ∷ ms) j ≡ Some x → x.0 ≡ k.0 → i ≡ j) →
         (b : Bool) → same_bytes k.0 l.0 ≡ b →
-        ((i : ℕ) → slice_get ms i ≡ Some k → ((j : ℕ) (x : Bytes × Bytes) → slice_get ms j ≡ Some x → x.0 ≡ k.0 → i ≡ j) → member_pointer ms k.0 ≡ Some k.1) →
+        ((i : ℕ) → slice_get ms i ≡ Some k →
+        ((j : ℕ) (x : Bytes × Bytes) → slice_get ms j ≡ Some x → x.0 ≡ k.0 → i ≡ j) → member_pointer ms k.0
+        ≡ Some k.1) →
         cond b (Some l.1) (member_pointer ms k.0) ≡ Some k.1
     by zero at only true same more = ap (λ x. Some x.1) (same_Some l k at)
-    by zero at only false same more = absurd (true≢false (sym (same_bytes_self k.0) ∙ (ap (λ x. same_bytes k.0 x.0) (sym (same_Some l k at)) ∙ same)))
-    by (suc i) at only true same more = let one : suc i ≡ 0 = only 0 l refl (sym (same_bytes_true k.0 l.0 same)) in absurd (omega (arith, one))
+    by zero at only false same more =
+        absurd (true≢false (sym (same_bytes_self k.0) ∙ (ap (λ x. same_bytes k.0 x.0) (sym (same_Some l k at)) ∙ same)))
+    by (suc i) at only true same more = let one : suc i ≡ 0 = only 0 l refl (sym (same_bytes_true k.0 l.0 same))
+        in absurd (omega (arith, one))
     by (suc i) at only false same more =
         more i at (λ j x there is. let one : suc i ≡ suc j = only (suc j) x there is in omega (arith, one))
 
-module _ (m : ir_module.Module) (info : ModuleInfo) (accepted : IsTrue (is_accepted m info)) (distinguished : ItemsAreDistinguished m) where
+module _ (m : ir_module.Module) (info : ModuleInfo) (accepted : IsTrue (is_accepted m info))
+    (distinguished : ItemsAreDistinguished m) where
   abbrev are : TypesAreCounted m
   are = types_are_counted m info accepted distinguished.types
 
@@ -112,28 +119,34 @@ module _ (m : ir_module.Module) (info : ModuleInfo) (accepted : IsTrue (is_accep
   -- ---- pointers
   -- no space of places is that of handles
   place_space : (i : ℕ) (at : AddressSpace) → slice_get place_spaces i ≡ Some at → is_handle_space at ≡ false
-  place_space i at is = not-true (is_handle_space at) (list_all_at (λ at. not (is_handle_space at)) place_spaces i at refl is)
+  place_space i at is =
+      not-true (is_handle_space at) (list_all_at (λ at. not (is_handle_space at)) place_spaces i at refl is)
 
   pointer_fit : (ty : ℕ) (at : AddressSpace) → is_handle_space at ≡ false → IsFit m (Value (inner.Pointer ty at))
   pointer_fit ty at free = (ap not free, tt, refl)
 
-  column_fit : (at : AddressSpace) (it : TypeInner) (i : ℕ) (r : TypeResolution) → slice_get (column_pointers at it) i ≡ Some r → IsFit m r
+  column_fit : (at : AddressSpace) (it : TypeInner) (i : ℕ) (r : TypeResolution) →
+      slice_get (column_pointers at it) i ≡ Some r → IsFit m r
   column_fit at (inner.Matrix columns rows s) zero r is = subst (IsFit m) (same_Some _ r is) (refl, tt, refl)
   column_fit at (inner.Matrix columns rows s) (suc i) r is = absurd cc
   column_fit at _ i r is = absurd cc
 
   -- each pointer of the module is fit
   pointer_types_fit : (i : ℕ) (r : TypeResolution) → slice_get (pointer_types m info) i ≡ Some r → IsFit m r
-  pointer_types_fit i r at = by (in_row (flat_map (λ g. g.known) (groups_of m info)) (own_types m ++ flat_map (pointers_in m) place_spaces) i r at)
+  pointer_types_fit i r at =
+      by (in_row (flat_map (λ g. g.known) (groups_of m info))
+      (own_types m ++ flat_map (pointers_in m) place_spaces) i r at)
     where
       known : {g : Group} → (f : _) × IsSoundGroup m info f g → IsIn g.known r → IsFit m r
       known sound inside = sound.1.fits inside.0 r inside.1
 
-      made : (at : AddressSpace) → is_handle_space at ≡ false → (p : ℕ × Type_) (i : ℕ) → slice_get (pointers_to at p) i ≡ Some r → IsFit m r
+      made : (at : AddressSpace) → is_handle_space at ≡ false → (p : ℕ × Type_) (i : ℕ) →
+          slice_get (pointers_to at p) i ≡ Some r → IsFit m r
       made at free p zero is = subst (IsFit m) (same_Some _ r is) (pointer_fit p.0 at free)
       made at free p (suc i) is = column_fit at p.1.inner i r is
 
-      others : ((k : ℕ) × (slice_get (own_types m) k ≡ Some r)) ⊎ ((k : ℕ) × (slice_get (flat_map (pointers_in m) place_spaces) k ≡ Some r)) → IsFit m r
+      others : ((k : ℕ) × (slice_get (own_types m) k ≡ Some r))
+          ⊎ ((k : ℕ) × (slice_get (flat_map (pointers_in m) place_spaces) k ≡ Some r)) → IsFit m r
       others (inl own) =
           let made = in_image (λ p. Handle p.0) (enumerate_from 0 m.types) own.0 r own.1 in
           subst (IsFit m) made.2 tt
@@ -177,9 +190,11 @@ module _ (m : ir_module.Module) (info : ModuleInfo) (accepted : IsTrue (is_accep
 
     first : IsFirst
     first =
-        let place = in_flat_map (λ g. g.known) (groups_of m info) a.group_there.0 a.group r a.group_there.1 (a.handle, a.known) in
+        let place = in_flat_map (λ g. g.known) (groups_of m info) a.group_there.0 a.group r a.group_there.1
+        (a.handle, a.known) in
         let found = first_found is_so (pointer_types m info) place.0 r
-        (in_left (flat_map (λ g. g.known) (groups_of m info)) (own_types m ++ flat_map (pointers_in m) place_spaces) place.0 r place.1)
+        (in_left (flat_map (λ g. g.known) (groups_of m info))
+        (own_types m ++ flat_map (pointers_in m) place_spaces) place.0 r place.1)
         (ap (λ v. same_type v (PointerType whole)) a.values ∙ same_type_self (PointerType whole)) in
         let values = same_type_true (type_of_values m found.first) (PointerType whole) found.passes in
         let fit = pointer_types_fit found.among.0 found.first found.among.1 in
@@ -193,12 +208,14 @@ module _ (m : ir_module.Module) (info : ModuleInfo) (accepted : IsTrue (is_accep
           points = k.points;
           places =
               alike_places m are stand r found.first a.fit fit
-              (numbers_by_values m are r found.first a.fit fit (a.values ∙ sym values)) a.it k.it a.itself k.itself a.points k.points;
+              (numbers_by_values m are r found.first a.fit fit (a.values ∙ sym values)) a.it k.it a.itself
+              k.itself a.points k.points;
         }
 
     table_is : place_parts m info whole ≡ pointee_parts m info whole first.it
     table_is =
-        ap (λ o. option_map_or (λ r. option_map_or (pointee_parts m info whole) (inner_of r m.types) NoParts) o NoParts) first.spelled
+        ap (λ o. option_map_or (λ r. option_map_or (pointee_parts m info whole) (inner_of r m.types) NoParts) o
+        NoParts) first.spelled
         ∙ ap (λ o. option_map_or (pointee_parts m info whole) o NoParts) first.itself
 
     -- ---- elements
@@ -207,7 +224,8 @@ module _ (m : ir_module.Module) (info : ModuleInfo) (accepted : IsTrue (is_accep
       kind = pointee_kind m.types a.it
 
       part_fit : IsFit m p
-      part_fit = subst (FitPart m are stand) part (part_fits m are stand a.it (is_free m are stand r a.it a.fit a.itself) a.points None)
+      part_fit = subst (FitPart m are stand) part
+          (part_fits m are stand a.it (is_free m are stand r a.it a.fit a.itself) a.points None)
 
       -- what is told by the same numbers as the part is a pointer that is spelled as in the table
       record HasTable : Type 0 where
@@ -229,7 +247,8 @@ module _ (m : ir_module.Module) (info : ModuleInfo) (accepted : IsTrue (is_accep
               by (ComponentKind count) elements is = absurd cc
               by (MemberKind base) elements is = absurd cc
 
-          by_kind : kind ≡ pointee_kind m.types first.it → (q : TypeResolution) → part_type m.types first.it None ≡ Some q → word_of_values m p ≡ word_of_values m q → HasTable
+          by_kind : kind ≡ pointee_kind m.types first.it → (q : TypeResolution) →
+              part_type m.types first.it None ≡ Some q → word_of_values m p ≡ word_of_values m q → HasTable
           by_kind one q is words =
               let other = has_elements m info whole first.it first.points q is in
               record {
@@ -237,11 +256,14 @@ module _ (m : ir_module.Module) (info : ModuleInfo) (accepted : IsTrue (is_accep
                 table = table_is ∙ (other.parts ∙ (λ i. parts_of_kind (sym one i) (sym words i)));
               }
 
-          words_alike : (q : TypeResolution) → type_identity m.types p ≡ type_identity m.types q → IsFit m p → IsFit m q → part_type m.types first.it None ≡ Some q → word_of_values m p ≡ word_of_values m q
+          words_alike : (q : TypeResolution) → type_identity m.types p ≡ type_identity m.types q → IsFit m p →
+              IsFit m q → part_type m.types first.it None ≡ Some q → word_of_values m p ≡ word_of_values m q
           words_alike q alike fit other is =
-              own_word m p (word_of_values m q) (values_by_numbers m are p q fit other alike ∙ part_points m first.it first.points None q is)
+              own_word m p (word_of_values m q) (values_by_numbers m are p q fit other alike
+              ∙ part_points m first.it first.points None q is)
 
-          by_parts : kind ≡ pointee_kind m.types first.it → (o u : Option TypeResolution) → part_type m.types a.it None ≡ o → part_type m.types first.it None ≡ u →
+          by_parts : kind ≡ pointee_kind m.types first.it → (o u : Option TypeResolution) →
+              part_type m.types a.it None ≡ o → part_type m.types first.it None ≡ u →
               PartsAlike m are stand o u → HasTable
           by_parts one None u at bt parts = let none : None ≡ Some p = sym at ∙ part in absurd cc
           by_parts one (Some s) None at bt parts = absurd parts
@@ -250,20 +272,26 @@ module _ (m : ir_module.Module) (info : ModuleInfo) (accepted : IsTrue (is_accep
               by_kind one q bt (words_alike q (ap (type_identity m.types) (sym same) ∙ parts.0) part_fit parts.2 bt)
 
           by : AlikePlaces m are stand a.it first.it → HasTable
-          by (Same same) = by_kind (ap (pointee_kind m.types) same) p (ap (λ it. part_type m.types it None) (sym same) ∙ part) refl
-          by (OneKind one none parts) = by_parts one (part_type m.types a.it None) (part_type m.types first.it None) refl refl (parts None)
+          by (Same same) = by_kind (ap (pointee_kind m.types) same) p
+              (ap (λ it. part_type m.types it None) (sym same) ∙ part) refl
+          by (OneKind one none parts) = by_parts one (part_type m.types a.it None)
+              (part_type m.types first.it None) refl refl (parts None)
           by (OneStruct base at to is other members spaces) = absurd (no_members (ap has_members members))
 
-      module _ (own : TypeResolution) (own_fit : IsFit m own) (alike : type_identity m.types own ≡ type_identity m.types p) where
+      module _ (own : TypeResolution) (own_fit : IsFit m own)
+          (alike : type_identity m.types own ≡ type_identity m.types p) where
         own_values : type_of_values m own ≡ PointerType (word_of_values m p)
         own_values = values_by_numbers m are own p own_fit part_fit alike ∙ part_points m a.it a.points None p part
 
         -- any index leads to it
-        pub element_at : (z : ℤ) → IsPart (place_parts m info whole) (step_at (place_parts m info whole) z) (type_of_values m own)
+        pub element_at : (z : ℤ) → IsPart (place_parts m info whole) (step_at (place_parts m info whole) z)
+            (type_of_values m own)
         element_at z =
-            subst (λ whole. IsPart whole (step_at whole z) (type_of_values m own)) (sym has_table.table) (by kind has_table.elements)
+            subst (λ whole. IsPart whole (step_at whole z) (type_of_values m own)) (sym has_table.table)
+            (by kind has_table.elements)
           where
-            by : (k : PartKind) → are_elements k ≡ true → IsPart (parts_of_kind k (word_of_values m p)) (step_at (parts_of_kind k (word_of_values m p)) z) (type_of_values m own)
+            by : (k : PartKind) → are_elements k ≡ true → IsPart (parts_of_kind k (word_of_values m p))
+                (step_at (parts_of_kind k (word_of_values m p)) z) (type_of_values m own)
             by NoKind elements = absurd cc
             by (ElementKind count) elements = own_values
             by (ComponentKind count) elements = own_values
@@ -274,16 +302,19 @@ module _ (m : ir_module.Module) (info : ModuleInfo) (accepted : IsTrue (is_accep
             IsPart (place_parts m info whole) (step_to (place_parts m info whole) s) (type_of_values m own)
         element_to s z step =
             subst (λ whole. IsPart whole (step_to whole s) (type_of_values m own)) (sym has_table.table)
-            (subst (λ o. IsPart (parts_of_kind kind (word_of_values m p)) o (type_of_values m own)) (sym (step (word_of_values m p))) (by kind has_table.elements))
+            (subst (λ o. IsPart (parts_of_kind kind (word_of_values m p)) o (type_of_values m own))
+            (sym (step (word_of_values m p))) (by kind has_table.elements))
           where
-            by : (k : PartKind) → are_elements k ≡ true → IsPart (parts_of_kind k (word_of_values m p)) (Some (At z)) (type_of_values m own)
+            by : (k : PartKind) → are_elements k ≡ true → IsPart (parts_of_kind k (word_of_values m p))
+                (Some (At z)) (type_of_values m own)
             by NoKind elements = absurd cc
             by (ElementKind count) elements = own_values
             by (ComponentKind count) elements = own_values
             by (MemberKind base) elements = absurd cc
 
     -- ---- members
-    module _ (index : ℕ) (s : Selector) (known : ℕ → Option TypeResolution) (k : IsMember m info known a.it index s) where
+    module _ (index : ℕ) (s : Selector) (known : ℕ → Option TypeResolution)
+        (k : IsMember m info known a.it index s) where
       inner_is : inner_at m.types k.base ≡ Some (inner.Struct k.members k.span)
       inner_is = ap (option_map (λ t. t.inner)) k.there ∙ ap Some k.struct_is
 
@@ -335,10 +366,12 @@ module _ (m : ir_module.Module) (info : ModuleInfo) (accepted : IsTrue (is_accep
 
       table_of_members : place_parts m info whole ≡ Members entries
       table_of_members =
-          table_is ∙ (ap (pointee_parts m info whole) one_struct.itself ∙ ap (λ o. option_map_or (parts_at m info whole one_struct.to k.base) o NoParts) inner_is)
+          table_is ∙ (ap (pointee_parts m info whole) one_struct.itself
+          ∙ ap (λ o. option_map_or (parts_at m info whole one_struct.to k.base) o NoParts) inner_is)
 
       entry_there : slice_get entries index ≡ Some entry
-      entry_there = made_at (λ p. member_part m info whole one_struct.to k.base p.0 p.1.ty) k.members.items index k.member k.member_there
+      entry_there = made_at (λ p. member_part m info whole one_struct.to k.base p.0 p.1.ty) k.members.items
+          index k.member k.member_there
 
       -- its word is that of no other
       only_entry : (j : ℕ) (l : Bytes × Bytes) → slice_get entries j ≡ Some l → l.0 ≡ word → index ≡ j
@@ -352,18 +385,22 @@ module _ (m : ir_module.Module) (info : ModuleInfo) (accepted : IsTrue (is_accep
       found : member_pointer entries word ≡ Some entry.1
       found = member_found entries index entry entry_there only_entry
 
-      module _ (own : TypeResolution) (own_fit : IsFit m own) (alike : type_identity m.types own ≡ type_identity m.types (by_type k.at)) (taking : IsTaking m info accepted distinguished whole word own) where
+      module _ (own : TypeResolution) (own_fit : IsFit m own)
+          (alike : type_identity m.types own ≡ type_identity m.types (by_type k.at))
+          (taking : IsTaking m info accepted distinguished whole word own) where
         free_at : is_handle_space k.at ≡ false
         free_at = subst (IsFree m are stand) k.itself (is_free m are stand r a.it a.fit a.itself)
 
         free_to : is_handle_space one_struct.to ≡ false
-        free_to = subst (IsFree m are stand) one_struct.itself (is_free m are stand first.u first.it first.fit first.itself)
+        free_to = subst (IsFree m are stand) one_struct.itself
+            (is_free m are stand first.u first.it first.fit first.itself)
 
         key_is : type_key m.types (by_type k.at) ≡ type_key m.types (by_type one_struct.to)
         key_is = one_struct.spaces (handle_key m.types k.member.ty)
 
         -- where the member's type has a form, so have the pointers, and it is one
-        spelled : (o : Option (List ℕ)) → type_key m.types (by_type one_struct.to) ≡ o → is_some o ≡ true → type_of_values m own ≡ type_of_values m (by_type one_struct.to)
+        spelled : (o : Option (List ℕ)) → type_key m.types (by_type one_struct.to) ≡ o → is_some o ≡ true →
+            type_of_values m own ≡ type_of_values m (by_type one_struct.to)
         spelled None at is = absurd cc
         spelled (Some x) at is =
             values_by_numbers m are own (by_type one_struct.to) own_fit (pointer_fit k.member.ty one_struct.to free_to)
@@ -376,12 +413,16 @@ module _ (m : ir_module.Module) (info : ModuleInfo) (accepted : IsTrue (is_accep
         -- where it has none, the table goes by the first expression that takes the member
         by_form : (b : Bool) → is_spelled m.types (by_type one_struct.to) ≡ b →
             type_of_values m own ≡ PointerType (word_of_values m (if b then by_type one_struct.to
-            else unwrap_or (slice_get (flat_map (members_taken m info whole word) (groups_of m info)) 0) (by_type one_struct.to)))
+            else unwrap_or (slice_get (flat_map (members_taken m info whole word) (groups_of m info)) 0)
+            (by_type one_struct.to)))
         by_form true is = spelled (type_key m.types (by_type one_struct.to)) refl is
         by_form false is =
-            let other = unwrap_or (slice_get (flat_map (members_taken m info whole word) (groups_of m info)) 0) (by_type one_struct.to) in
-            let one : type_of_values m own ≡ type_of_values m other = type_of_first m info accepted distinguished whole word own taking (by_type one_struct.to) in
-            own_pointer ∙ ap PointerType (sym (own_word m other (word_of_values m (by_type k.at)) (sym one ∙ own_pointer)))
+            let other = unwrap_or (slice_get (flat_map (members_taken m info whole word) (groups_of m info)) 0)
+            (by_type one_struct.to) in
+            let one : type_of_values m own ≡ type_of_values m other =
+            type_of_first m info accepted distinguished whole word own taking (by_type one_struct.to) in
+            own_pointer ∙ ap PointerType
+            (sym (own_word m other (word_of_values m (by_type k.at)) (sym one ∙ own_pointer)))
 
         member_values : type_of_values m own ≡ PointerType entry.1
         member_values = by_form (is_spelled m.types (by_type one_struct.to)) refl
@@ -390,5 +431,6 @@ module _ (m : ir_module.Module) (info : ModuleInfo) (accepted : IsTrue (is_accep
         member_to =
             subst (λ whole. IsPart whole (step_to whole s) (type_of_values m own)) (sym table_of_members)
             (subst (λ s. IsPart (Members entries) (step_to (Members entries) s) (type_of_values m own)) (sym k.selected)
-            (subst (λ o. IsPart (Members entries) (option_map (λ pointer. Field word) o) (type_of_values m own)) (sym found)
+            (subst (λ o. IsPart (Members entries) (option_map (λ pointer. Field word) o) (type_of_values m own))
+            (sym found)
             (member_values ∙ ap (λ o. PointerType (unwrap_or o [])) (sym found))))

@@ -29,7 +29,7 @@ use Rattle.module_meaning.specs.ExpressionShapes.{Declared, own_selector, select
 use Rattle.module_meaning.specs.ExpressionShapes.{component_letters}
 use Rattle.module_meaning.specs.ExpressionContexts.{declared}
 use Rattle.module_meaning.specs.PlaceParts.{parts_at, pointee_parts, member_word}
-use Rattle.module_meaning.specs.TypeIdentity.{vector_number}
+use Rattle.module_meaning.specs.TypeIdentity.{component_count}
 use Rattle.module_meaning.specs.Types.{type_of_values, word_of_values, values_of, scalar_values}
 use Rattle.module_meaning.specs.TypeParts.{part_type, pointed_part, inner_at, member_type}
 use Rattle.module_meaning.specs.TypeParts.{is_part_number, value_part_count, element_count}
@@ -62,7 +62,9 @@ module _ (m : ir_module.Module) where
   pub points_as : (r : TypeResolution) (w : Bytes) → type_of_values m r ≡ PointerType w → PointsAs r
   points_as r w e = by (inner_of r m.types) refl e
     where
-      by : (o : Option TypeInner) → inner_of r m.types ≡ o → option_map_or (λ it. values_of it (word_of_values m r)) o (OtherType (word_of_values m r)) ≡ PointerType w → PointsAs r
+      by : (o : Option TypeInner) → inner_of r m.types ≡ o →
+          option_map_or (λ it. values_of it (word_of_values m r)) o (OtherType (word_of_values m r))
+          ≡ PointerType w → PointsAs r
       by None at e = absurd cc
       by (Some it) at e = record { it = it; itself = at; points = pointers_alone it (word_of_values m r) w e }
 
@@ -70,7 +72,8 @@ module _ (m : ir_module.Module) where
   abbrev pub GivesPointers : TypeResolution → Type 0
   GivesPointers r = type_of_values m r ≡ PointerType (word_of_values m r)
 
-  pointed_points : (space : AddressSpace) (it : TypeInner) (index : Option ℕ) (r : TypeResolution) → pointed_part space it index ≡ Some r → GivesPointers r
+  pointed_points : (space : AddressSpace) (it : TypeInner) (index : Option ℕ) (r : TypeResolution) →
+      pointed_part space it index ≡ Some r → GivesPointers r
   pointed_points space (inner.Vector n s) index r at = subst GivesPointers (same_Some _ r at) refl
   pointed_points space (inner.Matrix columns rows s) index r at = subst GivesPointers (same_Some _ r at) refl
   pointed_points space (inner.Array base count stride) index r at = subst GivesPointers (same_Some _ r at) refl
@@ -82,7 +85,8 @@ module _ (m : ir_module.Module) where
       by (Some ty) at = subst GivesPointers (same_Some _ r at) refl
   pointed_points space _ index r at = absurd cc
 
-  pub part_points : (it : TypeInner) → is_pointer it ≡ true → (index : Option ℕ) (r : TypeResolution) → part_type m.types it index ≡ Some r → GivesPointers r
+  pub part_points : (it : TypeInner) → is_pointer it ≡ true → (index : Option ℕ) (r : TypeResolution) →
+      part_type m.types it index ≡ Some r → GivesPointers r
   part_points (inner.Pointer base space) points index r at = by (inner_at m.types base) at
     where
       by : (o : Option TypeInner) → option_and_then (λ it. pointed_part space it index) o ≡ Some r → GivesPointers r
@@ -96,7 +100,9 @@ module _ (m : ir_module.Module) where
   pub own_word : (r : TypeResolution) (w : Bytes) → type_of_values m r ≡ PointerType w → word_of_values m r ≡ w
   own_word r w e = by (inner_of r m.types) refl e
     where
-      by : (o : Option TypeInner) → inner_of r m.types ≡ o → option_map_or (λ it. values_of it (word_of_values m r)) o (OtherType (word_of_values m r)) ≡ PointerType w → word_of_values m r ≡ w
+      by : (o : Option TypeInner) → inner_of r m.types ≡ o →
+          option_map_or (λ it. values_of it (word_of_values m r)) o (OtherType (word_of_values m r))
+          ≡ PointerType w → word_of_values m r ≡ w
       by None at e = absurd cc
       by (Some (inner.Scalar s)) at e = absurd (no_scalar_points s.kind (word_of_values m r) w e)
       by (Some (inner.Pointer base space)) at e = cc
@@ -122,16 +128,21 @@ parts_of_kind (ComponentKind count) w = Components count w
 parts_of_kind _ w = NoParts
 
 -- the step to a component with a letter
-letter_step : (count index : ℕ) → nat_lt index count ≡ true → (letter : Bytes) → slice_get component_letters index ≡ Some letter →
+letter_step : (count index : ℕ) → nat_lt index count ≡ true → (letter : Bytes) →
+    slice_get component_letters index ≡ Some letter →
     option_and_then (step_to_component count) (component_number letter) ≡ Some (At (pos index))
 letter_step count zero within letter at =
-    subst (λ w. option_and_then (step_to_component count) (component_number w) ≡ Some (At (pos 0))) (same_Some _ letter at) (ap (λ b. cond b (Some (At (pos 0))) None) within)
+    subst (λ w. option_and_then (step_to_component count) (component_number w) ≡ Some (At (pos 0)))
+    (same_Some _ letter at) (ap (λ b. cond b (Some (At (pos 0))) None) within)
 letter_step count (suc zero) within letter at =
-    subst (λ w. option_and_then (step_to_component count) (component_number w) ≡ Some (At (pos 1))) (same_Some _ letter at) (ap (λ b. cond b (Some (At (pos 1))) None) within)
+    subst (λ w. option_and_then (step_to_component count) (component_number w) ≡ Some (At (pos 1)))
+    (same_Some _ letter at) (ap (λ b. cond b (Some (At (pos 1))) None) within)
 letter_step count (suc (suc zero)) within letter at =
-    subst (λ w. option_and_then (step_to_component count) (component_number w) ≡ Some (At (pos 2))) (same_Some _ letter at) (ap (λ b. cond b (Some (At (pos 2))) None) within)
+    subst (λ w. option_and_then (step_to_component count) (component_number w) ≡ Some (At (pos 2)))
+    (same_Some _ letter at) (ap (λ b. cond b (Some (At (pos 2))) None) within)
 letter_step count (suc (suc (suc zero))) within letter at =
-    subst (λ w. option_and_then (step_to_component count) (component_number w) ≡ Some (At (pos 3))) (same_Some _ letter at) (ap (λ b. cond b (Some (At (pos 3))) None) within)
+    subst (λ w. option_and_then (step_to_component count) (component_number w) ≡ Some (At (pos 3)))
+    (same_Some _ letter at) (ap (λ b. cond b (Some (At (pos 3))) None) within)
 letter_step count (suc (suc (suc (suc index)))) within letter at = absurd cc
 
 -- ---- parts through pointers
@@ -155,45 +166,60 @@ module _ (m : ir_module.Module) (info : ModuleInfo) (known : ℕ → Option Type
 
   -- The part that a selector names: the same as that of any index, to which it leads, or a member.
   pub data IsPart (it : TypeInner) (index : ℕ) (s : Selector) : Type 0 where
-    ElementPart : (p : TypeResolution) → part_type m.types it (Some index) ≡ Some p → part_type m.types it None ≡ Some p →
-        ((w : Bytes) → step_to (parts_of_kind (pointee_kind m.types it) w) s ≡ Some (At (pos index))) → IsPart it index s
+    ElementPart : (p : TypeResolution) → part_type m.types it (Some index) ≡ Some p → part_type m.types it None
+        ≡ Some p →
+        ((w : Bytes) → step_to (parts_of_kind (pointee_kind m.types it) w) s ≡ Some (At (pos index))) →
+        IsPart it index s
     MemberPart : IsMember it index s → IsPart it index s
 
   module _ (index : ℕ) (s : Selector) where
-    following : (base : ℕ) (t : Type_) → slice_get m.types base ≡ Some t → (it : TypeInner) → t.inner ≡ it → inner_at m.types base ≡ Some it
+    following : (base : ℕ) (t : Type_) → slice_get m.types base ≡ Some t → (it : TypeInner) → t.inner ≡ it →
+        inner_at m.types base ≡ Some it
     following base t there it is = ap (option_map (λ t. t.inner)) there ∙ ap Some is
 
-    element_after : (base : ℕ) (space : AddressSpace) (t : Type_) → slice_get m.types base ≡ Some t → (it : TypeInner) → t.inner ≡ it →
+    element_after : (base : ℕ) (space : AddressSpace) (t : Type_) → slice_get m.types base ≡ Some t →
+        (it : TypeInner) → t.inner ≡ it →
         (p : TypeResolution) → pointed_part space it (Some index) ≡ Some p → pointed_part space it None ≡ Some p →
-        ((w : Bytes) → step_to (parts_of_kind (kind_at base it) w) s ≡ Some (At (pos index))) → IsPart (inner.Pointer base space) index s
+        ((w : Bytes) → step_to (parts_of_kind (kind_at base it) w) s ≡ Some (At (pos index))) →
+        IsPart (inner.Pointer base space) index s
     element_after base space t there it is p here any step =
         let at = following base t there it is in
-        ElementPart p (ap (option_and_then (λ it. pointed_part space it (Some index))) at ∙ here) (ap (option_and_then (λ it. pointed_part space it None)) at ∙ any)
+        ElementPart p (ap (option_and_then (λ it. pointed_part space it (Some index))) at ∙ here)
+        (ap (option_and_then (λ it. pointed_part space it None)) at ∙ any)
         (λ w. ap (λ o. step_to (parts_of_kind (option_map_or (kind_at base) o NoKind) w) s) at ∙ step w)
 
-    numbered : (whole : Parts) → (step_to whole (ElementAt index) ≡ Some (At (pos index))) → Some (ElementAt index) ≡ Some s → step_to whole s ≡ Some (At (pos index))
+    numbered : (whole : Parts) → (step_to whole (ElementAt index) ≡ Some (At (pos index))) →
+        Some (ElementAt index) ≡ Some s → step_to whole s ≡ Some (At (pos index))
     numbered whole step selected = ap (step_to whole) (sym (same_Some _ s selected)) ∙ step
 
     component_within : (count : ℕ) → nat_lt index count ≡ true → step_to_component count index ≡ Some (At (pos index))
     component_within count within = ap (λ b. cond b (Some (At (pos index))) None) within
 
-    element_within : (o : Option ℕ) → option_map_or (λ count. nat_lt index count) o true ≡ true → step_to_element o index ≡ Some (At (pos index))
+    element_within : (o : Option ℕ) → option_map_or (λ count. nat_lt index count) o true ≡ true →
+        step_to_element o index ≡ Some (At (pos index))
     element_within None within = refl
     element_within (Some count) within = component_within count within
 
     component : (count : ℕ) → nat_lt index count ≡ true → (o : Option Bytes) → slice_get component_letters index ≡ o →
-        Some (option_map_or MemberNamed o (ElementAt index)) ≡ Some s → (w : Bytes) → step_to (Components count w) s ≡ Some (At (pos index))
+        Some (option_map_or MemberNamed o (ElementAt index)) ≡ Some s → (w : Bytes) →
+        step_to (Components count w) s ≡ Some (At (pos index))
     component count within None at selected w = numbered (Components count w) (component_within count within) selected
-    component count within (Some letter) at selected w = ap (step_to (Components count w)) (sym (same_Some _ s selected)) ∙ letter_step count index within letter at
+    component count within (Some letter) at selected w =
+        ap (step_to (Components count w)) (sym (same_Some _ s selected)) ∙ letter_step count index within letter at
 
-    pointee_part : (base : ℕ) (space : AddressSpace) (t : Type_) → slice_get m.types base ≡ Some t → (it : TypeInner) → t.inner ≡ it →
-        own_selector context (Some base) it index ≡ Some s → option_map_or (λ count. nat_lt index count) (value_part_count it) true ≡ true → IsPart (inner.Pointer base space) index s
+    pointee_part : (base : ℕ) (space : AddressSpace) (t : Type_) → slice_get m.types base ≡ Some t →
+        (it : TypeInner) → t.inner ≡ it →
+        own_selector context (Some base) it index ≡ Some s → option_map_or (λ count. nat_lt index count)
+        (value_part_count it) true ≡ true → IsPart (inner.Pointer base space) index s
     pointee_part base space t there (inner.Vector n scalar) is selected within =
-        element_after base space t there (inner.Vector n scalar) is (Value (inner.ValuePointer None scalar space)) refl refl
-        (component (vector_number n) within (slice_get component_letters index) refl selected)
+        element_after base space t there (inner.Vector n scalar) is
+        (Value (inner.ValuePointer None scalar space)) refl refl
+        (component (component_count n) within (slice_get component_letters index) refl selected)
     pointee_part base space t there (inner.Matrix columns rows scalar) is selected within =
         element_after base space t there (inner.Matrix columns rows scalar) is
-        (Value (inner.ValuePointer (Some rows) scalar space)) refl refl (λ w. numbered (Elements (Some (vector_number columns)) w) (component_within (vector_number columns) within) selected)
+        (Value (inner.ValuePointer (Some rows) scalar space)) refl refl
+        (λ w. numbered (Elements (Some (component_count columns)) w)
+        (component_within (component_count columns) within) selected)
     pointee_part base space t there (inner.Array item n stride) is selected within =
         element_after base space t there (inner.Array item n stride) is (Value (inner.Pointer item space)) refl refl
         (λ w. numbered (Elements (element_count n) w) (element_within (element_count n) within) selected)
@@ -218,22 +244,26 @@ module _ (m : ir_module.Module) (info : ModuleInfo) (known : ℕ → Option Type
         })
     pointee_part base space t there _ is selected within = absurd cc
 
-    pub part_of : (it : TypeInner) → is_pointer it ≡ true → (whole : Option ℕ) → selector context whole it index ≡ Some s → is_part_number m.types it index ≡ true → IsPart it index s
+    pub part_of : (it : TypeInner) → is_pointer it ≡ true → (whole : Option ℕ) → selector context whole it index
+        ≡ Some s → is_part_number m.types it index ≡ true → IsPart it index s
     part_of (inner.Pointer base space) points whole selected within = by (slice_get m.types base) refl selected within
       where
         by : (o : Option Type_) → slice_get m.types base ≡ o →
             option_and_then (λ it. own_selector context (Some base) it index) (option_map (λ t. t.inner) o) ≡ Some s →
-            option_map_or (λ count. nat_lt index count) (option_and_then value_part_count (option_map (λ t. t.inner) o)) true ≡ true → IsPart (inner.Pointer base space) index s
+            option_map_or (λ count. nat_lt index count)
+            (option_and_then value_part_count (option_map (λ t. t.inner) o)) true ≡ true →
+            IsPart (inner.Pointer base space) index s
         by None there selected within = absurd cc
         by (Some t) there selected within = pointee_part base space t there t.inner refl selected within
     part_of (inner.ValuePointer (Some n) scalar space) points whole selected within =
         ElementPart (Value (inner.ValuePointer None scalar space)) refl refl
-        (λ w. numbered (Components (vector_number n) w) (component_within (vector_number n) within) selected)
+        (λ w. numbered (Components (component_count n) w) (component_within (component_count n) within) selected)
     part_of (inner.ValuePointer None scalar space) points whole selected within = absurd cc
     part_of _ points whole selected within = absurd cc
 
   -- the part that a member is
-  pub member_is : (it : TypeInner) (index : ℕ) (s : Selector) (k : IsMember it index s) → part_type m.types it (Some index) ≡ Some (Value (inner.Pointer k.member.ty k.at))
+  pub member_is : (it : TypeInner) (index : ℕ) (s : Selector) (k : IsMember it index s) →
+      part_type m.types it (Some index) ≡ Some (Value (inner.Pointer k.member.ty k.at))
   member_is it index s k =
       ap (λ it. part_type m.types it (Some index)) k.itself
       ∙ (ap (λ o. option_and_then (λ it. pointed_part k.at it (Some index)) (option_map (λ t. t.inner) o)) k.there
@@ -247,21 +277,25 @@ module _ (m : ir_module.Module) (info : ModuleInfo) (whole : Bytes) where
     pub elements : are_elements (pointee_kind m.types it) ≡ true
     pub parts : pointee_parts m info whole it ≡ parts_of_kind (pointee_kind m.types it) (word_of_values m p)
 
-  pub has_elements : (it : TypeInner) → is_pointer it ≡ true → (p : TypeResolution) → part_type m.types it None ≡ Some p → HasElements it p
+  pub has_elements : (it : TypeInner) → is_pointer it ≡ true → (p : TypeResolution) → part_type m.types it None
+      ≡ Some p → HasElements it p
   has_elements (inner.Pointer base at) points p is = by (inner_at m.types base) refl is
     where
-      spelled : (k : PartKind) (r : TypeResolution) → Some r ≡ Some p → parts_of_kind k (word_of_values m r) ≡ parts_of_kind k (word_of_values m p)
+      spelled : (k : PartKind) (r : TypeResolution) → Some r ≡ Some p → parts_of_kind k (word_of_values m r)
+          ≡ parts_of_kind k (word_of_values m p)
       spelled k r is = ap (λ r. parts_of_kind k (word_of_values m r)) (same_Some r p is)
 
       of_type : (it : TypeInner) → pointed_part at it None ≡ Some p →
-          (are_elements (kind_at base it) ≡ true) × (parts_at m info whole at base it ≡ parts_of_kind (kind_at base it) (word_of_values m p))
-      of_type (inner.Vector n s) is = (refl, spelled (ComponentKind (vector_number n)) _ is)
-      of_type (inner.Matrix columns rows s) is = (refl, spelled (ElementKind (Some (vector_number columns))) _ is)
+          (are_elements (kind_at base it) ≡ true)
+          × (parts_at m info whole at base it ≡ parts_of_kind (kind_at base it) (word_of_values m p))
+      of_type (inner.Vector n s) is = (refl, spelled (ComponentKind (component_count n)) _ is)
+      of_type (inner.Matrix columns rows s) is = (refl, spelled (ElementKind (Some (component_count columns))) _ is)
       of_type (inner.Array item count stride) is = (refl, spelled (ElementKind (element_count count)) _ is)
       of_type (inner.BindingArray item count) is = (refl, spelled (ElementKind (element_count count)) _ is)
       of_type _ is = absurd cc
 
-      by : (o : Option TypeInner) → inner_at m.types base ≡ o → option_and_then (λ it. pointed_part at it None) o ≡ Some p → HasElements (inner.Pointer base at) p
+      by : (o : Option TypeInner) → inner_at m.types base ≡ o →
+          option_and_then (λ it. pointed_part at it None) o ≡ Some p → HasElements (inner.Pointer base at) p
       by None there is = absurd cc
       by (Some it) there is =
           let known = of_type it is in
@@ -269,11 +303,12 @@ module _ (m : ir_module.Module) (info : ModuleInfo) (whole : Bytes) where
             elements = ap (λ o. are_elements (option_map_or (kind_at base) o NoKind)) there ∙ known.0;
             parts =
                 ap (λ o. option_map_or (parts_at m info whole at base) o NoParts) there
-                ∙ (known.1 ∙ sym (ap (λ o. parts_of_kind (option_map_or (kind_at base) o NoKind) (word_of_values m p)) there));
+                ∙ (known.1 ∙ sym
+                (ap (λ o. parts_of_kind (option_map_or (kind_at base) o NoKind) (word_of_values m p)) there));
           }
   has_elements (inner.ValuePointer (Some n) s at) points p is = record {
     elements = refl;
-    parts = ap (λ r. Components (vector_number n) (word_of_values m r)) (same_Some _ p is);
+    parts = ap (λ r. Components (component_count n) (word_of_values m r)) (same_Some _ p is);
   }
   has_elements (inner.ValuePointer None s at) points p is = absurd cc
   has_elements _ points p is = absurd cc

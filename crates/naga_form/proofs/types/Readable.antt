@@ -12,7 +12,8 @@ use Rattle.naga_form.specs.Readable.{is_readable, handle_names, AreAlike, Spelle
 use Rattle.naga_form.specs.TypeTrees.{resolution_tree}
 
 module _ (types : List Type_) where
-  by_tree : (a : TypeResolution) (o : Option TypeSpecifier) → resolution_tree (handle_names types) a ≡ o → AreAlike types a a
+  by_tree : (a : TypeResolution) (o : Option TypeSpecifier) → resolution_tree (handle_names types) a ≡ o →
+      AreAlike types a a
   by_tree a (Some t) at = SpelledAlike t at at
   by_tree a None at = Unsupported at at refl
 
@@ -37,7 +38,8 @@ module _ (types : List Type_) where
       IsTrue (is_readable (handle_names types) (resolution.Value (inner.Array base l s))) →
       AreAlike types (resolution.Value (inner.Array base l s))
       (resolution.Value (inner.Array base l t))
-  strides_are_alike base l s t has = by (resolution_tree (handle_names types) (resolution.Value (inner.Array base l s))) refl has
+  strides_are_alike base l s t has =
+      by (resolution_tree (handle_names types) (resolution.Value (inner.Array base l s))) refl has
     where
       by : (o : Option TypeSpecifier) →
           resolution_tree (handle_names types) (resolution.Value (inner.Array base l s)) ≡ o →

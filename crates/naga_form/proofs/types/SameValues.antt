@@ -57,7 +57,7 @@ use Rattle.module_meaning.specs.Names.{wgsl_names}
 use Rattle.module_meaning.specs.Types.{type_of_values, word_of_values, values_of, scalar_values}
 use Rattle.module_meaning.specs.TypeIdentity.{identity, identity_code, word_of_unspelled_type}
 use Rattle.module_meaning.specs.TypeIdentity.{level, kind_number, truth_number, dimension_number}
-use Rattle.module_meaning.specs.TypeIdentity.{vector_number, cooperative_number, role_number}
+use Rattle.module_meaning.specs.TypeIdentity.{component_count, cooperative_number, role_number}
 use Rattle.module_meaning.specs.TypeIdentity.{space_number, length_kind, length_number}
 use Rattle.module_meaning.specs.Types.{type_names, spelled_resolution}
 use Rattle.module_meaning.proofs.TypeIdentity.{word_tells}
@@ -79,22 +79,26 @@ abbrev search_below : (ℕ → Bool) → ℕ → Option ℕ
 search_below p zero = None
 search_below p (suc n) = if p n then Some n else search_below p n
 
-found_below : (p : ℕ → Bool) (n h : ℕ) → h < n → p h ≡ true → ((k : ℕ) → k < n → p k ≡ true → k ≡ h) → search_below p n ≡ Some h
+found_below : (p : ℕ → Bool) (n h : ℕ) → h < n → p h ≡ true → ((k : ℕ) → k < n → p k ≡ true → k ≡ h) →
+    search_below p n ≡ Some h
 found_below p zero h lt is only = absurd (omega (arith, lt))
 found_below p (suc n) h lt is only =
     by (p n) refl (λ not_here. found_below p n h (before not_here) is (λ k le at. only k (omega (arith, le)) at))
   where
     before : p n ≡ false → h < n
-    before not_n = let other : (n ≡ h → ⊥) = λ e. true≢false (sym is ∙ (ap p (sym e) ∙ not_n)) in omega (arith, lt, other)
+    before not_n = let other : (n ≡ h → ⊥) = λ e. true≢false (sym is ∙ (ap p (sym e) ∙ not_n)) in
+        omega (arith, lt, other)
 
-    by : (b : Bool) → p n ≡ b → (p n ≡ false → search_below p n ≡ Some h) → (if b then Some n else search_below p n) ≡ Some h
+    by : (b : Bool) → p n ≡ b → (p n ≡ false → search_below p n ≡ Some h) →
+        (if b then Some n else search_below p n) ≡ Some h
     by true at more = ap Some (only n (omega arith) at)
     by false at more = more at
 
 none_below : (p : ℕ → Bool) (n : ℕ) → ((k : ℕ) → k < n → p k ≡ false) → search_below p n ≡ None
 none_below p zero not_so = refl
 none_below p (suc n) not_so =
-    (λ i. if not_so n (omega arith) i then Some n else search_below p n) ∙ none_below p n (λ k lt. not_so k (omega (arith, lt)))
+    (λ i. if not_so n (omega arith) i then Some n else search_below p n)
+    ∙ none_below p n (λ k lt. not_so k (omega (arith, lt)))
 
 -- ---- what is asked of lengths
 -- a length is a number of 32 bits
@@ -146,7 +150,8 @@ values_word _ w = refl
 pub word_of_type : (m : Module) (r : TypeResolution) → word_in (type_of_values m r) ≡ word_of_values m r
 word_of_type m r = by (inner_of r m.types)
   where
-    by : (o : Option TypeInner) → word_in (option_map_or (λ it. values_of it (word_of_values m r)) o (OtherType (word_of_values m r))) ≡ word_of_values m r
+    by : (o : Option TypeInner) → word_in (option_map_or (λ it. values_of it (word_of_values m r)) o
+        (OtherType (word_of_values m r))) ≡ word_of_values m r
     by None = refl
     by (Some it) = values_word it (word_of_values m r)
 
@@ -162,32 +167,41 @@ module _ (m : Module) where
   there (x ∷ xs) zero lt = (x, refl)
   there (x ∷ xs) (suc i) lt = there xs i (omega (arith, lt))
 
-  type_item : (h : ℕ) → h < length m.types → (label : List ℕ) × Stands (labelled_items wgsl_names m) (key.Type_ h, label)
+  type_item : (h : ℕ) → h < length m.types → (label : List ℕ) × Stands (labelled_items wgsl_names m)
+      (key.Type_ h, label)
   type_item h lt = let k = there m.types h lt in (_, type_stands wgsl_names m h k.0 k.1)
 
-  override_item : (o : ℕ) → o < length m.overrides → (label : List ℕ) × Stands (labelled_items wgsl_names m) (key.Override o, label)
+  override_item : (o : ℕ) → o < length m.overrides → (label : List ℕ) × Stands (labelled_items wgsl_names m)
+      (key.Override o, label)
   override_item o lt = let k = there m.overrides o lt in (_, override_stands wgsl_names m o k.0 k.1)
 
   struct_identifier : (h : ℕ) → h < length m.types → IsIdentifier ((type_names m).struct_name h)
-  struct_identifier h lt = let a = type_item h lt in subst IsIdentifier (sym (or_nothing (module_names m (key.Type_ h)))) (item_is_identifier m (key.Type_ h, a.0) a.1)
+  struct_identifier h lt = let a = type_item h lt in
+      subst IsIdentifier (sym (or_nothing (module_names m (key.Type_ h)))) (item_is_identifier m (key.Type_ h, a.0) a.1)
 
   pub override_identifier : (o : ℕ) → o < length m.overrides → IsIdentifier ((type_names m).override_name o)
-  override_identifier o lt = let a = override_item o lt in subst IsIdentifier (sym (or_nothing (module_names m (key.Override o)))) (item_is_identifier m (key.Override o, a.0) a.1)
+  override_identifier o lt = let a = override_item o lt in
+      subst IsIdentifier (sym (or_nothing (module_names m (key.Override o))))
+      (item_is_identifier m (key.Override o, a.0) a.1)
 
   -- and constants and variables
   pub constant_identifier : (c : ℕ) → c < length m.constants → IsIdentifier (constant_name (module_names m) c)
-  constant_identifier c lt = let k = there m.constants c lt in item_is_identifier m (key.Constant c, _) (constant_stands wgsl_names m c k.0 k.1)
+  constant_identifier c lt = let k = there m.constants c lt in
+      item_is_identifier m (key.Constant c, _) (constant_stands wgsl_names m c k.0 k.1)
 
   pub global_identifier : (v : ℕ) → v < length m.global_variables → IsIdentifier (global_name (module_names m) v)
-  global_identifier v lt = let k = there m.global_variables v lt in item_is_identifier m (key.GlobalVariable v, _) (global_stands wgsl_names m v k.0 k.1)
+  global_identifier v lt = let k = there m.global_variables v lt in
+      item_is_identifier m (key.GlobalVariable v, _) (global_stands wgsl_names m v k.0 k.1)
 
 module _ (m : Module) (types : TypesAreFit m) where
-  size_is : (n : ArraySize) → LengthIsCounted n → size_within (length m.overrides) n ≡ true → LengthIsWithin (length m.overrides) n
+  size_is : (n : ArraySize) → LengthIsCounted n → size_within (length m.overrides) n ≡ true →
+      LengthIsWithin (length m.overrides) n
   size_is (size.Constant number) counted within = counted
   size_is (size.Pending o) counted within = ltb-true o (length m.overrides) within
   size_is size.Dynamic counted within = tt
 
-  inner_within : (it : TypeInner) → InnerIsCounted it → length_within (length m.overrides) it ≡ true → InnerIsWithin (length m.overrides) it
+  inner_within : (it : TypeInner) → InnerIsCounted it → length_within (length m.overrides) it ≡ true →
+      InnerIsWithin (length m.overrides) it
   inner_within (inner.Array base n stride) counted within = size_is n counted within
   inner_within (inner.BindingArray base n) counted within = size_is n counted within
   inner_within _ counted within = tt
@@ -203,7 +217,8 @@ module _ (m : Module) (types : TypesAreFit m) where
   is_within (Handle h) fit = tt
   is_within (Value it) fit = inner_within it fit.1 fit.2
 
-  pub tree_is : (r : TypeResolution) → IsFit m r → (t : TypeSpecifier) → resolution_tree (type_names m) r ≡ Some t → IsType t
+  pub tree_is : (r : TypeResolution) → IsFit m r → (t : TypeSpecifier) → resolution_tree (type_names m) r
+      ≡ Some t → IsType t
   tree_is r fit t at = resolution_is (type_names m) (length m.overrides) are_named r (is_within r fit) t at
 
 -- ---- names of structs and overrides
@@ -211,7 +226,8 @@ module _ (m : Module) (are : TypesAreCounted m) where
   abbrev names : Names
   names = type_names m
 
-  same_name : (a b : NameKey) → name_or_nothing (module_names m a) ≡ name_or_nothing (module_names m b) → name_in (module_names m) a ≡ name_in (module_names m) b
+  same_name : (a b : NameKey) → name_or_nothing (module_names m a) ≡ name_or_nothing (module_names m b) →
+      name_in (module_names m) a ≡ name_in (module_names m) b
   same_name a b e = sym (or_nothing (module_names m a)) ∙ (e ∙ or_nothing (module_names m b))
 
   -- a struct with this name
@@ -221,10 +237,12 @@ module _ (m : Module) (are : TypesAreCounted m) where
   abbrev is_struct_named : List ℕ → ℕ → Bool
   is_struct_named w h = is_struct_at h && bytes_eq (names.struct_name h) w
 
-  struct_at : (h : ℕ) → is_struct_at h ≡ true → (t : Type_) × (slice_get m.types h ≡ Some t) × (is_struct t.inner ≡ true)
+  struct_at : (h : ℕ) → is_struct_at h ≡ true → (t : Type_) × (slice_get m.types h ≡ Some t)
+      × (is_struct t.inner ≡ true)
   struct_at h is = by (slice_get m.types h) refl is
     where
-      by : (o : Option Type_) → slice_get m.types h ≡ o → option_map_or (λ t. is_struct t.inner) o false ≡ true → (t : Type_) × (slice_get m.types h ≡ Some t) × (is_struct t.inner ≡ true)
+      by : (o : Option Type_) → slice_get m.types h ≡ o → option_map_or (λ t. is_struct t.inner) o false
+          ≡ true → (t : Type_) × (slice_get m.types h ≡ Some t) × (is_struct t.inner ≡ true)
       by None at is = absurd cc
       by (Some t) at is = (t, at, is)
 
@@ -234,9 +252,12 @@ module _ (m : Module) (are : TypesAreCounted m) where
       unwrap_or (search_below (is_struct_named w) (length m.types))
       (unwrap_or (search_below (λ o. bytes_eq (names.override_name o) w) (length m.overrides)) 0)
 
-  struct_handle : (h : ℕ) (t : Type_) → slice_get m.types h ≡ Some t → is_struct t.inner ≡ true → handle_named (names.struct_name h) ≡ h
+  struct_handle : (h : ℕ) (t : Type_) → slice_get m.types h ≡ Some t → is_struct t.inner ≡ true →
+      handle_named (names.struct_name h) ≡ h
   struct_handle h t at is =
-      ap (λ x. unwrap_or x (unwrap_or (search_below (λ o. bytes_eq (names.override_name o) (names.struct_name h)) (length m.overrides)) 0))
+      ap (λ x. unwrap_or x
+      (unwrap_or (search_below (λ o. bytes_eq (names.override_name o) (names.struct_name h))
+      (length m.overrides)) 0))
       (found_below (is_struct_named (names.struct_name h)) (length m.types) h (slice_get_within m.types h t at)
       (and_from (is_struct_at h) (bytes_eq (names.struct_name h) (names.struct_name h))
       (ap (λ o. option_map_or (λ t. is_struct t.inner) o false) at ∙ is)
@@ -248,34 +269,44 @@ module _ (m : Module) (are : TypesAreCounted m) where
           let parts = and_parts (is_struct_at k) (bytes_eq (names.struct_name k) (names.struct_name h)) named in
           let u = struct_at k parts.0 in
           are.names.structs k h u.0 t u.1 at u.2 is
-          (same_name (key.Type_ k) (key.Type_ h) ((bytes_eq-Decides (names.struct_name k) (names.struct_name h)).0 parts.1))
+          (same_name (key.Type_ k) (key.Type_ h)
+          ((bytes_eq-Decides (names.struct_name k) (names.struct_name h)).0 parts.1))
 
   override_handle : (o : ℕ) → o < length m.overrides → handle_named (names.override_name o) ≡ o
   override_handle o lt =
-      ap (λ x. unwrap_or x (unwrap_or (search_below (λ k. bytes_eq (names.override_name k) (names.override_name o)) (length m.overrides)) 0))
-      (none_below (is_struct_named (names.override_name o)) (length m.types) (λ h le. not_both h (is_struct_named (names.override_name o) h) refl))
+      ap (λ x. unwrap_or x
+      (unwrap_or (search_below (λ k. bytes_eq (names.override_name k) (names.override_name o))
+      (length m.overrides)) 0))
+      (none_below (is_struct_named (names.override_name o)) (length m.types)
+      (λ h le. not_both h (is_struct_named (names.override_name o) h) refl))
       ∙ ap (λ x. unwrap_or x 0)
       (found_below (λ k. bytes_eq (names.override_name k) (names.override_name o)) (length m.overrides) o lt
       ((bytes_eq-Decides (names.override_name o) (names.override_name o)).1 refl)
       (λ k le at. are.names.overrides k o le lt
-      (same_name (key.Override k) (key.Override o) ((bytes_eq-Decides (names.override_name k) (names.override_name o)).0 at))))
+      (same_name (key.Override k) (key.Override o)
+      ((bytes_eq-Decides (names.override_name k) (names.override_name o)).0 at))))
     where
-      not_both : (h : ℕ) (b : Bool) → is_struct_named (names.override_name o) h ≡ b → is_struct_named (names.override_name o) h ≡ false
+      not_both : (h : ℕ) (b : Bool) → is_struct_named (names.override_name o) h ≡ b →
+          is_struct_named (names.override_name o) h ≡ false
       not_both h true named =
           let parts = and_parts (is_struct_at h) (bytes_eq (names.struct_name h) (names.override_name o)) named in
           let t = struct_at h parts.0 in
           absurd (are.names.apart h o t.0 t.1 t.2 lt
-          (same_name (key.Type_ h) (key.Override o) ((bytes_eq-Decides (names.struct_name h) (names.override_name o)).0 parts.1)))
+          (same_name (key.Type_ h) (key.Override o)
+          ((bytes_eq-Decides (names.struct_name h) (names.override_name o)).0 parts.1)))
       not_both h false named = named
 
-  size_distinguished : (n : ArraySize) → size_within (length m.overrides) n ≡ true → LengthIsDistinguished handle_named names n
+  size_distinguished : (n : ArraySize) → size_within (length m.overrides) n ≡ true →
+      LengthIsDistinguished handle_named names n
   size_distinguished (size.Constant number) within = tt
   size_distinguished (size.Pending o) within =
       let lt = ltb-true o (length m.overrides) within in
-      named_numbers handle_named (names.override_name o) (override_identifier m o lt) ∙ ap (λ x. level 8 x 0 0 0 0) (override_handle o lt)
+      named_numbers handle_named (names.override_name o) (override_identifier m o lt)
+      ∙ ap (λ x. level 8 x 0 0 0 0) (override_handle o lt)
   size_distinguished size.Dynamic within = tt
 
-  inner_distinguished : (it : TypeInner) → length_within (length m.overrides) it ≡ true → InnerIsDistinguished handle_named names it
+  inner_distinguished : (it : TypeInner) → length_within (length m.overrides) it ≡ true →
+      InnerIsDistinguished handle_named names it
   inner_distinguished (inner.Array base n stride) within = size_distinguished n within
   inner_distinguished (inner.BindingArray base n) within = size_distinguished n within
   inner_distinguished _ within = tt
@@ -283,7 +314,8 @@ module _ (m : Module) (are : TypesAreCounted m) where
   are_distinguished : AreDistinguished handle_named names
   are_distinguished = record {
     structs = λ h t at is. let lt = slice_get_within m.types h t at in
-        named_numbers handle_named (names.struct_name h) (struct_identifier m h lt) ∙ ap (λ x. level 8 x 0 0 0 0) (struct_handle h t at is);
+        named_numbers handle_named (names.struct_name h) (struct_identifier m h lt)
+        ∙ ap (λ x. level 8 x 0 0 0 0) (struct_handle h t at is);
     lengths = λ h t at. inner_distinguished t.inner (are.types.within h t at);
   }
 
@@ -298,8 +330,10 @@ module _ (m : Module) (are : TypesAreCounted m) where
 
   -- ---- forms and spellings
   -- a type's numbers by its tree
-  numbers_of : (r : TypeResolution) → IsFit m r → type_key m.types r ≡ option_map (tree_numbers handle_named) (resolution_tree names r)
-  numbers_of r fit = form_is_distinguished handle_named names are_distinguished (each_named m.types are.types.fits) r (is_distinguished r fit) (is_fit r fit)
+  numbers_of : (r : TypeResolution) → IsFit m r → type_key m.types r ≡ option_map (tree_numbers handle_named)
+      (resolution_tree names r)
+  numbers_of r fit = form_is_distinguished handle_named names are_distinguished
+      (each_named m.types are.types.fits) r (is_distinguished r fit) (is_fit r fit)
 
   -- the tree by the numbers
   pub tree_of : (r : TypeResolution) → resolution_tree names r ≡ option_map (form_read names) (type_key m.types r)
@@ -332,19 +366,27 @@ module _ (m : Module) (are : TypesAreCounted m) where
   identity_is r fit = ap (λ o. unwrap_or o (word_of_unspelled_type (identity m.types r))) (numbers_of r fit)
 
   -- words that are the same are of types with the same numbers
-  pub numbers_by_words : (a b : TypeResolution) → IsFit m a → IsFit m b → word_of_values m a ≡ word_of_values m b → type_identity m.types a ≡ type_identity m.types b
+  pub numbers_by_words : (a b : TypeResolution) → IsFit m a → IsFit m b → word_of_values m a
+      ≡ word_of_values m b → type_identity m.types a ≡ type_identity m.types b
   numbers_by_words a b p q e =
-      identity_is a p ∙ (by (resolution_tree names a) refl (resolution_tree names b) refl (sym (word_is a) ∙ (e ∙ word_is b)) ∙ sym (identity_is b q))
+      identity_is a p ∙ (by (resolution_tree names a) refl (resolution_tree names b) refl
+      (sym (word_is a) ∙ (e ∙ word_is b)) ∙ sym (identity_is b q))
     where
-      by : (x : Option TypeSpecifier) → resolution_tree names a ≡ x → (y : Option TypeSpecifier) → resolution_tree names b ≡ y → word_of x a ≡ word_of y b → identity_of x a ≡ identity_of y b
-      by (Some t) at (Some u) bt e = ap (tree_numbers handle_named) (one_layout t u (tree_is m are.types a p t at) (tree_is m are.types b q u bt) e)
-      by (Some t) at None bt e = absurd (no_blank_in t (tree_is m are.types a p t at) (identity_code (identity m.types b)) e)
-      by None at (Some u) bt e = absurd (no_blank_in u (tree_is m are.types b q u bt) (identity_code (identity m.types a)) (sym e))
+      by : (x : Option TypeSpecifier) → resolution_tree names a ≡ x → (y : Option TypeSpecifier) →
+          resolution_tree names b ≡ y → word_of x a ≡ word_of y b → identity_of x a ≡ identity_of y b
+      by (Some t) at (Some u) bt e =
+          ap (tree_numbers handle_named) (one_layout t u (tree_is m are.types a p t at)
+          (tree_is m are.types b q u bt) e)
+      by (Some t) at None bt e =
+          absurd (no_blank_in t (tree_is m are.types a p t at) (identity_code (identity m.types b)) e)
+      by None at (Some u) bt e =
+          absurd (no_blank_in u (tree_is m are.types b q u bt) (identity_code (identity m.types a)) (sym e))
       by None at None bt e = e
 
   -- and the other way
   abbrev form_word : Option (List ℕ) → TypeResolution → List ℕ
-  form_word o r = unwrap_or (option_map type_layout (option_map (form_read names) o)) (word_of_unspelled_type (identity m.types r))
+  form_word o r = unwrap_or (option_map type_layout (option_map (form_read names) o))
+      (word_of_unspelled_type (identity m.types r))
 
   word_by_form : (r : TypeResolution) → word_of_values m r ≡ form_word (type_key m.types r) r
   word_by_form r = word_is r ∙ ap (λ o. word_of o r) (tree_of r)
@@ -355,16 +397,19 @@ module _ (m : Module) (are : TypesAreCounted m) where
   -- the same, with the form of the other type
   record AlikeForms (a b : TypeResolution) : Type 0 where
     words : word_of_values m a ≡ word_of_values m b
-    kinds : (type_key m.types a ≡ type_key m.types b) × ((type_key m.types a ≡ None) → identity m.types a ≡ identity m.types b)
+    kinds : (type_key m.types a ≡ type_key m.types b)
+        × ((type_key m.types a ≡ None) → identity m.types a ≡ identity m.types b)
 
-  alike_forms : (a b : TypeResolution) → IsFit m a → IsFit m b → type_identity m.types a ≡ type_identity m.types b → AlikeForms a b
+  alike_forms : (a b : TypeResolution) → IsFit m a → IsFit m b → type_identity m.types a
+      ≡ type_identity m.types b → AlikeForms a b
   alike_forms a b p q e = by (type_key m.types a) refl (type_key m.types b) refl e
     where
       by : (x : Option (List ℕ)) → type_key m.types a ≡ x → (y : Option (List ℕ)) →
           type_key m.types b ≡ y → unwrap_or x (word_of_unspelled_type (identity m.types a)) ≡
           unwrap_or y (word_of_unspelled_type (identity m.types b)) → AlikeForms a b
       by (Some x) at (Some y) bt e = record {
-        words = word_by_form a ∙ (ap (λ o. form_word o a) at ∙ (ap (λ z. type_layout (form_read names z)) e ∙ sym (word_by_form b ∙ ap (λ o. form_word o b) bt)));
+        words = word_by_form a ∙ (ap (λ o. form_word o a) at
+            ∙ (ap (λ z. type_layout (form_read names z)) e ∙ sym (word_by_form b ∙ ap (λ o. form_word o b) bt)));
         kinds = (at ∙ (ap Some e ∙ sym bt), λ none. absurd (cc));
       }
       by (Some x) at None bt e = absurd (apart a p x (identity_code (identity m.types b)) at e)
@@ -375,7 +420,8 @@ module _ (m : Module) (are : TypesAreCounted m) where
       }
 
   -- where values are of one type, the types are told by the same numbers
-  pub numbers_by_values : (a b : TypeResolution) → IsFit m a → IsFit m b → type_of_values m a ≡ type_of_values m b → type_identity m.types a ≡ type_identity m.types b
+  pub numbers_by_values : (a b : TypeResolution) → IsFit m a → IsFit m b → type_of_values m a
+      ≡ type_of_values m b → type_identity m.types a ≡ type_identity m.types b
   numbers_by_values a b p q e = numbers_by_words a b p q (sym (word_of_type m a) ∙ (ap word_in e ∙ word_of_type m b))
 
   -- ---- which values a type has, by its form
@@ -400,10 +446,13 @@ module _ (m : Module) (are : TypesAreCounted m) where
   abbrev IsOfTag : Option (List ℕ) → TypeInner → Type 0
   IsOfTag o it = (w : List ℕ) → values_of it w ≡ values_by_form o (Some it) w
 
-  over_tag : (tag : ℕ) (s : Scalar) (c d e : ℕ) (it : TypeInner) → ((w : List ℕ) → values_of it w ≡ values_numbered tag (kind_number s.kind) w) → IsOfTag (over_scalar tag s c d e) it
+  over_tag : (tag : ℕ) (s : Scalar) (c d e : ℕ) (it : TypeInner) →
+      ((w : List ℕ) → values_of it w ≡ values_numbered tag (kind_number s.kind) w) →
+      IsOfTag (over_scalar tag s c d e) it
   over_tag tag s c d e it is w = by (is_some (scalar_word s))
     where
-      by : (b : Bool) → values_of it w ≡ values_by_form (if b then Some (level tag (kind_number s.kind) s.width c d e) else None) (Some it) w
+      by : (b : Bool) → values_of it w
+          ≡ values_by_form (if b then Some (level tag (kind_number s.kind) s.width c d e) else None) (Some it) w
       by true = is w
       by false = refl
 
@@ -413,7 +462,8 @@ module _ (m : Module) (are : TypesAreCounted m) where
   mapped_tag f it w is None = refl
   mapped_tag f it w is (Some x) = is x
 
-  image_tag : (dim : ImageDimension) (arrayed : Bool) (c : ImageClass) → IsOfTag (image_key dim arrayed c) (inner.Image dim arrayed c)
+  image_tag : (dim : ImageDimension) (arrayed : Bool) (c : ImageClass) →
+      IsOfTag (image_key dim arrayed c) (inner.Image dim arrayed c)
   image_tag dim arrayed (class.Sampled kind multi) w = by (is_some (scalar_word (record { kind = kind; width = 4 })))
     where
       by : (b : Bool) →
@@ -428,27 +478,37 @@ module _ (m : Module) (are : TypesAreCounted m) where
 
   inner_tag : (f : ℕ → Option (List ℕ)) (it : TypeInner) → IsOfTag (inner_key_by f it) it
   inner_tag f (inner.Scalar s) w = over_tag 0 s 0 0 0 (inner.Scalar s) (scalar_of_number s.kind) w
-  inner_tag f (inner.Vector n s) w = over_tag 1 s (vector_number n) 0 0 (inner.Vector n s) (λ w. refl) w
-  inner_tag f (inner.Matrix columns rows s) w = over_tag 2 s (vector_number columns) (vector_number rows) 0 (inner.Matrix columns rows s) (λ w. refl) w
+  inner_tag f (inner.Vector n s) w = over_tag 1 s (component_count n) 0 0 (inner.Vector n s) (λ w. refl) w
+  inner_tag f (inner.Matrix columns rows s) w = over_tag 2 s (component_count columns) (component_count rows) 0
+      (inner.Matrix columns rows s) (λ w. refl) w
   inner_tag f (inner.CooperativeMatrix columns rows s role) w =
       over_tag 3 s (cooperative_number columns) (cooperative_number rows) (role_number role)
       (inner.CooperativeMatrix columns rows s role) (λ w. refl) w
   inner_tag f (inner.Atomic s) w = over_tag 4 s 0 0 0 (inner.Atomic s) (λ w. refl) w
-  inner_tag f (inner.Pointer base at) w = mapped_tag (λ it. level 5 (space_number at) (access_number at) 0 0 0 ++ it) (inner.Pointer base at) w (λ x. refl) (f base)
+  inner_tag f (inner.Pointer base at) w =
+      mapped_tag (λ it. level 5 (space_number at) (access_number at) 0 0 0 ++ it) (inner.Pointer base at) w
+      (λ x. refl) (f base)
   inner_tag f (inner.ValuePointer n s at) w = by (is_none (space_word at))
     where
-      by : (b : Bool) → PointerType w ≡ values_by_form (if b then None else pointer_key at (value_key n s)) (Some (inner.ValuePointer n s at)) w
+      by : (b : Bool) → PointerType w ≡ values_by_form (if b then None else pointer_key at (value_key n s))
+          (Some (inner.ValuePointer n s at)) w
       by true = refl
-      by false = mapped_tag (λ it. level 5 (space_number at) (access_number at) 0 0 0 ++ it) (inner.ValuePointer n s at) w (λ x. refl) (value_key n s)
-  inner_tag f (inner.Array base n stride) w = mapped_tag (λ it. level 6 (length_kind n) (length_number n) 0 0 0 ++ it) (inner.Array base n stride) w (λ x. refl) (f base)
-  inner_tag f (inner.BindingArray base n) w = mapped_tag (λ it. level 7 (length_kind n) (length_number n) 0 0 0 ++ it) (inner.BindingArray base n) w (λ x. refl) (f base)
+      by false = mapped_tag (λ it. level 5 (space_number at) (access_number at) 0 0 0 ++ it)
+          (inner.ValuePointer n s at) w (λ x. refl) (value_key n s)
+  inner_tag f (inner.Array base n stride) w =
+      mapped_tag (λ it. level 6 (length_kind n) (length_number n) 0 0 0 ++ it) (inner.Array base n stride) w
+      (λ x. refl) (f base)
+  inner_tag f (inner.BindingArray base n) w =
+      mapped_tag (λ it. level 7 (length_kind n) (length_number n) 0 0 0 ++ it) (inner.BindingArray base n) w
+      (λ x. refl) (f base)
   inner_tag f (inner.Image dim arrayed c) w = image_tag dim arrayed c w
   inner_tag f _ w = refl
 
   abbrev ValuesAre : Option (List ℕ) → Option TypeInner → Type 0
   ValuesAre form o = (w : List ℕ) → option_map_or (λ it. values_of it w) o (OtherType w) ≡ values_by_form form o w
 
-  found_tag : (f : ℕ → Option (List ℕ)) (h : ℕ) (o : Option Type_) → ValuesAre (found_key_by f h o) (option_map (λ t. t.inner) o)
+  found_tag : (f : ℕ → Option (List ℕ)) (h : ℕ) (o : Option Type_) →
+      ValuesAre (found_key_by f h o) (option_map (λ t. t.inner) o)
   found_tag f h None w = refl
   found_tag f h (Some t) w = by t.inner
     where
@@ -478,19 +538,23 @@ module _ (m : Module) (are : TypesAreCounted m) where
       (w : List ℕ) → values_by_form (type_key m.types a) (inner_of a m.types) w ≡ values_by_form
       (type_key m.types b) (inner_of b m.types) w
   one_form a b p q (Some x) at k w =
-      ap (λ o. values_by_form o (inner_of a m.types) w) at ∙ sym (ap (λ o. values_by_form o (inner_of b m.types) w) (sym k.kinds.0 ∙ at))
+      ap (λ o. values_by_form o (inner_of a m.types) w) at
+      ∙ sym (ap (λ o. values_by_form o (inner_of b m.types) w) (sym k.kinds.0 ∙ at))
   one_form a b p q None at k w =
-      let inners = inner_by_identity a b (distinguished_by_itself m.types a (is_fit a p) at) (distinguished_by_itself m.types b (is_fit b q) (sym k.kinds.0 ∙ at)) (k.kinds.1 at) in
+      let inners = inner_by_identity a b (distinguished_by_itself m.types a (is_fit a p) at)
+      (distinguished_by_itself m.types b (is_fit b q) (sym k.kinds.0 ∙ at)) (k.kinds.1 at) in
       λ i. values_by_form (k.kinds.0 i) (inners i) w
     where
       inner_by_identity : (a b : TypeResolution) →
           identity m.types a ≡ by_itself (inner_of a m.types) →
           identity m.types b ≡ by_itself (inner_of b m.types) →
           identity m.types a ≡ identity m.types b → inner_of a m.types ≡ inner_of b m.types
-      inner_by_identity a b x y e = sym (itself_back (inner_of a m.types)) ∙ (ap itself (sym x ∙ (e ∙ y)) ∙ itself_back (inner_of b m.types))
+      inner_by_identity a b x y e = sym (itself_back (inner_of a m.types))
+          ∙ (ap itself (sym x ∙ (e ∙ y)) ∙ itself_back (inner_of b m.types))
 
   -- and where types are told by the same numbers, their values are of one type
-  pub values_by_numbers : (a b : TypeResolution) → IsFit m a → IsFit m b → type_identity m.types a ≡ type_identity m.types b → type_of_values m a ≡ type_of_values m b
+  pub values_by_numbers : (a b : TypeResolution) → IsFit m a → IsFit m b → type_identity m.types a
+      ≡ type_identity m.types b → type_of_values m a ≡ type_of_values m b
   values_by_numbers a b p q e =
       let k = alike_forms a b p q e in
       values_are a (word_of_values m a)

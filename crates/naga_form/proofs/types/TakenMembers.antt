@@ -42,7 +42,8 @@ pub record IsInFlat {X Y : Type 0} (f : X → List Y) (xs : List X) (y : Y) : Ty
   pub there : slice_get xs place ≡ Some item
   pub inside : IsIn (f item) y
 
-pub in_some : {X Y : Type 0} (f : X → List Y) (xs : List X) (i : ℕ) (y : Y) → slice_get (flat_map f xs) i ≡ Some y → IsInFlat f xs y
+pub in_some : {X Y : Type 0} (f : X → List Y) (xs : List X) (i : ℕ) (y : Y) → slice_get (flat_map f xs) i
+    ≡ Some y → IsInFlat f xs y
 in_some f [] i y at = absurd cc
 in_some f (x ∷ xs) i y at = by (in_row (f x) (flat_map f xs) i y at) (in_some f xs)
   where
@@ -50,19 +51,26 @@ in_some f (x ∷ xs) i y at = by (in_row (f x) (flat_map f xs) i y at) (in_some 
         ((k : ℕ) (z : _) → slice_get (flat_map f xs) k ≡ Some z → IsInFlat f xs z) → IsInFlat f (x ∷ xs) y
     by (inl here) more = record { place = 0; item = x; there = refl; inside = here }
     by (inr later) more =
-        let k = more later.0 y later.1 in record { place = suc k.place; item = k.item; there = k.there; inside = k.inside }
+        let k = more later.0 y later.1 in record {
+          place = suc k.place;
+          item = k.item;
+          there = k.there;
+          inside = k.inside;
+        }
 
 -- a list with an item has a first one
 first_there : {X : Type 0} (xs : List X) (i : ℕ) (x : X) → slice_get xs i ≡ Some x → (y : X) × (slice_get xs 0 ≡ Some y)
 first_there [] i x at = absurd cc
 first_there (y ∷ xs) i x at = (y, refl)
 
-only_there : {X : Type 0} (b : Bool) (x : X) (i : ℕ) (y : X) → slice_get (if b then x ∷ [] else []) i ≡ Some y → (b ≡ true) × (x ≡ y)
+only_there : {X : Type 0} (b : Bool) (x : X) (i : ℕ) (y : X) → slice_get (if b then x ∷ [] else []) i ≡ Some y →
+    (b ≡ true) × (x ≡ y)
 only_there true x zero y at = (refl, same_Some x y at)
 only_there true x (suc i) y at = absurd cc
 only_there false x i y at = absurd cc
 
-module _ (m : ir_module.Module) (info : ModuleInfo) (accepted : IsTrue (is_accepted m info)) (distinguished : ItemsAreDistinguished m) (whole word : Bytes) where
+module _ (m : ir_module.Module) (info : ModuleInfo) (accepted : IsTrue (is_accepted m info))
+    (distinguished : ItemsAreDistinguished m) (whole word : Bytes) where
   -- an expression of this type that takes the member with this word of a pointer spelled so
   pub record IsTaking (r : TypeResolution) : Type 0 where
     pub function : Option ir_function.Function
@@ -80,8 +88,10 @@ module _ (m : ir_module.Module) (info : ModuleInfo) (accepted : IsTrue (is_accep
 
   -- ---- the test
   module _ (g : Group) where
-    takes : (base index : ℕ) (pointer : TypeResolution) → slice_get g.known base ≡ Some pointer → type_of_values m pointer ≡ PointerType whole →
-        part_selector (declared_for m info g) base index ≡ Some (MemberNamed word) → takes_member (declared_for m info g) whole word (expression.AccessIndex base index) ≡ true
+    takes : (base index : ℕ) (pointer : TypeResolution) → slice_get g.known base ≡ Some pointer →
+        type_of_values m pointer ≡ PointerType whole →
+        part_selector (declared_for m info g) base index ≡ Some (MemberNamed word) →
+        takes_member (declared_for m info g) whole word (expression.AccessIndex base index) ≡ true
     takes base index pointer known points selected =
         and_from (points_so (declared_for m info g) whole base) _
         (ap (λ o. option_map_or (λ r. same_type (type_of_values m r) (PointerType whole)) o false) known
@@ -99,11 +109,14 @@ module _ (m : ir_module.Module) (info : ModuleInfo) (accepted : IsTrue (is_accep
       selected : part_selector (declared_for m info g) base index ≡ Some (MemberNamed word)
 
     pointing : (base : ℕ) → points_so (declared_for m info g) whole base ≡ true →
-        (pointer : TypeResolution) × (slice_get g.known base ≡ Some pointer) × (type_of_values m pointer ≡ PointerType whole)
+        (pointer : TypeResolution) × (slice_get g.known base ≡ Some pointer)
+        × (type_of_values m pointer ≡ PointerType whole)
     pointing base so = by (slice_get g.known base) refl so
       where
-        by : (o : Option TypeResolution) → slice_get g.known base ≡ o → option_map_or (λ r. same_type (type_of_values m r) (PointerType whole)) o false ≡ true →
-            (pointer : TypeResolution) × (slice_get g.known base ≡ Some pointer) × (type_of_values m pointer ≡ PointerType whole)
+        by : (o : Option TypeResolution) → slice_get g.known base ≡ o →
+            option_map_or (λ r. same_type (type_of_values m r) (PointerType whole)) o false ≡ true →
+            (pointer : TypeResolution) × (slice_get g.known base ≡ Some pointer)
+            × (type_of_values m pointer ≡ PointerType whole)
         by None at so = absurd cc
         by (Some r) at so = (r, at, same_type_true (type_of_values m r) (PointerType whole) so)
 
@@ -114,7 +127,8 @@ module _ (m : ir_module.Module) (info : ModuleInfo) (accepted : IsTrue (is_accep
 
     taken : (e : ir.Expression) → takes_member (declared_for m info g) whole word e ≡ true → IsTaken e
     taken (expression.AccessIndex base index) so =
-        let both = and_parts (points_so (declared_for m info g) whole base) (option_map_or (selects_member word) (part_selector (declared_for m info g) base index) false) so in
+        let both = and_parts (points_so (declared_for m info g) whole base)
+        (option_map_or (selects_member word) (part_selector (declared_for m info g) base index) false) so in
         let pointer = pointing base both.0 in
         record {
           base = base;
@@ -135,15 +149,21 @@ module _ (m : ir_module.Module) (info : ModuleInfo) (accepted : IsTrue (is_accep
   in_all r a =
       let e : ir.Expression = expression.AccessIndex a.base a.index in
       in_flat_map (members_taken m info whole word) (groups_of m info) a.sound.place.0 a.group r a.sound.place.1
-      (in_flat_map (member_taken (declared_for m info a.group) whole word) (zip a.group.expressions a.group.known) a.handle (e, r) r
-      (zip_at a.group.expressions a.group.known a.handle e r a.there a.known)
-      (0, ap (λ b. slice_get (if b then r ∷ [] else []) 0) (takes a.group a.base a.index a.pointer a.base_known a.points a.selected)))
+      (in_flat_map (member_taken (declared_for m info a.group) whole word)
+      (zip a.group.expressions a.group.known) a.handle (e, r) r
+      (zip_at a.group.expressions a.group.known a.handle e r a.there a.known) (
+        0,
+        ap (λ b. slice_get (if b then r ∷ [] else []) 0)
+            (takes a.group a.base a.index a.pointer a.base_known a.points a.selected),
+      ))
 
   of_all : (i : ℕ) (r : TypeResolution) → slice_get all i ≡ Some r → IsTaking r
   of_all i r at =
       let k = in_some (members_taken m info whole word) (groups_of m info) i r at in
-      let p = in_some (member_taken (declared_for m info k.item) whole word) (zip k.item.expressions k.item.known) k.inside.0 r k.inside.1 in
-      let own = only_there (takes_member (declared_for m info k.item) whole word p.item.0) p.item.1 p.inside.0 r p.inside.1 in
+      let p = in_some (member_taken (declared_for m info k.item) whole word)
+      (zip k.item.expressions k.item.known) k.inside.0 r k.inside.1 in
+      let own = only_there (takes_member (declared_for m info k.item) whole word p.item.0) p.item.1 p.inside.0 r
+      p.inside.1 in
       let sides = zip_parts k.item.expressions k.item.known p.place p.item p.there in
       let sound = groups_are m info accepted k.item (k.place, k.there) in
       let e = taken k.item p.item.0 own.0 in
@@ -204,7 +224,8 @@ module _ (m : ir_module.Module) (info : ModuleInfo) (accepted : IsTrue (is_accep
         ∙ value_is m info b.group.known b.handle u b.known)
 
   -- that of the first of all, whatever would stand in for it
-  pub type_of_first : (r : TypeResolution) → IsTaking r → (other : TypeResolution) → type_of_values m r ≡ type_of_values m (unwrap_or (slice_get all 0) other)
+  pub type_of_first : (r : TypeResolution) → IsTaking r → (other : TypeResolution) → type_of_values m r
+      ≡ type_of_values m (unwrap_or (slice_get all 0) other)
   type_of_first r a other =
       let place = in_all r a in let first = first_there all place.0 r place.1 in
       one_type r first.0 a (of_all 0 first.0 first.1) ∙ sym (ap (λ o. type_of_values m (unwrap_or o other)) first.1)

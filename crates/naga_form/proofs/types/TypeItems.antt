@@ -80,7 +80,8 @@ module _ (names : List ℕ → Option Item) where
   scalar_items s t e =
       let w = map_some Named (scalar_word s) t e in
       subst NamesNothing w.2
-      (plain_items w.0 (in_front scalar_words (sampler_words ++ (ray_words ++ depth_image_words)) w.0 (value_words.scalars.each s w.0 w.1)))
+      (plain_items w.0 (in_front scalar_words (sampler_words ++ (ray_words ++ depth_image_words)) w.0
+      (value_words.scalars.each s w.0 w.1)))
 
   -- a word with one part that names nothing
   one_items : (w : List ℕ) (x : TypeSpecifier) → NamesNothing x → NamesNothing (of_one w x)
@@ -97,7 +98,8 @@ module _ (names : List ℕ → Option Item) where
   mapped_items f keeps o none t e =
       let x = map_some f o t e in subst NamesNothing x.2 (keeps x.0 (none x.0 x.1))
 
-  of_scalar : (w : List ℕ) (s : Scalar) (t : TypeSpecifier) → option_map (of_one w) (scalar_tree s) ≡ Some t → NamesNothing t
+  of_scalar : (w : List ℕ) (s : Scalar) (t : TypeSpecifier) → option_map (of_one w) (scalar_tree s) ≡ Some t →
+      NamesNothing t
   of_scalar w s t e = mapped_items (of_one w) (one_items w) (scalar_tree s) (scalar_items s) t e
 
   value_items : (v : Option VectorSize) (s : Scalar) (t : TypeSpecifier) → value_tree v s ≡ Some t → NamesNothing t
@@ -112,7 +114,9 @@ module _ (names : List ℕ → Option Item) where
   image_items : (dim : ImageDimension) (arrayed : Bool) (c : ImageClass) (t : TypeSpecifier) →
       image_tree dim arrayed c ≡ Some t → NamesNothing t
   image_items dim arrayed (class.Sampled kind multi) t e = of_scalar _ (record { kind = kind; width = 4 }) t e
-  image_items dim arrayed (class.Depth multi) t e = same_items _ t (plain_items (image_word (codes "texture_depth_") multi dim arrayed) (depth_is_plain multi dim arrayed)) e
+  image_items dim arrayed (class.Depth multi) t e =
+      same_items _ t (plain_items (image_word (codes "texture_depth_") multi dim arrayed)
+      (depth_is_plain multi dim arrayed)) e
   image_items dim arrayed class.External t e = same_items _ t refl e
   image_items dim arrayed (class.Storage format access) t e =
       same_items _ t
@@ -147,7 +151,8 @@ module _ (m : Module) (names : List ℕ → Option Item) (are : ItemsAreNamed m 
   abbrev Names_ : TypeSpecifier → List Item → Type 0
   Names_ t items = type_items names t ≡ map Some items
 
-  elements : (w : List ℕ) → rule_among type_templates w ≡ TakesElements → (x : TypeSpecifier) (more : TemplateArguments) →
+  elements : (w : List ℕ) → rule_among type_templates w ≡ TakesElements →
+      (x : TypeSpecifier) (more : TemplateArguments) →
       type_items names (Template w (TypeArgument x more)) ≡ type_items names x ++ length_items names more
   elements w rule x more = ap (λ r. part_items names r (TypeArgument x more)) rule
 
@@ -174,7 +179,8 @@ module _ (m : Module) (names : List ℕ → Option Item) (are : ItemsAreNamed m 
           option_map (array_tree n w l) (f b) ≡ Some t → Names_ t (own b ++ length_meant m l)
       over_array w rule b l free within t e =
           let x = map_some (array_tree n w l) (f b) t e in
-          subst (λ t. Names_ t (own b ++ length_meant m l)) x.2 (array_items w rule l within x.0 (own b) (all b free x.0 x.1))
+          subst (λ t. Names_ t (own b ++ length_meant m l)) x.2
+          (array_items w rule l within x.0 (own b) (all b free x.0 x.1))
 
       -- a type that is no struct
       inner_items : (h : ℕ) (it : TypeInner) → names_undeclared_by m.special_types undeclared h it ≡ false →
@@ -185,7 +191,8 @@ module _ (m : Module) (names : List ℕ → Option Item) (are : ItemsAreNamed m 
       inner_items h (inner.Matrix c r s) free within t e = of_scalar names _ s t e
       inner_items h (inner.CooperativeMatrix c r s l) free within t e =
           mapped_items names (λ x. of_two (cooperative_word c r) x (Named (role_word l)))
-          (λ x none. parts_items names (cooperative_word c r) (TypeArgument x (TypeArgument (Named (role_word l)) NoTemplateArguments))
+          (λ x none. parts_items names (cooperative_word c r)
+          (TypeArgument x (TypeArgument (Named (role_word l)) NoTemplateArguments))
           TakesRole (cooperative_rule c r) refl)
           (scalar_tree s) (scalar_items names s) t e
       inner_items h (inner.Atomic s) free within t e = of_scalar names _ s t e
@@ -195,13 +202,17 @@ module _ (m : Module) (names : List ℕ → Option Item) (are : ItemsAreNamed m 
           by None e = all base free t e
           by (Some space) e =
               let x = map_some (pointer_tree space (space_access_word a)) (f base) t e in
-              subst (λ t. Names_ t (own base)) x.2 (pointer_items names space (space_access_word a) x.0 ∙ all base free x.0 x.1)
+              subst (λ t. Names_ t (own base)) x.2
+              (pointer_items names space (space_access_word a) x.0 ∙ all base free x.0 x.1)
       inner_items h (inner.ValuePointer v s a) free within t e = by (space_word a) e
         where
-          by : (o : Option (List ℕ)) → value_pointer_tree_in o (space_access_word a) (value_tree v s) ≡ Some t → Names_ t []
+          by : (o : Option (List ℕ)) → value_pointer_tree_in o (space_access_word a) (value_tree v s) ≡ Some t →
+              Names_ t []
           by None e = absurd cc
           by (Some space) e =
-              mapped_items names (pointer_tree space (space_access_word a)) (λ x none. pointer_items names space (space_access_word a) x ∙ none) (value_tree v s) (value_items names v s) t e
+              mapped_items names (pointer_tree space (space_access_word a))
+              (λ x none. pointer_items names space (space_access_word a) x ∙ none) (value_tree v s)
+              (value_items names v s) t e
       inner_items h (inner.Array base l stride) free within t e = over_array _ refl base l free within t e
       inner_items h (inner.BindingArray base l) free within t e = over_array _ refl base l free within t e
       inner_items h (inner.Struct members span) free within t e = absurd cc
@@ -235,7 +246,8 @@ module _ (m : Module) (names : List ℕ → Option Item) (are : ItemsAreNamed m 
           by (inner.Scalar s) named free within e = inner_items h (inner.Scalar s) free within t e
           by (inner.Vector v s) named free within e = inner_items h (inner.Vector v s) free within t e
           by (inner.Matrix c r s) named free within e = inner_items h (inner.Matrix c r s) free within t e
-          by (inner.CooperativeMatrix c r s l) named free within e = inner_items h (inner.CooperativeMatrix c r s l) free within t e
+          by (inner.CooperativeMatrix c r s l) named free within e =
+              inner_items h (inner.CooperativeMatrix c r s l) free within t e
           by (inner.Atomic s) named free within e = inner_items h (inner.Atomic s) free within t e
           by (inner.Pointer base a) named free within e = inner_items h (inner.Pointer base a) free within t e
           by (inner.ValuePointer v s a) named free within e = inner_items h (inner.ValuePointer v s a) free within t e
@@ -243,24 +255,29 @@ module _ (m : Module) (names : List ℕ → Option Item) (are : ItemsAreNamed m 
           by (inner.BindingArray base l) named free within e = inner_items h (inner.BindingArray base l) free within t e
           by (inner.Image dim arrayed c) named free within e = inner_items h (inner.Image dim arrayed c) free within t e
           by (inner.Sampler comparison) named free within e = inner_items h (inner.Sampler comparison) free within t e
-          by (inner.AccelerationStructure b) named free within e = inner_items h (inner.AccelerationStructure b) free within t e
+          by (inner.AccelerationStructure b) named free within e =
+              inner_items h (inner.AccelerationStructure b) free within t e
           by (inner.RayQuery b) named free within e = inner_items h (inner.RayQuery b) free within t e
 
   -- ---- of the module's types
-  module _ (lengths : (h : ℕ) (t : Type_) → slice_get m.types h ≡ Some t → length_within (length m.overrides) t.inner ≡ true) where
+  module _ (lengths : (h : ℕ) (t : Type_) → slice_get m.types h ≡ Some t →
+      length_within (length m.overrides) t.inner ≡ true) where
     within_items : (k h : ℕ) → names_undeclared_within k m h ≡ false → (t : TypeSpecifier) →
         tree_within k n h ≡ Some t → Names_ t (items_within k m h)
     within_items zero h free t e = absurd cc
     within_items (suc k) h free t e = by (within_items k) (slice_get m.types h) refl free e
       where
-        by : ((b : ℕ) → names_undeclared_within k m b ≡ false → (x : TypeSpecifier) → tree_within k n b ≡ Some x → Names_ x (items_within k m b)) →
+        by : ((b : ℕ) → names_undeclared_within k m b ≡ false → (x : TypeSpecifier) → tree_within k n b
+            ≡ Some x → Names_ x (items_within k m b)) →
             (o : Option Type_) → slice_get m.types h ≡ o →
-            option_map_or (λ u. names_undeclared_by m.special_types (names_undeclared_within k m) h u.inner) o false ≡ false →
+            option_map_or (λ u. names_undeclared_by m.special_types (names_undeclared_within k m) h u.inner) o
+            false ≡ false →
             found_tree_by n (tree_within k n) h o ≡ Some t →
             Names_ t (option_map_or (λ u. items_by m (items_within k m) h u.inner) o [])
         by all None at free e = absurd cc
         by all (Some u) at free e =
-            found_items (tree_within k n) (items_within k m) (names_undeclared_within k m) all h u at free (lengths h u at) t e
+            found_items (tree_within k n) (items_within k m) (names_undeclared_within k m) all h u at free
+            (lengths h u at) t e
 
     -- a type of the module, or one by itself
     pub resolution_named : (r : TypeResolution) → names_undeclared m r ≡ false →
@@ -269,7 +286,8 @@ module _ (m : Module) (names : List ℕ → Option Item) (are : ItemsAreNamed m 
     unfolding type_tree
     resolution_named (Handle h) free within t e = within_items (suc h) h free t e
     resolution_named (Value it) free within t e =
-        inner_items (type_tree n) (handle_items m) (λ b. names_undeclared_within (suc b) m b) (λ b. within_items (suc b) b) 0 it (own it free e) (within it refl) t e
+        inner_items (type_tree n) (handle_items m) (λ b. names_undeclared_within (suc b) m b)
+        (λ b. within_items (suc b) b) 0 it (own it free e) (within it refl) t e
       where
         own : (it : TypeInner) → names_undeclared m (Value it) ≡ false → inner_tree_by n (type_tree n) it ≡ Some t →
             names_undeclared_by m.special_types (λ b. names_undeclared_within (suc b) m b) 0 it ≡ false

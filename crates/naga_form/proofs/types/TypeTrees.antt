@@ -79,7 +79,8 @@ only_word w ps b t (Some u) k same e = let h : b ≡ u = same u k in cc
 
 pub only_text : (ps : List Segment) (s t : List ℕ) → IsText ps s → known_text ps ≡ Some t → s ≡ t
 only_text [] s t NoSegments e = cc
-only_text (Word w ∷ ps) s t (WordThen _ {bytes = b} p) e = only_word w ps b t (known_text ps) refl (λ u h. only_text ps b u p h) e
+only_text (Word w ∷ ps) s t (WordThen _ {bytes = b} p) e =
+    only_word w ps b t (known_text ps) refl (λ u h. only_text ps b u p h) e
 only_text (Shown ∷ ps) s t p e = cc
 only_text (Missing ∷ ps) s t p e = cc
 
@@ -111,17 +112,21 @@ some_after : (w : List ℕ) (ps qs : List Segment) (s t : List ℕ) (o : Option 
     option_map (λ r. w ++ r) o ≡ Some s → option_map (λ r. w ++ r) (known_text (ps ++ qs)) ≡
     Some (s ++ t)
 some_after w ps qs s t None k same e = cc
-some_after w ps qs s t (Some u) k same e = let l : w ++ u ≡ s = cc in rw (same u k) (ap Some (sym (append_assoc w u t) ∙ ap (λ v. v ++ t) l))
+some_after w ps qs s t (Some u) k same e = let l : w ++ u ≡ s = cc in
+    rw (same u k) (ap Some (sym (append_assoc w u t) ∙ ap (λ v. v ++ t) l))
 
-known_append : (ps qs : List Segment) (s t : List ℕ) → known_text ps ≡ Some s → known_text qs ≡ Some t → known_text (ps ++ qs) ≡ Some (s ++ t)
+known_append : (ps qs : List Segment) (s t : List ℕ) → known_text ps ≡ Some s → known_text qs ≡ Some t →
+    known_text (ps ++ qs) ≡ Some (s ++ t)
 known_append [] qs s t e h = let k : [] ≡ s = cc in rw (← k) h
-known_append (Word w ∷ ps) qs s t e h = some_after w ps qs s t (known_text ps) refl (λ u k. known_append ps qs u t k h) e
+known_append (Word w ∷ ps) qs s t e h = some_after w ps qs s t (known_text ps) refl
+    (λ u k. known_append ps qs u t k h) e
 known_append (Shown ∷ ps) qs s t e h = cc
 known_append (Missing ∷ ps) qs s t e h = cc
 
 -- each row
 
-scalar_row : (o : Option (List ℕ)) (kind : ScalarKind) → known_text (scalar_segments_of true o kind) ≡ option_map type_layout (option_map Named o)
+scalar_row : (o : Option (List ℕ)) (kind : ScalarKind) → known_text (scalar_segments_of true o kind)
+    ≡ option_map type_layout (option_map Named o)
 scalar_row None kind = refl
 scalar_row (Some s) kind = refl
 
@@ -164,13 +169,18 @@ storage_row D3 false format access = refl
 storage_row Cube true format access = refl
 storage_row Cube false format access = refl
 
-image_row : (dim : ImageDimension) (arrayed : Bool) (it : ImageClass) → known_text (image_segments true dim arrayed it) ≡ option_map type_layout (image_tree dim arrayed it)
-image_row dim arrayed (class.Sampled kind multi) = template_row (image_word (codes "texture_") multi dim arrayed) (scalar_word (record { kind = kind; width = 4 })) kind
+image_row : (dim : ImageDimension) (arrayed : Bool) (it : ImageClass) →
+    known_text (image_segments true dim arrayed it) ≡ option_map type_layout (image_tree dim arrayed it)
+image_row dim arrayed (class.Sampled kind multi) =
+    template_row (image_word (codes "texture_") multi dim arrayed)
+    (scalar_word (record { kind = kind; width = 4 })) kind
 image_row dim arrayed (class.Depth multi) = refl
 image_row dim arrayed class.External = refl
-image_row dim arrayed (class.Storage format access) = storage_row dim arrayed (format_word format) (image_access_word access)
+image_row dim arrayed (class.Storage format access) = storage_row dim arrayed (format_word format)
+    (image_access_word access)
 
-ray_row : (b : Bool) → known_text (Word (acceleration_structure_text b) ∷ []) ≡ Some (type_layout (ray_tree (codes "acceleration_structure") b))
+ray_row : (b : Bool) → known_text (Word (acceleration_structure_text b) ∷ [])
+    ≡ Some (type_layout (ray_tree (codes "acceleration_structure") b))
 ray_row true = refl
 ray_row false = refl
 
@@ -178,14 +188,17 @@ query_row : (b : Bool) → known_text (Word (ray_query_text b) ∷ []) ≡ Some 
 query_row true = refl
 query_row false = refl
 
-value_row : (size : Option VectorSize) (scalar : Scalar) → known_text (value_segments true size scalar) ≡ option_map type_layout (value_tree size scalar)
+value_row : (size : Option VectorSize) (scalar : Scalar) → known_text (value_segments true size scalar)
+    ≡ option_map type_layout (value_tree size scalar)
 value_row None scalar = scalar_row (scalar_word scalar) scalar.kind
 value_row (Some size) scalar = template_row (vector_word size) (scalar_word scalar) scalar.kind
 
-three_words : (a b c : List ℕ) (o : Option (List ℕ)) → o ≡ None → option_map (λ r. a ++ r) (option_map (λ r. b ++ r) (option_map (λ r. c ++ r) o)) ≡ None
+three_words : (a b c : List ℕ) (o : Option (List ℕ)) → o ≡ None →
+    option_map (λ r. a ++ r) (option_map (λ r. b ++ r) (option_map (λ r. c ++ r) o)) ≡ None
 three_words a b c o e = rw e refl
 
-two_words : (a b : List ℕ) (o : Option (List ℕ)) → o ≡ None → option_map (λ r. a ++ r) (option_map (λ r. b ++ r) o) ≡ None
+two_words : (a b : List ℕ) (o : Option (List ℕ)) → o ≡ None →
+    option_map (λ r. a ++ r) (option_map (λ r. b ++ r) o) ≡ None
 two_words a b o e = rw e refl
 
 module _ (text_of_appended : (first second : List Piece) → text (first ++ second) ≡ text first ++ text second) where
@@ -193,11 +206,14 @@ module _ (text_of_appended : (first second : List Piece) → text (first ++ seco
       (o : Option TypeSpecifier) → known_text ps ≡ option_map type_layout o →
       known_text (pointer_in space access ps) ≡ option_map type_layout
       (option_map (pointer_tree space access) o)
-  pointer_row space access ps None e = three_words (codes "ptr<") space (codes ", ") _ (known_none ps (access_segments access) e)
+  pointer_row space access ps None e = three_words (codes "ptr<") space (codes ", ") _
+      (known_none ps (access_segments access) e)
   pointer_row space None ps (Some t) e =
-      rw (known_append ps (access_segments None) (type_layout t) _ e refl) (rw (text_of_appended (type_pieces t) (mark GreaterThan ∷ [])) refl)
+      rw (known_append ps (access_segments None) (type_layout t) _ e refl)
+      (rw (text_of_appended (type_pieces t) (mark GreaterThan ∷ [])) refl)
   pointer_row space (Some a) ps (Some t) e =
-      rw (known_append ps (access_segments (Some a)) (type_layout t) _ e refl) (rw (text_of_appended (type_pieces t) (mark Comma ∷ Blank ∷ word a ∷ mark GreaterThan ∷ [])) refl)
+      rw (known_append ps (access_segments (Some a)) (type_layout t) _ e refl)
+      (rw (text_of_appended (type_pieces t) (mark Comma ∷ Blank ∷ word a ∷ mark GreaterThan ∷ [])) refl)
 
   pointer_in_row : (space access : Option (List ℕ)) (ps : List Segment) (o : Option TypeSpecifier) →
       known_text ps ≡ option_map type_layout o → known_text (pointer_segments space access ps) ≡
@@ -217,16 +233,21 @@ module _ (text_of_appended : (first second : List Piece) → text (first ++ seco
       known_text ps ≡ option_map type_layout o →
       known_text (array_segments (writer_context n knows) w ps it) ≡ option_map type_layout
       (option_map (array_tree n w it) o)
-  array_row n knows w gaps it ps None e = two_words w (codes "<") _ (known_none ps (length_segments (writer_context n knows) it) e)
+  array_row n knows w gaps it ps None e =
+      two_words w (codes "<") _ (known_none ps (length_segments (writer_context n knows) it) e)
   array_row n knows w gaps (size.Constant number) ps (Some t) e =
       rw (known_append ps (length_segments (writer_context n knows) (size.Constant number)) (type_layout t) _ e refl)
-      (rw gaps (rw (text_of_appended (type_pieces t) (mark Comma ∷ Blank ∷ plain (non_zero_u32_get number) ∷ mark GreaterThan ∷ []))
-      (ap (λ v. Some (w ++ (codes "<" ++ (type_layout t ++ (codes ", " ++ (v ++ (codes ">" ++ []))))))) (sym (append-nil (decimal (non_zero_u32_get number)))))))
+      (rw gaps (rw (text_of_appended (type_pieces t)
+      (mark Comma ∷ Blank ∷ plain (non_zero_u32_get number) ∷ mark GreaterThan ∷ []))
+      (ap (λ v. Some (w ++ (codes "<" ++ (type_layout t ++ (codes ", " ++ (v ++ (codes ">" ++ [])))))))
+      (sym (append-nil (decimal (non_zero_u32_get number)))))))
   array_row n knows w gaps (size.Pending handle) ps (Some t) e =
       rw (known_append ps (length_segments (writer_context n knows) (size.Pending handle)) (type_layout t) _ e refl)
-      (rw gaps (rw (text_of_appended (type_pieces t) (mark Comma ∷ Blank ∷ word (n.override_name handle) ∷ mark GreaterThan ∷ [])) refl))
+      (rw gaps (rw (text_of_appended (type_pieces t)
+      (mark Comma ∷ Blank ∷ word (n.override_name handle) ∷ mark GreaterThan ∷ [])) refl))
   array_row n knows w gaps size.Dynamic ps (Some t) e =
-      rw (known_append ps (length_segments (writer_context n knows) size.Dynamic) (type_layout t) _ e refl) (rw (text_of_appended (type_pieces t) (mark GreaterThan ∷ [])) refl)
+      rw (known_append ps (length_segments (writer_context n knows) size.Dynamic) (type_layout t) _ e refl)
+      (rw (text_of_appended (type_pieces t) (mark GreaterThan ∷ [])) refl)
 
   -- a type, from the types that it names
   inner_row : (n : Names) (knows : ℕ → Bool) (f : ℕ → List Segment) (g : ℕ → Option TypeSpecifier) →
@@ -234,20 +255,27 @@ module _ (text_of_appended : (first second : List Piece) → text (first ++ seco
       (it : TypeInner) → known_text (inner_segments_by (writer_context n knows) f it) ≡
       option_map type_layout (inner_tree_by n g it)
   inner_row n knows f g same (inner.Scalar scalar) = scalar_row (scalar_word scalar) scalar.kind
-  inner_row n knows f g same (inner.Vector size scalar) = template_row (vector_word size) (scalar_word scalar) scalar.kind
-  inner_row n knows f g same (inner.Matrix columns rows scalar) = template_row (matrix_word columns rows) (scalar_word scalar) scalar.kind
-  inner_row n knows f g same (inner.CooperativeMatrix columns rows scalar role) = cooperative_row columns rows role (scalar_word scalar) scalar.kind
+  inner_row n knows f g same (inner.Vector size scalar) =
+      template_row (vector_word size) (scalar_word scalar) scalar.kind
+  inner_row n knows f g same (inner.Matrix columns rows scalar) =
+      template_row (matrix_word columns rows) (scalar_word scalar) scalar.kind
+  inner_row n knows f g same (inner.CooperativeMatrix columns rows scalar role) =
+      cooperative_row columns rows role (scalar_word scalar) scalar.kind
   inner_row n knows f g same (inner.Atomic scalar) = template_row (codes "atomic") (scalar_word scalar) scalar.kind
-  inner_row n knows f g same (inner.Pointer base space) = pointer_in_row (space_word space) (space_access_word space) (f base) (g base) (same base)
+  inner_row n knows f g same (inner.Pointer base space) =
+      pointer_in_row (space_word space) (space_access_word space) (f base) (g base) (same base)
   inner_row n knows f g same (inner.ValuePointer size scalar space) =
-      value_pointer_row (space_word space) (space_access_word space) (value_segments true size scalar) (value_tree size scalar) (value_row size scalar)
-  inner_row n knows f g same (inner.Array base size stride) = array_row n knows (codes "array") refl size (f base) (g base) (same base)
+      value_pointer_row (space_word space) (space_access_word space) (value_segments true size scalar)
+      (value_tree size scalar) (value_row size scalar)
+  inner_row n knows f g same (inner.Array base size stride) = array_row n knows (codes "array") refl size
+      (f base) (g base) (same base)
   inner_row n knows f g same (inner.Struct members span) = refl
   inner_row n knows f g same (inner.Image dim arrayed class) = image_row dim arrayed class
   inner_row n knows f g same (inner.Sampler comparison) = refl
   inner_row n knows f g same (inner.AccelerationStructure vertex_return) = ray_row vertex_return
   inner_row n knows f g same (inner.RayQuery vertex_return) = query_row vertex_return
-  inner_row n knows f g same (inner.BindingArray base size) = array_row n knows (codes "binding_array") refl size (f base) (g base) (same base)
+  inner_row n knows f g same (inner.BindingArray base size) =
+      array_row n knows (codes "binding_array") refl size (f base) (g base) (same base)
 
   choice_row : (b : Bool) (name : List ℕ) (ps : List Segment) (o : Option TypeSpecifier) →
       known_text ps ≡ option_map type_layout o → known_text (if b then Word name ∷ [] else ps) ≡
@@ -261,20 +289,28 @@ module _ (text_of_appended : (first second : List Piece) → text (first ++ seco
       known_text (found_segments_by (writer_context n knows) f handle t) ≡ option_map type_layout
       (found_tree_by n g handle t)
   found_row n knows f g same handle None = refl
-  found_row n knows f g same handle (Some t) = choice_row (is_struct t.inner) (n.struct_name handle) _ _ (inner_row n knows f g same t.inner)
+  found_row n knows f g same handle (Some t) = choice_row (is_struct t.inner) (n.struct_name handle) _ _
+      (inner_row n knows f g same t.inner)
 
-  within_row : (n : Names) (knows : ℕ → Bool) (levels handle : ℕ) → known_text (segments_within levels (writer_context n knows) handle) ≡ option_map type_layout (tree_within levels n handle)
+  within_row : (n : Names) (knows : ℕ → Bool) (levels handle : ℕ) →
+      known_text (segments_within levels (writer_context n knows) handle)
+      ≡ option_map type_layout (tree_within levels n handle)
   within_row n knows zero handle = refl
-  within_row n knows (suc levels) handle = found_row n knows (segments_within levels (writer_context n knows)) (tree_within levels n) (within_row n knows levels) handle (slice_get n.types handle)
+  within_row n knows (suc levels) handle = found_row n knows (segments_within levels (writer_context n knows))
+      (tree_within levels n) (within_row n knows levels) handle (slice_get n.types handle)
 
-  pub type_row : (n : Names) (knows : ℕ → Bool) (handle : ℕ) → known_text (type_segments (writer_context n knows) handle) ≡ option_map type_layout (type_tree n handle)
+  pub type_row : (n : Names) (knows : ℕ → Bool) (handle : ℕ) →
+      known_text (type_segments (writer_context n knows) handle) ≡ option_map type_layout (type_tree n handle)
   unfolding type_segments type_tree
   type_row n knows handle = within_row n knows (suc handle) handle
 
-  pub inner_tree_row : (n : Names) (knows : ℕ → Bool) (it : TypeInner) → known_text (inner_segments (writer_context n knows) it) ≡ option_map type_layout (inner_tree n it)
-  inner_tree_row n knows it = inner_row n knows (type_segments (writer_context n knows)) (type_tree n) (type_row n knows) it
+  pub inner_tree_row : (n : Names) (knows : ℕ → Bool) (it : TypeInner) →
+      known_text (inner_segments (writer_context n knows) it) ≡ option_map type_layout (inner_tree n it)
+  inner_tree_row n knows it = inner_row n knows (type_segments (writer_context n knows)) (type_tree n)
+      (type_row n knows) it
 
-  pub resolution_row : (n : Names) (knows : ℕ → Bool) (r : TypeResolution) → known_text (resolution_segments (writer_context n knows) r) ≡ option_map type_layout (resolution_tree n r)
+  pub resolution_row : (n : Names) (knows : ℕ → Bool) (r : TypeResolution) →
+      known_text (resolution_segments (writer_context n knows) r) ≡ option_map type_layout (resolution_tree n r)
   resolution_row n knows (resolution.Handle ty) = type_row n knows ty
   resolution_row n knows (resolution.Value it) = inner_tree_row n knows it
 
@@ -320,7 +356,8 @@ scalar_tree_is s t e =
     subst IsType w.2 (scalar_word_is w.0 (value_words.scalars.each s w.0 w.1))
 
 -- a word with a scalar
-pub of_scalar_is : (word : List ℕ) → rule_among type_templates word ≡ TakesScalar → (s : Scalar) (t : TypeSpecifier) → option_map (of_one word) (scalar_tree s) ≡ Some t → IsType t
+pub of_scalar_is : (word : List ℕ) → rule_among type_templates word ≡ TakesScalar →
+    (s : Scalar) (t : TypeSpecifier) → option_map (of_one word) (scalar_tree s) ≡ Some t → IsType t
 of_scalar_is word rule s t e =
     let x = map_some (of_one word) (scalar_tree s) t e in
     let w = map_some Named (scalar_word s) x.0 x.1 in
@@ -348,17 +385,22 @@ cooperative_is c r l s t e =
       whole = refl;
     })
 
-access_is : (x y : Bool) (m : List ℕ) → (if x then Some (codes "atomic") else (if y then Some (codes "read_write") else None)) ≡ Some m → stands_in access_words m ≡ true
+access_is : (x y : Bool) (m : List ℕ) →
+    (if x then Some (codes "atomic") else (if y then Some (codes "read_write") else None)) ≡ Some m →
+    stands_in access_words m ≡ true
 access_is true y m e = let same : codes "atomic" ≡ m = cc in rw (← same) refl
 access_is false true m e = let same : codes "read_write" ≡ m = cc in rw (← same) refl
 access_is false false m e = absurd (cc)
 
 -- what may be done has a word in storage alone
-pub storage_is : (a : AddressSpace) (w m : List ℕ) → space_word a ≡ Some w → space_access_word a ≡ Some m → (codes "storage" ≡ w) × (stands_in access_words m ≡ true)
-storage_is (space.Storage access) w m e f = (let same : codes "storage" ≡ w = cc in same, access_is (has atomic_bit access) (has store_bit access) m f)
+pub storage_is : (a : AddressSpace) (w m : List ℕ) → space_word a ≡ Some w → space_access_word a ≡ Some m →
+    (codes "storage" ≡ w) × (stands_in access_words m ≡ true)
+storage_is (space.Storage access) w m e f =
+    (let same : codes "storage" ≡ w = cc in same, access_is (has atomic_bit access) (has store_bit access) m f)
 storage_is _ w m e f = absurd (cc)
 
-pointer_is : (a : AddressSpace) (w : List ℕ) → space_word a ≡ Some w → (o : Option (List ℕ)) → space_access_word a ≡ o → (x : TypeSpecifier) → IsType x → IsType (pointer_tree w o x)
+pointer_is : (a : AddressSpace) (w : List ℕ) → space_word a ≡ Some w → (o : Option (List ℕ)) →
+    space_access_word a ≡ o → (x : TypeSpecifier) → IsType x → IsType (pointer_tree w o x)
 pointer_is a w at None access x is = pointer_to_is w x (value_words.spaces.each a w at) is
 pointer_is a w at (Some m) access x is =
     let known = storage_is a w m at access in
@@ -367,7 +409,10 @@ pointer_is a w at (Some m) access x is =
         and_from (bytes_eq (codes "storage") w) (is_type x && stands_in access_words m)
             ((bytes_eq-Decides (codes "storage") w).1 known.0)
             (and_from (is_type x) (stands_in access_words m) is.whole known.1),
-        (table_word address_space_words w address_spaces_free (value_words.spaces.each a w at), (is.part, (table_word access_words m accesses_free known.1, tt))),
+        (
+          table_word address_space_words w address_spaces_free (value_words.spaces.each a w at),
+          (is.part, (table_word access_words m accesses_free known.1, tt)),
+        ),
       );
       whole = refl;
     }
@@ -389,7 +434,8 @@ value_pointer_is a (Some w) at o all t e =
     subst IsType x.2 (pointer_is a w at (space_access_word a) refl x.0 (all x.0 x.1))
 
 -- images
-sampled_rule : (multi : Bool) (dim : ImageDimension) (arrayed : Bool) → rule_among type_templates (image_word (codes "texture_") multi dim arrayed) ≡ TakesSampled
+sampled_rule : (multi : Bool) (dim : ImageDimension) (arrayed : Bool) →
+    rule_among type_templates (image_word (codes "texture_") multi dim arrayed) ≡ TakesSampled
 sampled_rule false D1 false = refl
 sampled_rule false D1 true = refl
 sampled_rule false D2 false = refl
@@ -407,7 +453,8 @@ sampled_rule true D3 true = refl
 sampled_rule true Cube false = refl
 sampled_rule true Cube true = refl
 
-pub depth_is_plain : (multi : Bool) (dim : ImageDimension) (arrayed : Bool) → stands_in plain_type_words (image_word (codes "texture_depth_") multi dim arrayed) ≡ true
+pub depth_is_plain : (multi : Bool) (dim : ImageDimension) (arrayed : Bool) →
+    stands_in plain_type_words (image_word (codes "texture_depth_") multi dim arrayed) ≡ true
 depth_is_plain false D1 false = refl
 depth_is_plain false D1 true = refl
 depth_is_plain false D2 false = refl
@@ -425,7 +472,8 @@ depth_is_plain true D3 true = refl
 depth_is_plain true Cube false = refl
 depth_is_plain true Cube true = refl
 
-pub storage_rule : (dim : ImageDimension) (arrayed : Bool) → rule_among type_templates (image_word (codes "texture_storage_") false dim arrayed) ≡ TakesFormat
+pub storage_rule : (dim : ImageDimension) (arrayed : Bool) →
+    rule_among type_templates (image_word (codes "texture_storage_") false dim arrayed) ≡ TakesFormat
 storage_rule D1 false = refl
 storage_rule D1 true = refl
 storage_rule D2 false = refl
@@ -435,7 +483,8 @@ storage_rule D3 true = refl
 storage_rule Cube false = refl
 storage_rule Cube true = refl
 
-image_tree_is : (dim : ImageDimension) (arrayed : Bool) (c : ImageClass) (t : TypeSpecifier) → image_tree dim arrayed c ≡ Some t → IsType t
+image_tree_is : (dim : ImageDimension) (arrayed : Bool) (c : ImageClass) (t : TypeSpecifier) →
+    image_tree dim arrayed c ≡ Some t → IsType t
 image_tree_is dim arrayed (class.Sampled k multi) t e =
     let word = image_word (codes "texture_") multi dim arrayed in
     let x = map_some (of_one word) (option_map Named (scalar_word_of k 4)) t e in
@@ -453,16 +502,23 @@ image_tree_is dim arrayed (class.Sampled k multi) t e =
       whole = refl;
     })
 image_tree_is dim arrayed (class.Depth multi) t e =
-    subst IsType (same_Some (Named (image_word (codes "texture_depth_") multi dim arrayed)) t e) (plain_is (image_word (codes "texture_depth_") multi dim arrayed) (depth_is_plain multi dim arrayed))
-image_tree_is dim arrayed class.External t e = subst IsType (same_Some (Named (codes "texture_external")) t e) (plain_is (codes "texture_external") refl)
+    subst IsType (same_Some (Named (image_word (codes "texture_depth_") multi dim arrayed)) t e)
+    (plain_is (image_word (codes "texture_depth_") multi dim arrayed) (depth_is_plain multi dim arrayed))
+image_tree_is dim arrayed class.External t e = subst IsType (same_Some (Named (codes "texture_external")) t e)
+    (plain_is (codes "texture_external") refl)
 image_tree_is dim arrayed (class.Storage f a) t e =
     let format = value_words.formats.each f (format_word f) refl in
     let access = value_words.accesses.each a (image_access_word a) refl in
-    subst IsType (same_Some (of_two (image_word (codes "texture_storage_") false dim arrayed) (Named (format_word f)) (Named (image_access_word a))) t e)
+    subst IsType (same_Some (of_two (image_word (codes "texture_storage_") false dim arrayed)
+    (Named (format_word f)) (Named (image_access_word a))) t e)
     (record {
       part = (
-        rw (storage_rule dim arrayed) (and_from (stands_in format_words (format_word f)) (stands_in access_words (image_access_word a)) format access),
-        (table_word format_words (format_word f) formats_free format, (table_word access_words (image_access_word a) accesses_free access, tt)),
+        rw (storage_rule dim arrayed) (and_from (stands_in format_words (format_word f))
+            (stands_in access_words (image_access_word a)) format access),
+        (
+          table_word format_words (format_word f) formats_free format,
+          (table_word access_words (image_access_word a) accesses_free access, tt),
+        ),
       );
       whole = refl;
     })
@@ -481,11 +537,19 @@ query_is false = plain_is (codes "ray_query") refl
 
 -- ---- types that name others
 module _ (n : Names) (count : ℕ) (named : AreNamed n count) where
-  array_is : (word : List ℕ) → rule_among type_templates word ≡ TakesElements → (l : ArraySize) → LengthIsWithin count l → (x : TypeSpecifier) → IsType x → IsType (array_tree n word l x)
+  array_is : (word : List ℕ) → rule_among type_templates word ≡ TakesElements → (l : ArraySize) →
+      LengthIsWithin count l → (x : TypeSpecifier) → IsType x → IsType (array_tree n word l x)
   array_is word rule (size.Constant number) within x is = sized_is word x (non_zero_u32_get number) rule is within
   array_is word rule (size.Pending o) within x is =
       let name = named.overrides o within in
-      record { part = (rw rule (and_from (is_type x) (not (is_builtin (n.override_name o))) is.whole (ap not name.own)), (is.part, (name.word, tt))); whole = refl }
+      record {
+        part = (
+          rw rule (and_from (is_type x) (not (is_builtin (n.override_name o))) is.whole
+              (ap not name.own)),
+          (is.part, (name.word, tt)),
+        );
+        whole = refl;
+      }
   array_is word rule size.Dynamic within x is = dynamic_is word x rule is
 
   array_tree_is : (word : List ℕ) → rule_among type_templates word ≡ TakesElements →
@@ -506,20 +570,27 @@ module _ (n : Names) (count : ℕ) (named : AreNamed n count) where
   inner_is f all (inner.CooperativeMatrix c r s l) within t e = cooperative_is c r l s t e
   inner_is f all (inner.Atomic s) within t e = of_scalar_is (codes "atomic") refl s t e
   inner_is f all (inner.Pointer base a) within t e = pointer_tree_is a (space_word a) refl (f base) (all base) t e
-  inner_is f all (inner.ValuePointer v s a) within t e = value_pointer_is a (space_word a) refl (value_tree v s) (value_tree_is v s) t e
-  inner_is f all (inner.Array base l stride) within t e = array_tree_is (codes "array") refl l within (f base) (all base) t e
+  inner_is f all (inner.ValuePointer v s a) within t e = value_pointer_is a (space_word a) refl (value_tree v s)
+      (value_tree_is v s) t e
+  inner_is f all (inner.Array base l stride) within t e = array_tree_is (codes "array") refl l within (f base)
+      (all base) t e
   inner_is f all (inner.Struct members span) within t e = absurd (cc)
   inner_is f all (inner.Image dim arrayed c) within t e = image_tree_is dim arrayed c t e
-  inner_is f all (inner.Sampler comparison) within t e = subst IsType (same_Some (Named (sampler_word comparison)) t e) (sampler_is comparison)
-  inner_is f all (inner.AccelerationStructure b) within t e = subst IsType (same_Some (ray_tree (codes "acceleration_structure") b) t e) (structure_is b)
-  inner_is f all (inner.RayQuery b) within t e = subst IsType (same_Some (ray_tree (codes "ray_query") b) t e) (query_is b)
-  inner_is f all (inner.BindingArray base l) within t e = array_tree_is (codes "binding_array") refl l within (f base) (all base) t e
+  inner_is f all (inner.Sampler comparison) within t e =
+      subst IsType (same_Some (Named (sampler_word comparison)) t e) (sampler_is comparison)
+  inner_is f all (inner.AccelerationStructure b) within t e =
+      subst IsType (same_Some (ray_tree (codes "acceleration_structure") b) t e) (structure_is b)
+  inner_is f all (inner.RayQuery b) within t e = subst IsType (same_Some (ray_tree (codes "ray_query") b) t e)
+      (query_is b)
+  inner_is f all (inner.BindingArray base l) within t e = array_tree_is (codes "binding_array") refl l within
+      (f base) (all base) t e
 
   named_is : (f : ℕ → Option TypeSpecifier) →
       ((b : ℕ) (x : TypeSpecifier) → f b ≡ Some x → IsType x) → (h : ℕ) (y : Type_) →
       slice_get n.types h ≡ Some y → (b : Bool) → is_struct y.inner ≡ b → (t : TypeSpecifier) →
       (if b then Some (Named (n.struct_name h)) else inner_tree_by n f y.inner) ≡ Some t → IsType t
-  named_is f all h y at true struct t e = subst IsType (same_Some (Named (n.struct_name h)) t e) (name_is (n.struct_name h) (named.structs h y at struct))
+  named_is f all h y at true struct t e = subst IsType (same_Some (Named (n.struct_name h)) t e)
+      (name_is (n.struct_name h) (named.structs h y at struct))
   named_is f all h y at false struct t e = inner_is f all y.inner (named.lengths h y at) t e
 
   found_is : (k h : ℕ) → ((b : ℕ) (x : TypeSpecifier) → tree_within k n b ≡ Some x → IsType x) →
@@ -537,6 +608,7 @@ module _ (n : Names) (count : ℕ) (named : AreNamed n count) where
   type_is h t e = within_is (suc h) h t e
 
   -- the type of an expression, where it has a form
-  pub resolution_is : (r : TypeResolution) → ResolutionIsWithin count r → (t : TypeSpecifier) → resolution_tree n r ≡ Some t → IsType t
+  pub resolution_is : (r : TypeResolution) → ResolutionIsWithin count r → (t : TypeSpecifier) →
+      resolution_tree n r ≡ Some t → IsType t
   resolution_is (resolution.Handle h) within t e = type_is h t e
   resolution_is (resolution.Value it) within t e = inner_is (type_tree n) type_is it within t e

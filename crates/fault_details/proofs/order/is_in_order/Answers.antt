@@ -9,7 +9,8 @@ use Rattle.fault_details.proofs.order.is_in_order.Goals as goal
 
 pub loop-index-preserved : goal.loop-index-preserved
 loop-index-preserved c =
-    one_more c.args.«module».now.types c.loop-index.index (length c.args.«module».now.overrides) c.index.result.now (search rules) (search rules) c.loop-index.invariant
+    one_more c.args.«module».now.types c.loop-index.index (length c.args.«module».now.overrides)
+    c.index.result.now (search rules) (search rules) c.loop-index.invariant
 
 pub returns-then-not-stands_following : goal.returns-then-not-stands_following
 returns-then-not-stands_following c = (
@@ -25,7 +26,8 @@ returns-then-not-stands_following c = (
 
 pub returns : goal.returns
 returns c = (
-  λ _. so_many_known (global_context c.args.«module».now.types c.args.«module».now.overrides) (length c.args.«module».now.overrides) (λ h. refl)
+  λ _. so_many_known (global_context c.args.«module».now.types c.args.«module».now.overrides)
+      (length c.args.«module».now.overrides) (λ h. refl)
       (λ handle t lt is. c.loop-index.invariant handle (omega arith) t is)
       (λ handle t is. slice_get_within c.args.«module».now.types handle t is),
   λ _. refl,

@@ -8,6 +8,10 @@ returns-in_ok-alone-in-Value c =
     let m = c.args.«module».now in
     let alone = string_bytes c.in_ok-alone-in-Value.alone in
     ok_then c.with_place.result
-    (λ t is. subst (λ r. IsPlaced m r (string_bytes t)) (sym c.in-Value.is)
-    (alone, subst (λ r. IsTold m r alone) c.in-Value.is c.in_ok-alone-in-Value.ensures, is ∙ ap (with_place alone) c.named_type.ensures))
+    (λ t is. subst (λ r. IsPlaced m r (string_bytes t)) (sym c.in-Value.is) (
+      alone,
+      subst (λ r. IsTold m r alone) c.in-Value.is c.in_ok-alone-in-Value.ensures,
+      is
+          ∙ ap (with_place alone) c.named_type.ensures,
+    ))
     c.with_place.ensures

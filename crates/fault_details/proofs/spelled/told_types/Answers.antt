@@ -10,7 +10,14 @@ returns-then-eq c =
     let m = c.args.«module».now in
     let same : string_bytes c.in_ok-told_wanted.told_wanted ≡ string_bytes c.in_ok-told_got.told_got = search rules in
     ok_then c.placed_types.result
-    (λ t placed. inr (placed, (string_bytes c.in_ok-told_wanted.told_wanted, c.in_ok-told_wanted.ensures, subst (IsTold m c.args.got.now) (sym same) c.in_ok-told_got.ensures)))
+    (λ t placed. inr (
+      placed,
+      (
+        string_bytes c.in_ok-told_wanted.told_wanted,
+        c.in_ok-told_wanted.ensures,
+        subst (IsTold m c.args.got.now) (sym same) c.in_ok-told_got.ensures,
+      ),
+    ))
     c.placed_types.ensures
 
 pub returns : goal.returns

@@ -51,24 +51,32 @@ pass_block-loop-statement-preserved t c = record {
 
 pub pass_cases-returns-in-Err : goal.pass_cases-returns-in-Err
 pass_cases-returns-in-Err t c =
-    ap (λ r. onward r (case_statements true c.args.continues (cases_of (drop (c.loop-case.case-index + 1) c.args.cases.now)))) c.in-Err.ensures
+    ap (λ r. onward r (case_statements true c.args.continues
+    (cases_of (drop (c.loop-case.case-index + 1) c.args.cases.now)))) c.in-Err.ensures
     ∙ ap (λ s. onward
     (passed c.loop-case.number
     (statements_in true c.args.continues s.body))
     (case_statements true c.args.continues
     (cases_of (drop (c.loop-case.case-index + 1) c.args.cases.now)))) c.case-item.is
-    ∙ sym (cases_next true c.args.continues c.loop-case.number c.args.cases.now c.loop-case.case-index c.case-item.result c.loop-case-test.true)
+    ∙ sym (cases_next true c.args.continues c.loop-case.number c.args.cases.now c.loop-case.case-index
+    c.case-item.result c.loop-case-test.true)
     ∙ c.loop-case.invariant.left
 
 pub pass_cases-loop-case-preserved : goal.pass_cases-loop-case-preserved
 pass_cases-loop-case-preserved t c = record {
-  left = ap (λ r. onward r (case_statements true c.args.continues (cases_of (drop (c.loop-case.case-index + 1) c.args.cases.now)))) c.in-Ok.ensures
+  left = ap (λ r. onward r (case_statements true c.args.continues
+      (cases_of (drop (c.loop-case.case-index + 1) c.args.cases.now)))) c.in-Ok.ensures
       ∙ ap (λ s. onward
       (passed c.loop-case.number
       (statements_in true c.args.continues s.body))
       (case_statements true c.args.continues
       (cases_of (drop (c.loop-case.case-index + 1) c.args.cases.now)))) c.case-item.is
-      ∙ sym (cases_next true c.args.continues c.loop-case.number c.args.cases.now c.loop-case.case-index c.case-item.result c.loop-case-test.true)
+      ∙ sym (cases_next true c.args.continues c.loop-case.number c.args.cases.now c.loop-case.case-index
+      c.case-item.result c.loop-case-test.true)
       ∙ c.loop-case.invariant.left;
-  smaller = omega (arith, cases_size-left c.args.cases.now c.loop-case.case-index c.case-item.result c.loop-case-test.true, c.loop-case.invariant.smaller);
+  smaller = omega (
+    arith,
+    cases_size-left c.args.cases.now c.loop-case.case-index c.case-item.result c.loop-case-test.true,
+    c.loop-case.invariant.smaller,
+  );
 }

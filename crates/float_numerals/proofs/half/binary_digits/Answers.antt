@@ -8,4 +8,5 @@ returns-then-number-eq0-clause-same c = size_zero c.args.number (search rules)
 
 -- src/half.rt:82:1
 pub returns-else-number-eq0-clause-same : goal.returns-else-number-eq0-clause-same
-returns-else-number-eq0-clause-same c = size_is c.args.number c.ilog2.result c.ilog2.ensures.power_le c.ilog2.ensures.next_power_gt
+returns-else-number-eq0-clause-same c =
+    size_is c.args.number c.ilog2.result c.ilog2.ensures.power_le c.ilog2.ensures.next_power_gt

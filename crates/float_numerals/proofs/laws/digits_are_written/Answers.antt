@@ -10,7 +10,9 @@ pub returns-clause-fraction : goal.returns-clause-fraction
 returns-clause-fraction c = (let s = decimal_split c.args.decimal (search rules) in s.fraction_digits)
 
 pub returns-clause-double_whole : goal.returns-clause-double_whole
-returns-clause-double_whole c = (let w = double_written c.args.decimal (search rules) (search rules) in (w.some, w.whole_digits))
+returns-clause-double_whole c = (let w = double_written c.args.decimal (search rules) (search rules) in
+    (w.some, w.whole_digits))
 
 pub returns-clause-double_fraction : goal.returns-clause-double_fraction
-returns-clause-double_fraction c = (let w = double_written c.args.decimal (search rules) (search rules) in w.fraction_digits)
+returns-clause-double_fraction c =
+    (let w = double_written c.args.decimal (search rules) (search rules) in w.fraction_digits)

@@ -7,24 +7,26 @@ use Rattle.module_answers.specs.Written.{AnswersWriting}
 use Rattle.module_answers.proofs.Bounded.{as_kept, as_unwritten, is_too_long}
 use Rattle.module_answers.proofs.within.write_told_within.Goals as goal
 
-pub returns-in_err-look_into-clause-unwritten : goal.returns-in_err-look_into-clause-unwritten
-returns-in_err-look_into-clause-unwritten c =
+pub returns-in_err-check_nesting-clause-unwritten : goal.returns-in_err-check_nesting-clause-unwritten
+returns-in_err-check_nesting-clause-unwritten c =
     as_unwritten c.args.flags c.args.limits c.args.«module».now c.args.info.now c.from_residual.result _
-    c.from_residual.ensures.1 c.in_err-look_into.ensures.deep
+    c.from_residual.ensures.1 c.in_err-check_nesting.ensures.deep
 
 pub returns-in-Some-clause-nested : goal.returns-in-Some-clause-nested
-returns-in-Some-clause-nested c = c.in_ok-look_into.ensures.flat
+returns-in-Some-clause-nested c = c.in_ok-check_nesting.ensures.flat
 
 pub returns-in-Some-clause-accepted : goal.returns-in-Some-clause-accepted
 returns-in-Some-clause-accepted c = sym c.write_told.ensures.accepted ∙ ap is_ok c.in-Ok.is
 
 pub returns-in-Some-clause-told : goal.returns-in-Some-clause-told
 returns-in-Some-clause-told c =
-    subst (λ r. IfOk r (λ _. IsToldModule c.args.«module».now c.write_told.new.«module»)) c.in-Ok.is c.write_told.ensures.told
+    subst (λ r. IfOk r (λ _. IsToldModule c.args.«module».now c.write_told.new.«module»)) c.in-Ok.is
+    c.write_told.ensures.told
 
 pub returns-in-Some-clause-counted : goal.returns-in-Some-clause-counted
 returns-in-Some-clause-counted c =
-    subst (λ r. IfOk r (λ _. IsCounted c.write_told.new.«module» c.args.info.now c.write_told.new.info)) c.in-Ok.is c.write_told.ensures.counted
+    subst (λ r. IfOk r (λ _. IsCounted c.write_told.new.«module» c.args.info.now c.write_told.new.info))
+    c.in-Ok.is c.write_told.ensures.counted
 
 pub returns-in-Some-clause-written : goal.returns-in-Some-clause-written
 returns-in-Some-clause-written c =
@@ -33,8 +35,11 @@ returns-in-Some-clause-written c =
     let info = c.write_told.new.info in
     let w = c.in-Ok.written in
     let v = c.in-Some.whole in
-    let written = subst (λ r. IfOk r (λ w. AnswersWriting flags m info w.answer w.refusal c.new-empty.result.text w.sink.text c.new-empty.result.failures w.sink.failures)) c.in-Ok.is c.write_told.ensures.written in
-    let begun = subst (λ s. AnswersWriting flags m info w.answer w.refusal s.text w.sink.text s.failures w.sink.failures) c.new-empty.ensures written in (
+    let written =
+    subst (λ r. IfOk r (λ w. AnswersWriting flags m info w.answer w.refusal c.new-empty.result.text
+    w.sink.text c.new-empty.result.failures w.sink.failures)) c.in-Ok.is c.write_told.ensures.written in
+    let begun = subst (λ s. AnswersWriting flags m info w.answer w.refusal s.text w.sink.text s.failures
+    w.sink.failures) c.new-empty.ensures written in (
       w.sink.failures,
       as_kept flags m info w.answer v.answer w.refusal v.refusal w.sink.text (string_bytes v.sink) w.sink.failures
           (subst (λ o. IfSome o (λ v. v.answer ≡ w.answer)) c.in-Some.is c.kept.ensures.answer)
@@ -53,22 +58,29 @@ returns-in-None-clause-unwritten c =
     let m = c.write_told.new.«module» in
     let info = c.write_told.new.info in
     let w = c.in-Ok.written in
-    let written = subst (λ r. IfOk r (λ w. AnswersWriting flags m info w.answer w.refusal c.new-empty.result.text w.sink.text c.new-empty.result.failures w.sink.failures)) c.in-Ok.is c.write_told.ensures.written in
-    is_too_long flags c.args.limits c.args.«module».now m c.args.info.now info w.answer w.refusal w.sink.text w.sink.failures
-    c.in_ok-look_into.ensures.flat
+    let written =
+    subst (λ r. IfOk r (λ w. AnswersWriting flags m info w.answer w.refusal c.new-empty.result.text
+    w.sink.text c.new-empty.result.failures w.sink.failures)) c.in-Ok.is c.write_told.ensures.written in
+    is_too_long flags c.args.limits c.args.«module».now m c.args.info.now info w.answer w.refusal w.sink.text
+    w.sink.failures
+    c.in_ok-check_nesting.ensures.flat
     (sym c.write_told.ensures.accepted ∙ ap is_ok c.in-Ok.is)
     (subst (λ r. IfOk r (λ _. IsCounted m c.args.info.now info)) c.in-Ok.is c.write_told.ensures.counted)
-    (subst (λ s. AnswersWriting flags m info w.answer w.refusal s.text w.sink.text s.failures w.sink.failures) c.new-empty.ensures written)
+    (subst (λ s. AnswersWriting flags m info w.answer w.refusal s.text w.sink.text s.failures w.sink.failures)
+    c.new-empty.ensures written)
     (subst (λ o. IfNone o (c.args.limits.text < length w.sink.text)) c.in-None.is c.kept.ensures.too_long)
 
 pub returns-in-None-clause-too_long : goal.returns-in-None-clause-too_long
 returns-in-None-clause-too_long c =
-    λ _. subst (λ r. IfOk r (λ _. IsToldModule c.args.«module».now c.write_told.new.«module»)) c.in-Ok.is c.write_told.ensures.told
+    λ _. subst (λ r. IfOk r (λ _. IsToldModule c.args.«module».now c.write_told.new.«module»)) c.in-Ok.is
+    c.write_told.ensures.told
 
 pub returns-in-Err-clause-unwritten : goal.returns-in-Err-clause-unwritten
 returns-in-Err-clause-unwritten c =
-    let untouched = subst (λ r. IfErr r (λ _. (c.write_told.new.«module» ≡ c.args.«module».now) × (c.write_told.new.info ≡ c.args.info.now))) c.in-Err.is c.write_told.ensures.untouched in (
-      c.in_ok-look_into.ensures.flat,
+    let untouched =
+    subst (λ r. IfErr r (λ _. (c.write_told.new.«module» ≡ c.args.«module».now)
+    × (c.write_told.new.info ≡ c.args.info.now))) c.in-Err.is c.write_told.ensures.untouched in (
+      c.in_ok-check_nesting.ensures.flat,
       subst (λ r. IfErr r (Fails c.args.«module».now c.args.info.now)) c.in-Err.is c.write_told.ensures.fault,
       untouched.0,
       untouched.1,

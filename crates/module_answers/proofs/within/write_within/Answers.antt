@@ -6,20 +6,21 @@ use Rattle.module_answers.specs.Written.{AnswersWriting}
 use Rattle.module_answers.proofs.Bounded.{as_kept, as_unwritten, is_too_long}
 use Rattle.module_answers.proofs.within.write_within.Goals as goal
 
-pub returns-in_err-look_into-clause-unwritten : goal.returns-in_err-look_into-clause-unwritten
-returns-in_err-look_into-clause-unwritten c =
+pub returns-in_err-check_nesting-clause-unwritten : goal.returns-in_err-check_nesting-clause-unwritten
+returns-in_err-check_nesting-clause-unwritten c =
     as_unwritten c.args.flags c.args.limits c.args.«module».now c.args.info.now c.from_residual.result _
-    c.from_residual.ensures.1 c.in_err-look_into.ensures.deep
+    c.from_residual.ensures.1 c.in_err-check_nesting.ensures.deep
 
 pub returns-in-Some-clause-nested : goal.returns-in-Some-clause-nested
-returns-in-Some-clause-nested c = c.in_ok-look_into.ensures.flat
+returns-in-Some-clause-nested c = c.in_ok-check_nesting.ensures.flat
 
 pub returns-in-Some-clause-accepted : goal.returns-in-Some-clause-accepted
 returns-in-Some-clause-accepted c = sym c.write.ensures.accepted ∙ ap is_ok c.in-Ok.is
 
 pub returns-in-Some-clause-counted : goal.returns-in-Some-clause-counted
 returns-in-Some-clause-counted c =
-    subst (λ r. IfOk r (λ _. IsCounted c.args.«module».now c.args.info.now c.write.new.info)) c.in-Ok.is c.write.ensures.counted
+    subst (λ r. IfOk r (λ _. IsCounted c.args.«module».now c.args.info.now c.write.new.info)) c.in-Ok.is
+    c.write.ensures.counted
 
 pub returns-in-Some-clause-written : goal.returns-in-Some-clause-written
 returns-in-Some-clause-written c =
@@ -28,8 +29,11 @@ returns-in-Some-clause-written c =
     let info = c.write.new.info in
     let w = c.in-Ok.written in
     let v = c.in-Some.whole in
-    let written = subst (λ r. IfOk r (λ w. AnswersWriting flags m info w.answer w.refusal c.new-empty.result.text w.sink.text c.new-empty.result.failures w.sink.failures)) c.in-Ok.is c.write.ensures.written in
-    let begun = subst (λ s. AnswersWriting flags m info w.answer w.refusal s.text w.sink.text s.failures w.sink.failures) c.new-empty.ensures written in (
+    let written =
+    subst (λ r. IfOk r (λ w. AnswersWriting flags m info w.answer w.refusal c.new-empty.result.text
+    w.sink.text c.new-empty.result.failures w.sink.failures)) c.in-Ok.is c.write.ensures.written in
+    let begun = subst (λ s. AnswersWriting flags m info w.answer w.refusal s.text w.sink.text s.failures
+    w.sink.failures) c.new-empty.ensures written in (
       w.sink.failures,
       as_kept flags m info w.answer v.answer w.refusal v.refusal w.sink.text (string_bytes v.sink) w.sink.failures
           (subst (λ o. IfSome o (λ v. v.answer ≡ w.answer)) c.in-Some.is c.kept.ensures.answer)
@@ -48,17 +52,21 @@ returns-in-None-clause-unwritten c =
     let m = c.args.«module».now in
     let info = c.write.new.info in
     let w = c.in-Ok.written in
-    let written = subst (λ r. IfOk r (λ w. AnswersWriting flags m info w.answer w.refusal c.new-empty.result.text w.sink.text c.new-empty.result.failures w.sink.failures)) c.in-Ok.is c.write.ensures.written in
-    is_too_long flags c.args.limits c.args.«module».now m c.args.info.now info w.answer w.refusal w.sink.text w.sink.failures
-    c.in_ok-look_into.ensures.flat
+    let written =
+    subst (λ r. IfOk r (λ w. AnswersWriting flags m info w.answer w.refusal c.new-empty.result.text
+    w.sink.text c.new-empty.result.failures w.sink.failures)) c.in-Ok.is c.write.ensures.written in
+    is_too_long flags c.args.limits c.args.«module».now m c.args.info.now info w.answer w.refusal w.sink.text
+    w.sink.failures
+    c.in_ok-check_nesting.ensures.flat
     (sym c.write.ensures.accepted ∙ ap is_ok c.in-Ok.is)
     (subst (λ r. IfOk r (λ _. IsCounted m c.args.info.now info)) c.in-Ok.is c.write.ensures.counted)
-    (subst (λ s. AnswersWriting flags m info w.answer w.refusal s.text w.sink.text s.failures w.sink.failures) c.new-empty.ensures written)
+    (subst (λ s. AnswersWriting flags m info w.answer w.refusal s.text w.sink.text s.failures w.sink.failures)
+    c.new-empty.ensures written)
     (subst (λ o. IfNone o (c.args.limits.text < length w.sink.text)) c.in-None.is c.kept.ensures.too_long)
 
 pub returns-in-Err-clause-unwritten : goal.returns-in-Err-clause-unwritten
 returns-in-Err-clause-unwritten c = (
-  c.in_ok-look_into.ensures.flat,
+  c.in_ok-check_nesting.ensures.flat,
   subst (λ r. IfErr r (Fails c.args.«module».now c.args.info.now)) c.in-Err.is c.write.ensures.fault,
   refl,
   subst (λ r. IfErr r (λ _. c.write.new.info ≡ c.args.info.now)) c.in-Err.is c.write.ensures.untouched,

@@ -15,5 +15,5 @@ returns-in-Ok-clause-beside c =
     (c.tells_of_module.ensures.tells c.if-tells_of_module.true) c.requires.reason
     (subst (λ r. IfOk r (λ found. MatchOption found (NothingIsRefused explicit m info) (StandsIn explicit m info)))
     c.in-Ok.is c.unwritable.ensures.stands)
-    (subst (λ r. IfOk r (λ found. IfSome found (λ refusal. IsFirst explicit m info refusal.place)))
+    (subst (λ r. IfOk r (λ found. IfSome found (λ refusal. IsFirst explicit m info refusal.position)))
     c.in-Ok.is c.unwritable.ensures.first)

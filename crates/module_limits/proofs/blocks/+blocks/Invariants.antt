@@ -18,12 +18,14 @@ decreases-statement_is_within l = 4 * statement_size (tree_of l.statement.now)
 
 abbrev pub invariant-block_is_within-loop-statement : goal.invariant-block_is_within-loop-statement
 invariant-block_is_within-loop-statement l = record {
-  left : nat_le (block_depth (block_of (drop l.statement-index l.statement-items))) l.levels ≡ nat_le (block_depth l.block) l.levels;
+  left : nat_le (block_depth (block_of (drop l.statement-index l.statement-items))) l.levels
+      ≡ nat_le (block_depth l.block) l.levels;
   smaller : block_size (block_of (drop l.statement-index l.statement-items)) ≤ block_size l.block;
 }
 
 abbrev pub invariant-cases_are_within-loop-case : goal.invariant-cases_are_within-loop-case
 invariant-cases_are_within-loop-case l = record {
-  left : nat_le (cases_depth (cases_of (drop l.case-index l.cases))) l.levels ≡ nat_le (cases_depth (cases_of l.cases)) l.levels;
+  left : nat_le (cases_depth (cases_of (drop l.case-index l.cases))) l.levels
+      ≡ nat_le (cases_depth (cases_of l.cases)) l.levels;
   smaller : cases_size (cases_of (drop l.case-index l.cases)) ≤ cases_size (cases_of l.cases);
 }

@@ -25,6 +25,7 @@ invariant-block_names_subgroups-loop-statement l = record {
 
 abbrev pub invariant-cases_name_subgroups-loop-case : goal.invariant-cases_name_subgroups-loop-case
 invariant-cases_name_subgroups-loop-case l = record {
-  left : cases_have_one is_subgroup_statement (cases_of (drop l.case-index l.cases)) ≡ cases_have_one is_subgroup_statement (cases_of l.cases);
+  left : cases_have_one is_subgroup_statement (cases_of (drop l.case-index l.cases))
+      ≡ cases_have_one is_subgroup_statement (cases_of l.cases);
   smaller : cases_size (cases_of (drop l.case-index l.cases)) ≤ cases_size (cases_of l.cases);
 }

@@ -12,7 +12,8 @@ returns-then-number-functions-clause-group c =
     ap (slice_get m.functions) (sym c.from_index.ensures) ∙ c.index.ensures
     in let there : slice_get info.functions.items c.args.number ≡ Some c.index-infos-index.result =
     ap (λ l. slice_get l c.args.number) (sym c.as_slice-infos.ensures.value)
-    ∙ slice_get_read c.as_slice-infos.result.now (length c.as_slice-infos.result.now) c.args.number c.index-infos-index.result (omega arith) in_infos c.index-infos-index.is
+    ∙ slice_get_read c.as_slice-infos.result.now (length c.as_slice-infos.result.now) c.args.number
+    c.index-infos-index.result (omega arith) in_infos c.index-infos-index.is
     in ap Some c.function_group.ensures
     ∙ sym (function_there m info c.args.number c.index.result.now c.index-infos-index.result here there)
 

@@ -9,7 +9,8 @@ pub returns-then-is_some : goal.returns-then-is_some
 returns-then-is_some c =
     let types = c.args.module.now.types
     in let v = operation types c.args.used.now
-    in let uses_at = λ (n : ℕ). option_map_or (uses_of types) (slice_get (groups_of c.args.module.now c.args.info.now) n) []
+    in let uses_at =
+    λ (n : ℕ). option_map_or (uses_of types) (slice_get (groups_of c.args.module.now c.args.info.now) n) []
     in let found : is_some (first_answer (uses_at c.loop-place.place) v) ≡ true =
     ap is_some (sym c.group_answer-found.ensures) ∙ sym c.is_some.ensures ∙ c.if-is_some.true
     in c.group_answer-found.ensures
@@ -19,7 +20,8 @@ pub loop-place-preserved : goal.loop-place-preserved
 loop-place-preserved c =
     let types = c.args.module.now.types
     in let v = operation types c.args.used.now
-    in let uses_at = λ (n : ℕ). option_map_or (uses_of types) (slice_get (groups_of c.args.module.now c.args.info.now) n) []
+    in let uses_at =
+    λ (n : ℕ). option_map_or (uses_of types) (slice_get (groups_of c.args.module.now c.args.info.now) n) []
     in let none : is_some (first_answer (uses_at c.loop-place.place) v) ≡ false =
     ap is_some (sym c.group_answer-found.ensures) ∙ sym c.is_some.ensures ∙ c.if-is_some.false
     in let next : c.loop-place.place + 1 ≡ suc c.loop-place.place = omega arith

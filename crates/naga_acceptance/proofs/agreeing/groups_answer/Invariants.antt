@@ -5,4 +5,5 @@ use Rattle.naga_acceptance.proofs.agreeing.groups_answer.Given as goal
 
 abbrev pub invariant-loop-place : goal.invariant-loop-place
 invariant-loop-place l =
-    first_answer (group_uses l.module.types (groups_of l.module l.info) l.place) (operation l.module.types l.used) ≡ None
+    first_answer (group_uses l.module.types (groups_of l.module l.info) l.place)
+    (operation l.module.types l.used) ≡ None

@@ -16,5 +16,6 @@ loop-steps-preserved c =
     c.slot_following-slot.ensures.slot ∙ ap (λ h. (h % slots + steps) % slots) c.requires.hash
     in let there : site_after slots c.args.table.now v steps ≡ Some c.in-Some.site =
     ap (λ k. slice_index_or c.args.table.now k None) (sym here) ∙ c.in-Some.is
-    in passed_further types gs slots c.args.table.now v steps (steps + 1) (omega arith) c.loop-steps.invariant (ap is_some there)
+    in passed_further types gs slots c.args.table.now v steps (steps + 1) (omega arith) c.loop-steps.invariant
+    (ap is_some there)
     (ap (λ o. site_answer types gs o v) there ∙ sym c.in_default-site_answer.ensures)

@@ -21,6 +21,8 @@ returns-in-Array-clause-form c = λ types.
 pub returns-in-BindingArray-clause-form : goal.returns-in-BindingArray-clause-form
 returns-in-BindingArray-clause-form c = λ types.
     c.level_over-in-BindingArray.ensures.form types
-    ∙ (ap (λ o. option_map (λ rest. numbers c.array_level-in-BindingArray.result ++ rest) o) (c.over_base-in-BindingArray.ensures.form types)
-    ∙ (ap (λ l. option_map (λ rest. l ++ rest) (bases types c.args.within c.in-BindingArray.base)) c.array_level-in-BindingArray.ensures
+    ∙ (ap (λ o. option_map (λ rest. numbers c.array_level-in-BindingArray.result ++ rest) o)
+    (c.over_base-in-BindingArray.ensures.form types)
+    ∙ (ap (λ l. option_map (λ rest. l ++ rest) (bases types c.args.within c.in-BindingArray.base))
+    c.array_level-in-BindingArray.ensures
     ∙ ap (inner_key_by (bases types c.args.within)) (sym c.in-BindingArray.is)))

@@ -5,7 +5,8 @@ use Rattle.naga_acceptance.proofs.alike.unsupported_level_at.Goals as goal
 
 pub returns-then-index-len : goal.returns-then-index-len
 returns-then-index-len c = λ none.
-    unsupported_identity c.args.types.now c.args.handle _ c.own_level.result c.index-then-index-len.ensures c.own_level.ensures none
+    unsupported_identity c.args.types.now c.args.handle _ c.own_level.result c.index-then-index-len.ensures
+    c.own_level.ensures none
 
 pub returns-else-index-len : goal.returns-else-index-len
 returns-else-index-len c = λ none.

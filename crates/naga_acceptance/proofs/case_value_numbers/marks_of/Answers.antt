@@ -7,5 +7,7 @@ pub loop-number-preserved : goal.loop-number-preserved
 loop-number-preserved c =
     record {
       size = length-set c.loop-number.marks c.place_of.result true ∙ c.loop-number.invariant.size;
-      so_far = marked_more c.args.numbers.now c.loop-number.marks c.loop-number.number-index c.place_of.result c.place_of.ensures.place (omega (arith, c.place_of.ensures.within, c.loop-number.invariant.size)) c.loop-number.invariant.so_far;
+      so_far = marked_more c.args.numbers.now c.loop-number.marks c.loop-number.number-index c.place_of.result
+          c.place_of.ensures.place
+          (omega (arith, c.place_of.ensures.within, c.loop-number.invariant.size)) c.loop-number.invariant.so_far;
     }

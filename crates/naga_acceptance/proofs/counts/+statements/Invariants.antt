@@ -16,12 +16,14 @@ decreases-add_cases_uses l = 2 * cases_size (cases_of l.cases.now)
 
 abbrev pub invariant-add_block_uses-loop-statement : goal.invariant-add_block_uses-loop-statement
 invariant-add_block_uses-loop-statement l = record {
-  left : with_uses l.infos (block_operands (block_of (drop l.statement-index l.statement-items))) ≡ with_uses l.initial.infos (block_operands l.block);
+  left : with_uses l.infos (block_operands (block_of (drop l.statement-index l.statement-items)))
+      ≡ with_uses l.initial.infos (block_operands l.block);
   smaller : block_size (block_of (drop l.statement-index l.statement-items)) ≤ block_size l.block;
 }
 
 abbrev pub invariant-add_cases_uses-loop-case : goal.invariant-add_cases_uses-loop-case
 invariant-add_cases_uses-loop-case l = record {
-  left : with_uses l.infos (cases_operands (cases_of (drop l.case-index l.cases))) ≡ with_uses l.initial.infos (cases_operands (cases_of l.cases));
+  left : with_uses l.infos (cases_operands (cases_of (drop l.case-index l.cases)))
+      ≡ with_uses l.initial.infos (cases_operands (cases_of l.cases));
   smaller : cases_size (cases_of (drop l.case-index l.cases)) ≤ cases_size (cases_of l.cases);
 }

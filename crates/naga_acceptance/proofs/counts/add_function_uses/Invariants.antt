@@ -5,4 +5,5 @@ use Rattle.naga_acceptance.specs.Counts.{with_uses}
 use Rattle.naga_acceptance.proofs.counts.add_function_uses.Given as goal
 
 abbrev pub invariant-loop-expression : goal.invariant-loop-expression
-invariant-loop-expression l = with_uses l.infos (flat_map (λ p. expression_operands p.1) l.expression-iterator) ≡ with_uses l.initial.infos (flat_map expression_operands l.expressions)
+invariant-loop-expression l = with_uses l.infos (flat_map (λ p. expression_operands p.1) l.expression-iterator)
+    ≡ with_uses l.initial.infos (flat_map expression_operands l.expressions)

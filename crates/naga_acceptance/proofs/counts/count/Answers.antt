@@ -9,10 +9,13 @@ use Rattle.naga_acceptance.proofs.counts.count.Goals as goal
 pub returns-clause-accepted : goal.returns-clause-accepted
 returns-clause-accepted c =
     let old = c.args.info.now in
-    let functions = c.count_functions.ensures ∙ ap (all_with_counts c.args.«module».now.functions) c.as_mut_slice.ensures.value in
-    let function_count = ap length functions ∙ length-all_with_counts c.args.«module».now.functions old.functions.items in
+    let functions = c.count_functions.ensures
+    ∙ ap (all_with_counts c.args.«module».now.functions) c.as_mut_slice.ensures.value in
+    let function_count = ap length functions
+    ∙ length-all_with_counts c.args.«module».now.functions old.functions.items in
     let points = functions_of c.args.«module».now.entry_points.items in
-    let entries = c.count_entry_points.ensures ∙ (λ i. all_with_counts (functions_of (c.deref.ensures.value i)) (c.as_mut_slice-2.ensures.value i)) in
+    let entries = c.count_entry_points.ensures
+    ∙ (λ i. all_with_counts (functions_of (c.deref.ensures.value i)) (c.as_mut_slice-2.ensures.value i)) in
     let entry_count = ap length entries ∙ length-all_with_counts points old.entry_points.items in
     same_acceptance c.args.«module».now old
     (record {

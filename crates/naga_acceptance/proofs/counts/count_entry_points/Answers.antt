@@ -21,7 +21,9 @@ pub loop-index-preserved : goal.loop-index-preserved
 loop-index-preserved c =
     elim c.if-index-entry_points.branch [
       | then-index-entry_points w ↦
-          let here : slice_get (functions_of c.args.entry_points.now) c.loop-index.index ≡ Some (slice_index_or c.args.entry_points.now c.loop-index.index w.index-entry_points-index.result).function =
+          let here : slice_get (functions_of c.args.entry_points.now) c.loop-index.index
+          ≡ Some (slice_index_or c.args.entry_points.now
+          c.loop-index.index w.index-entry_points-index.result).function =
           slice_get-functions_of c.args.entry_points.now c.loop-index.index
           (slice_index_or c.args.entry_points.now c.loop-index.index
           w.index-entry_points-index.result)
@@ -46,11 +48,13 @@ loop-index-preserved c =
           w.index-entry_points-index.result).function c.index-infos-index.result _ here
           c.loop-index-test.true))
       | else-index-entry_points w ↦
-          let past : length (functions_of c.args.entry_points.now) ≤ c.loop-index.index = omega (arith, length-functions_of c.args.entry_points.now, w.if-index-entry_points.false)
+          let past : length (functions_of c.args.entry_points.now) ≤ c.loop-index.index =
+          omega (arith, length-functions_of c.args.entry_points.now, w.if-index-entry_points.false)
           in rw (w.infos-is, set-get_or)
           (IsWritten-kept
           (all_with_counts (functions_of c.args.entry_points.now) c.args.infos.now)
           c.args.infos.now c.loop-index.infos c.loop-index.index c.index-infos-index.result
           c.loop-index-test.true c.loop-index.invariant
-          (get_or-all_with_counts_past (functions_of c.args.entry_points.now) c.args.infos.now c.loop-index.index c.index-infos-index.result past))
+          (get_or-all_with_counts_past (functions_of c.args.entry_points.now) c.args.infos.now
+          c.loop-index.index c.index-infos-index.result past))
     ]

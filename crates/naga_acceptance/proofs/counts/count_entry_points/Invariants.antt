@@ -3,4 +3,5 @@ use Rattle.naga_acceptance.proofs.Writing.{IsWritten}
 use Rattle.naga_acceptance.proofs.counts.count_entry_points.Given as goal
 
 abbrev pub invariant-loop-index : goal.invariant-loop-index
-invariant-loop-index l = IsWritten (all_with_counts (functions_of l.entry_points) l.initial.infos) l.initial.infos l.infos l.index
+invariant-loop-index l = IsWritten (all_with_counts (functions_of l.entry_points) l.initial.infos)
+    l.initial.infos l.infos l.index

@@ -16,6 +16,12 @@ returns c =
       c.clear_counts.auto.infos,
       c.as_mut_slice-infos.ensures.len,
     )
-    in take_written_back c.info.inside.expressions.len c.add_block_uses.new.infos c.info.inside.expressions.items same room
+    in take_written_back c.info.inside.expressions.len c.add_block_uses.new.infos
+    c.info.inside.expressions.items same room
     ∙ c.add_block_uses.ensures
-    ∙ rw (c.add_function_uses.ensures, c.clear_counts.ensures, c.as_mut_slice-infos.ensures.value, c.info.view_is) (counted_by_uses c.args.function.now c.args.info.now)
+    ∙ rw (
+      c.add_function_uses.ensures,
+      c.clear_counts.ensures,
+      c.as_mut_slice-infos.ensures.value,
+      c.info.view_is,
+    ) (counted_by_uses c.args.function.now c.args.info.now)

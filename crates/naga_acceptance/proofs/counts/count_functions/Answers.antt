@@ -9,13 +9,15 @@ use Rattle.naga_acceptance.proofs.counts.count_functions.Goals as goal
 use Rattle.naga_acceptance.proofs.counts.count_functions.Goals.{then-index-len, else-index-len}
 
 pub loop-index-init : goal.loop-index-init
-loop-index-init c = IsWritten-start (all_with_counts c.args.functions.now c.args.infos.now) c.args.infos.now (length-all_with_counts c.args.functions.now c.args.infos.now)
+loop-index-init c = IsWritten-start (all_with_counts c.args.functions.now c.args.infos.now) c.args.infos.now
+    (length-all_with_counts c.args.functions.now c.args.infos.now)
 
 pub loop-index-preserved : goal.loop-index-preserved
 loop-index-preserved c =
     elim c.if-index-len.branch [
       | then-index-len w ↦
-          let here : slice_get c.args.functions.now c.loop-index.index ≡ Some w.index.result.now = rw (← w.from_index.ensures) w.index.ensures
+          let here : slice_get c.args.functions.now c.loop-index.index ≡ Some w.index.result.now =
+          rw (← w.from_index.ensures) w.index.ensures
           in rw w.infos-is
           (IsWritten-more (all_with_counts c.args.functions.now c.args.infos.now)
           c.args.infos.now c.loop-index.infos c.loop-index.index _ c.loop-index-test.true
@@ -25,12 +27,15 @@ loop-index-preserved c =
           (IsWritten-read (all_with_counts c.args.functions.now c.args.infos.now)
           c.args.infos.now c.loop-index.infos c.loop-index.index c.index-infos-index.result
           c.loop-index.invariant)
-          ∙ get_or-all_with_counts c.args.functions.now c.args.infos.now c.loop-index.index w.index.result.now c.index-infos-index.result _ here c.loop-index-test.true))
+          ∙ get_or-all_with_counts c.args.functions.now c.args.infos.now c.loop-index.index w.index.result.now
+          c.index-infos-index.result _ here c.loop-index-test.true))
       | else-index-len w ↦
-          let past : length c.args.functions.now ≤ c.loop-index.index = omega (arith, w.if-index-len.false, c.len.ensures)
+          let past : length c.args.functions.now ≤ c.loop-index.index =
+          omega (arith, w.if-index-len.false, c.len.ensures)
           in rw (w.infos-is, set-get_or)
           (IsWritten-kept (all_with_counts c.args.functions.now c.args.infos.now)
           c.args.infos.now c.loop-index.infos c.loop-index.index c.index-infos-index.result
           c.loop-index-test.true c.loop-index.invariant
-          (get_or-all_with_counts_past c.args.functions.now c.args.infos.now c.loop-index.index c.index-infos-index.result past))
+          (get_or-all_with_counts_past c.args.functions.now c.args.infos.now c.loop-index.index
+          c.index-infos-index.result past))
     ]

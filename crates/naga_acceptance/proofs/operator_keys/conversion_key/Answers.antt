@@ -19,6 +19,8 @@ returns-in-Some-conversion_target c =
     ∙ ap (λ o. conversion_key c.args.types.now c.args.kind c.args.convert (option_copied o)) (sym c.in-Some.is))
   where
     by : (o : Option TypeInner) → Some (inferred c.in-Some-conversion_target.target) ≡ option_map (λ it. Value it) o →
-        key c.args.types.now c.target_key.result ≡ option_map_or (target_key c.args.types.now c.args.kind c.args.convert c.keeps_bits-bits.result) o (unsupported_key c.args.kind c.args.convert)
+        key c.args.types.now c.target_key.result
+        ≡ option_map_or (target_key c.args.types.now c.args.kind c.args.convert c.keeps_bits-bits.result) o
+        (unsupported_key c.args.kind c.args.convert)
     by None e = absurd cc
     by (Some it) e = c.target_key.ensures it cc

@@ -7,5 +7,7 @@ use Rattle.naga_acceptance.proofs.soundness.entry_points_sound_fault.Given as go
 
 abbrev pub invariant-loop-index : goal.invariant-loop-index
 invariant-loop-index l =
-    first_faulty (λ _ p. function_sound_fault l.module p.0.function (map (λ k. k.ty) p.1)) (enumerate_from l.index (zip (drop l.index l.entry_points) (drop l.index l.infos)))
-    ≡ first_faulty (λ _ p. function_sound_fault l.module p.0.function (map (λ k. k.ty) p.1)) (enumerate_from 0 (zip l.entry_points l.infos))
+    first_faulty (λ _ p. function_sound_fault l.module p.0.function (map (λ k. k.ty) p.1))
+    (enumerate_from l.index (zip (drop l.index l.entry_points) (drop l.index l.infos)))
+    ≡ first_faulty (λ _ p. function_sound_fault l.module p.0.function (map (λ k. k.ty) p.1))
+    (enumerate_from 0 (zip l.entry_points l.infos))

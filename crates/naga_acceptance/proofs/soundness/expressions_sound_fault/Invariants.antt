@@ -9,4 +9,5 @@ use Rattle.naga_acceptance.proofs.soundness.expressions_sound_fault.Given as goa
 abbrev pub invariant-loop-handle : goal.invariant-loop-handle
 invariant-loop-handle l =
     first_faulty (expression_sound_fault l.module (option_copied l.function) (known_types l.known)) (l.handle-iterator)
-    ≡ first_faulty (expression_sound_fault l.module (option_copied l.function) (known_types l.known)) (enumerate_from 0 l.expressions)
+    ≡ first_faulty (expression_sound_fault l.module (option_copied l.function) (known_types l.known))
+    (enumerate_from 0 l.expressions)

@@ -8,7 +8,8 @@ use Rattle.naga_acceptance.proofs.type_hash.over_mixed.Given as goal
 abbrev pub invariant-loop-top : goal.invariant-loop-top
 invariant-loop-top l =
     (is_some (over_key l.fn.types l.over) ≡ true)
-    × (all_mixed l.hash (unwrap_or (over_key l.fn.types l.over) []) ≡ all_mixed l.fn.hash (unwrap_or (over_key l.fn.types l.fn.over) []))
+    × (all_mixed l.hash (unwrap_or (over_key l.fn.types l.over) [])
+    ≡ all_mixed l.fn.hash (unwrap_or (over_key l.fn.types l.fn.over) []))
 
 abbrev pub decreases-loop-top : goal.decreases-loop-top
 decreases-loop-top l = rank l.over

@@ -9,7 +9,8 @@ use Rattle.naga_acceptance.proofs.uses.are_operands_alike.Given as goal
 -- those that are left are alike where all are
 abbrev pub invariant-loop-operand : goal.invariant-loop-operand
 invariant-loop-operand l =
-    are_same_words (map (identity_at l.types (known_types l.a.known)) l.operand-iterator) (map (identity_at l.types (known_types l.b.known)) l.others)
+    are_same_words (map (identity_at l.types (known_types l.a.known)) l.operand-iterator)
+    (map (identity_at l.types (known_types l.b.known)) l.others)
     ≡ are_same_words
     (map (identity_at l.types (known_types l.a.known)) (expression_operands l.a.expression.now))
     (map (identity_at l.types (known_types l.b.known)) (expression_operands l.b.expression.now))

@@ -10,4 +10,5 @@ use Rattle.naga_acceptance.proofs.uses.hash_of.Given as goal
 abbrev pub invariant-loop-operand : goal.invariant-loop-operand
 invariant-loop-operand l =
     lists_mixed l.hash (map (identity_at l.types (known_types l.used.known)) l.operand-iterator)
-    ≡ lists_mixed (all_mixed 0 (key l.types l.used.key)) (map (identity_at l.types (known_types l.used.known)) (expression_operands l.used.expression.now))
+    ≡ lists_mixed (all_mixed 0 (key l.types l.used.key))
+    (map (identity_at l.types (known_types l.used.known)) (expression_operands l.used.expression.now))

@@ -51,24 +51,34 @@ walk_block-loop-statement-preserved t c = record {
 
 pub walk_cases-returns-in-Err : goal.walk_cases-returns-in-Err
 walk_cases-returns-in-Err t c =
-    ap (λ r. onward (is_met c.args.demand) r (case_statements true c.args.continues (cases_of (drop (c.loop-case.case-index + 1) c.args.cases.now)))) c.in-Err.ensures
+    ap (λ r. onward (is_met c.args.demand) r
+    (case_statements true c.args.continues (cases_of (drop (c.loop-case.case-index + 1) c.args.cases.now))))
+    c.in-Err.ensures
     ∙ ap (λ s. onward (is_met c.args.demand)
     (numbered (is_met c.args.demand) c.loop-case.number
     (statements_in true c.args.continues s.body))
     (case_statements true c.args.continues
     (cases_of (drop (c.loop-case.case-index + 1) c.args.cases.now)))) c.case-item.is
-    ∙ sym (cases_next (is_met c.args.demand) true c.args.continues c.loop-case.number c.args.cases.now c.loop-case.case-index c.case-item.result c.loop-case-test.true)
+    ∙ sym (cases_next (is_met c.args.demand) true c.args.continues c.loop-case.number c.args.cases.now
+    c.loop-case.case-index c.case-item.result c.loop-case-test.true)
     ∙ c.loop-case.invariant.left
 
 pub walk_cases-loop-case-preserved : goal.walk_cases-loop-case-preserved
 walk_cases-loop-case-preserved t c = record {
-  left = ap (λ r. onward (is_met c.args.demand) r (case_statements true c.args.continues (cases_of (drop (c.loop-case.case-index + 1) c.args.cases.now)))) c.in-Ok.ensures
+  left = ap (λ r. onward (is_met c.args.demand) r
+      (case_statements true c.args.continues (cases_of (drop (c.loop-case.case-index + 1) c.args.cases.now))))
+      c.in-Ok.ensures
       ∙ ap (λ s. onward (is_met c.args.demand)
       (numbered (is_met c.args.demand) c.loop-case.number
       (statements_in true c.args.continues s.body))
       (case_statements true c.args.continues
       (cases_of (drop (c.loop-case.case-index + 1) c.args.cases.now)))) c.case-item.is
-      ∙ sym (cases_next (is_met c.args.demand) true c.args.continues c.loop-case.number c.args.cases.now c.loop-case.case-index c.case-item.result c.loop-case-test.true)
+      ∙ sym (cases_next (is_met c.args.demand) true c.args.continues c.loop-case.number c.args.cases.now
+      c.loop-case.case-index c.case-item.result c.loop-case-test.true)
       ∙ c.loop-case.invariant.left;
-  smaller = omega (arith, cases_size-left c.args.cases.now c.loop-case.case-index c.case-item.result c.loop-case-test.true, c.loop-case.invariant.smaller);
+  smaller = omega (
+    arith,
+    cases_size-left c.args.cases.now c.loop-case.case-index c.case-item.result c.loop-case-test.true,
+    c.loop-case.invariant.smaller,
+  );
 }

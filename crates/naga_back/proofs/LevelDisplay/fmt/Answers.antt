@@ -5,4 +5,5 @@ use Rattle.naga_back.proofs.LevelDisplay.fmt.Goals as goal
 
 pub loop-level-preserved : goal.loop-level-preserved
 loop-level-preserved g c =
-    λ plain. has_written_of_eq _ _ _ _ _ (indentation-deeper c.loop-level._level) (has_written_append _ _ _ _ _ _ (c.loop-level.invariant plain) (search rules))
+    λ plain. has_written_of_eq _ _ _ _ _ (indentation-deeper c.loop-level._level)
+    (has_written_append _ _ _ _ _ _ (c.loop-level.invariant plain) (search rules))

@@ -6,5 +6,7 @@ use Rattle.naga_back.proofs.fixed_input.nearest_builtin.Given as goal
 
 abbrev pub invariant-loop-step : goal.invariant-loop-step
 invariant-loop-step l =
-    option_and_then first_builtin (way_of l.fn.arguments (member_binding l.fn.info l.fn.types) l.fn.expressions (length l.fn.expressions) l.fn.handle)
-    ≡ rest_of_walk l.fn.arguments (member_binding l.fn.info l.fn.types) l.fn.expressions (length l.fn.expressions - l._step) l.handle l.nearest
+    option_and_then first_builtin (way_of l.fn.arguments (member_binding l.fn.info l.fn.types) l.fn.expressions
+    (length l.fn.expressions) l.fn.handle)
+    ≡ rest_of_walk l.fn.arguments (member_binding l.fn.info l.fn.types) l.fn.expressions
+    (length l.fn.expressions - l._step) l.handle l.nearest

@@ -15,7 +15,9 @@ abbrev pub decreases-members_fit : goal.decreases-members_fit
 decreases-members_fit l = length (members_tokens (members_view l.members.now.items))
 
 abbrev pub invariant-items_fit-loop-item : goal.invariant-items_fit-loop-item
-invariant-items_fit-loop-item l = items_fit (items_view (drop l.item-index l.item-items)) ≡ items_fit (items_view l.item-items)
+invariant-items_fit-loop-item l = items_fit (items_view (drop l.item-index l.item-items))
+    ≡ items_fit (items_view l.item-items)
 
 abbrev pub invariant-members_fit-loop-member : goal.invariant-members_fit-loop-member
-invariant-members_fit-loop-member l = members_fit (members_view (drop l.member-index l.member-items)) ≡ members_fit (members_view l.member-items)
+invariant-members_fit-loop-member l = members_fit (members_view (drop l.member-index l.member-items))
+    ≡ members_fit (members_view l.member-items)

@@ -9,7 +9,8 @@ returns-in-Less c =
     let last = c.in-Some.ensures.item.3 in
     let word = comparison_key c.new.result.case c.new.result.wanted.now in
     let told = c.in-Less.ensures.order
-    ∙ ap (λ m. word_cmp (comparison_key c.new.result.case m.now) word) (last.1 (record { ref_ptr = (0, 0); now = [] })) in
+    ∙ ap (λ m. word_cmp (comparison_key c.new.result.case m.now) word)
+    (last.1 (record { ref_ptr = (0, 0); now = [] })) in
     place_after _ _ c.requires.sorted (length members) (sym (keys_length c.args.case members)) last.0
     (order_at members (length members - 1) _ Less (omega (arith, last.0)) c.new.ensures.case c.new.ensures.wanted told)
 
@@ -19,5 +20,9 @@ returns-in-Equal c =
     let last = c.in-Some.ensures.item.3 in
     let word = comparison_key c.new.result.case c.new.result.wanted.now in
     let told = c.in-Equal.ensures.order
-    ∙ ap (λ m. word_cmp (comparison_key c.new.result.case m.now) word) (last.1 (record { ref_ptr = (0, 0); now = [] })) in
-    (length members - 1, equal_at members (length members - 1) _ (omega (arith, last.0)) c.new.ensures.case c.new.ensures.wanted told)
+    ∙ ap (λ m. word_cmp (comparison_key c.new.result.case m.now) word)
+    (last.1 (record { ref_ptr = (0, 0); now = [] })) in (
+      length members - 1,
+      equal_at members (length members - 1) _ (omega (arith, last.0)) c.new.ensures.case
+          c.new.ensures.wanted told,
+    )

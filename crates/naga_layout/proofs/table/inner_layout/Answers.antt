@@ -9,6 +9,7 @@ pub kept_struct-requires : goal.kept_struct-requires
 kept_struct-requires c = record {
   told =
       subst (λ ks. TellMembers c.args.undeclared.now c.args.types.now ks c.args.cells.now) (sym c.deref.ensures.value)
-      (members_told c.args.undeclared.now c.args.types.now c.args.here c.in-Struct.members.items c.args.cells.now c.requires.told
+      (members_told c.args.undeclared.now c.args.types.now c.args.here c.in-Struct.members.items
+      c.args.cells.now c.requires.told
       (subst (λ it. IsTrue (parts_before c.args.here it)) c.in-Struct.is c.requires.before));
 }

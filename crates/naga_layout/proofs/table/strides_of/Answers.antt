@@ -13,7 +13,8 @@ loop-index-preserved c =
     (subst (λ j. c.arrays_are_kept-kept.result ≡ arrays_are_kept (written_rule marks) types j)
     c.from_index-handle.ensures
     (c.arrays_are_kept-kept.ensures
-    ∙ sym (kept_is (written_rule marks) types c.requires.ordered c.from_index-handle.result c.index.result.now c.index.ensures)))
+    ∙ sym (kept_is (written_rule marks) types c.requires.ordered c.from_index-handle.result c.index.result.now
+    c.index.ensures)))
     c.in_ok-push.ensures.items
 
 pub returns : goal.returns
@@ -23,4 +24,5 @@ returns c =
     let last = c.loop-index.auto.index-end in
     let all : c.loop-index.index ≡ length c.args.types.now = omega (arith, end, test, last) in
     all_marked c.args.undeclared.now c.args.types.now c.loop-index.marks.items (c.loop-index.invariant.0 ∙ all)
-    (subst (λ n. TellStridesBefore c.args.undeclared.now c.args.types.now n c.loop-index.marks.items) all c.loop-index.invariant.1)
+    (subst (λ n. TellStridesBefore c.args.undeclared.now c.args.types.now n c.loop-index.marks.items) all
+    c.loop-index.invariant.1)

@@ -3,7 +3,7 @@ use Rattle.std.specs.Option.{option_map}
 use Rattle.wgsl_layout.specs.Capped.{IsGreatest, capped, capped_member}
 use Rattle.wgsl_layout.specs.declared.layouts.Placed.{Placed}
 use Rattle.naga_layout.specs.Capped.{left_from}
-use Rattle.naga_layout.specs.Types.{kept_struct, layout_at, told_rule}
+use Rattle.naga_layout.specs.Types.{kept_struct, layout_at, user_rule}
 use Rattle.naga_layout.proofs.Levels.{layout_is, told_is}
 use Rattle.naga_ir.proofs.Listed.{drop_first}
 use Rattle.naga_layout.proofs.Left.{one_more, struct_left}
@@ -13,24 +13,30 @@ pub kept_new-remember-requires-clause-layout : goal.kept_new-remember-requires-c
 kept_new-remember-requires-clause-layout t c =
     c.kept_inner-layout.ensures.layout
     ∙ ap (option_map capped)
-    (sym (layout_is told_rule c.args.types.now c.requires.ordered c.args.handle c.index.result.now c.index.ensures
-    ∙ told_is (layout_at told_rule c.args.types.now) c.args.handle c.index.result.now.inner))
+    (sym (layout_is user_rule c.args.types.now c.requires.ordered c.args.handle c.index.result.now c.index.ensures
+    ∙ told_is (layout_at user_rule c.args.types.now) c.args.handle c.index.result.now.inner))
 
 pub kept_new-returns-clause-layout : goal.kept_new-returns-clause-layout
 kept_new-returns-clause-layout t c =
     c.kept_inner-layout.ensures.layout
     ∙ ap (option_map capped)
-    (sym (layout_is told_rule c.args.types.now c.requires.ordered c.args.handle c.index.result.now c.index.ensures
-    ∙ told_is (layout_at told_rule c.args.types.now) c.args.handle c.index.result.now.inner))
+    (sym (layout_is user_rule c.args.types.now c.requires.ordered c.args.handle c.index.result.now c.index.ensures
+    ∙ told_is (layout_at user_rule c.args.types.now) c.args.handle c.index.result.now.inner))
 
 pub kept_struct-loop-member-init : goal.kept_struct-loop-member-init
-kept_struct-loop-member-init t c = (None, refl, refl, c.requires.told, struct_left told_rule c.args.types.now c.args.span c.args.members.now)
+kept_struct-loop-member-init t c = (
+  None,
+  refl,
+  refl,
+  c.requires.told,
+  struct_left user_rule c.args.types.now c.args.span c.args.members.now,
+)
 
 pub kept_struct-loop-member-preserved : goal.kept_struct-loop-member-preserved
 kept_struct-loop-member-preserved t c =
     let so_far = c.loop-member.invariant in
     let ms = c.args.members.now in
-    let f = layout_at told_rule c.args.types.now in
+    let f = layout_at user_rule c.args.types.now in
     let q = c.in-Some.placed in
     let goes = one_more f c.args.span ms c.loop-member.member-index c.member-item.result so_far.0
     c.loop-member.alignment q c.loop-member.before (kept_struct f ms c.args.span)
@@ -41,5 +47,6 @@ kept_struct-loop-member-preserved t c =
       goes.1,
       subst (IsGreatest goes.0) (sym c.max-alignment.ensures) goes.2,
       c.kept_member.ensures.told,
-      goes.3 ∙ ap (λ a. left_from f c.args.span goes.0 a (drop (c.loop-member.member-index + 1) ms)) (sym c.max-alignment.ensures),
+      goes.3 ∙ ap (λ a. left_from f c.args.span goes.0 a (drop (c.loop-member.member-index + 1) ms))
+          (sym c.max-alignment.ensures),
     )

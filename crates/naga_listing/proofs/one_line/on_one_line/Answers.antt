@@ -17,6 +17,8 @@ same_items (x ∷ xs) = ap (λ t. x ∷ t) (same_items xs)
 
 pub returns : goal.returns
 returns c =
-    let road = YieldsList-at c.into_iter-c-iterator.ensures.into_iter_gives (YieldsList-from_chars c.args.text.now c.utf8.text c.chars-c-items.ensures.rest) in
-    let done = YieldsList-end road c.loop-c.yielded c.loop-c.c-iterator c.loop-c.yielded_by c.next.result c.next.new.self c.in-None.is c.next.ensures.steps in
+    let road = YieldsList-at c.into_iter-c-iterator.ensures.into_iter_gives
+    (YieldsList-from_chars c.args.text.now c.utf8.text c.chars-c-items.ensures.rest) in
+    let done = YieldsList-end road c.loop-c.yielded c.loop-c.c-iterator c.loop-c.yielded_by c.next.result
+    c.next.new.self c.in-None.is c.next.ensures.steps in
     c.loop-c.invariant ∙ ap (flat_map shown_char) (sym (same_items c.loop-c.yielded) ∙ done.0)

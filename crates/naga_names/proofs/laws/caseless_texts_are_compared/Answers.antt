@@ -10,4 +10,5 @@ pub returns-clause-equality : goal.returns-clause-equality
 returns-clause-equality c = on_equiv in_lower_case nat_list_eq_equiv
 
 pub returns-clause-hash : goal.returns-clause-hash
-returns-clause-hash c = record { fed = λ a b same. ap (flat_map fed.u8) ((bytes_decides (in_lower_case a) (in_lower_case b)).0 same) }
+returns-clause-hash c =
+    record { fed = λ a b same. ap (flat_map fed.u8) ((bytes_decides (in_lower_case a) (in_lower_case b)).0 same) }

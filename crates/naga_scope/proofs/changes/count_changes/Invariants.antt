@@ -5,4 +5,5 @@ use Rattle.naga_scope.proofs.changes.count_changes.Given as goal
 
 abbrev pub invariant-loop-statement : goal.invariant-loop-statement
 invariant-loop-statement l =
-    l.count + sum_by own_changes (trees_of (drop l.statement-index l.statements)) ≡ sum_by own_changes (trees_of l.statements)
+    l.count + sum_by own_changes (trees_of (drop l.statement-index l.statements))
+    ≡ sum_by own_changes (trees_of l.statements)

@@ -40,30 +40,41 @@ decreases-check_statement l = 6 * statement_size (tree_of l.statement.now)
 
 abbrev pub invariant-check_lines-loop-statement : goal.invariant-check_lines-loop-statement
 invariant-check_lines-loop-statement l = record {
-  check : check_all (naming_of l.known) l.scope.named l.number (statements_in l.known (block_of (drop l.statement-index l.statements))) (handles_at l.scope)
-      ≡ check_all (naming_of l.known) l.initial.scope.named l.first (statements_in l.known (block_of l.statements)) (handles_at l.initial.scope);
-  following : after_each (naming_of l.known) l.scope.named (statements_in l.known (block_of (drop l.statement-index l.statements))) (handles_at l.scope)
-      ≡ after_each (naming_of l.known) l.initial.scope.named (statements_in l.known (block_of l.statements)) (handles_at l.initial.scope);
-  named : named_by_all (shape_of l.known) (statements_in l.known (block_of (drop l.statement-index l.statements))) l.scope.named
+  check : check_all (naming_of l.known) l.scope.named l.number
+      (statements_in l.known (block_of (drop l.statement-index l.statements))) (handles_at l.scope)
+      ≡ check_all (naming_of l.known) l.initial.scope.named l.first
+      (statements_in l.known (block_of l.statements)) (handles_at l.initial.scope);
+  following : after_each (naming_of l.known) l.scope.named
+      (statements_in l.known (block_of (drop l.statement-index l.statements))) (handles_at l.scope)
+      ≡ after_each (naming_of l.known) l.initial.scope.named (statements_in l.known (block_of l.statements))
+      (handles_at l.initial.scope);
+  named : named_by_all (shape_of l.known)
+      (statements_in l.known (block_of (drop l.statement-index l.statements))) l.scope.named
       ≡ named_by_all (shape_of l.known) (statements_in l.known (block_of l.statements)) l.initial.scope.named;
   results : ResultsFit (length (expressions_of l.known)) (block_of (drop l.statement-index l.statements));
   at : IsPointOf l.known l.scope;
   kept : Extends l.initial.scope l.scope;
-  counted : length l.scope.log + block_changes (block_of (drop l.statement-index l.statements)) ≤ length l.initial.scope.log + block_changes (block_of l.statements);
-  names : l.scope.named + block_changes (block_of (drop l.statement-index l.statements)) ≤ l.initial.scope.named + block_changes (block_of l.statements);
+  counted : length l.scope.log + block_changes (block_of (drop l.statement-index l.statements))
+      ≤ length l.initial.scope.log + block_changes (block_of l.statements);
+  names : l.scope.named + block_changes (block_of (drop l.statement-index l.statements)) ≤ l.initial.scope.named
+      + block_changes (block_of l.statements);
   smaller : block_size (block_of (drop l.statement-index l.statements)) ≤ block_size (block_of l.statements);
 }
 
 abbrev pub invariant-check_cases-loop-case : goal.invariant-check_cases-loop-case
 invariant-check_cases-loop-case l = record {
-  check : check_cases (naming_of l.known) l.scope.named l.number (cases_in l.known (cases_of (drop l.case-index l.cases))) (handles_at l.scope)
-      ≡ check_cases (naming_of l.known) l.initial.scope.named l.first (cases_in l.known (cases_of l.cases)) (handles_at l.initial.scope);
+  check : check_cases (naming_of l.known) l.scope.named l.number
+      (cases_in l.known (cases_of (drop l.case-index l.cases))) (handles_at l.scope)
+      ≡ check_cases (naming_of l.known) l.initial.scope.named l.first (cases_in l.known (cases_of l.cases))
+      (handles_at l.initial.scope);
   named : named_by_cases (shape_of l.known) (cases_in l.known (cases_of (drop l.case-index l.cases))) l.scope.named
       ≡ named_by_cases (shape_of l.known) (cases_in l.known (cases_of l.cases)) l.initial.scope.named;
   results : CaseResultsFit (length (expressions_of l.known)) (cases_of (drop l.case-index l.cases));
   at : IsPointOf l.known l.scope;
   same : Same l.initial.scope l.scope;
-  counted : length l.scope.log + cases_changes (cases_of (drop l.case-index l.cases)) ≤ length l.initial.scope.log + cases_changes (cases_of l.cases);
-  names : l.scope.named + cases_changes (cases_of (drop l.case-index l.cases)) ≤ l.initial.scope.named + cases_changes (cases_of l.cases);
+  counted : length l.scope.log + cases_changes (cases_of (drop l.case-index l.cases))
+      ≤ length l.initial.scope.log + cases_changes (cases_of l.cases);
+  names : l.scope.named + cases_changes (cases_of (drop l.case-index l.cases)) ≤ l.initial.scope.named
+      + cases_changes (cases_of l.cases);
   smaller : cases_size (cases_of (drop l.case-index l.cases)) ≤ cases_size (cases_of l.cases);
 }

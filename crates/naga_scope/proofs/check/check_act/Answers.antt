@@ -14,7 +14,8 @@ pub returns-in_err-check_uses-clause-check : goal.returns-in_err-check_uses-clau
 returns-in_err-check_uses-clause-check c =
     let s = handles_at c.args.scope.now in
     given_back c.from_residual.result c.in_err-check_uses.field-0.0 c.from_residual.ensures.1
-    ∙ ap (λ r. result_and r (check_result c.args.number (own_result (tree_of c.args.statement.now)) s)) c.in_err-check_uses.ensures
+    ∙ ap (λ r. result_and r (check_result c.args.number (own_result (tree_of c.args.statement.now)) s))
+    c.in_err-check_uses.ensures
 
 pub returns-in_err-check_uses-clause-after : goal.returns-in_err-check_uses-clause-after
 returns-in_err-check_uses-clause-after c holds =
@@ -27,9 +28,11 @@ pub returns-clause-check : goal.returns-clause-check
 returns-clause-check c =
     let s = handles_at c.args.scope.now in
     c.check_result.ensures.check ∙ ap (λ o. check_result c.args.number o s) c.result.ensures
-    ∙ ap (λ r. result_and r (check_result c.args.number (own_result (tree_of c.args.statement.now)) s)) c.in_ok-check_uses.ensures
+    ∙ ap (λ r. result_and r (check_result c.args.number (own_result (tree_of c.args.statement.now)) s))
+    c.in_ok-check_uses.ensures
 
 pub returns-clause-after : goal.returns-clause-after
 returns-clause-after c holds =
     c.check_result.ensures.after (λ key. None) c.args.known.now.shader.now 0
-    ∙ ap (λ o. after_result (inner_names (λ key. None) c.args.known.now.shader.now (λ number. []) 0) o (handles_at c.args.scope.now)) c.result.ensures
+    ∙ ap (λ o. after_result (inner_names (λ key. None) c.args.known.now.shader.now (λ number. []) 0) o
+    (handles_at c.args.scope.now)) c.result.ensures

@@ -10,10 +10,12 @@ returns-in-Some c =
     let s = handles_at c.args.scope.now in
     let at = sym c.expression_at.ensures ∙ ap (option_map (λ e. e.now)) c.in-Some.is in
     c.check_operands.ensures
-    ∙ sym (ap (λ o. check_operands (shape_of c.args.known.now) s c.args.number c.args.handle (option_map_or expression_operands o [])) at)
+    ∙ sym (ap (λ o. check_operands (shape_of c.args.known.now) s c.args.number c.args.handle
+    (option_map_or expression_operands o [])) at)
 
 pub returns-in-None : goal.returns-in-None
 returns-in-None c =
     let s = handles_at c.args.scope.now in
     let at = sym c.expression_at.ensures ∙ ap (option_map (λ e. e.now)) c.in-None.is in
-    sym (ap (λ o. check_operands (shape_of c.args.known.now) s c.args.number c.args.handle (option_map_or expression_operands o [])) at)
+    sym (ap (λ o. check_operands (shape_of c.args.known.now) s c.args.number c.args.handle
+    (option_map_or expression_operands o [])) at)

@@ -30,7 +30,8 @@ returns-in_err-check_one-clause-check c =
     let k = c.loop-index.scope.named in
     let s = handles_at c.loop-index.scope in
     let rest = from (i + 1) (e - (i + 1)) in
-    let fault = sym (c.in_err-check_one.ensures.check ∙ ap (λ h. check_emitted n.function s number h) c.from_index.ensures) in
+    let fault = sym (c.in_err-check_one.ensures.check
+    ∙ ap (λ h. check_emitted n.function s number h) c.from_index.ensures) in
     given_back c.from_residual.result c.in_err-check_one.field-0.0 c.from_residual.ensures.1
     ∙ sym (ap (λ hs. check_emit n k number hs s) (range_more i e c.loop-index-test.true)
     ∙ ap (λ r. result_and r (check_emit n (named_after n.function i k) number rest (after_one n k i s))) fault)
@@ -57,7 +58,8 @@ loop-index-preserved c =
     let s = handles_at c.loop-index.scope in
     let rest = from (i + 1) (e - (i + 1)) in
     let more = range_more i e c.loop-index-test.true in
-    let may = sym (c.in_ok-check_one.ensures.check ∙ ap (λ h. check_emitted n.function s number h) c.from_index.ensures) in
+    let may = sym (c.in_ok-check_one.ensures.check
+    ∙ ap (λ h. check_emitted n.function s number h) c.from_index.ensures) in
     let following = c.in_ok-check_one.ensures.after refl ∙ ap (λ h. after_one n k h s) c.from_index.ensures in
     let named = c.in_ok-check_one.ensures.named refl ∙ ap (λ h. named_after n.function h k) c.from_index.ensures in
     record {
@@ -65,8 +67,10 @@ loop-index-preserved c =
           ∙ sym (ap (λ hs. check_emit n k number hs s) more
           ∙ ap (λ r. result_and r (check_emit n (named_after n.function i k) number rest (after_one n k i s))) may)
           ∙ c.loop-index.invariant.check;
-      following = (λ j. after_emit n (named j) rest (following j)) ∙ sym (ap (λ hs. after_emit n k hs s) more) ∙ c.loop-index.invariant.following;
-      named = (λ j. named_after_all n.function rest (named j)) ∙ sym (ap (λ hs. named_after_all n.function hs k) more) ∙ c.loop-index.invariant.named;
+      following = (λ j. after_emit n (named j) rest (following j)) ∙ sym (ap (λ hs. after_emit n k hs s) more)
+          ∙ c.loop-index.invariant.following;
+      named = (λ j. named_after_all n.function rest (named j))
+          ∙ sym (ap (λ hs. named_after_all n.function hs k) more) ∙ c.loop-index.invariant.named;
       at = point_kept c.loop-index.invariant.at c.check_one.ensures.kept;
       kept = extends_then c.loop-index.invariant.kept c.check_one.ensures.kept;
       counted = omega (arith, c.loop-index-test.true, c.check_one.ensures.counted.log, c.loop-index.invariant.counted);

@@ -11,33 +11,45 @@ pub returns-then-not-is_new : goal.returns-then-not-is_new
 returns-then-not-is_new c =
     let k = c.args.known.now in
     let h = c.args.handle in
-    let old = sym (c.is_new.ensures.named (λ number. []) (numbered_name h) ∙ ap (λ t. is_new (availability_of (λ number. []) (numbered_name h) t)) c.availability.ensures) ∙ c.if-not-is_new.true in
-    stopped_old k.shader.now k.module_info.now k.function.now k.info.now c.args.number h (handles_at c.args.scope.now) old
+    let old = sym (c.is_new.ensures.named (λ number. []) (numbered_name h)
+    ∙ ap (λ t. is_new (availability_of (λ number. []) (numbered_name h) t)) c.availability.ensures)
+    ∙ c.if-not-is_new.true in
+    stopped_old k.shader.now k.module_info.now k.function.now k.info.now c.args.number h
+    (handles_at c.args.scope.now) old
 
 pub returns-then-not-is_emittable : goal.returns-then-not-is_emittable
 returns-then-not-is_emittable c =
     let k = c.args.known.now in
     let h = c.args.handle in
-    let new = sym (c.is_new.ensures.named (λ number. []) (numbered_name h) ∙ ap (λ t. is_new (availability_of (λ number. []) (numbered_name h) t)) c.availability.ensures) ∙ c.if-not-is_new.false in
+    let new = sym (c.is_new.ensures.named (λ number. []) (numbered_name h)
+    ∙ ap (λ t. is_new (availability_of (λ number. []) (numbered_name h) t)) c.availability.ensures)
+    ∙ c.if-not-is_new.false in
     let kind = sym (c.is_emittable.ensures ∙ ap is_emittable_kind c.kind_at.ensures) ∙ c.if-not-is_emittable.true in
-    stopped_kind k.shader.now k.module_info.now k.function.now k.info.now c.args.number h (handles_at c.args.scope.now) new kind
+    stopped_kind k.shader.now k.module_info.now k.function.now k.info.now c.args.number h
+    (handles_at c.args.scope.now) new kind
 
 pub returns-then-binds : goal.returns-then-binds
 returns-then-binds c =
     let k = c.args.known.now in
     let h = c.args.handle in
-    let new = sym (c.is_new.ensures.named (λ number. []) (numbered_name h) ∙ ap (λ t. is_new (availability_of (λ number. []) (numbered_name h) t)) c.availability.ensures) ∙ c.if-not-is_new.false in
+    let new = sym (c.is_new.ensures.named (λ number. []) (numbered_name h)
+    ∙ ap (λ t. is_new (availability_of (λ number. []) (numbered_name h) t)) c.availability.ensures)
+    ∙ c.if-not-is_new.false in
     let kind = sym (c.is_emittable.ensures ∙ ap is_emittable_kind c.kind_at.ensures) ∙ c.if-not-is_emittable.false in
     checked_by k.shader.now k.module_info.now k.function.now k.info.now c.args.number h (handles_at c.args.scope.now)
-    c.requires.ordered c.requires.held true c.check_bound.result new kind (sym c.if-binds.true ∙ c.binds.ensures) c.check_bound.ensures
+    c.requires.ordered c.requires.held true c.check_bound.result new kind
+    (sym c.if-binds.true ∙ c.binds.ensures) c.check_bound.ensures
 
 pub returns-else-binds : goal.returns-else-binds
 returns-else-binds c =
     let k = c.args.known.now in
     let h = c.args.handle in
     let s = handles_at c.args.scope.now in
-    let new = sym (c.is_new.ensures.named (λ number. []) (numbered_name h) ∙ ap (λ t. is_new (availability_of (λ number. []) (numbered_name h) t)) c.availability.ensures) ∙ c.if-not-is_new.false in
+    let new = sym (c.is_new.ensures.named (λ number. []) (numbered_name h)
+    ∙ ap (λ t. is_new (availability_of (λ number. []) (numbered_name h) t)) c.availability.ensures)
+    ∙ c.if-not-is_new.false in
     let kind = sym (c.is_emittable.ensures ∙ ap is_emittable_kind c.kind_at.ensures) ∙ c.if-not-is_emittable.false in
     checked_by k.shader.now k.module_info.now k.function.now k.info.now c.args.number h s
-    c.requires.ordered c.requires.held false (check_operands (shape_of k) s c.args.number h (operands_at k.function.now.expressions h))
+    c.requires.ordered c.requires.held false
+    (check_operands (shape_of k) s c.args.number h (operands_at k.function.now.expressions h))
     new kind (sym c.if-binds.false ∙ c.binds.ensures) refl

@@ -15,7 +15,8 @@ pub loop-handle-preserved : goal.loop-handle-preserved
 loop-handle-preserved c named m known es start =
     let f = function_shape m known c.args.function.now es in
     sym (ap (all_checked f) c.in-Some.ensures.steps
-    ∙ ap (λ r. result_and r (all_checked f c.next.new.self)) (sym (c.in_ok-check_first_value.ensures named m known es start)))
+    ∙ ap (λ r. result_and r (all_checked f c.next.new.self))
+    (sym (c.in_ok-check_first_value.ensures named m known es start)))
     ∙ c.loop-handle.invariant named m known es start
 
 pub returns-in_err-check_first_value : goal.returns-in_err-check_first_value
@@ -23,7 +24,8 @@ returns-in_err-check_first_value c named m known es start =
     let f = function_shape m known c.args.function.now es in
     given_back c.from_residual.result c.in_err-check_first_value.field-0.0 c.from_residual.ensures.1
     ∙ sym (ap (all_checked f) c.in-Some.ensures.steps
-    ∙ ap (λ r. result_and r (all_checked f c.next.new.self)) (sym (c.in_err-check_first_value.ensures named m known es start)))
+    ∙ ap (λ r. result_and r (all_checked f c.next.new.self))
+    (sym (c.in_err-check_first_value.ensures named m known es start)))
     ∙ c.loop-handle.invariant named m known es start
 
 pub returns : goal.returns

@@ -6,7 +6,8 @@ use Rattle.naga_scope.proofs.check.check_one.Goals as goal
 
 pub returns-in_err-check_emitted-clause-check : goal.returns-in_err-check_emitted-clause-check
 returns-in_err-check_emitted-clause-check c =
-    given_back c.from_residual.result c.in_err-check_emitted.field-0.0 c.from_residual.ensures.1 ∙ c.in_err-check_emitted.ensures
+    given_back c.from_residual.result c.in_err-check_emitted.field-0.0 c.from_residual.ensures.1
+    ∙ c.in_err-check_emitted.ensures
 
 pub returns-in_err-check_emitted-clause-after : goal.returns-in_err-check_emitted-clause-after
 returns-in_err-check_emitted-clause-after c holds =
@@ -20,9 +21,12 @@ pub returns-in_err-check_emitted-clause-kept : goal.returns-in_err-check_emitted
 returns-in_err-check_emitted-clause-kept c = extends_refl _
 
 pub returns-clause-after : goal.returns-clause-after
-returns-clause-after c holds = c.emit.ensures.handles (λ key. None) c.args.known.now.shader.now c.args.known.now.module_info.now (λ number. []) 0 refl
+returns-clause-after c holds =
+    c.emit.ensures.handles (λ key. None) c.args.known.now.shader.now c.args.known.now.module_info.now
+    (λ number. []) 0 refl
 
 pub returns-clause-named : goal.returns-clause-named
 returns-clause-named c holds =
     let k = c.args.known.now in
-    c.emit.ensures.named ∙ sym (named_one k.shader.now k.module_info.now k.function.now k.info.now c.args.handle c.args.scope.now.named)
+    c.emit.ensures.named ∙ sym (named_one k.shader.now k.module_info.now k.function.now k.info.now c.args.handle
+    c.args.scope.now.named)

@@ -13,14 +13,18 @@ pub returns-then-is_new-clause-check : goal.returns-then-is_new-clause-check
 returns-then-is_new-clause-check c =
     let h = c.in-Some.handle in
     let s = handles_at c.args.scope.now in
-    let new = sym (c.is_new-is_new.ensures.named (λ number. []) (numbered_name h) ∙ ap (λ t. is_new (availability_of (λ number. []) (numbered_name h) t)) c.availability.ensures) ∙ c.if-is_new.true in
+    let new = sym (c.is_new-is_new.ensures.named (λ number. []) (numbered_name h)
+    ∙ ap (λ t. is_new (availability_of (λ number. []) (numbered_name h) t)) c.availability.ensures)
+    ∙ c.if-is_new.true in
     sym (ap (λ o. check_result c.args.number o s) c.in-Some.is ∙ ap (λ b. unless b (GivenBefore c.args.number h)) new)
 
 pub returns-else-is_new-clause-check : goal.returns-else-is_new-clause-check
 returns-else-is_new-clause-check c =
     let h = c.in-Some.handle in
     let s = handles_at c.args.scope.now in
-    let old = sym (c.is_new-is_new.ensures.named (λ number. []) (numbered_name h) ∙ ap (λ t. is_new (availability_of (λ number. []) (numbered_name h) t)) c.availability.ensures) ∙ c.if-is_new.false in
+    let old = sym (c.is_new-is_new.ensures.named (λ number. []) (numbered_name h)
+    ∙ ap (λ t. is_new (availability_of (λ number. []) (numbered_name h) t)) c.availability.ensures)
+    ∙ c.if-is_new.false in
     sym (ap (λ o. check_result c.args.number o s) c.in-Some.is ∙ ap (λ b. unless b (GivenBefore c.args.number h)) old)
 
 pub returns-then-is_new-clause-after : goal.returns-then-is_new-clause-after

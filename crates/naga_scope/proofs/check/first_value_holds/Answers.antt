@@ -8,7 +8,8 @@ returns-then-is_usable_if c named m known es =
     let f = c.args.function.now in
     let init = c.args.local.now.init in
     c.is_earlier.ensures
-    ∙ ap (λ b. b && is_earlier f.expressions c.args.handle init) (sym (sym (c.is_usable_if.ensures named m known es) ∙ c.if-is_usable_if.true))
+    ∙ ap (λ b. b && is_earlier f.expressions c.args.handle init)
+    (sym (sym (c.is_usable_if.ensures named m known es) ∙ c.if-is_usable_if.true))
     ∙ usable_before m known f es c.args.handle (handles_of named c.args.scope.now.table) init
 
 pub returns-else-is_usable_if : goal.returns-else-is_usable_if
@@ -16,5 +17,6 @@ returns-else-is_usable_if c named m known es =
     let f = c.args.function.now in
     let init = c.args.local.now.init in
     c.if-is_usable_if.false
-    ∙ ap (λ b. b && is_earlier f.expressions c.args.handle init) (sym (sym (c.is_usable_if.ensures named m known es) ∙ c.if-is_usable_if.false))
+    ∙ ap (λ b. b && is_earlier f.expressions c.args.handle init)
+    (sym (sym (c.is_usable_if.ensures named m known es) ∙ c.if-is_usable_if.false))
     ∙ usable_before m known f es c.args.handle (handles_of named c.args.scope.now.table) init

@@ -6,4 +6,6 @@ use Rattle.naga_scope.proofs.check.is_usable_if.Goals as goal
 
 pub returns-in-Some : goal.returns-in-Some
 returns-in-Some c named m known es =
-    c.is_usable.ensures named m known es ∙ ap (usable_if (function_shape m known c.args.function.now es) (handles_of named c.args.scope.now.table)) (sym c.in-Some.is)
+    c.is_usable.ensures named m known es
+    ∙ ap (usable_if (function_shape m known c.args.function.now es)
+    (handles_of named c.args.scope.now.table)) (sym c.in-Some.is)

@@ -9,17 +9,26 @@ use Rattle.naga_scope.proofs.declarations.other_stride.Goals as goal
 
 pub returns-then-not-keeps_arrays : goal.returns-then-not-keeps_arrays
 returns-then-not-keeps_arrays c =
-    let here = slice_get_read c.args.members.now (length c.args.members.now) c.loop-member.member-index c.member-item.result refl c.loop-member-test.true c.member-item.is in
-    (c.loop-member.member-index, c.member-item.result, here, c.loop-member.invariant.formed, (refl, sym c.keeps_arrays.ensures ∙ c.if-not-keeps_arrays.true))
+    let here = slice_get_read c.args.members.now (length c.args.members.now) c.loop-member.member-index
+    c.member-item.result refl c.loop-member-test.true c.member-item.is in (
+      c.loop-member.member-index,
+      c.member-item.result,
+      here,
+      c.loop-member.invariant.formed,
+      (refl, sym c.keeps_arrays.ensures ∙ c.if-not-keeps_arrays.true),
+    )
 
 pub loop-member-preserved : goal.loop-member-preserved
 loop-member-preserved c =
     let m = c.args.module.now in
-    let here = slice_get_read c.args.members.now (length c.args.members.now) c.loop-member.member-index c.member-item.result refl c.loop-member-test.true c.member-item.is in
-    one_passed (λ i (s : StructMember). IsTrue (arrays_are_kept (module_rule m) m.types s.ty)) c.args.members.now c.loop-member.member-index c.member-item.result here
+    let here = slice_get_read c.args.members.now (length c.args.members.now) c.loop-member.member-index
+    c.member-item.result refl c.loop-member-test.true c.member-item.is in
+    one_passed (λ i (s : StructMember). IsTrue (arrays_are_kept (module_rule m) m.types s.ty))
+    c.args.members.now c.loop-member.member-index c.member-item.result here
     (sym c.keeps_arrays.ensures ∙ c.if-not-keeps_arrays.false) c.loop-member.invariant
 
 pub returns : goal.returns
 returns c =
     let m = c.args.module.now in
-    all_passed (λ i (s : StructMember). IsTrue (arrays_are_kept (module_rule m) m.types s.ty)) c.args.members.now c.loop-member.member-index c.loop-member-test.false c.loop-member.invariant
+    all_passed (λ i (s : StructMember). IsTrue (arrays_are_kept (module_rule m) m.types s.ty))
+    c.args.members.now c.loop-member.member-index c.loop-member-test.false c.loop-member.invariant

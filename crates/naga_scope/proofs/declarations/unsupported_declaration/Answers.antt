@@ -23,21 +23,25 @@ returns-in-Some-unsupported_in_overrides-clause-some c =
 pub returns-in-Some-unsupported_in_variables-clause-some : goal.returns-in-Some-unsupported_in_variables-clause-some
 returns-in-Some-unsupported_in_variables-clause-some c =
     let step = c.in-Some-unsupported_in_variables in
-    (of_variables c.args.module.now c.in_default.ensures c.in_default-unsupported_in_constants.ensures c.in_default-unsupported_in_overrides.ensures
+    (of_variables c.args.module.now c.in_default.ensures c.in_default-unsupported_in_constants.ensures
+    c.in_default-unsupported_in_overrides.ensures
     step.unsupported step.ensures).some
 
 pub returns-in-Some-unsupported_in_functions-clause-some : goal.returns-in-Some-unsupported_in_functions-clause-some
 returns-in-Some-unsupported_in_functions-clause-some c =
     let step = c.in-Some-unsupported_in_functions in
-    (of_functions c.args.module.now c.in_default.ensures c.in_default-unsupported_in_constants.ensures c.in_default-unsupported_in_overrides.ensures
+    (of_functions c.args.module.now c.in_default.ensures c.in_default-unsupported_in_constants.ensures
+    c.in_default-unsupported_in_overrides.ensures
     c.in_default-unsupported_in_variables.ensures step.unsupported step.ensures).some
 
 pub returns-in-Some-unsupported_in_entry_points-clause-some : goal.returns-in-Some-unsupported_in_entry_points-clause-some
 returns-in-Some-unsupported_in_entry_points-clause-some c =
     let step = c.in-Some-unsupported_in_entry_points in
-    (of_entry_points c.args.module.now c.in_default.ensures c.in_default-unsupported_in_constants.ensures c.in_default-unsupported_in_overrides.ensures
+    (of_entry_points c.args.module.now c.in_default.ensures c.in_default-unsupported_in_constants.ensures
+    c.in_default-unsupported_in_overrides.ensures
     c.in_default-unsupported_in_variables.ensures c.in_default-unsupported_in_functions.ensures (step.index, step.head)
-    (subst (λ ps. FindsFirst ps (λ i. EntryPointHasForm) (λ i. i) (λ i. IsUnsupportedEntryPoint) (Some (step.index, step.head))) c.deref.ensures.value step.ensures)).some
+    (subst (λ ps. FindsFirst ps (λ i. EntryPointHasForm) (λ i. i) (λ i. IsUnsupportedEntryPoint)
+    (Some (step.index, step.head))) c.deref.ensures.value step.ensures)).some
 
 pub returns-in-Some-clause-place : goal.returns-in-Some-clause-place
 returns-in-Some-clause-place c = (of_types c.args.module.now c.in-Some.unsupported c.in-Some.ensures).place
@@ -57,21 +61,25 @@ returns-in-Some-unsupported_in_overrides-clause-place c =
 pub returns-in-Some-unsupported_in_variables-clause-place : goal.returns-in-Some-unsupported_in_variables-clause-place
 returns-in-Some-unsupported_in_variables-clause-place c =
     let step = c.in-Some-unsupported_in_variables in
-    (of_variables c.args.module.now c.in_default.ensures c.in_default-unsupported_in_constants.ensures c.in_default-unsupported_in_overrides.ensures
+    (of_variables c.args.module.now c.in_default.ensures c.in_default-unsupported_in_constants.ensures
+    c.in_default-unsupported_in_overrides.ensures
     step.unsupported step.ensures).place
 
 pub returns-in-Some-unsupported_in_functions-clause-place : goal.returns-in-Some-unsupported_in_functions-clause-place
 returns-in-Some-unsupported_in_functions-clause-place c =
     let step = c.in-Some-unsupported_in_functions in
-    (of_functions c.args.module.now c.in_default.ensures c.in_default-unsupported_in_constants.ensures c.in_default-unsupported_in_overrides.ensures
+    (of_functions c.args.module.now c.in_default.ensures c.in_default-unsupported_in_constants.ensures
+    c.in_default-unsupported_in_overrides.ensures
     c.in_default-unsupported_in_variables.ensures step.unsupported step.ensures).place
 
 pub returns-in-Some-unsupported_in_entry_points-clause-place : goal.returns-in-Some-unsupported_in_entry_points-clause-place
 returns-in-Some-unsupported_in_entry_points-clause-place c =
     let step = c.in-Some-unsupported_in_entry_points in
-    (of_entry_points c.args.module.now c.in_default.ensures c.in_default-unsupported_in_constants.ensures c.in_default-unsupported_in_overrides.ensures
+    (of_entry_points c.args.module.now c.in_default.ensures c.in_default-unsupported_in_constants.ensures
+    c.in_default-unsupported_in_overrides.ensures
     c.in_default-unsupported_in_variables.ensures c.in_default-unsupported_in_functions.ensures (step.index, step.head)
-    (subst (λ ps. FindsFirst ps (λ i. EntryPointHasForm) (λ i. i) (λ i. IsUnsupportedEntryPoint) (Some (step.index, step.head))) c.deref.ensures.value step.ensures)).place
+    (subst (λ ps. FindsFirst ps (λ i. EntryPointHasForm) (λ i. i) (λ i. IsUnsupportedEntryPoint)
+    (Some (step.index, step.head))) c.deref.ensures.value step.ensures)).place
 
 pub returns-in-Some-clause-first : goal.returns-in-Some-clause-first
 returns-in-Some-clause-first c = (of_types c.args.module.now c.in-Some.unsupported c.in-Some.ensures).first
@@ -91,24 +99,30 @@ returns-in-Some-unsupported_in_overrides-clause-first c =
 pub returns-in-Some-unsupported_in_variables-clause-first : goal.returns-in-Some-unsupported_in_variables-clause-first
 returns-in-Some-unsupported_in_variables-clause-first c =
     let step = c.in-Some-unsupported_in_variables in
-    (of_variables c.args.module.now c.in_default.ensures c.in_default-unsupported_in_constants.ensures c.in_default-unsupported_in_overrides.ensures
+    (of_variables c.args.module.now c.in_default.ensures c.in_default-unsupported_in_constants.ensures
+    c.in_default-unsupported_in_overrides.ensures
     step.unsupported step.ensures).first
 
 pub returns-in-Some-unsupported_in_functions-clause-first : goal.returns-in-Some-unsupported_in_functions-clause-first
 returns-in-Some-unsupported_in_functions-clause-first c =
     let step = c.in-Some-unsupported_in_functions in
-    (of_functions c.args.module.now c.in_default.ensures c.in_default-unsupported_in_constants.ensures c.in_default-unsupported_in_overrides.ensures
+    (of_functions c.args.module.now c.in_default.ensures c.in_default-unsupported_in_constants.ensures
+    c.in_default-unsupported_in_overrides.ensures
     c.in_default-unsupported_in_variables.ensures step.unsupported step.ensures).first
 
 pub returns-in-Some-unsupported_in_entry_points-clause-first : goal.returns-in-Some-unsupported_in_entry_points-clause-first
 returns-in-Some-unsupported_in_entry_points-clause-first c =
     let step = c.in-Some-unsupported_in_entry_points in
-    (of_entry_points c.args.module.now c.in_default.ensures c.in_default-unsupported_in_constants.ensures c.in_default-unsupported_in_overrides.ensures
+    (of_entry_points c.args.module.now c.in_default.ensures c.in_default-unsupported_in_constants.ensures
+    c.in_default-unsupported_in_overrides.ensures
     c.in_default-unsupported_in_variables.ensures c.in_default-unsupported_in_functions.ensures (step.index, step.head)
-    (subst (λ ps. FindsFirst ps (λ i. EntryPointHasForm) (λ i. i) (λ i. IsUnsupportedEntryPoint) (Some (step.index, step.head))) c.deref.ensures.value step.ensures)).first
+    (subst (λ ps. FindsFirst ps (λ i. EntryPointHasForm) (λ i. i) (λ i. IsUnsupportedEntryPoint)
+    (Some (step.index, step.head))) c.deref.ensures.value step.ensures)).first
 
 pub returns-in-None-clause-none : goal.returns-in-None-clause-none
 returns-in-None-clause-none c =
-    all_formed c.args.module.now c.in_default.ensures c.in_default-unsupported_in_constants.ensures c.in_default-unsupported_in_overrides.ensures
+    all_formed c.args.module.now c.in_default.ensures c.in_default-unsupported_in_constants.ensures
+    c.in_default-unsupported_in_overrides.ensures
     c.in_default-unsupported_in_variables.ensures c.in_default-unsupported_in_functions.ensures
-    (subst (λ ps. FindsFirst ps (λ i. EntryPointHasForm) (λ i. i) (λ i. IsUnsupportedEntryPoint) None) c.deref.ensures.value c.in-None.ensures)
+    (subst (λ ps. FindsFirst ps (λ i. EntryPointHasForm) (λ i. i) (λ i. IsUnsupportedEntryPoint) None)
+    c.deref.ensures.value c.in-None.ensures)

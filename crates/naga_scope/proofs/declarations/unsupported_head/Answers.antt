@@ -26,17 +26,21 @@ returns-in-EntryPoint-clause-none c =
     let m = c.args.module.now in
     let found = c.unsupported_entry_point.result in
     let within = subst (λ ty. IsFunctionOf ty m) c.in-EntryPoint.is c.requires.there in
-    let there = slice_get_read m.entry_points.items m.entry_points.len c.in-EntryPoint.index c.index-in-EntryPoint.result.now
+    let there = slice_get_read m.entry_points.items m.entry_points.len c.in-EntryPoint.index
+    c.index-in-EntryPoint.result.now
     m.entry_points.ok.0 within c.index-in-EntryPoint.ensures in
     subst (λ ty. IfNone found (HeadHasForm m (function_number m ty))) (sym c.in-EntryPoint.is)
-    (entry_point_without m c.in-EntryPoint.index c.index-in-EntryPoint.result.now there found c.unsupported_entry_point.ensures)
+    (entry_point_without m c.in-EntryPoint.index c.index-in-EntryPoint.result.now there found
+    c.unsupported_entry_point.ensures)
 
 pub returns-in-EntryPoint-clause-some : goal.returns-in-EntryPoint-clause-some
 returns-in-EntryPoint-clause-some c =
     let m = c.args.module.now in
     let found = c.unsupported_entry_point.result in
     let within = subst (λ ty. IsFunctionOf ty m) c.in-EntryPoint.is c.requires.there in
-    let there = slice_get_read m.entry_points.items m.entry_points.len c.in-EntryPoint.index c.index-in-EntryPoint.result.now
+    let there = slice_get_read m.entry_points.items m.entry_points.len c.in-EntryPoint.index
+    c.index-in-EntryPoint.result.now
     m.entry_points.ok.0 within c.index-in-EntryPoint.ensures in
     subst (λ ty. IfSome found (IsUnsupportedHead m (function_number m ty))) (sym c.in-EntryPoint.is)
-    (entry_point_with m c.in-EntryPoint.index c.index-in-EntryPoint.result.now there found c.unsupported_entry_point.ensures)
+    (entry_point_with m c.in-EntryPoint.index c.index-in-EntryPoint.result.now there found
+    c.unsupported_entry_point.ensures)

@@ -7,20 +7,24 @@ pub returns-in-Some-unsupported_constant : goal.returns-in-Some-unsupported_cons
 returns-in-Some-unsupported_constant c =
     let m = c.args.module.now in
     let here =
-    here_left (λ i. ConstantHasForm m) m.constants c.loop-handle.handle-iterator c.next.new.self c.in-Some.handle c.in-Some.constant.now c.in-Some.ensures.steps
+    here_left (λ i. ConstantHasForm m) m.constants c.loop-handle.handle-iterator c.next.new.self
+    c.in-Some.handle c.in-Some.constant.now c.in-Some.ensures.steps
     c.loop-handle.invariant in
     let earlier =
-    before_left (λ i. ConstantHasForm m) m.constants c.loop-handle.handle-iterator c.next.new.self c.in-Some.handle c.in-Some.constant.now c.in-Some.ensures.steps
+    before_left (λ i. ConstantHasForm m) m.constants c.loop-handle.handle-iterator c.next.new.self
+    c.in-Some.handle c.in-Some.constant.now c.in-Some.ensures.steps
     c.loop-handle.invariant in
     (c.in-Some.handle, c.in-Some.constant.now, here, refl, earlier, c.in-Some-unsupported_constant.ensures)
 
 pub loop-handle-preserved : goal.loop-handle-preserved
 loop-handle-preserved c =
     let m = c.args.module.now in
-    next_left (λ i. ConstantHasForm m) m.constants c.loop-handle.handle-iterator c.next.new.self c.in-Some.handle c.in-Some.constant.now c.in-Some.ensures.steps
+    next_left (λ i. ConstantHasForm m) m.constants c.loop-handle.handle-iterator c.next.new.self
+    c.in-Some.handle c.in-Some.constant.now c.in-Some.ensures.steps
     c.in_default.ensures c.loop-handle.invariant
 
 pub returns : goal.returns
 returns c =
     let m = c.args.module.now in
-    none_left (λ i. ConstantHasForm m) m.constants c.loop-handle.handle-iterator c.in-None.ensures.steps.0 c.loop-handle.invariant
+    none_left (λ i. ConstantHasForm m) m.constants c.loop-handle.handle-iterator c.in-None.ensures.steps.0
+    c.loop-handle.invariant

@@ -8,11 +8,13 @@ returns-in-Some c = of_members c.args.module.now c.args.members.now c.in-Some.un
 
 pub returns-in-Some-misplaced : goal.returns-in-Some-misplaced
 returns-in-Some-misplaced c =
-    by_fault c.args.module.now c.args.members.now c.in-Some-misplaced.fault c.in_default.ensures c.in-Some-misplaced.ensures
+    by_fault c.args.module.now c.args.members.now c.in-Some-misplaced.fault c.in_default.ensures
+    c.in-Some-misplaced.ensures
 
 pub returns-then-keeps_offsets : goal.returns-then-keeps_offsets
 returns-then-keeps_offsets c =
-    by_other c.args.module.now c.args.members.now c.in_default.ensures c.in_default-misplaced.ensures c.args.span c.in-Some-other_stride.ty c.in-Some-other_stride.ensures
+    by_other c.args.module.now c.args.members.now c.in_default.ensures c.in_default-misplaced.ensures
+    c.args.span c.in-Some-other_stride.ty c.in-Some-other_stride.ensures
     (sym c.if-keeps_offsets.true ∙ c.keeps_offsets.ensures)
 
 pub returns-else-keeps_offsets : goal.returns-else-keeps_offsets
@@ -22,4 +24,5 @@ returns-else-keeps_offsets c =
 
 pub returns-in-None : goal.returns-in-None
 returns-in-None c =
-    by_strides c.args.module.now c.args.members.now c.in_default.ensures c.in_default-misplaced.ensures c.in-None.ensures
+    by_strides c.args.module.now c.args.members.now c.in_default.ensures c.in_default-misplaced.ensures
+    c.in-None.ensures

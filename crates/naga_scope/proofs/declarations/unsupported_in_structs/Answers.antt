@@ -7,17 +7,20 @@ pub returns-in-Some-unsupported_in_type : goal.returns-in-Some-unsupported_in_ty
 returns-in-Some-unsupported_in_type c =
     let m = c.args.module.now in
     let here =
-    here_left (TypeHasForm m) m.types c.loop-handle.handle-iterator c.next.new.self c.in-Some.handle c.in-Some.ty.now c.in-Some.ensures.steps
+    here_left (TypeHasForm m) m.types c.loop-handle.handle-iterator c.next.new.self c.in-Some.handle
+    c.in-Some.ty.now c.in-Some.ensures.steps
     c.loop-handle.invariant in
     let earlier =
-    before_left (TypeHasForm m) m.types c.loop-handle.handle-iterator c.next.new.self c.in-Some.handle c.in-Some.ty.now c.in-Some.ensures.steps
+    before_left (TypeHasForm m) m.types c.loop-handle.handle-iterator c.next.new.self c.in-Some.handle
+    c.in-Some.ty.now c.in-Some.ensures.steps
     c.loop-handle.invariant in
     (c.in-Some.handle, c.in-Some.ty.now, here, refl, earlier, c.in-Some-unsupported_in_type.ensures)
 
 pub loop-handle-preserved : goal.loop-handle-preserved
 loop-handle-preserved c =
     let m = c.args.module.now in
-    next_left (TypeHasForm m) m.types c.loop-handle.handle-iterator c.next.new.self c.in-Some.handle c.in-Some.ty.now c.in-Some.ensures.steps
+    next_left (TypeHasForm m) m.types c.loop-handle.handle-iterator c.next.new.self c.in-Some.handle
+    c.in-Some.ty.now c.in-Some.ensures.steps
     c.in_default.ensures c.loop-handle.invariant
 
 pub returns : goal.returns

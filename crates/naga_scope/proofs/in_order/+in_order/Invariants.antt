@@ -18,12 +18,14 @@ decreases-add_inside l = 4 * statement_size (tree_of l.statement.now)
 
 abbrev pub invariant-add_block-loop-statement : goal.invariant-add_block-loop-statement
 invariant-add_block-loop-statement l = record {
-  so_far : trees_of l.found.items ++ trees_in (block_of (drop l.statement-index l.statement-items)) ≡ trees_of l.initial.found.items ++ trees_in l.block;
+  so_far : trees_of l.found.items ++ trees_in (block_of (drop l.statement-index l.statement-items))
+      ≡ trees_of l.initial.found.items ++ trees_in l.block;
   smaller : block_size (block_of (drop l.statement-index l.statement-items)) ≤ block_size l.block;
 }
 
 abbrev pub invariant-add_cases-loop-case : goal.invariant-add_cases-loop-case
 invariant-add_cases-loop-case l = record {
-  so_far : trees_of l.found.items ++ case_trees (cases_of (drop l.case-index l.cases)) ≡ trees_of l.initial.found.items ++ case_trees (cases_of l.cases);
+  so_far : trees_of l.found.items ++ case_trees (cases_of (drop l.case-index l.cases))
+      ≡ trees_of l.initial.found.items ++ case_trees (cases_of l.cases);
   smaller : cases_size (cases_of (drop l.case-index l.cases)) ≤ cases_size (cases_of l.cases);
 }

@@ -9,11 +9,16 @@ use Rattle.naga_scope.proofs.named.expression_names.Goals as goal
 
 pub returns-in_err-name_statement-clause-err : goal.returns-in_err-name_statement-clause-err
 returns-in_err-name_statement-clause-err c =
-    let split = first_tree c.args.statements.now c.loop-statement.statement-index c.statement-item.result c.loop-statement-test.true c.statement-item.is in
-    if_err c.from_residual.result c.in_err-name_statement.field-0.0 (RefusesLabels c.args.namer.now _ c.name_statement.new.namer) c.from_residual.ensures.1
-    (so_far_refused _ _ _ _ _ c.loop-statement.invariant (ap (flat_map (own_labels c.args.function.now)) split) c.in_err-name_statement.ensures.err)
+    let split = first_tree c.args.statements.now c.loop-statement.statement-index c.statement-item.result
+    c.loop-statement-test.true c.statement-item.is in
+    if_err c.from_residual.result c.in_err-name_statement.field-0.0
+    (RefusesLabels c.args.namer.now _ c.name_statement.new.namer) c.from_residual.ensures.1
+    (so_far_refused _ _ _ _ _ c.loop-statement.invariant (ap (flat_map (own_labels c.args.function.now)) split)
+    c.in_err-name_statement.ensures.err)
 
 pub loop-statement-preserved : goal.loop-statement-preserved
 loop-statement-preserved c =
-    let split = first_tree c.args.statements.now c.loop-statement.statement-index c.statement-item.result c.loop-statement-test.true c.statement-item.is in
-    so_far_more _ _ _ c.loop-statement.invariant (ap (flat_map (own_labels c.args.function.now)) split) c.in_ok-name_statement.ensures.ok
+    let split = first_tree c.args.statements.now c.loop-statement.statement-index c.statement-item.result
+    c.loop-statement-test.true c.statement-item.is in
+    so_far_more _ _ _ c.loop-statement.invariant (ap (flat_map (own_labels c.args.function.now)) split)
+    c.in_ok-name_statement.ensures.ok

@@ -7,4 +7,5 @@ use Rattle.naga_scope.proofs.named.expression_names.Given as goal
 abbrev pub invariant-loop-statement : goal.invariant-loop-statement
 invariant-loop-statement l =
     NamedSoFar l.initial.namer [] (flat_map (own_labels l.function) (trees_of l.statements))
-    (flat_map (own_labels l.function) (trees_of (drop l.statement-index l.statements))) l.namer (map string_bytes l.names.items)
+    (flat_map (own_labels l.function) (trees_of (drop l.statement-index l.statements))) l.namer
+    (map string_bytes l.names.items)

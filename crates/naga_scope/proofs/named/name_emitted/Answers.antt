@@ -16,11 +16,14 @@ returns-in_err-name_expression-clause-err c =
     let f = c.args.function.now in
     let i = c.loop-index.index in
     let e = c.args.range.end in
-    let split : labels_of_each f (from i (e - i)) ≡ option_to_list (label_of f c.from_index.result) ++ labels_of_each f (from (i + 1) (e - (i + 1))) =
+    let split : labels_of_each f (from i (e - i)) ≡ option_to_list (label_of f c.from_index.result)
+    ++ labels_of_each f (from (i + 1) (e - (i + 1))) =
     ap (labels_of_each f) (range_more i e c.loop-index-test.true)
-    ∙ ap (λ h. option_to_list (label_of f h) ++ labels_of_each f (from (i + 1) (e - (i + 1)))) (sym c.from_index.ensures) in
+    ∙ ap (λ h. option_to_list (label_of f h) ++ labels_of_each f (from (i + 1) (e - (i + 1))))
+    (sym c.from_index.ensures) in
     if_err c.from_residual.result c.in_err-name_expression.field-0.0
-    (RefusesLabels c.args.namer.now (labels_of_each f (from c.args.range.first (e - c.args.range.first))) c.name_expression.new.namer)
+    (RefusesLabels c.args.namer.now (labels_of_each f (from c.args.range.first (e - c.args.range.first)))
+    c.name_expression.new.namer)
     c.from_residual.ensures.1
     (so_far_refused _ _ _ _ _ c.loop-index.invariant split c.in_err-name_expression.ensures.err)
 
@@ -29,9 +32,11 @@ loop-index-preserved c =
     let f = c.args.function.now in
     let i = c.loop-index.index in
     let e = c.args.range.end in
-    let split : labels_of_each f (from i (e - i)) ≡ option_to_list (label_of f c.from_index.result) ++ labels_of_each f (from (i + 1) (e - (i + 1))) =
+    let split : labels_of_each f (from i (e - i)) ≡ option_to_list (label_of f c.from_index.result)
+    ++ labels_of_each f (from (i + 1) (e - (i + 1))) =
     ap (labels_of_each f) (range_more i e c.loop-index-test.true)
-    ∙ ap (λ h. option_to_list (label_of f h) ++ labels_of_each f (from (i + 1) (e - (i + 1)))) (sym c.from_index.ensures) in
+    ∙ ap (λ h. option_to_list (label_of f h) ++ labels_of_each f (from (i + 1) (e - (i + 1))))
+    (sym c.from_index.ensures) in
     so_far_more _ _ _ c.loop-index.invariant split c.in_ok-name_expression.ensures.ok
 
 pub returns-clause-ok : goal.returns-clause-ok

@@ -16,9 +16,11 @@ returns-in-Some-clause-ok c =
 pub returns-in-Some-clause-err : goal.returns-in-Some-clause-err
 returns-in-Some-clause-err c =
     let is = sym c.label_of.ensures ∙ ap (option_map (λ l. l.now)) c.in-Some.is in
-    subst (λ o. IfErr c.name_label.result (RefusesLabels c.args.namer.now (option_to_list o) c.name_label.new.namer)) (sym is) c.name_label.ensures.err
+    subst (λ o. IfErr c.name_label.result
+    (RefusesLabels c.args.namer.now (option_to_list o) c.name_label.new.namer)) (sym is) c.name_label.ensures.err
 
 pub returns-in-None-clause-ok : goal.returns-in-None-clause-ok
 returns-in-None-clause-ok c =
     let is = sym c.label_of.ensures ∙ ap (option_map (λ l. l.now)) c.in-None.is in
-    subst (λ o. NamesLabels c.args.namer.now (map string_bytes c.args.names.now.items) (option_to_list o) c.args.namer.now (map string_bytes c.args.names.now.items)) (sym is) (names_none _ _)
+    subst (λ o. NamesLabels c.args.namer.now (map string_bytes c.args.names.now.items)
+    (option_to_list o) c.args.namer.now (map string_bytes c.args.names.now.items)) (sym is) (names_none _ _)

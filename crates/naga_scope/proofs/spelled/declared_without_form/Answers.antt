@@ -10,7 +10,8 @@ returns-in-Some c =
     let m = c.args.module.now in
     sym
     (parted m f
-    ∙ ap (λ o. option_or o (option_or (first_unsupported m (result_types f.result)) (first_unsupported m (local_types f.local_variables))))
+    ∙ ap (λ o. option_or o (option_or (first_unsupported m (result_types f.result))
+    (first_unsupported m (local_types f.local_variables))))
     (ap (λ xs. first_unsupported m (argument_types xs)) (sym c.deref.ensures.value)
     ∙ (sym c.argument_without_form.ensures ∙ c.in-Some.is)))
 

@@ -16,9 +16,11 @@ returns-then-is_bound_unsupported c =
     let bound = bound_in c.args.known.now in
     let i = c.loop-index.index in
     let e = c.args.range.end in
-    let passes = sym (c.is_bound_unsupported.ensures ∙ ap (λ h. bound h && p h) c.from_index-handle.ensures) ∙ c.if-is_bound_unsupported.true in
+    let passes = sym (c.is_bound_unsupported.ensures ∙ ap (λ h. bound h && p h) c.from_index-handle.ensures)
+    ∙ c.if-is_bound_unsupported.true in
     ap Some c.from_index-handle.ensures
-    ∙ (sym (ap (λ hs. find p (filter bound hs)) (range_more i e c.loop-index-test.true) ∙ kept_found p bound i (from (i + 1) (e - (i + 1))) passes)
+    ∙ (sym (ap (λ hs. find p (filter bound hs)) (range_more i e c.loop-index-test.true)
+    ∙ kept_found p bound i (from (i + 1) (e - (i + 1))) passes)
     ∙ c.loop-index.invariant)
 
 pub loop-index-preserved : goal.loop-index-preserved
@@ -27,12 +29,15 @@ loop-index-preserved c =
     let bound = bound_in c.args.known.now in
     let i = c.loop-index.index in
     let e = c.args.range.end in
-    let fails = sym (c.is_bound_unsupported.ensures ∙ ap (λ h. bound h && p h) c.from_index-handle.ensures) ∙ c.if-is_bound_unsupported.false in
-    sym (ap (λ hs. find p (filter bound hs)) (range_more i e c.loop-index-test.true) ∙ kept_not_found p bound i (from (i + 1) (e - (i + 1))) fails)
+    let fails = sym (c.is_bound_unsupported.ensures ∙ ap (λ h. bound h && p h) c.from_index-handle.ensures)
+    ∙ c.if-is_bound_unsupported.false in
+    sym (ap (λ hs. find p (filter bound hs)) (range_more i e c.loop-index-test.true)
+    ∙ kept_not_found p bound i (from (i + 1) (e - (i + 1))) fails)
     ∙ c.loop-index.invariant
 
 pub returns : goal.returns
 returns c =
     let p = is_unsupported_let c.args.known.now.shader.now c.args.known.now.info.now in
     let bound = bound_in c.args.known.now in
-    sym (ap (λ hs. find p (filter bound hs)) (range_none c.loop-index.index c.args.range.end c.loop-index-test.false)) ∙ c.loop-index.invariant
+    sym (ap (λ hs. find p (filter bound hs))
+    (range_none c.loop-index.index c.args.range.end c.loop-index-test.false)) ∙ c.loop-index.invariant

@@ -14,12 +14,17 @@ abbrev IsPassed : KnownFunction → (n : ℕ) → StatementTree → Type 0
 IsPassed k n st = own_annotated true k.shader.now k.info.now (bound_in k) st ≡ None
 
 pub loop-statement-init : goal.loop-statement-init
-loop-statement-init c = record { count = refl; passed = none_passed (IsPassed c.args.known.now) (trees_of c.args.statements.now) }
+loop-statement-init c = record {
+  count = refl;
+  passed = none_passed (IsPassed c.args.known.now)
+      (trees_of c.args.statements.now);
+}
 
 pub returns-in-Some : goal.returns-in-Some
 returns-in-Some c =
     let ss = c.args.statements.now in
-    let at = tree_at ss c.loop-statement.statement-index c.loop-statement.number c.statement-item.result c.loop-statement.invariant.count c.loop-statement-test.true c.statement-item.is in (
+    let at = tree_at ss c.loop-statement.statement-index c.loop-statement.number c.statement-item.result
+    c.loop-statement.invariant.count c.loop-statement-test.true c.statement-item.is in (
       c.loop-statement.number,
       tree_of c.statement-item.result.now,
       at,
@@ -32,10 +37,12 @@ pub loop-statement-preserved : goal.loop-statement-preserved
 loop-statement-preserved c =
     let ss = c.args.statements.now in
     let count = c.loop-statement.invariant.count in
-    let at = tree_at ss c.loop-statement.statement-index c.loop-statement.number c.statement-item.result count c.loop-statement-test.true c.statement-item.is in
+    let at = tree_at ss c.loop-statement.statement-index c.loop-statement.number c.statement-item.result count
+    c.loop-statement-test.true c.statement-item.is in
     record {
       count = omega (arith, count);
-      passed = one_passed (IsPassed c.args.known.now) (trees_of ss) c.loop-statement.number (tree_of c.statement-item.result.now) at
+      passed = one_passed (IsPassed c.args.known.now) (trees_of ss) c.loop-statement.number
+          (tree_of c.statement-item.result.now) at
           (sym c.let_in_statement.ensures ∙ c.in_default.is) c.loop-statement.invariant.passed;
     }
 
@@ -45,4 +52,5 @@ returns c =
     let count = c.loop-statement.invariant.count in
     let past = c.loop-statement-test.false in
     let same = length-map c.args.statements.now (λ s. tree_of s.now) in
-    all_passed (IsPassed c.args.known.now) sts c.loop-statement.number (omega (arith, count, past, same)) c.loop-statement.invariant.passed
+    all_passed (IsPassed c.args.known.now) sts c.loop-statement.number (omega (arith, count, past, same))
+    c.loop-statement.invariant.passed

@@ -32,4 +32,5 @@ loop-handle-preserved c =
 
 pub returns : goal.returns
 returns c =
-    sym (ap (λ ps. first_unsupported c.args.module.now (numbered_locals ps)) c.in-None.ensures.steps.0) ∙ c.loop-handle.invariant
+    sym (ap (λ ps. first_unsupported c.args.module.now (numbered_locals ps)) c.in-None.ensures.steps.0)
+    ∙ c.loop-handle.invariant

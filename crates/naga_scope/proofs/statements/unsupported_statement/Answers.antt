@@ -11,10 +11,12 @@ pub loop-statement-preserved : goal.loop-statement-preserved
 loop-statement-preserved c =
     let ss = c.args.statements.now in
     let count = c.loop-statement.invariant.count in
-    let at = tree_at ss c.loop-statement.statement-index c.loop-statement.number c.statement-item.result count c.loop-statement-test.true c.statement-item.is in
+    let at = tree_at ss c.loop-statement.statement-index c.loop-statement.number c.statement-item.result count
+    c.loop-statement-test.true c.statement-item.is in
     record {
       count = omega (arith, count);
-      passed = one_passed (λ i st. own_unsupported st ≡ None) (trees_of ss) c.loop-statement.number (tree_of c.statement-item.result.now) at
+      passed = one_passed (λ i st. own_unsupported st ≡ None) (trees_of ss) c.loop-statement.number
+          (tree_of c.statement-item.result.now) at
           (sym c.own_unsupported.ensures ∙ c.in_default.is) c.loop-statement.invariant.passed;
     }
 
@@ -24,4 +26,5 @@ returns c =
     let count = c.loop-statement.invariant.count in
     let past = c.loop-statement-test.false in
     let same = length-map c.args.statements.now (λ s. tree_of s.now) in
-    all_passed (λ i st. own_unsupported st ≡ None) sts c.loop-statement.number (omega (arith, count, past, same)) c.loop-statement.invariant.passed
+    all_passed (λ i st. own_unsupported st ≡ None) sts c.loop-statement.number
+    (omega (arith, count, past, same)) c.loop-statement.invariant.passed

@@ -1,6 +1,7 @@
 use Rattle.std.proofs.Common.{◌≡◌, ap, arith, length, sym, subst, ◌∙◌}
 use Rattle.std.specs.Prelude.{slice_get}
-use Rattle.naga_scope.proofs.FilledTables.{RepresentativesBelow, all_representatives, no_representatives, one_representative}
+use Rattle.naga_scope.proofs.FilledTables.{RepresentativesBelow, all_representatives}
+use Rattle.naga_scope.proofs.FilledTables.{no_representatives, one_representative}
 use Rattle.naga_scope.specs.Tables.{representative_at, representative_over}
 use Rattle.naga_scope.proofs.tables.set_representatives.Goals as goal
 

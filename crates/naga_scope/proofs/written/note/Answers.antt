@@ -11,6 +11,7 @@ returns-then-index-lines c =
     let index = c.index-index.result in
     let within : index < length lines = c.if-index-lines.true in
     let first = c.first_line.ensures ∙ ap (λ o. first_line o line) c.line_at-known.ensures in
-    subst (λ h. WritesAlso lines ((line, h) ∷ []) (slice_set lines index (Some c.first_line.result))) c.index-index.ensures
+    subst (λ h. WritesAlso lines ((line, h) ∷ []) (slice_set lines index (Some c.first_line.result)))
+    c.index-index.ensures
     (subst (λ v. WritesAlso lines ((line, index) ∷ []) (slice_set lines index (Some v))) (sym first)
     (record { marks = λ last. one_noted last lines index line within }))

@@ -20,11 +20,13 @@ loop-index-preserved c =
     let here = if bound i then (line, i) ∷ [] else [] in
     let is = c.binds.ensures ∙ ap bound c.from_index-handle.ensures in
     noted_more here (writes_at line (filter bound (from (i + 1) (e - (i + 1))))) c.loop-index.invariant
-    (ap (λ hs. writes_at line (filter bound hs)) (range_more i e c.loop-index-test.true) ∙ kept_writes line bound i (from (i + 1) (e - (i + 1))))
+    (ap (λ hs. writes_at line (filter bound hs)) (range_more i e c.loop-index-test.true)
+    ∙ kept_writes line bound i (from (i + 1) (e - (i + 1))))
     (subst (λ ws. WritesAlso c.loop-index.lines ws c.note_if.new.lines)
     (λ j. if is j then (line, c.from_index-handle.ensures j) ∷ [] else []) c.note_if.ensures)
 
 pub returns : goal.returns
 returns c =
     noted_all c.loop-index.invariant
-    (ap (λ hs. writes_at c.args.line.now (filter (bound_in c.args.known.now) hs)) (range_none c.loop-index.index c.args.range.end c.loop-index-test.false))
+    (ap (λ hs. writes_at c.args.line.now (filter (bound_in c.args.known.now) hs))
+    (range_none c.loop-index.index c.args.range.end c.loop-index-test.false))

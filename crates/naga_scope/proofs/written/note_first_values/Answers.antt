@@ -17,14 +17,16 @@ loop-handle-preserved-in-Some-init c =
     let rest = firsts_of c.next.new.self in
     let line = Local c.in-Some.handle in
     noted_more ((line, c.in-Some-init.value) ∷ []) rest c.loop-handle.invariant
-    (ap firsts_of c.in-Some.ensures.steps ∙ ap (λ o. writes_at line (option_to_list o) ++ rest) c.in-Some-init.is) c.note.ensures
+    (ap firsts_of c.in-Some.ensures.steps
+    ∙ ap (λ o. writes_at line (option_to_list o) ++ rest) c.in-Some-init.is) c.note.ensures
 
 pub loop-handle-preserved : goal.loop-handle-preserved
 loop-handle-preserved c =
     let rest = firsts_of c.next.new.self in
     let line = Local c.in-Some.handle in
     noted_more [] rest c.loop-handle.invariant
-    (ap firsts_of c.in-Some.ensures.steps ∙ ap (λ o. writes_at line (option_to_list o) ++ rest) c.in_default.is) (writes_none c.loop-handle.lines)
+    (ap firsts_of c.in-Some.ensures.steps ∙ ap (λ o. writes_at line (option_to_list o) ++ rest) c.in_default.is)
+    (writes_none c.loop-handle.lines)
 
 pub returns : goal.returns
 returns c = noted_all c.loop-handle.invariant (ap firsts_of c.in-None.ensures.steps.0)

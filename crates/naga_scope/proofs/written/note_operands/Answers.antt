@@ -7,8 +7,10 @@ use Rattle.naga_scope.proofs.written.note_operands.Goals as goal
 pub loop-operand-init : goal.loop-operand-init
 loop-operand-init c =
     let line = c.args.line.now in
-    subst (λ hs. NotedSoFar c.args.lines.now (writes_at line (expression_operands c.args.expression.now)) (writes_at line hs) c.args.lines.now)
-    (sym (c.into_iter-operand-iterator.ensures.into_iter_gives ∙ c.operands-operand-items.ensures)) (noted_none c.args.lines.now _)
+    subst (λ hs. NotedSoFar c.args.lines.now (writes_at line (expression_operands c.args.expression.now))
+    (writes_at line hs) c.args.lines.now)
+    (sym (c.into_iter-operand-iterator.ensures.into_iter_gives ∙ c.operands-operand-items.ensures))
+    (noted_none c.args.lines.now _)
 
 pub loop-operand-preserved : goal.loop-operand-preserved
 loop-operand-preserved c =

@@ -5,4 +5,5 @@ use Rattle.naga_scope.proofs.written.note_operands.Given as goal
 
 abbrev pub invariant-loop-operand : goal.invariant-loop-operand
 invariant-loop-operand l =
-    NotedSoFar l.initial.lines (writes_at l.line (expression_operands l.expression)) (writes_at l.line l.operand-iterator) l.lines
+    NotedSoFar l.initial.lines (writes_at l.line (expression_operands l.expression))
+    (writes_at l.line l.operand-iterator) l.lines

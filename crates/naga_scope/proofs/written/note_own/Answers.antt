@@ -8,8 +8,10 @@ use Rattle.naga_scope.proofs.written.note_own.Goals as goal
 pub loop-operand-init : goal.loop-operand-init
 loop-operand-init c =
     let line = c.args.line.now in
-    subst (λ hs. NotedSoFar c.args.lines.now (writes_at line (own_operands (tree_of c.args.statement.now))) (writes_at line hs) c.args.lines.now)
-    (sym (c.into_iter-operand-iterator.ensures.into_iter_gives ∙ c.operands-operand-items.ensures)) (noted_none c.args.lines.now _)
+    subst (λ hs. NotedSoFar c.args.lines.now (writes_at line (own_operands (tree_of c.args.statement.now)))
+    (writes_at line hs) c.args.lines.now)
+    (sym (c.into_iter-operand-iterator.ensures.into_iter_gives ∙ c.operands-operand-items.ensures))
+    (noted_none c.args.lines.now _)
 
 pub loop-operand-preserved : goal.loop-operand-preserved
 loop-operand-preserved c =

@@ -6,4 +6,5 @@ use Rattle.naga_scope.proofs.written.note_own.Given as goal
 
 abbrev pub invariant-loop-operand : goal.invariant-loop-operand
 invariant-loop-operand l =
-    NotedSoFar l.initial.lines (writes_at l.line (own_operands (tree_of l.statement))) (writes_at l.line l.operand-iterator) l.lines
+    NotedSoFar l.initial.lines (writes_at l.line (own_operands (tree_of l.statement)))
+    (writes_at l.line l.operand-iterator) l.lines

@@ -10,7 +10,8 @@ loop-statement-init c = record { count = refl; noted = noted_none _ _ }
 pub loop-statement-preserved : goal.loop-statement-preserved
 loop-statement-preserved c =
     let count = c.loop-statement.invariant.count in
-    let split = first_tree c.args.statements.now c.loop-statement.statement-index c.statement-item.result c.loop-statement-test.true c.statement-item.is in
+    let split = first_tree c.args.statements.now c.loop-statement.statement-index c.statement-item.result
+    c.loop-statement-test.true c.statement-item.is in
     record {
       count = omega (arith, count);
       noted = noted_more _ _ c.loop-statement.invariant.noted

@@ -16,7 +16,8 @@ loop-end-init c =
     record {
       size = c.requires.size;
       bound = omega (arith, len);
-      swept = λ writes just. swept_begun es writes c.args.lines.now just c.requires.size c.len-end.result (omega (arith, len));
+      swept = λ writes just. swept_begun es writes c.args.lines.now just c.requires.size c.len-end.result
+          (omega (arith, len));
       found = found_begun formed es c.args.lines.now c.len-end.result (omega (arith, len));
     }
 
@@ -37,13 +38,18 @@ loop-end-preserved-in-Some c =
       size = size_kept c.note_operands.ensures ∙ c.loop-end.invariant.size;
       bound = omega (arith, bound);
       swept = λ writes just.
-          swept_next es writes c.args.lines.now c.loop-end.lines c.note_operands.new.lines x e line c.loop-end.invariant.size at below is
+          swept_next es writes c.args.lines.now c.loop-end.lines c.note_operands.new.lines x e line
+          c.loop-end.invariant.size at below is
           c.note_operands.ensures
-          (subst (SweptTo es writes c.args.lines.now c.loop-end.lines) (sym last) (c.loop-end.invariant.swept writes just));
+          (subst (SweptTo es writes c.args.lines.now c.loop-end.lines) (sym last)
+          (c.loop-end.invariant.swept writes just));
       found =
           subst (FoundFrom formed es x c.note_operands.new.lines)
-          (sym (c.found_with-found.ensures ∙ ap (λ h. found_with c.loop-end.found line h c.expression_has_form-has_form.result) c.from_index-handle.ensures))
-          (found_next formed es c.loop-end.lines c.note_operands.new.lines x e line c.expression_has_form-has_form.result c.loop-end.found at below is
+          (sym (c.found_with-found.ensures
+          ∙ ap (λ h. found_with c.loop-end.found line h c.expression_has_form-has_form.result)
+          c.from_index-handle.ensures))
+          (found_next formed es c.loop-end.lines c.note_operands.new.lines x e line
+          c.expression_has_form-has_form.result c.loop-end.found at below is
           (sym (c.expression_has_form-has_form.ensures es c.requires.constants)) c.note_operands.ensures
           (subst (λ k. FoundFrom formed es k c.loop-end.lines c.loop-end.found) (sym last) c.loop-end.invariant.found));
     }
@@ -62,7 +68,8 @@ loop-end-preserved c =
       bound = omega (arith, bound);
       swept = λ writes just.
           swept_passed es writes c.args.lines.now c.loop-end.lines x none
-          (subst (SweptTo es writes c.args.lines.now c.loop-end.lines) (sym last) (c.loop-end.invariant.swept writes just));
+          (subst (SweptTo es writes c.args.lines.now c.loop-end.lines) (sym last)
+          (c.loop-end.invariant.swept writes just));
       found = found_passed formed es c.loop-end.lines x c.loop-end.found none
           (subst (λ k. FoundFrom formed es k c.loop-end.lines c.loop-end.found) (sym last) c.loop-end.invariant.found);
     }

@@ -11,7 +11,8 @@ invariant-loop-end l = record {
   bound : l.end ≤ length l.function.expressions;
   swept : (writes : List (Line × ℕ)) → WritesJust writes l.initial.lines →
       SweptTo l.function.expressions writes l.initial.lines l.lines l.end;
-  found : FoundFrom (expression_has_form l.module l.info l.function.expressions) l.function.expressions l.end l.lines l.found;
+  found : FoundFrom (expression_has_form l.module l.info l.function.expressions) l.function.expressions l.end
+      l.lines l.found;
 }
 
 abbrev pub decreases-loop-end : goal.decreases-loop-end

@@ -11,7 +11,8 @@ returns c =
     let k = c.args.known.now in
     let writes = function_writes (bound_in k) k.function.now (trees_of c.args.statements.now) in
     let all = writes_then c.note_first_values.ensures c.note_statements.ensures in
-    c.sweep.ensures writes (just_noted c.args.lines.now c.note_statements.new.lines writes (length (expressions_of k)) c.requires.lines all)
+    c.sweep.ensures writes (just_noted c.args.lines.now c.note_statements.new.lines writes
+    (length (expressions_of k)) c.requires.lines all)
 
 pub sweep-requires-clause-size : goal.sweep-requires-clause-size
 sweep-requires-clause-size c =

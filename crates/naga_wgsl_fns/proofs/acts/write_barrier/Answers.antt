@@ -8,7 +8,11 @@ pub returns : goal.returns
 returns g c =
     let i = c.args.at.now.indent in
     writes_as (sym (barriers_row i c.args.barrier))
-    (writes_then (writes_as (ap (λ b. barrier_text i b (codes "storageBarrier();\n")) (c.contains.ensures tt)) c.write_barrier_if.ensures)
-    (writes_then (writes_as (ap (λ b. barrier_text i b (codes "workgroupBarrier();\n")) (c.contains-2.ensures tt)) c.write_barrier_if-2.ensures)
-    (writes_then (writes_as (ap (λ b. barrier_text i b (codes "subgroupBarrier();\n")) (c.contains-3.ensures tt)) c.write_barrier_if-3.ensures)
-    (writes_as (ap (λ b. barrier_text i b (codes "textureBarrier();\n")) (c.contains-4.ensures tt)) c.write_barrier_if-4.ensures))))
+    (writes_then (writes_as (ap (λ b. barrier_text i b (codes "storageBarrier();\n")) (c.contains.ensures tt))
+    c.write_barrier_if.ensures)
+    (writes_then (writes_as (ap (λ b. barrier_text i b (codes "workgroupBarrier();\n"))
+    (c.contains-2.ensures tt)) c.write_barrier_if-2.ensures)
+    (writes_then (writes_as (ap (λ b. barrier_text i b (codes "subgroupBarrier();\n"))
+    (c.contains-3.ensures tt)) c.write_barrier_if-3.ensures)
+    (writes_as (ap (λ b. barrier_text i b (codes "textureBarrier();\n")) (c.contains-4.ensures tt))
+    c.write_barrier_if-4.ensures))))

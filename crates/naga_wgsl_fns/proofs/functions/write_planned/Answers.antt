@@ -20,7 +20,8 @@ pub write_item-requires-clause-can : goal.write_item-requires-clause-can
 write_item-requires-clause-can g c =
     let plan = plan_found (annotates_types c.args.flags) c.args.module.now c.args.info.now
     (function_number c.args.module.now c.args.ty.now) c.function_of.result.0.now
-    c.function_of.result.1.now c.args.plan c.function_of.ensures.function c.function_of.ensures.known c.requires.planned in
+    c.function_of.result.1.now c.args.plan c.function_of.ensures.function c.function_of.ensures.known
+    c.requires.planned in
     can_write _ c.requires.accepted c.requires.tables c.requires.names c.requires.there
     c.function_of.ensures.function c.function_of.ensures.known plan.formed c.requires.head plan.room
 
@@ -28,7 +29,8 @@ pub write_item-requires-clause-start : goal.write_item-requires-clause-start
 write_item-requires-clause-start g c =
     let plan = plan_found (annotates_types c.args.flags) c.args.module.now c.args.info.now
     (function_number c.args.module.now c.args.ty.now) c.function_of.result.0.now
-    c.function_of.result.1.now c.args.plan c.function_of.ensures.function c.function_of.ensures.known c.requires.planned in
+    c.function_of.result.1.now c.args.plan c.function_of.ensures.function c.function_of.ensures.known
+    c.requires.planned in
     let named : ℕ → List ℕ = λ number.
     option_map_or string_bytes (slice_get c.as_slice.result.now number) [] in
     let point = c.into_parts-scope.ensures.scope in
@@ -37,13 +39,15 @@ write_item-requires-clause-start g c =
       named = ap (λ (p : TextPoint). p.named) point ∙ plan.no_name;
       scope = record {
         size = ap (λ (p : TextPoint). length p.table) point ∙ plan.size;
-        room = subst (λ (p : TextPoint). HasRoom p (block_changes c.function_of.result.0.now.body)) (sym point) plan.changes;
+        room = subst (λ (p : TextPoint). HasRoom p (block_changes c.function_of.result.0.now.body))
+            (sym point) plan.changes;
       };
     }
 
 pub returns-in-Ok-clause-text_ok : goal.returns-in-Ok-clause-text_ok
 returns-in-Ok-clause-text_ok g c =
-    let same : c.write_item.new.out.sink.ghost_name ≡ c.new-written.result.sink.ghost_name = same_sink _ _ _ c.write_item.ensures in
+    let same : c.write_item.new.out.sink.ghost_name ≡ c.new-written.result.sink.ghost_name =
+    same_sink _ _ _ c.write_item.ensures in
     content_whole_as _ _ _ _ _ (grind arith) (grind arith)
     (writes_as
     (sym
@@ -57,7 +61,8 @@ returns-in-Ok-clause-text_ok g c =
 
 pub returns-clause-text_err : goal.returns-clause-text_err
 returns-clause-text_err g c =
-    let same : c.write_item.new.out.sink.ghost_name ≡ c.new-written.result.sink.ghost_name = same_sink _ _ _ c.write_item.ensures in
+    let same : c.write_item.new.out.sink.ghost_name ≡ c.new-written.result.sink.ghost_name =
+    same_sink _ _ _ c.write_item.ensures in
     content_begun_as _ _ _ _ _ _ (grind arith) (grind arith)
     (writes_as
     (sym
@@ -71,8 +76,10 @@ returns-clause-text_err g c =
 
 pub returns-clause-reason : goal.returns-clause-reason
 returns-clause-reason g c =
-    let same : c.write_item.new.out.sink.ghost_name ≡ c.new-written.result.sink.ghost_name = same_sink _ _ _ c.write_item.ensures in
-    let reason = reason_known _ _ _ c.in-Err.want c.write_item.ensures c.new-written.ensures.want c.in-Err.ensures.wanting in
+    let same : c.write_item.new.out.sink.ghost_name ≡ c.new-written.result.sink.ghost_name =
+    same_sink _ _ _ c.write_item.ensures in
+    let reason = reason_known _ _ _ c.in-Err.want c.write_item.ensures c.new-written.ensures.want
+    c.in-Err.ensures.wanting in
     let reported = reason_reported (g.W.TextSink.failures c.new-written.result.sink.now)
     (g.W.TextSink.failures c.write_item.new.out.sink.now) c.in-Err.want
     c.error_of_want.result reason c.error_of_want.ensures in

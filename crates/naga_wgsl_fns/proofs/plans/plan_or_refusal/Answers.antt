@@ -17,13 +17,15 @@ pub construct_of_plan-requires-clause-known : goal.construct_of_plan-requires-cl
 construct_of_plan-requires-clause-known c =
     let m = c.args.«module».now in
     λ h k at. fits_in_range (length m.overrides) m.types k.ty
-    (known_is_fit m c.args.info.now c.requires.accepted (function_number c.args.«module».now c.args.ty.now) c.function_of.result.1.now
+    (known_is_fit m c.args.info.now c.requires.accepted (function_number c.args.«module».now c.args.ty.now)
+    c.function_of.result.1.now
     c.function_of.ensures.known h k at)
 
 pub construct_of_plan-requires-clause-unsupported : goal.construct_of_plan-requires-clause-unsupported
 construct_of_plan-requires-clause-unsupported c =
     is_of_plan c.annotates_types.result c.args.«module».now c.args.info.now c.requires.accepted
-    (function_number c.args.«module».now c.args.ty.now) c.function_of.result.0.now c.function_of.ensures.function c.function_of.result.1.now c.function_of.ensures.known
+    (function_number c.args.«module».now c.args.ty.now) c.function_of.result.0.now
+    c.function_of.ensures.function c.function_of.result.1.now c.function_of.ensures.known
     _ c.in-Err.error c.in-Err.ensures.err
 
 pub construct_of_plan-requires-clause-ordered : goal.construct_of_plan-requires-clause-ordered
@@ -32,12 +34,14 @@ construct_of_plan-requires-clause-ordered c =
 
 pub construct_of_plan-requires-clause-named : goal.construct_of_plan-requires-clause-named
 construct_of_plan-requires-clause-named c =
-    items_there c.args.«module».now c.args.info.now c.requires.accepted (function_number c.args.«module».now c.args.ty.now)
+    items_there c.args.«module».now c.args.info.now c.requires.accepted
+    (function_number c.args.«module».now c.args.ty.now)
     c.function_of.result.0.now c.function_of.ensures.function c.function_of.result.1.now c.function_of.ensures.known
 
 pub returns-in-Ok-clause-ok : goal.returns-in-Ok-clause-ok
 returns-in-Ok-clause-ok c =
-    subst (λ explicit. IsPlanOf explicit c.args.«module».now c.args.info.now (function_number c.args.«module».now c.args.ty.now) c.in-Ok.plan)
+    subst (λ explicit. IsPlanOf explicit c.args.«module».now c.args.info.now
+    (function_number c.args.«module».now c.args.ty.now) c.in-Ok.plan)
     c.annotates_types.ensures c.in-Ok.ensures.ok
 
 pub returns-in-Ok-construct_of_plan-clause-err : goal.returns-in-Ok-construct_of_plan-clause-err
@@ -45,7 +49,8 @@ returns-in-Ok-construct_of_plan-clause-err c =
     let m = c.args.«module».now in
     let info = c.args.info.now in
     let number = function_number m c.args.ty.now in
-    subst (λ explicit. IsRefusedFor explicit m info number c.args.namer.now c.in-Ok-construct_of_plan.construct c.part_of-part.result)
+    subst (λ explicit. IsRefusedFor explicit m info number c.args.namer.now c.in-Ok-construct_of_plan.construct
+    c.part_of-part.result)
     c.annotates_types.ensures
     (record {
       error = c.in-Err.error;
@@ -55,13 +60,15 @@ returns-in-Ok-construct_of_plan-clause-err c =
           (λ r. IfOk r (λ it. OfFunctionAt m info number (λ f es. Tells it (TellsPlanError m f es c.in-Err.error))))
           c.in-Ok-construct_of_plan.is
           (of_the_ok (λ f es it. Tells it (TellsPlanError m f es c.in-Err.error)) m info number
-          c.function_of.result.0.now c.function_of.result.1.now c.function_of.ensures.function c.function_of.ensures.known
+          c.function_of.result.0.now c.function_of.result.1.now c.function_of.ensures.function
+          c.function_of.ensures.known
           c.construct_of_plan.result c.construct_of_plan.ensures.ok);
       carries = subst
           (λ r. IfOk r (λ it. OfFunctionAt m info number (λ f es. CarriesOfPlan m f es c.in-Err.error it)))
           c.in-Ok-construct_of_plan.is
           (of_the_ok (λ f es it. CarriesOfPlan m f es c.in-Err.error it) m info number
-          c.function_of.result.0.now c.function_of.result.1.now c.function_of.ensures.function c.function_of.ensures.known
+          c.function_of.result.0.now c.function_of.result.1.now c.function_of.ensures.function
+          c.function_of.ensures.known
           c.construct_of_plan.result c.construct_of_plan.ensures.carries);
       part = c.part_of-part.ensures;
       other = c.in-Ok-construct_of_plan.ensures.refused;

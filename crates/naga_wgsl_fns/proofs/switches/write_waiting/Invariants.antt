@@ -6,5 +6,6 @@ use Rattle.naga_wgsl_fns.proofs.switches.write_waiting.Given as goal
 
 abbrev pub invariant-loop-case : goal.invariant-loop-case
 invariant-loop-case g l =
-    Leaves (output_view g.W.TextSink.text g.W.TextSink.failures l.initial.out) (output_view g.W.TextSink.text g.W.TextSink.failures l.out)
+    Leaves (output_view g.W.TextSink.text g.W.TextSink.failures l.initial.out)
+    (output_view g.W.TextSink.text g.W.TextSink.failures l.out)
     (waiting_text (labels_of l.waiting)) (waiting_text (labels_of (drop l.case-index l.waiting)))

@@ -7,8 +7,10 @@ use Rattle.naga_wgsl_out.proofs.declarations.write_declarations.Goals as goal
 
 pub returns-in-Ok : goal.returns-in-Ok
 returns-in-Ok g c =
-    let same : c.write_all.new.out.sink.ghost_name ≡ c.new-written.result.sink.ghost_name = same_sink _ _ _ c.write_all.ensures in
-    let kept : g.W.TextSink.failures c.write_all.new.out.sink.now ≡ g.W.TextSink.failures c.new-written.result.sink.now =
+    let same : c.write_all.new.out.sink.ghost_name ≡ c.new-written.result.sink.ghost_name =
+    same_sink _ _ _ c.write_all.ensures in
+    let kept : g.W.TextSink.failures c.write_all.new.out.sink.now
+    ≡ g.W.TextSink.failures c.new-written.result.sink.now =
     never_failed _ _ _ c.write_all.ensures c.new-written.ensures.want c.in-Ok.ensures.whole in
     record {
       appended =
@@ -19,8 +21,10 @@ returns-in-Ok g c =
 
 pub returns-in-Err : goal.returns-in-Err
 returns-in-Err g c =
-    let same : c.write_all.new.out.sink.ghost_name ≡ c.new-written.result.sink.ghost_name = same_sink _ _ _ c.write_all.ensures in
-    let reason = reason_known _ _ _ c.in-Err.want c.write_all.ensures c.new-written.ensures.want c.in-Err.ensures.wanting in
+    let same : c.write_all.new.out.sink.ghost_name ≡ c.new-written.result.sink.ghost_name =
+    same_sink _ _ _ c.write_all.ensures in
+    let reason = reason_known _ _ _ c.in-Err.want c.write_all.ensures c.new-written.ensures.want
+    c.in-Err.ensures.wanting in
     let reported = reason_reported (g.W.TextSink.failures c.new-written.result.sink.now)
     (g.W.TextSink.failures c.write_all.new.out.sink.now) c.in-Err.want
     c.error_of_want.result reason c.error_of_want.ensures in
@@ -30,7 +34,8 @@ returns-in-Err g c =
           content_begun_as _ _ _ _ _ _ (grind arith) (grind arith) c.write_all.ensures
           c.new-written.ensures.want c.in-Err.ensures.wanting;
       reason = subst (λ n. IsWant (g.W.TextSink.failures c.args.out.now) n c.error_of_want.result) (grind arith)
-          (subst (λ n. IsWant n (g.W.TextSink.failures c.write_all.new.out.sink.now) c.error_of_want.result) before reported);
+          (subst (λ n. IsWant n (g.W.TextSink.failures c.write_all.new.out.sink.now) c.error_of_want.result)
+          before reported);
     }
 
 pub error_of_want-requires : goal.error_of_want-requires

@@ -15,4 +15,5 @@ loop-ty-preserved c =
     c.or-found.ensures c.of_type.ensures c.in-Some.ensures.steps c.loop-ty.invariant
 
 pub returns : goal.returns
-returns c = found_all (λ (x : Extension) (p : ℕ × Type_). type_needs x p.1.inner) _ _ _ c.in-None.ensures.steps.0 c.loop-ty.invariant
+returns c = found_all (λ (x : Extension) (p : ℕ × Type_). type_needs x p.1.inner) _ _ _
+    c.in-None.ensures.steps.0 c.loop-ty.invariant

@@ -6,7 +6,8 @@ use Rattle.naga_wgsl_out.proofs.enables.of_variables.Goals as goal
 
 pub loop-variable-init : goal.loop-variable-init
 loop-variable-init c =
-    found_in_pairs (λ (x : Extension) (v : GlobalVariable). x.for_space v.space) _ _ c.args.variables.now c.none-found.ensures
+    found_in_pairs (λ (x : Extension) (v : GlobalVariable). x.for_space v.space) _ _ c.args.variables.now
+    c.none-found.ensures
     (c.into_iter-variable-iterator.ensures.into_iter_gives ∙ c.iter-variable-items.ensures)
 
 pub loop-variable-preserved : goal.loop-variable-preserved
@@ -15,4 +16,5 @@ loop-variable-preserved c =
     c.or-found.ensures c.of_space.ensures c.in-Some.ensures.steps c.loop-variable.invariant
 
 pub returns : goal.returns
-returns c = found_all (λ (x : Extension) (p : ℕ × GlobalVariable). x.for_space p.1.space) _ _ _ c.in-None.ensures.steps.0 c.loop-variable.invariant
+returns c = found_all (λ (x : Extension) (p : ℕ × GlobalVariable). x.for_space p.1.space) _ _ _
+    c.in-None.ensures.steps.0 c.loop-variable.invariant

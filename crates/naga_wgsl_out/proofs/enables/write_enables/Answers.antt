@@ -11,7 +11,8 @@ use Rattle.naga_wgsl_out.proofs.enables.write_enables.Goals as goal
 
 pub returns-in-Ok : goal.returns-in-Ok
 returns-in-Ok g c =
-    let same : c.write.new.out.sink.ghost_name ≡ c.new-written.result.sink.ghost_name = same_sink _ _ _ c.write.ensures in
+    let same : c.write.new.out.sink.ghost_name ≡ c.new-written.result.sink.ghost_name =
+    same_sink _ _ _ c.write.ensures in
     let text_is = ap (λ e. enables_text (words_among (words_found e))) c.enabled.ensures
     ∙ ap enables_text
     (words_needed (is_enabled (is_portable c.args.flags) c.args.«module».now c.args.info.now)) in
@@ -26,7 +27,8 @@ returns-in-Ok g c =
 
 pub returns-in-Err : goal.returns-in-Err
 returns-in-Err g c =
-    let same : c.write.new.out.sink.ghost_name ≡ c.new-written.result.sink.ghost_name = same_sink _ _ _ c.write.ensures in
+    let same : c.write.new.out.sink.ghost_name ≡ c.new-written.result.sink.ghost_name =
+    same_sink _ _ _ c.write.ensures in
     let text_is = ap (λ e. enables_text (words_among (words_found e))) c.enabled.ensures
     ∙ ap enables_text
     (words_needed (is_enabled (is_portable c.args.flags) c.args.«module».now c.args.info.now)) in
@@ -40,7 +42,8 @@ returns-in-Err g c =
           content_begun_as _ _ _ _ _ _ (grind arith) (grind arith) (writes_as text_is c.write.ensures)
           c.new-written.ensures.want c.in-Err.ensures.wanting;
       reason = subst (λ n. IsWant (g.W.TextSink.failures c.args.out.now) n c.error_of_want.result) (grind arith)
-          (subst (λ n. IsWant n (g.W.TextSink.failures c.write.new.out.sink.now) c.error_of_want.result) before reported);
+          (subst (λ n. IsWant n (g.W.TextSink.failures c.write.new.out.sink.now) c.error_of_want.result)
+          before reported);
     }
 
 pub error_of_want-requires : goal.error_of_want-requires

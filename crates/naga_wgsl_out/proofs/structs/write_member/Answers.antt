@@ -6,8 +6,8 @@ use Rattle.naga_wgsl_out.proofs.StructRows.{member_row}
 use Rattle.naga_wgsl_out.specs.Structs.{given_size_attributes}
 use Rattle.naga_wgsl_out.proofs.structs.write_member.Goals as goal
 
-pub write_passing-requires : goal.write_passing-requires
-write_passing-requires g c =
+pub write_optional_binding-requires : goal.write_optional_binding-requires
+write_optional_binding-requires g c =
     member_has_form c.args.text.now c.requires.can c.args.handle c.args.number c.args.member.now
     c.requires.there
 
@@ -28,4 +28,4 @@ returns g c =
     (writes_then c.put.ensures
     (writes_then
     (writes_as (ap (λ o. attributes_text (given_size_attributes o)) c.requires.size) c.write_size.ensures)
-    (writes_then c.write_passing.ensures (writes_then c.write_typed.ensures c.put-2.ensures))))
+    (writes_then c.write_optional_binding.ensures (writes_then c.write_typed.ensures c.put-2.ensures))))

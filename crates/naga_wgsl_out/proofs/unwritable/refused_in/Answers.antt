@@ -4,7 +4,7 @@ use Rattle.module_meaning.specs.FunctionNumbers.{all_functions, function_number}
 use Rattle.naga_back.specs.Flags.{annotates_types}
 use Rattle.naga_names.proofs.Refusal.{element}
 use Rattle.naga_wgsl_out.proofs.ExpressionNames.{named_plan, none_full}
-use Rattle.naga_wgsl_out.proofs.Places.{found_in, known_at}
+use Rattle.naga_wgsl_out.proofs.Positions.{found_in, known_at}
 use Rattle.naga_wgsl_out.proofs.unwritable.refused_in.Goals as goal
 
 pub returns-in-Ok : goal.returns-in-Ok

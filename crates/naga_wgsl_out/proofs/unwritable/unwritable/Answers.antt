@@ -1,5 +1,5 @@
 use Rattle.naga_scope.proofs.FilledTables.{items_in_order}
-use Rattle.naga_wgsl_out.proofs.Places.{labels_stand}
+use Rattle.naga_wgsl_out.proofs.Positions.{labels_stand}
 use Rattle.naga_wgsl_out.proofs.unwritable.unwritable.Goals as goal
 
 pub of-requires : goal.of-requires
@@ -10,7 +10,7 @@ of-requires c = record {
 pub returns-in-Some-clause-stands : goal.returns-in-Some-clause-stands
 returns-in-Some-clause-stands c =
     let found = c.in-Some.ensures in
-    (c.in-Some.declaration, found.place, c.unsupported_construct.ensures.names, c.unsupported_construct.ensures.carries)
+    (c.in-Some.declaration, found.position, c.unsupported_construct.ensures.names, c.unsupported_construct.ensures.carries)
 
 pub returns-in-Some-clause-first : goal.returns-in-Some-clause-first
 returns-in-Some-clause-first c = c.in-Some.ensures.first

@@ -2,8 +2,9 @@ use Rattle.std.proofs.Common.{◌≡◌, ◌+◌, arith, length, refl, subst, sy
 use Rattle.naga_back.specs.Flags.{annotates_types}
 use Rattle.naga_back.specs.declared.context.FunctionType.TheVariants as item
 use Rattle.naga_wgsl_out.proofs.Functions.{last_point, points_counted}
-use Rattle.naga_wgsl_out.proofs.Places.{AreWritable, all_writable, before_writable, found_none, found_some, none_writable, one_writable}
-use Rattle.naga_wgsl_out.proofs.Places.{refusal_first, refusal_stands}
+use Rattle.naga_wgsl_out.proofs.Positions.{AreWritable, all_writable, before_writable, found_none}
+use Rattle.naga_wgsl_out.proofs.Positions.{found_some, none_writable, one_writable}
+use Rattle.naga_wgsl_out.proofs.Positions.{refusal_first, refusal_stands}
 use Rattle.naga_wgsl_out.specs.Unwritable.{AreWritableBefore}
 use Rattle.naga_wgsl_out.proofs.unwritable.unwritable_function.Goals as goal
 
@@ -27,7 +28,8 @@ returns-in-Some-clause-stands c =
     let info = c.args.info.now in
     let ty = item.Function c.from_index.result in
     refusal_stands e m info ty c.in-Some.refusal
-    (omega (arith, c.loop-index-test.true, c.len-index-end.ensures, c.from_index.ensures)) (found_some e m info ty _ _ c.in-Some.refusal c.in-Some.is c.in_ok-found.ensures)
+    (omega (arith, c.loop-index-test.true, c.len-index-end.ensures, c.from_index.ensures))
+    (found_some e m info ty _ _ c.in-Some.refusal c.in-Some.is c.in_ok-found.ensures)
 
 pub returns-in-Some-clause-first : goal.returns-in-Some-clause-first
 returns-in-Some-clause-first c =
@@ -35,7 +37,8 @@ returns-in-Some-clause-first c =
     let m = c.args.«module».now in
     let info = c.args.info.now in
     let ty = item.Function c.from_index.result in
-    refusal_first e m info ty c.in-Some.refusal (found_some e m info ty _ _ c.in-Some.refusal c.in-Some.is c.in_ok-found.ensures)
+    refusal_first e m info ty c.in-Some.refusal
+    (found_some e m info ty _ _ c.in-Some.refusal c.in-Some.is c.in_ok-found.ensures)
     (subst (AreWritableBefore e m info) (sym c.from_index.ensures)
     (before_writable e m info _ _ c.loop-index.namer c.requires.declared c.requires.names c.loop-index.invariant))
 
@@ -59,7 +62,8 @@ loop-index-2-preserved c =
     let e = annotates_types c.args.flags in
     let m = c.args.«module».now in
     let info = c.args.info.now in
-    let here = found_none e m info (item.EntryPoint c.loop-index-2.index) _ _ c.in_default-found.is c.in_ok-found-2.ensures in
+    let here = found_none e m info (item.EntryPoint c.loop-index-2.index) _ _ c.in_default-found.is
+    c.in_ok-found-2.ensures in
     let next : (length m.functions + c.loop-index-2.index) + 1 ≡ length m.functions + (c.loop-index-2.index + 1) =
     omega arith in
     one_writable e m info (length m.functions + c.loop-index-2.index) _ _ _ _ refl next c.loop-index-2.invariant here
@@ -70,7 +74,8 @@ returns-in-Some-found-clause-stands c =
     let m = c.args.«module».now in
     let info = c.args.info.now in
     let ty = item.EntryPoint c.loop-index-2.index in
-    refusal_stands e m info ty c.in-Some-found.refusal tt (found_some e m info ty _ _ c.in-Some-found.refusal c.in-Some-found.is c.in_ok-found-2.ensures)
+    refusal_stands e m info ty c.in-Some-found.refusal tt
+    (found_some e m info ty _ _ c.in-Some-found.refusal c.in-Some-found.is c.in_ok-found-2.ensures)
 
 pub returns-in-Some-found-clause-first : goal.returns-in-Some-found-clause-first
 returns-in-Some-found-clause-first c =
@@ -78,7 +83,8 @@ returns-in-Some-found-clause-first c =
     let m = c.args.«module».now in
     let info = c.args.info.now in
     let ty = item.EntryPoint c.loop-index-2.index in
-    refusal_first e m info ty c.in-Some-found.refusal (found_some e m info ty _ _ c.in-Some-found.refusal c.in-Some-found.is c.in_ok-found-2.ensures)
+    refusal_first e m info ty c.in-Some-found.refusal
+    (found_some e m info ty _ _ c.in-Some-found.refusal c.in-Some-found.is c.in_ok-found-2.ensures)
     (before_writable e m info _ _ c.loop-index-2.namer c.requires.declared c.requires.names c.loop-index-2.invariant)
 
 pub returns-clause-stands : goal.returns-clause-stands

@@ -1,6 +1,6 @@
 use Rattle.std.proofs.Common.{◌+◌, length}
 use Rattle.naga_back.specs.Flags.{annotates_types}
-use Rattle.naga_wgsl_out.proofs.Places.{AreWritable}
+use Rattle.naga_wgsl_out.proofs.Positions.{AreWritable}
 use Rattle.naga_wgsl_out.proofs.unwritable.unwritable_function.Given as goal
 
 abbrev pub invariant-loop-index : goal.invariant-loop-index

@@ -4,7 +4,7 @@ use Rattle.naga_back.specs.declared.context.FunctionType.TheVariants as item
 use Rattle.naga_wgsl_out.proofs.Functions.{failed_as, last_point, points_counted, up_to_all}
 use Rattle.naga_wgsl_out.proofs.Functions.{up_to_as, up_to_failed, up_to_more, up_to_none, wrote_as}
 use Rattle.naga_back.specs.Flags.{annotates_types}
-use Rattle.naga_wgsl_out.proofs.Places.{as_told, told_first, up_to_before}
+use Rattle.naga_wgsl_out.proofs.Positions.{as_told, told_first, up_to_before}
 use Rattle.naga_wgsl_out.specs.Unwritable.{AreWritableBefore, TellsFirst}
 use Rattle.naga_wgsl_out.proofs.writer.write_functions.Goals as goal
 

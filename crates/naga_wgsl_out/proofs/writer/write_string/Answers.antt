@@ -1,6 +1,6 @@
 use Rattle.std.proofs.Common.{◌++◌, ◌∙◌, ap, subst, sym, string_bytes}
 use Rattle.naga_back.specs.Flags.{annotates_types}
-use Rattle.naga_wgsl_out.proofs.Places.{as_told, told_under}
+use Rattle.naga_wgsl_out.proofs.Positions.{as_told, told_under}
 use Rattle.naga_wgsl_out.specs.Headline.{MatchesModule}
 use Rattle.naga_wgsl_out.specs.Unwritable.{TellsFirst}
 use Rattle.naga_wgsl_out.proofs.writer.write_string.Goals as goal

@@ -6,8 +6,14 @@ use Rattle.yorwethul_c.proofs.answers.checked_flat.Goals as goal
 
 pub returns-in-Some : goal.returns-in-Some
 returns-in-Some c =
-    λ json. said (TellsOfChecking json) status.NotAccepted _ _ (faulty c.args.known.now.module c.args.known.now.info _ _ c.in-Some.is c.unaccepted.ensures.fault) refl c.not_accepted.ensures
+    λ json. said (TellsOfChecking json) status.NotAccepted _ _
+    (faulty c.args.known.now.module c.args.known.now.info _ _ c.in-Some.is c.unaccepted.ensures.fault) refl
+    c.not_accepted.ensures
 
 pub returns-in-None : goal.returns-in-None
 returns-in-None c =
-    λ json. (accepted_by c.args.known.now.module c.args.known.now.info _ c.in-None.is c.unaccepted.ensures.accepted, search rules)
+    λ json. (
+      accepted_by c.args.known.now.module c.args.known.now.info _
+          c.in-None.is c.unaccepted.ensures.accepted,
+      search rules,
+    )

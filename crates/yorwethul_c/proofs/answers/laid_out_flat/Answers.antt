@@ -6,7 +6,9 @@ use Rattle.yorwethul_c.proofs.answers.laid_out_flat.Goals as goal
 
 pub returns-in-Some : goal.returns-in-Some
 returns-in-Some c =
-    λ json. said (TellsOfLayouts json) status.NotAccepted _ _ (faulty c.args.known.now.module c.args.known.now.info _ _ c.in-Some.is c.unaccepted.ensures.fault) refl c.not_accepted.ensures
+    λ json. said (TellsOfLayouts json) status.NotAccepted _ _
+    (faulty c.args.known.now.module c.args.known.now.info _ _ c.in-Some.is c.unaccepted.ensures.fault) refl
+    c.not_accepted.ensures
 
 pub returns-in-Ok : goal.returns-in-Ok
 returns-in-Ok c =
@@ -14,4 +16,6 @@ returns-in-Ok c =
 
 pub returns-in-Err : goal.returns-in-Err
 returns-in-Err c =
-    λ json. said (TellsOfLayouts json) status.Refused _ _ (accepted_by c.args.known.now.module c.args.known.now.info _ c.in-None.is c.unaccepted.ensures.accepted) refl c.told.ensures
+    λ json. said (TellsOfLayouts json) status.Refused _ _
+    (accepted_by c.args.known.now.module c.args.known.now.info _ c.in-None.is c.unaccepted.ensures.accepted)
+    refl c.told.ensures

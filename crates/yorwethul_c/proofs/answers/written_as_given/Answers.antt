@@ -16,8 +16,12 @@ returns-in-Err c =
     let m = c.args.known.now.module in
     let info = c.write_within.new.info in
     let writer = c.writer_flags.result in
-    let is = subst (λ r. IfErr r (IsUnwritten writer (record { nesting = deepest_nesting; text = longest_text }) given m c.args.known.now.info info)) c.in-Err.is c.write_within.ensures.unwritten in
-    λ json. not_written json c.args.flags writer given m c.args.known.now.info info _ _ _ (at_most_seven c.args.flags c.requires.known) c.writer_flags.ensures (λ _. as_given c.args.flags given c.requires.known) is c.not_written.ensures
+    let is = subst
+    (λ r. IfErr r (IsUnwritten writer (record { nesting = deepest_nesting; text = longest_text }) given m
+    c.args.known.now.info info)) c.in-Err.is c.write_within.ensures.unwritten in
+    λ json. not_written json c.args.flags writer given m c.args.known.now.info info _ _ _
+    (at_most_seven c.args.flags c.requires.known) c.writer_flags.ensures
+    (λ _. as_given c.args.flags given c.requires.known) is c.not_written.ensures
 
 pub returns-in-Ok : goal.returns-in-Ok
 returns-in-Ok c =
@@ -27,8 +31,15 @@ returns-in-Ok c =
     let info = c.write_within.new.info in
     let writer = c.writer_flags.result in
     let w = c.in-Ok.written in
-    let accepted = subst (λ r. IfOk r (λ _. IsTrue (is_accepted given read))) c.in-Ok.is c.write_within.ensures.accepted in
+    let accepted =
+    subst (λ r. IfOk r (λ _. IsTrue (is_accepted given read))) c.in-Ok.is c.write_within.ensures.accepted in
     let counted = subst (λ r. IfOk r (λ _. IsCounted m read info)) c.in-Ok.is c.write_within.ensures.counted in
-    let answers = subst (λ r. IfOk r (λ w. (failures : ℕ) × AnswersWriting writer m info w.answer w.refusal [] (string_bytes w.sink) 0 failures)) c.in-Ok.is c.write_within.ensures.written in
-    let within = subst (λ r. IfOk r (λ w. length (string_bytes w.sink) ≤ longest_text)) c.in-Ok.is c.write_within.ensures.within in
-    λ json. wrote json c.args.flags writer given m read info w.answer (string_bytes w.sink) answers.0 _ _ (at_most_seven c.args.flags c.requires.known) c.writer_flags.ensures (as_given c.args.flags given c.requires.known) accepted counted answers.1.faithful answers.1.text within c.told_written.ensures
+    let answers =
+    subst (λ r. IfOk r (λ w. (failures : ℕ) × AnswersWriting writer m info w.answer w.refusal []
+    (string_bytes w.sink) 0 failures)) c.in-Ok.is c.write_within.ensures.written in
+    let within = subst (λ r. IfOk r (λ w. length (string_bytes w.sink) ≤ longest_text)) c.in-Ok.is
+    c.write_within.ensures.within in
+    λ json. wrote json c.args.flags writer given m read info w.answer (string_bytes w.sink) answers.0 _ _
+    (at_most_seven c.args.flags c.requires.known) c.writer_flags.ensures
+    (as_given c.args.flags given c.requires.known) accepted counted answers.1.faithful answers.1.text within
+    c.told_written.ensures

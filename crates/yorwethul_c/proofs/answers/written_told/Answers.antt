@@ -17,9 +17,14 @@ returns-in-Err c =
     let m = c.write_told_within.new.«module» in
     let info = c.write_told_within.new.info in
     let writer = c.writer_flags.result in
-    let is = subst (λ r. IfErr r (IsUnwritten writer (record { nesting = deepest_nesting; text = longest_text }) given m c.args.known.now.info info)) c.in-Err.is c.write_told_within.ensures.unwritten in
-    let too_long = subst (λ r. IfErr r (λ e. e ≡ unwritten.TooLong → IsToldModule given m)) c.in-Err.is c.write_told_within.ensures.too_long in
-    λ json. not_written json c.args.flags writer given m c.args.known.now.info info _ _ _ c.requires.known c.writer_flags.ensures (λ e. with_floats_told c.args.flags given m c.requires.told (too_long e)) is c.not_written.ensures
+    let is = subst
+    (λ r. IfErr r (IsUnwritten writer (record { nesting = deepest_nesting; text = longest_text }) given m
+    c.args.known.now.info info)) c.in-Err.is c.write_told_within.ensures.unwritten in
+    let too_long = subst (λ r. IfErr r (λ e. e ≡ unwritten.TooLong → IsToldModule given m)) c.in-Err.is
+    c.write_told_within.ensures.too_long in
+    λ json. not_written json c.args.flags writer given m c.args.known.now.info info _ _ _ c.requires.known
+    c.writer_flags.ensures (λ e. with_floats_told c.args.flags given m c.requires.told (too_long e)) is
+    c.not_written.ensures
 
 pub returns-in-Ok : goal.returns-in-Ok
 returns-in-Ok c =
@@ -29,9 +34,15 @@ returns-in-Ok c =
     let info = c.write_told_within.new.info in
     let writer = c.writer_flags.result in
     let w = c.in-Ok.written in
-    let accepted = subst (λ r. IfOk r (λ _. IsTrue (is_accepted given read))) c.in-Ok.is c.write_told_within.ensures.accepted in
+    let accepted =
+    subst (λ r. IfOk r (λ _. IsTrue (is_accepted given read))) c.in-Ok.is c.write_told_within.ensures.accepted in
     let counted = subst (λ r. IfOk r (λ _. IsCounted m read info)) c.in-Ok.is c.write_told_within.ensures.counted in
     let told = subst (λ r. IfOk r (λ _. IsToldModule given m)) c.in-Ok.is c.write_told_within.ensures.told in
-    let answers = subst (λ r. IfOk r (λ w. (failures : ℕ) × AnswersWriting writer m info w.answer w.refusal [] (string_bytes w.sink) 0 failures)) c.in-Ok.is c.write_told_within.ensures.written in
-    let within = subst (λ r. IfOk r (λ w. length (string_bytes w.sink) ≤ longest_text)) c.in-Ok.is c.write_told_within.ensures.within in
-    λ json. wrote json c.args.flags writer given m read info w.answer (string_bytes w.sink) answers.0 _ _ c.requires.known c.writer_flags.ensures (with_floats_told c.args.flags given m c.requires.told told) accepted counted answers.1.faithful answers.1.text within c.told_written.ensures
+    let answers =
+    subst (λ r. IfOk r (λ w. (failures : ℕ) × AnswersWriting writer m info w.answer w.refusal []
+    (string_bytes w.sink) 0 failures)) c.in-Ok.is c.write_told_within.ensures.written in
+    let within = subst (λ r. IfOk r (λ w. length (string_bytes w.sink) ≤ longest_text)) c.in-Ok.is
+    c.write_told_within.ensures.within in
+    λ json. wrote json c.args.flags writer given m read info w.answer (string_bytes w.sink) answers.0 _ _
+    c.requires.known c.writer_flags.ensures (with_floats_told c.args.flags given m c.requires.told told)
+    accepted counted answers.1.faithful answers.1.text within c.told_written.ensures

@@ -5,4 +5,5 @@ use Rattle.yorwethul_c.proofs.nesting.nests_past.Given as goal
 
 abbrev pub invariant-loop-byte : goal.invariant-loop-byte
 invariant-loop-byte l =
-    (l.opened ≤ l.most) × (nest_past l.most within.Outside 0 l.json ≡ nest_past l.most l.within l.opened (drop l.byte-index l.json))
+    (l.opened ≤ l.most) × (nest_past l.most within.Outside 0 l.json ≡ nest_past l.most l.within l.opened
+    (drop l.byte-index l.json))

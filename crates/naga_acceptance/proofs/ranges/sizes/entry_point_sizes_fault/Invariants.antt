@@ -6,5 +6,6 @@ use Rattle.naga_acceptance.proofs.ranges.sizes.entry_point_sizes_fault.Given as 
 
 abbrev pub invariant-loop-index : goal.invariant-loop-index
 invariant-loop-index l =
-    first_unfit (λ _ p. entry_point_size_fits p.0 p.1) (enumerate_from l.index (zip (drop l.index l.entry_points) (drop l.index l.infos)))
+    first_unfit (λ _ p. entry_point_size_fits p.0 p.1)
+    (enumerate_from l.index (zip (drop l.index l.entry_points) (drop l.index l.infos)))
     ≡ first_unfit (λ _ p. entry_point_size_fits p.0 p.1) (enumerate_from 0 (zip l.entry_points l.infos))

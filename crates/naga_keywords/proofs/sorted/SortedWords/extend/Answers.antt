@@ -18,7 +18,8 @@ loop-word-preserved g c =
     let before = c.loop-word.self in
     let word = c.in-Some.word in
     let case = c.reserve.new.self.case in
-    let is = c.in_ok-insert.ensures.ok ∙ ap (λ k. set.insert before.words (comparison_key k word.now)) c.loop-word.invariant.1 in (
+    let is = c.in_ok-insert.ensures.ok ∙ ap (λ k. set.insert before.words (comparison_key k word.now))
+    c.loop-word.invariant.1 in (
       union-push (λ w. comparison_key case w.now) c.reserve.new.self.words before.words c.insert.new.self.words
           c.loop-word.yielded word c.loop-word.invariant.0 is,
       c.in_ok-insert.ensures.case ∙ c.loop-word.invariant.1,

@@ -14,7 +14,8 @@ loop-word-preserved c =
     let words = c.args.words.now in
     let i = c.loop-word.word-index in
     let word = get_or words i (record { ref_ptr = (0, 0); now = [] }) in
-    let is = c.in_ok-insert.ensures.ok ∙ ap (λ k. set.insert before.words (comparison_key k word.now)) c.loop-word.invariant.1 in (
+    let is = c.in_ok-insert.ensures.ok ∙ ap (λ k. set.insert before.words (comparison_key k word.now))
+    c.loop-word.invariant.1 in (
       texts_of-take (λ w. comparison_key c.args.case w.now) before.words c.insert.new.self.words words i
           (record { ref_ptr = (0, 0); now = [] }) c.loop-word-test.true c.loop-word.invariant.0 is,
       c.in_ok-insert.ensures.case ∙ c.loop-word.invariant.1,

@@ -7,12 +7,15 @@ pub invariant_of-self : goal.invariant_of-self
 invariant_of-self c =
     let case = c.self.inside.case in
     let word = comparison_key case c.args.word.now in
-    let place = subst (λ ms. IsPlaceOf (keys_of case ms) word c.in-Some.index) c.deref.ensures.value c.in-Some.ensures in
-    stays_sorted case c.self.inside.members.items _ c.args.word c.in-Some.index _ c.self.invariant place c.insert.ensures.items
+    let place = subst (λ ms. IsPlaceOf (keys_of case ms) word c.in-Some.index) c.deref.ensures.value
+    c.in-Some.ensures in
+    stays_sorted case c.self.inside.members.items _ c.args.word c.in-Some.index _ c.self.invariant place
+    c.insert.ensures.items
 
 pub returns-in_ok-insert-clause-ok : goal.returns-in_ok-insert-clause-ok
 returns-in_ok-insert-clause-ok c =
-    one_more c.self.inside.case c.self.inside.members.items _ c.args.word c.in-Some.index c.in_ok-insert.ensures.items c.args.self.now c.self.view_is
+    one_more c.self.inside.case c.self.inside.members.items _ c.args.word c.in-Some.index
+    c.in_ok-insert.ensures.items c.args.self.now c.self.view_is
 
 pub returns-in_default-clause-ok : goal.returns-in_default-clause-ok
 returns-in_default-clause-ok c =

@@ -8,7 +8,8 @@ use Rattle.naga_names.proofs.namer.Namer.name_each_member.Goals as goal
 
 pub returns-in_default-clause-err : goal.returns-in_default-clause-err
 returns-in_default-clause-err c =
-    member_key_refused c.args.self.now (names_in c.args.output.now) c.args.ty c.args.members.now c.loop-index.index c.loop-index.self (names_in c.loop-index.output) c.index-members-index.result
+    member_key_refused c.args.self.now (names_in c.args.output.now) c.args.ty c.args.members.now
+    c.loop-index.index c.loop-index.self (names_in c.loop-index.output) c.index-members-index.result
     c.loop-index-test.true c.index-members-index.is c.in_default.ensures c.loop-index.invariant.named
 
 pub returns-in_err-put_name-clause-err : goal.returns-in_err-put_name-clause-err
@@ -23,7 +24,8 @@ returns-in_err-put_name-clause-err c =
 
 pub loop-index-preserved : goal.loop-index-preserved
 loop-index-preserved c = record {
-  words = c.put_name.ensures.words ∙ ap (λ (names : Names). record names { uses = c.put_name.new.self.uses }) c.loop-index.invariant.words;
+  words = c.put_name.ensures.words
+      ∙ ap (λ (names : Names). record names { uses = c.put_name.new.self.uses }) c.loop-index.invariant.words;
   named =
       member_more_at c.args.self.now (names_in c.args.output.now) c.args.ty c.args.members.now
       c.loop-index.index c.loop-index.self c.put_name.new.self (names_in c.loop-index.output)

@@ -18,13 +18,16 @@ returns-clause-ok c =
     c.replace-builtin_identifiers.new.dest c.self.view_is (c.replace-uses.ensures.after
     ∙ c.new.ensures) (c.replace-builtin_identifiers.ensures.after ∙ c.new-no_words.ensures) in
     on_ok_then c.name_each_member-named.result c.name_each_member-named.ensures.ok
-    (λ named. subst (λ names. NamesItems c.args.self.now (names_in c.args.output.now) (labelled_members c.args.ty c.args.members.now) names (names_in c.name_each_member-named.new.output))
+    (λ named. subst (λ names. NamesItems c.args.self.now (names_in c.args.output.now)
+    (labelled_members c.args.ty c.args.members.now) names (names_in c.name_each_member-named.new.output))
     (sym (outside_again _ c.args.self.now _ c.name_each_member-named.new.self c.replace-uses.result
     c.replace-builtin_identifiers.result c.replace-builtin_identifiers.new.dest c.self.view_is
     c.self-2.view_is c.name_each_member-named.ensures.words c.replace-uses.ensures.value
     c.replace-builtin_identifiers.ensures.value))
-    (members_named c.args.self.now (names_in c.args.output.now) (names_in c.name_each_member-named.new.output) c.args.ty c.args.members.now c.name_each_member-named.new.self
-    (subst (λ names. HasNamedMembers names (names_in c.args.output.now) c.args.ty c.args.members.now c.name_each_member-named.new.self (names_in c.name_each_member-named.new.output)) start named)))
+    (members_named c.args.self.now (names_in c.args.output.now) (names_in c.name_each_member-named.new.output)
+    c.args.ty c.args.members.now c.name_each_member-named.new.self
+    (subst (λ names. HasNamedMembers names (names_in c.args.output.now) c.args.ty c.args.members.now
+    c.name_each_member-named.new.self (names_in c.name_each_member-named.new.output)) start named)))
 
 pub returns-clause-err : goal.returns-clause-err
 returns-clause-err c =
@@ -35,5 +38,7 @@ returns-clause-err c =
     _ (RefusesItems c.args.self.now (names_in c.args.output.now)
     (labelled_members c.args.ty c.args.members.now)
     (names_in c.name_each_member-named.new.output)) c.name_each_member-named.ensures.err
-    (λ e refused. members_refused c.args.self.now (names_in c.args.output.now) (names_in c.name_each_member-named.new.output) c.args.ty c.args.members.now e
-    (subst (λ names. RefusesMembers names (names_in c.args.output.now) c.args.ty c.args.members.now (names_in c.name_each_member-named.new.output) e) start refused))
+    (λ e refused. members_refused c.args.self.now (names_in c.args.output.now)
+    (names_in c.name_each_member-named.new.output) c.args.ty c.args.members.now e
+    (subst (λ names. RefusesMembers names (names_in c.args.output.now) c.args.ty c.args.members.now
+    (names_in c.name_each_member-named.new.output) e) start refused))

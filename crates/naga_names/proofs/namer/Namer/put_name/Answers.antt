@@ -4,7 +4,8 @@ use Rattle.naga_names.proofs.Reset.{used_words, names_in-insert}
 use Rattle.naga_names.proofs.namer.Namer.put_name.Goals as goal
 
 pub returns-in_err-insert-clause-words : goal.returns-in_err-insert-clause-words
-returns-in_err-insert-clause-words c = used_words c.args.self.now c.call.new.self c.args.label.now c.in_ok-name.ensures.used
+returns-in_err-insert-clause-words c =
+    used_words c.args.self.now c.call.new.self c.args.label.now c.in_ok-name.ensures.used
 
 pub returns-clause-words : goal.returns-clause-words
 returns-clause-words c = used_words c.args.self.now c.call.new.self c.args.label.now c.in_ok-name.ensures.used

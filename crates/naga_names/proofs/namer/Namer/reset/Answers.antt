@@ -57,7 +57,8 @@ returns-in-Err-end c =
     ∙ starts c.args.reserved_keywords c.args.builtin_identifiers
     c.args.keywords_case_insensitive c.new-uses.result c.in-Ok.prefixes.items
     c.args.reserved_prefixes.now c.new-uses.ensures c.in-Ok.ensures.items in
-    let some = some_named _ _ _ _ same refl c.new-naming.ensures.refusal c.name_items.ensures _ c.in-Err-end.ensures.err in
+    let some = some_named _ _ _ _ same refl c.new-naming.ensures.refusal c.name_items.ensures _
+    c.in-Err-end.ensures.err in
     refused _ c.args.module.now _ _ _ _ (c.drop-in-Err-end.view_is ∙ c.default-in-Err-end.ensures.empty)
     some.0 some.1
 

@@ -7,7 +7,8 @@ use Rattle.naga_names.proofs.namer.label.push_foreign.Goals as goal
 
 pub returns-then-is_empty : goal.returns-then-is_empty
 returns-then-is_empty c = on_ok_then c.push_number.result c.push_number.ensures (λ done before is.
-    let none : length (string_bytes c.args.text.now) ≡ 0 = sym (ap length c.as_str.ensures.value) ∙ eqb-true _ 0 (sym c.is_empty.ensures ∙ c.if-is_empty.true) in
+    let none : length (string_bytes c.args.text.now) ≡ 0 = sym (ap length c.as_str.ensures.value)
+    ∙ eqb-true _ 0 (sym c.is_empty.ensures ∙ c.if-is_empty.true) in
     done ∙ ap (λ t. t ++ by_number c.args.c) (nothing_there (string_bytes c.args.text.now) none)
     ∙ sym (spelling-first_foreign before c.args.c c.requires (sym (ap length is) ∙ none)))
 

@@ -7,7 +7,8 @@ use Rattle.naga_names.proofs.namer.label.push_spelled.Goals as goal
 
 pub returns-then-is_separating : goal.returns-then-is_separating
 returns-then-is_separating c = on_ok_then c.push_separator.result c.push_separator.ensures (λ done before is.
-    done ∙ ap with_separator is ∙ sym (spelling-separating before c.args.c (sym c.is_separating.ensures ∙ c.if-is_separating.true)))
+    done ∙ ap with_separator is
+    ∙ sym (spelling-separating before c.args.c (sym c.is_separating.ensures ∙ c.if-is_separating.true)))
 
 pub returns-then-is_ascii_alphanumeric : goal.returns-then-is_ascii_alphanumeric
 returns-then-is_ascii_alphanumeric c =

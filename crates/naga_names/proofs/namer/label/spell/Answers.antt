@@ -15,6 +15,9 @@ returns c =
     let skipped = c.skip_while-c-items.ensures in
     let road = YieldsList-at c.into_iter-c-iterator.ensures.into_iter_gives
     (YieldsList-from_skip_while _ (λ c. c) _ is_numeric _ (λ x b q k. (refl, k.called.met ∙ ap is_numeric k.shows))
-    (YieldsList-at skipped.source (YieldsList-from_chars c.args.label.now c.utf8.label c.chars.ensures.rest)) skipped.closure skipped.done_skipping) in
-    let done = YieldsList-end road c.loop-c.yielded c.loop-c.c-iterator c.loop-c.yielded_by c.next.result c.next.new.self c.in-None.is c.next.ensures.steps in
-    c.loop-c.invariant ∙ ap spelling (sym (same_items c.loop-c.yielded) ∙ done.0 ∙ sym (after_numerics-drop (chars c.args.label.now)))
+    (YieldsList-at skipped.source (YieldsList-from_chars c.args.label.now c.utf8.label c.chars.ensures.rest))
+    skipped.closure skipped.done_skipping) in
+    let done = YieldsList-end road c.loop-c.yielded c.loop-c.c-iterator c.loop-c.yielded_by c.next.result
+    c.next.new.self c.in-None.is c.next.ensures.steps in
+    c.loop-c.invariant ∙ ap spelling (sym (same_items c.loop-c.yielded) ∙ done.0
+    ∙ sym (after_numerics-drop (chars c.args.label.now)))

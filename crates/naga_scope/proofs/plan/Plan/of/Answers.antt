@@ -44,12 +44,15 @@ returns c =
       ok = of_the_ok (IsPlan c.args.explicit m info) m info g f es c.function_of.ensures.function
           c.function_of.ensures.known
           c.of_function.result c.of_function.ensures.ok;
-      named = subst (λ ls. IfOk c.of_function.result (λ p. NamesLabels c.args.namer.now [] ls c.of_function.new.namer p.named)) labels c.of_function.ensures.named;
+      named = subst (λ ls. IfOk c.of_function.result
+          (λ p. NamesLabels c.args.namer.now [] ls c.of_function.new.namer p.named)) labels c.of_function.ensures.named;
       err = of_the_err (λ f es. IsRefusalToPlan c.args.explicit m info f es c.args.namer.now) m info g f es
           c.function_of.ensures.function c.function_of.ensures.known c.of_function.result
           c.of_function.ensures.err;
-      first = of_the_err (λ f es. IsFirstToPlan (LabelsGetNames c.args.namer.now f) c.args.explicit m info f es) m info g f es
+      first = of_the_err (λ f es. IsFirstToPlan (LabelsGetNames c.args.namer.now f) c.args.explicit m info f es)
+          m info g f es
           c.function_of.ensures.function c.function_of.ensures.known c.of_function.result
           c.of_function.ensures.first;
-      begun = subst (λ ls. OnErr c.of_function.result (HasBegunLabels c.args.namer.now ls c.of_function.new.namer)) labels c.of_function.ensures.begun;
+      begun = subst (λ ls. OnErr c.of_function.result
+          (HasBegunLabels c.args.namer.now ls c.of_function.new.namer)) labels c.of_function.ensures.begun;
     }

@@ -33,15 +33,18 @@ module _ (k : KnownFunction) (sts : List StatementTree) (trees : sts ≡ trees_i
   all_labels : flat_map (own_labels k.function.now) sts ≡ expression_labels k.function.now
   all_labels = ap (flat_map (own_labels k.function.now)) trees ∙ labels_in_order k.function.now k.function.now.body
 
-  named_all : {old new : Names} {now : List (List ℕ)} → NamesLabels old [] (flat_map (own_labels k.function.now) sts) new now →
+  named_all : {old new : Names} {now : List (List ℕ)} →
+      NamesLabels old [] (flat_map (own_labels k.function.now) sts) new now →
       NamesLabels old [] (expression_labels k.function.now) new now
   named_all {old} {new} {now} named = subst (λ ls. NamesLabels old [] ls new now) all_labels named
 
-  begun_all : {old new : Names} {now : List (List ℕ)} → NamesLabels old [] (flat_map (own_labels k.function.now) sts) new now →
+  begun_all : {old new : Names} {now : List (List ℕ)} →
+      NamesLabels old [] (flat_map (own_labels k.function.now) sts) new now →
       HasBegunLabels old (expression_labels k.function.now) new
   begun_all named = named_begun (named_all named)
 
-  refused_all : {old new : Names} {e : NamerError} → RefusesLabels old (flat_map (own_labels k.function.now) sts) new e →
+  refused_all : {old new : Names} {e : NamerError} →
+      RefusesLabels old (flat_map (own_labels k.function.now) sts) new e →
       RefusesLabels old (expression_labels k.function.now) new e
   refused_all {old} {new} {e} refused = subst (λ ls. RefusesLabels old ls new e) all_labels refused
 
@@ -61,7 +64,8 @@ on_err (Err e) p = p
 pub check_function-checked-requires : goal.check_function-checked-requires
 check_function-checked-requires c =
     let k = c.args.known.now in
-    let changes = all_changes k _ (ap trees_of c.as_slice-statements.ensures.value ∙ c.in_ok-found.ensures) c.in-Some.changes c.in-Some.ensures in
+    let changes = all_changes k _ (ap trees_of c.as_slice-statements.ensures.value ∙ c.in_ok-found.ensures)
+    c.in-Some.changes c.in-Some.ensures in
     let start = c.in_ok-scope.ensures.start (λ number. []) k.shader.now k.module_info.now k.info.now in
     record {
       at = record {
@@ -76,7 +80,8 @@ check_function-checked-requires c =
     }
 
 -- there are as many names as labels
-few : {X : Type 0} (labels : List (List ℕ)) (names : List (String X)) → length (map string_bytes names) ≡ 0 + length labels → length names < 2 ^ 64 → length labels < 2 ^ 64
+few : {X : Type 0} (labels : List (List ℕ)) (names : List (String X)) → length (map string_bytes names)
+    ≡ 0 + length labels → length names < 2 ^ 64 → length labels < 2 ^ 64
 few labels names count small = let same = mapped_length string_bytes names in omega (arith, count, small, same)
 
 pub returns-in-Some-first : goal.returns-in-Some-first
@@ -84,20 +89,24 @@ returns-in-Some-first c =
     let k = c.args.known.now in
     let sts = trees_of c.as_slice-statements.result.now in
     let trees = ap trees_of c.as_slice-statements.ensures.value ∙ c.in_ok-found.ensures in
-    let small = few_trees c.as_slice-statements.result.now c.in_ok-found.found.items c.as_slice-statements.ensures.value (omega (arith, c.in_ok-found.found.ok.0, c.in_ok-found.found.small)) in
-    let found = first_found c.args.explicit k.shader.now k.module_info.now k.function.now k.info.now c.args.namer.now sts trees c.requires.ordered small
+    let small = few_trees c.as_slice-statements.result.now c.in_ok-found.found.items
+    c.as_slice-statements.ensures.value (omega (arith, c.in_ok-found.found.ok.0, c.in_ok-found.found.small)) in
+    let found = first_found c.args.explicit k.shader.now k.module_info.now k.function.now k.info.now
+    c.args.namer.now sts trees c.requires.ordered small
     c.check_function-checked.result c.check_function-checked.ensures.check
     c.unsupported_statement.result c.unsupported_statement.ensures
     c.in_ok-written.written c.in_ok-written.ensures
     c.declared_without_form.result c.declared_without_form.ensures
     c.annotated_without_form.result c.annotated_without_form.ensures in
-    let first = subst (FoundBelow c.args.explicit k.shader.now k.module_info.now k.function.now k.info.now c.args.namer.now 5) (sym c.first_lack-first.ensures ∙ c.in-Some-first.is) found in
+    let first = subst (FoundBelow c.args.explicit k.shader.now k.module_info.now k.function.now k.info.now
+    c.args.namer.now 5) (sym c.first_lack-first.ensures ∙ c.in-Some-first.is) found in
     record {
       ok = tt;
       named = tt;
       err = first.refused;
       first = first_to_plan c.args.explicit k.shader.now k.module_info.now k.function.now k.info.now c.args.namer.now
-          (LabelsGetNames c.args.namer.now k.function.now) (none_full (named_all k sts trees c.in_ok-named.ensures.ok)) c.in-Some-first.error first;
+          (LabelsGetNames c.args.namer.now k.function.now)
+          (none_full (named_all k sts trees c.in_ok-named.ensures.ok)) c.in-Some-first.error first;
       begun = begun_all k sts trees c.in_ok-named.ensures.ok;
     }
 
@@ -107,8 +116,10 @@ returns-clause-ok c =
     let f = k.function.now in
     let sts = trees_of c.as_slice-statements.result.now in
     let trees = ap trees_of c.as_slice-statements.ensures.value ∙ c.in_ok-found.ensures in
-    let small = few_trees c.as_slice-statements.result.now c.in_ok-found.found.items c.as_slice-statements.ensures.value (omega (arith, c.in_ok-found.found.ok.0, c.in_ok-found.found.small)) in
-    let nothing = nothing_found c.args.explicit k.shader.now k.module_info.now f k.info.now c.args.namer.now sts trees c.requires.ordered small
+    let small = few_trees c.as_slice-statements.result.now c.in_ok-found.found.items
+    c.as_slice-statements.ensures.value (omega (arith, c.in_ok-found.found.ok.0, c.in_ok-found.found.small)) in
+    let nothing = nothing_found c.args.explicit k.shader.now k.module_info.now f k.info.now c.args.namer.now sts
+    trees c.requires.ordered small
     c.check_function-checked.result c.check_function-checked.ensures.check
     c.unsupported_statement.result c.unsupported_statement.ensures
     c.in_ok-written.written c.in_ok-written.ensures
@@ -116,7 +127,9 @@ returns-clause-ok c =
     c.annotated_without_form.result c.annotated_without_form.ensures
     (sym c.first_lack-first.ensures ∙ c.in_default-first.is) in
     let kept = c.check_function-checked.ensures.kept in
-    let at_first = subst (HasRoom c.in_ok-scope.scope) (all_changes k sts trees c.in-Some.changes c.in-Some.ensures) c.in_ok-scope.ensures.room in
+    let at_first =
+    subst (HasRoom c.in_ok-scope.scope) (all_changes k sts trees c.in-Some.changes c.in-Some.ensures)
+    c.in_ok-scope.ensures.room in
     record {
       in_scope = nothing.0;
       starts = λ named. c.restart.ensures.start named k.shader.now k.module_info.now k.info.now;
@@ -136,29 +149,36 @@ returns-clause-ok c =
 pub returns-in_err-named-clause-err : goal.returns-in_err-named-clause-err
 returns-in_err-named-clause-err c =
     let k = c.args.known.now in
-    let refused = refused_all k _ (ap trees_of c.as_slice-statements.ensures.value ∙ c.in_ok-found.ensures) c.in_err-named.ensures.err in
-    if_err c.from_residual-in_err-named.result (Unnamed c.in_err-named.field-0.0) (IsRefusalToPlanFor c.args.explicit k c.args.namer.now)
+    let refused = refused_all k _ (ap trees_of c.as_slice-statements.ensures.value ∙ c.in_ok-found.ensures)
+    c.in_err-named.ensures.err in
+    if_err c.from_residual-in_err-named.result (Unnamed c.in_err-named.field-0.0)
+    (IsRefusalToPlanFor c.args.explicit k c.args.namer.now)
     c.from_residual-in_err-named.ensures.1 refused.why
 
 pub returns-in_err-named-clause-begun : goal.returns-in_err-named-clause-begun
 returns-in_err-named-clause-begun c =
     on_err c.from_residual-in_err-named.result
-    (refused_begun (refused_all c.args.known.now _ (ap trees_of c.as_slice-statements.ensures.value ∙ c.in_ok-found.ensures) c.in_err-named.ensures.err))
+    (refused_begun (refused_all c.args.known.now _
+    (ap trees_of c.as_slice-statements.ensures.value ∙ c.in_ok-found.ensures) c.in_err-named.ensures.err))
 
 pub returns-clause-named : goal.returns-clause-named
 returns-clause-named c =
-    named_all c.args.known.now _ (ap trees_of c.as_slice-statements.ensures.value ∙ c.in_ok-found.ensures) c.in_ok-named.ensures.ok
+    named_all c.args.known.now _ (ap trees_of c.as_slice-statements.ensures.value ∙ c.in_ok-found.ensures)
+    c.in_ok-named.ensures.ok
 
 pub returns-in_default-clause-begun : goal.returns-in_default-clause-begun
 returns-in_default-clause-begun c =
-    begun_all c.args.known.now _ (ap trees_of c.as_slice-statements.ensures.value ∙ c.in_ok-found.ensures) c.in_ok-named.ensures.ok
+    begun_all c.args.known.now _ (ap trees_of c.as_slice-statements.ensures.value ∙ c.in_ok-found.ensures)
+    c.in_ok-named.ensures.ok
 
 pub returns-in_err-scope-clause-begun : goal.returns-in_err-scope-clause-begun
 returns-in_err-scope-clause-begun c =
     on_err c.from_residual-in_err-scope.result
-    (begun_all c.args.known.now _ (ap trees_of c.as_slice-statements.ensures.value ∙ c.in_ok-found.ensures) c.in_ok-named.ensures.ok)
+    (begun_all c.args.known.now _ (ap trees_of c.as_slice-statements.ensures.value ∙ c.in_ok-found.ensures)
+    c.in_ok-named.ensures.ok)
 
 pub returns-in_err-written-clause-begun : goal.returns-in_err-written-clause-begun
 returns-in_err-written-clause-begun c =
     on_err c.from_residual-in_err-written.result
-    (begun_all c.args.known.now _ (ap trees_of c.as_slice-statements.ensures.value ∙ c.in_ok-found.ensures) c.in_ok-named.ensures.ok)
+    (begun_all c.args.known.now _ (ap trees_of c.as_slice-statements.ensures.value ∙ c.in_ok-found.ensures)
+    c.in_ok-named.ensures.ok)

@@ -9,7 +9,9 @@ use Rattle.naga_scope.proofs.points.Scope.emit.Goals as goal
 
 pub stand-requires-clause-grows : goal.stand-requires-clause-grows
 stand-requires-clause-grows c =
-    subst (λ (p : TextPoint). IsTrue (grows (get_or p.table c.args.handle Absent) c.emitted-availability.result)) (sym c.self.view_is) c.emitted-availability.ensures.grows
+    subst (λ (p : TextPoint). IsTrue
+    (grows (get_or p.table c.args.handle Absent) c.emitted-availability.result))
+    (sym c.self.view_is) c.emitted-availability.ensures.grows
 
 pub returns-clause-kept : goal.returns-clause-kept
 returns-clause-kept c =
@@ -19,7 +21,8 @@ returns-clause-kept c =
       log = take c.self.inside.used c.self.inside.log.items;
       room = length c.self.inside.log.items;
     } in
-    subst (λ (p : TextPoint). Extends p c.stand.new.self) c.self.view_is (extends_named point c.named_following-self-inside.result c.stand.new.self c.stand.ensures.kept)
+    subst (λ (p : TextPoint). Extends p c.stand.new.self) c.self.view_is
+    (extends_named point c.named_following-self-inside.result c.stand.new.self c.stand.ensures.kept)
 
 pub returns-clause-handles : goal.returns-clause-handles
 returns-clause-handles c names m known named g same_types =

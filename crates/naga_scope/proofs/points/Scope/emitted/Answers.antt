@@ -59,7 +59,8 @@ returns-then-binds-clause-grows c = bound_grows _ _
 pub returns-then-is_operator-clause-grows : goal.returns-then-is_operator-clause-grows
 returns-then-is_operator-clause-grows c =
     let before = get_or c.args.self.now.table c.args.handle Absent in
-    subst (λ x. IsTrue (grows before x)) (sym (c.unbound.ensures ∙ ap (unbound_availability c.has_operands.result) c.availability-before.ensures))
+    subst (λ x. IsTrue (grows before x))
+    (sym (c.unbound.ensures ∙ ap (unbound_availability c.has_operands.result) c.availability-before.ensures))
     (emitted_grows false true c.has_operands.result Numbered before)
 
 pub returns-else-is_operator-clause-grows : goal.returns-else-is_operator-clause-grows

@@ -9,7 +9,9 @@ pub returns-clause-named : goal.returns-clause-named
 returns-clause-named c = forget_named _ _ _ c.loop-left.invariant.so_far
 
 pub returns-clause-forgets : goal.returns-clause-forgets
-returns-clause-forgets c before named at extends = forgotten_says named _ _ _ _ extends at (forget_done _ _ _ _ c.loop-left.invariant.so_far (omega arith))
+returns-clause-forgets c before named at extends =
+    forgotten_says named _ _ _ _ extends at (forget_done _ _ _ _ c.loop-left.invariant.so_far (omega arith))
 
 pub returns-clause-reverts : goal.returns-clause-reverts
-returns-clause-reverts c before at extends = forgotten_reverts _ _ _ _ (forget_done _ _ _ _ c.loop-left.invariant.so_far (omega arith)) at extends
+returns-clause-reverts c before at extends =
+    forgotten_reverts _ _ _ _ (forget_done _ _ _ _ c.loop-left.invariant.so_far (omega arith)) at extends

@@ -14,4 +14,5 @@ pub record Restarts (function : Function) (table : List Availability) (index : â
   pub starts : (m : Module) (known : ModuleInfo) (es : List ExpressionInfo) â†’ IsStart m known function es table index
 
 abbrev pub invariant-loop-index : goal.invariant-loop-index
-invariant-loop-index l = Restarts l.function l.self-inside.availabilities.items l.index (length l.initial.self-inside.log.items) (length l.self-inside.log.items)
+invariant-loop-index l = Restarts l.function l.self-inside.availabilities.items l.index
+    (length l.initial.self-inside.log.items) (length l.self-inside.log.items)

@@ -157,7 +157,8 @@ write_own-returns-in-CooperativeLoad g t c =
     written_as c.args.self.now c.requires.can
     c.index.ensures c.requires.handle c.in-CooperativeLoad.is in
     writes_as
-    (own_matrix_load c.args.self.now c.args.scope.now.table c.requires.can c.requires.handle formed c.index.ensures c.in-CooperativeLoad.is)
+    (own_matrix_load c.args.self.now c.args.scope.now.table c.requires.can c.requires.handle formed
+    c.index.ensures c.in-CooperativeLoad.is)
     c.write_matrix_load.ensures
 
 pub write_own-write_swizzle-requires : goal.write_own-write_swizzle-requires
@@ -197,7 +198,8 @@ write_own-returns-in-Some g t c =
 pub write_own-returns-in-None : goal.write_own-returns-in-None
 write_own-returns-in-None g t c =
     writes_as
-    (no_value_row c.args.self.now c.args.scope.now.table c.args.handle c.requires.can c.requires.handle c.index.result.now
+    (no_value_row c.args.self.now c.args.scope.now.table c.args.handle c.requires.can c.requires.handle
+    c.index.result.now
     c.index.ensures
     (record {
       literal = c.in_default.not-Literal;
@@ -245,7 +247,8 @@ write_own-returns-in-ZeroValue g t c =
     made_value c.args.self.now c.requires.can _ c.index.ensures
     c.requires.handle c.in-ZeroValue.is refl in
     writes_as
-    (own_made c.args.self.now c.args.scope.now.table _ _ c.requires.can c.requires.handle value c.index.ensures c.in-ZeroValue.is refl)
+    (own_made c.args.self.now c.args.scope.now.table _ _ c.requires.can c.requires.handle value c.index.ensures
+    c.in-ZeroValue.is refl)
     c.write_made.ensures
 
 pub write_own-returns-in-Compose : goal.write_own-returns-in-Compose
@@ -254,7 +257,8 @@ write_own-returns-in-Compose g t c =
     made_value c.args.self.now c.requires.can _ c.index.ensures
     c.requires.handle c.in-Compose.is refl in
     writes_as
-    (own_made c.args.self.now c.args.scope.now.table _ _ c.requires.can c.requires.handle value c.index.ensures c.in-Compose.is refl)
+    (own_made c.args.self.now c.args.scope.now.table _ _ c.requires.can c.requires.handle value c.index.ensures
+    c.in-Compose.is refl)
     c.write_made-in-Compose.ensures
 
 pub write_operands-loop-operand-init : goal.write_operands-loop-operand-init
@@ -274,7 +278,8 @@ write_operands-loop-operand-init g t c =
 
 pub write_operands-write_next_operand-requires : goal.write_operands-write_next_operand-requires
 write_operands-write_next_operand-requires g t c κs within =
-    let first = (subst (AllByRecursion (IsOperand c.args.self.now c.args.handle)) c.in-Some.ensures.steps c.loop-operand.invariant.before).0 in
+    let first = (subst (AllByRecursion (IsOperand c.args.self.now c.args.handle))
+    c.in-Some.ensures.steps c.loop-operand.invariant.before).0 in
     let before = first.0 in
     (omega (arith, before, c.decreases), (within, (c.requires.can, first.1)))
 
@@ -441,7 +446,8 @@ write_own-returns-in-As g t c =
     written_as c.args.self.now c.requires.can
     c.index.ensures c.requires.handle c.in-As.is in
     writes_as
-    (own_conversion c.args.self.now c.args.scope.now.table c.requires.can c.requires.handle allowed c.index.ensures c.in-As.is)
+    (own_conversion c.args.self.now c.args.scope.now.table c.requires.can c.requires.handle allowed
+    c.index.ensures c.in-As.is)
     c.write_conversion.ensures
 
 pub write_further-returns-in-Some : goal.write_further-returns-in-Some
@@ -572,8 +578,10 @@ write_sampling-write_further-requires g t c κs within =
     let e = c.in-ImageSample in
     let s = sampled_in self c.requires.can c.index.ensures c.in-ImageSample.is c.requires.handle in
     let image = s.image.0 in
-    let before = highest_below self h (option_to_list e.array_index) (omega (arith, image)) s.array in
-    (omega (arith, before, c.decreases), (within, (c.requires.can, all_in_text self h (option_to_list e.array_index) s.array)))
+    let before = highest_below self h (option_to_list e.array_index) (omega (arith, image)) s.array in (
+      omega (arith, before, c.decreases),
+      (within, (c.requires.can, all_in_text self h (option_to_list e.array_index) s.array)),
+    )
 
 pub write_sampling-write_further-requires-in-ImageSample : goal.write_sampling-write_further-requires-in-ImageSample
 write_sampling-write_further-requires-in-ImageSample g t c κs within =
@@ -582,8 +590,10 @@ write_sampling-write_further-requires-in-ImageSample g t c κs within =
     let e = c.in-ImageSample in
     let s = sampled_in self c.requires.can c.index.ensures c.in-ImageSample.is c.requires.handle in
     let image = s.image.0 in
-    let before = highest_below self h (option_to_list e.depth_ref) (omega (arith, image)) s.depth in
-    (omega (arith, before, c.decreases), (within, (c.requires.can, all_in_text self h (option_to_list e.depth_ref) s.depth)))
+    let before = highest_below self h (option_to_list e.depth_ref) (omega (arith, image)) s.depth in (
+      omega (arith, before, c.decreases),
+      (within, (c.requires.can, all_in_text self h (option_to_list e.depth_ref) s.depth)),
+    )
 
 pub write_sampling-write_level-requires : goal.write_sampling-write_level-requires
 write_sampling-write_level-requires g t c κs within =
@@ -592,8 +602,10 @@ write_sampling-write_level-requires g t c κs within =
     let e = c.in-ImageSample in
     let s = sampled_in self c.requires.can c.index.ensures c.in-ImageSample.is c.requires.handle in
     let image = s.image.0 in
-    let before = highest_below self h (level_operands e.level) (omega (arith, image)) s.level in
-    (omega (arith, before, c.decreases), (within, (c.requires.can, all_in_text self h (level_operands e.level) s.level)))
+    let before = highest_below self h (level_operands e.level) (omega (arith, image)) s.level in (
+      omega (arith, before, c.decreases),
+      (within, (c.requires.can, all_in_text self h (level_operands e.level) s.level)),
+    )
 
 pub write_sampling-write_offset-requires : goal.write_sampling-write_offset-requires
 write_sampling-write_offset-requires g t c κs within =

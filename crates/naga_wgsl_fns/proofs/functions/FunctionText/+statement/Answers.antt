@@ -38,13 +38,18 @@ write_lines-loop-statement-preserved g t c =
     let next : block_of (drop n items) ≡ _ = first_of items n x c.loop-statement-test.true c.statement-item.is in
     record {
       leaves = leaves_more _ _ _ _ _ _ _ c.loop-statement.invariant.leaves
-          (lines_more self k c.write_statement.new.at.scope.named s (handles_in self c.write_statement.new.at.scope.table) c.args.at.now.indent
-          items n x c.loop-statement-test.true c.statement-item.is c.write_statement.ensures.passed.named c.write_statement.ensures.after)
-          (writes_as (ap (λ i. statement_text self k s i (tree_of x)) c.loop-statement.invariant.indent) c.write_statement.ensures.text);
+          (lines_more self k c.write_statement.new.at.scope.named s
+          (handles_in self c.write_statement.new.at.scope.table) c.args.at.now.indent
+          items n x c.loop-statement-test.true c.statement-item.is c.write_statement.ensures.passed.named
+          c.write_statement.ensures.after)
+          (writes_as (ap (λ i. statement_text self k s i (tree_of x))
+          c.loop-statement.invariant.indent) c.write_statement.ensures.text);
       block = rest_at self items n x c.loop-statement-test.true c.statement-item.is c.loop-statement.invariant.block;
-      following = (λ i. after_statements self (c.write_statement.ensures.passed.named i) rest (c.write_statement.ensures.after i))
+      following = (λ i. after_statements self (c.write_statement.ensures.passed.named i) rest
+          (c.write_statement.ensures.after i))
           ∙ (ap (λ b. after_statements self k b s) (sym next) ∙ c.loop-statement.invariant.following);
-      named = ap (named_following self rest) c.write_statement.ensures.passed.named ∙ (ap (λ b. named_following self b k) (sym next) ∙ c.loop-statement.invariant.named);
+      named = ap (named_following self rest) c.write_statement.ensures.passed.named
+          ∙ (ap (λ b. named_following self b k) (sym next) ∙ c.loop-statement.invariant.named);
       kept = extends_then c.loop-statement.invariant.kept c.write_statement.ensures.kept;
       counted = omega (arith, ap block_changes next);
       names = omega (arith, ap block_changes next);
@@ -59,15 +64,21 @@ write_loop_body-returns-clause-text g t c =
     let k1 = c.write_lines.new.at.scope.named in
     let s1 = handles_in self c.write_lines.new.at.scope.table in
     writes_as
-    (sym (body_row self c.args.body.now _ back c.args.at.now.scope.named k1 (handles_in self c.args.at.now.scope.table) s1 c.args.at.now.indent
-    c.split_at_continue.ensures.before c.split_at_continue.ensures.from c.write_lines.ensures.passed.named c.write_lines.ensures.after))
-    (writes_then c.write_lines.ensures.text (writes_as (ap (λ i. block_text self k1 s1 i back) c.write_lines.ensures.passed.indent) c.write_lines-2.ensures.text))
+    (sym (body_row self c.args.body.now _ back c.args.at.now.scope.named k1
+    (handles_in self c.args.at.now.scope.table) s1 c.args.at.now.indent
+    c.split_at_continue.ensures.before c.split_at_continue.ensures.from c.write_lines.ensures.passed.named
+    c.write_lines.ensures.after))
+    (writes_then c.write_lines.ensures.text
+    (writes_as (ap (λ i. block_text self k1 s1 i back) c.write_lines.ensures.passed.indent)
+    c.write_lines-2.ensures.text))
 
 pub write_loop_body-returns-clause-after : goal.write_loop_body-returns-clause-after
 write_loop_body-returns-clause-after g t c =
     let self = c.args.self.now in
-    body_leaves (naming self) (context self) c.args.body.now _ _ c.args.at.now.scope.named c.write_lines.new.at.scope.named _ _ _ _ c.split_at_continue.ensures.before c.split_at_continue.ensures.from
-    c.write_lines.ensures.passed.named c.write_lines.ensures.after c.write_lines-2.ensures.after (c.forget_from.ensures.forgets _ (named_in self) c.mark-mark.ensures c.write_lines-2.ensures.kept)
+    body_leaves (naming self) (context self) c.args.body.now _ _ c.args.at.now.scope.named
+    c.write_lines.new.at.scope.named _ _ _ _ c.split_at_continue.ensures.before c.split_at_continue.ensures.from
+    c.write_lines.ensures.passed.named c.write_lines.ensures.after c.write_lines-2.ensures.after
+    (c.forget_from.ensures.forgets _ (named_in self) c.mark-mark.ensures c.write_lines-2.ensures.kept)
 
 pub write_loop_body-returns-clause-passed : goal.write_loop_body-returns-clause-passed
 write_loop_body-returns-clause-passed g t c =
@@ -83,14 +94,19 @@ write_loop_body-returns-clause-passed g t c =
     let kept = c.forget_from.ensures.named in
     record {
       named = kept
-          ∙ body_named (naming self) (context self) c.args.body.now _ _ c.args.at.now.scope.named c.write_lines.new.at.scope.named c.write_lines-2.new.at.scope.named
+          ∙ body_named (naming self) (context self) c.args.body.now _ _ c.args.at.now.scope.named
+          c.write_lines.new.at.scope.named c.write_lines-2.new.at.scope.named
           c.split_at_continue.ensures.before c.split_at_continue.ensures.from one.named other.named;
-      counted = record { log = omega (arith, changes, log, logs, left); names = omega (arith, changes, names, more, kept) };
+      counted = record {
+        log = omega (arith, changes, log, logs, left);
+        names = omega (arith, changes, names, more, kept);
+      };
       indent = other.indent ∙ one.indent;
     }
 
 pub write_loop_body-returns-clause-kept : goal.write_loop_body-returns-clause-kept
-write_loop_body-returns-clause-kept g t c = reverts_then (reverts c.write_lines.ensures.kept) (c.forget_from.ensures.reverts _ c.mark-mark.ensures c.write_lines-2.ensures.kept)
+write_loop_body-returns-clause-kept g t c = reverts_then (reverts c.write_lines.ensures.kept)
+    (c.forget_from.ensures.reverts _ c.mark-mark.ensures c.write_lines-2.ensures.kept)
 
 -- ---- what has been passed
 pub write_lines-returns-clause-passed : goal.write_lines-returns-clause-passed
@@ -118,11 +134,13 @@ write_here-returns-clause-passed g t c =
 
 pub write_if-returns-clause-passed : goal.write_if-returns-clause-passed
 write_if-returns-clause-passed g t c =
-    both_passed c.args.self.now c.args.accept.now c.args.reject.now c.write_inner.ensures.passed c.write_else.ensures.passed
+    both_passed c.args.self.now c.args.accept.now c.args.reject.now c.write_inner.ensures.passed
+    c.write_else.ensures.passed
 
 pub write_turn_here-returns-clause-passed : goal.write_turn_here-returns-clause-passed
 write_turn_here-returns-clause-passed g t c =
-    both_passed c.args.self.now c.args.body.now c.args.continuing.now c.write_loop_body.ensures.passed c.write_continuing.ensures.passed
+    both_passed c.args.self.now c.args.body.now c.args.continuing.now c.write_loop_body.ensures.passed
+    c.write_continuing.ensures.passed
 
 pub write_cases-returns-clause-passed : goal.write_cases-returns-clause-passed
 write_cases-returns-clause-passed g t c =
@@ -144,7 +162,8 @@ write_inner-returns-clause-passed g t c = level_back c.args.at.now _ c.back_to.n
 pub write_inner-returns-clause-text : goal.write_inner-returns-clause-text
 write_inner-returns-clause-text g t c =
     let self = c.args.self.now in
-    c.deepen.ensures.text (λ i. block_text self c.args.at.now.scope.named (handles_in self c.args.at.now.scope.table) i c.args.body.now) _ c.write_here.ensures.text
+    c.deepen.ensures.text (λ i. block_text self c.args.at.now.scope.named
+    (handles_in self c.args.at.now.scope.table) i c.args.body.now) _ c.write_here.ensures.text
 
 pub write_turn-returns-clause-passed : goal.write_turn-returns-clause-passed
 write_turn-returns-clause-passed g t c =
@@ -155,10 +174,13 @@ write_turn-returns-clause-passed g t c =
 pub write_turn-returns-clause-text : goal.write_turn-returns-clause-text
 write_turn-returns-clause-text g t c =
     let self = c.args.self.now in
-    c.deepen.ensures.text (λ i. turn_text self c.args.at.now.scope.named (handles_in self c.args.at.now.scope.table) i c.args.body.now c.args.continuing.now c.args.break_if) _ c.write_turn_here.ensures.text
+    c.deepen.ensures.text (λ i. turn_text self c.args.at.now.scope.named
+    (handles_in self c.args.at.now.scope.table) i c.args.body.now c.args.continuing.now c.args.break_if) _
+    c.write_turn_here.ensures.text
 
 pub write_switch-returns-clause-passed : goal.write_switch-returns-clause-passed
-write_switch-returns-clause-passed g t c = level_back c.args.at.now _ c.back_to.new.self c.write_cases.ensures.passed (cc)
+write_switch-returns-clause-passed g t c =
+    level_back c.args.at.now _ c.back_to.new.self c.write_cases.ensures.passed (cc)
 
 pub write_switch-returns-clause-text : goal.write_switch-returns-clause-text
 write_switch-returns-clause-text g t c =
@@ -168,12 +190,14 @@ write_switch-returns-clause-text g t c =
     let level : c.back_to.new.self ≡ c.args.at.now.indent = cc in
     writes_as (sym (switch_row self k s c.args.at.now.indent c.args.selector (cases_of c.args.cases.now)))
     (writes_then c.write_around.ensures
-    (writes_then (c.deepen.ensures.text (λ i. cases_text self k s i [] (cases_of c.args.cases.now)) _ c.write_cases.ensures.text)
+    (writes_then (c.deepen.ensures.text (λ i. cases_text self k s i [] (cases_of c.args.cases.now)) _
+    c.write_cases.ensures.text)
     (writes_as (ap (λ i. line_start i (codes "}\n")) level) c.write_start.ensures)))
 
 -- ---- what stands last in a loop
 pub write_break_if-returns-clause-passed : goal.write_break_if-returns-clause-passed
-write_break_if-returns-clause-passed g t c = level_back c.args.at.now _ c.back_to.new.self c.write_last.ensures.passed (cc)
+write_break_if-returns-clause-passed g t c =
+    level_back c.args.at.now _ c.back_to.new.self c.write_last.ensures.passed (cc)
 
 pub write_break_if-returns-clause-text : goal.write_break_if-returns-clause-text
 write_break_if-returns-clause-text g t c =
@@ -183,13 +207,15 @@ write_break_if-returns-clause-text g t c =
     let level : c.back_to.new.self ≡ c.args.at.now.indent = cc in
     writes_as (sym (break_if_row self k s c.args.at.now.indent c.args.continuing.now c.args.condition))
     (writes_then c.write_start.ensures
-    (writes_then (c.deepen.ensures.text (λ i. last_text self k s i c.args.continuing.now c.args.condition) _ c.write_last.ensures.text)
+    (writes_then (c.deepen.ensures.text (λ i. last_text self k s i c.args.continuing.now c.args.condition) _
+    c.write_last.ensures.text)
     (writes_as (ap (λ i. line_start i (codes "}\n")) level) c.write_start-2.ensures)))
 
 pub write_plain_continuing-returns-clause-text : goal.write_plain_continuing-returns-clause-text
 write_plain_continuing-returns-clause-text g t c =
     let self = c.args.self.now in
-    writes_as (sym (continuing_row self c.args.at.now.scope.named (handles_in self c.args.at.now.scope.table) c.args.at.now.indent c.args.continuing.now (sym c.is_empty.ensures ∙ c.if-is_empty.false)))
+    writes_as (sym (continuing_row self c.args.at.now.scope.named (handles_in self c.args.at.now.scope.table)
+    c.args.at.now.indent c.args.continuing.now (sym c.is_empty.ensures ∙ c.if-is_empty.false)))
     c.write_braces.ensures.text
 
 -- ---- barriers
@@ -199,7 +225,8 @@ write_statement-returns-in-ControlBarrier-clause-text g t c =
     let k = c.args.at.now.scope.named in
     let s = handles_in self c.args.at.now.scope.table in
     let i = c.args.at.now.indent in
-    writes_as (control_row self k s i c.in-ControlBarrier.kept ∙ ap (λ st. statement_text self k s i (tree_of st)) (sym c.in-ControlBarrier.is)) c.write_barrier.ensures
+    writes_as (control_row self k s i c.in-ControlBarrier.kept
+    ∙ ap (λ st. statement_text self k s i (tree_of st)) (sym c.in-ControlBarrier.is)) c.write_barrier.ensures
 
 pub write_statement-returns-in-MemoryBarrier-clause-text : goal.write_statement-returns-in-MemoryBarrier-clause-text
 write_statement-returns-in-MemoryBarrier-clause-text g t c =
@@ -207,7 +234,8 @@ write_statement-returns-in-MemoryBarrier-clause-text g t c =
     let k = c.args.at.now.scope.named in
     let s = handles_in self c.args.at.now.scope.table in
     let i = c.args.at.now.indent in
-    writes_as (memory_row self k s i c.in-MemoryBarrier.kept ∙ ap (λ st. statement_text self k s i (tree_of st)) (sym c.in-MemoryBarrier.is)) c.write_barrier-in-MemoryBarrier.ensures
+    writes_as (memory_row self k s i c.in-MemoryBarrier.kept ∙ ap (λ st. statement_text self k s i (tree_of st))
+    (sym c.in-MemoryBarrier.is)) c.write_barrier-in-MemoryBarrier.ensures
 
 -- ---- cases
 pub write_cases-write_case-requires : goal.write_cases-write_case-requires
@@ -240,7 +268,10 @@ write_cases-write_case-requires g t c κs within =
               falling_is_empty self x.value x.body x.fall_through rest inside,
               record {
                 size = ap length inv.same.table ∙ c.requires.scope.size;
-                room = record { log = omega (arith, changes, log, room, fewer, has); names = omega (arith, changes, names, few) };
+                room = record {
+                  log = omega (arith, changes, log, room, fewer, has);
+                  names = omega (arith, changes, names, few);
+                };
               },
             ),
           ),
@@ -263,20 +294,25 @@ write_cases-loop-index-preserved g t c =
     let sizes = ap cases_size next in
     record {
       leaves = leaves_more _ _ _ _ _ _ _ inv.leaves
-          (cases_more self k c.write_case.new.at.scope.named s c.args.at.now.indent c.loop-index.first c.first_waiting-first.result n items x inv.first
+          (cases_more self k c.write_case.new.at.scope.named s c.args.at.now.indent c.loop-index.first
+          c.first_waiting-first.result n items x inv.first
           c.loop-index-test.true c.index-cases-index.is c.first_waiting-first.ensures c.write_case.ensures.passed.named)
           (writes_as
-          (λ j. case_text self k (handles_in self (inv.same.table j)) (inv.indent j) (case_values_between c.loop-index.first n items) (case_value_form x.value) x.fall_through x.body)
+          (λ j. case_text self k (handles_in self (inv.same.table j)) (inv.indent j)
+          (case_values_between c.loop-index.first n items) (case_value_form x.value) x.fall_through x.body)
           c.write_case.ensures.text);
       cases = others_inside self x.value x.body x.fall_through rest (subst (CanWriteCases self) next inv.cases);
-      first = first_within x.fall_through c.loop-index.first c.first_waiting-first.result n inv.first c.first_waiting-first.ensures;
-      named = ap (named_after_cases self rest) c.write_case.ensures.passed.named ∙ (ap (λ cs. named_after_cases self cs k) (sym next) ∙ inv.named);
+      first = first_within x.fall_through c.loop-index.first c.first_waiting-first.result n
+          inv.first c.first_waiting-first.ensures;
+      named = ap (named_after_cases self rest) c.write_case.ensures.passed.named
+          ∙ (ap (λ cs. named_after_cases self cs k) (sym next) ∙ inv.named);
       same = record {
         table = c.write_case.ensures.same.table ∙ inv.same.table;
         log = c.write_case.ensures.same.log ∙ inv.same.log;
         room = c.write_case.ensures.same.room ∙ inv.same.room;
       };
-      names = (let one = inv.names in let more = c.write_case.ensures.passed.counted.names in omega (arith, changes, one, more));
+      names = (let one = inv.names in let more = c.write_case.ensures.passed.counted.names in omega
+          (arith, changes, one, more));
       fewer = (let one = inv.fewer in omega (arith, changes, one));
       smaller = (let one = inv.smaller in omega (arith, sizes, one));
       indent = c.write_case.ensures.passed.indent ∙ inv.indent;
@@ -291,7 +327,8 @@ write_cases-returns-clause-text g t c =
     let s = handles_in self c.args.at.now.scope.table in
     let labels = case_values_between c.loop-index.first n items in
     leaves_none _ _ _ _ c.loop-index.invariant.leaves
-    (ap (cases_text self k s c.args.at.now.indent labels) (ap cases_of (drop_all n items c.loop-index-test.false)) ∙ cases_none self k s c.args.at.now.indent labels)
+    (ap (cases_text self k s c.args.at.now.indent labels)
+    (ap cases_of (drop_all n items c.loop-index-test.false)) ∙ cases_none self k s c.args.at.now.indent labels)
 
 -- ---- a body in two parts
 pub write_loop_body-write_lines-requires : goal.write_loop_body-write_lines-requires
@@ -307,7 +344,8 @@ write_loop_body-write_lines-requires g t c κs within =
         (
           c.requires.can,
           (
-            front_inside c.args.self.now c.args.body.now (block_of c.split_at_continue.result.0.now) parts.before c.requires.body,
+            front_inside c.args.self.now c.args.body.now (block_of c.split_at_continue.result.0.now)
+                parts.before c.requires.body,
             record {
               size = c.requires.scope.size;
               room = record { log = omega (arith, changes, log); names = omega (arith, changes, names) };
@@ -333,10 +371,14 @@ write_loop_body-write_lines-requires-2 g t c κs within =
         (
           c.requires.can,
           (
-            back_inside c.args.self.now c.args.body.now (block_of c.split_at_continue.result.1.now) parts.from c.requires.body,
+            back_inside c.args.self.now c.args.body.now (block_of c.split_at_continue.result.1.now)
+                parts.from c.requires.body,
             record {
               size = c.write_lines.ensures.kept.size ∙ c.requires.scope.size;
-              room = record { log = omega (arith, changes, log, logged, room); names = omega (arith, changes, names, named) };
+              room = record {
+                log = omega (arith, changes, log, logged, room);
+                names = omega (arith, changes, names, named);
+              };
             },
           ),
         ),

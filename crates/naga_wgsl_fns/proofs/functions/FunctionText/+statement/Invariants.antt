@@ -74,16 +74,24 @@ decreases-write_statement g l = 16 * statement_size (tree_of l.statement.now)
 
 abbrev pub invariant-write_lines-loop-statement : goal.invariant-write_lines-loop-statement
 invariant-write_lines-loop-statement g l = record {
-  leaves : Leaves (output_view g.W.TextSink.text g.W.TextSink.failures l.initial.out) (output_view g.W.TextSink.text g.W.TextSink.failures l.out)
-      (block_text l.self l.initial.at.scope.named (handles_in l.self l.initial.at.scope.table) l.initial.at.indent (block_of l.statements))
-      (block_text l.self l.at.scope.named (handles_in l.self l.at.scope.table) l.initial.at.indent (block_of (drop l.statement-index l.statements)));
+  leaves : Leaves (output_view g.W.TextSink.text g.W.TextSink.failures l.initial.out)
+      (output_view g.W.TextSink.text g.W.TextSink.failures l.out)
+      (block_text l.self l.initial.at.scope.named (handles_in l.self l.initial.at.scope.table)
+      l.initial.at.indent (block_of l.statements))
+      (block_text l.self l.at.scope.named (handles_in l.self l.at.scope.table) l.initial.at.indent
+      (block_of (drop l.statement-index l.statements)));
   block : CanWriteBlock l.self (block_of (drop l.statement-index l.statements));
-  following : after_statements l.self l.at.scope.named (block_of (drop l.statement-index l.statements)) (handles_in l.self l.at.scope.table)
-      ≡ after_statements l.self l.initial.at.scope.named (block_of l.statements) (handles_in l.self l.initial.at.scope.table);
-  named : named_following l.self (block_of (drop l.statement-index l.statements)) l.at.scope.named ≡ named_following l.self (block_of l.statements) l.initial.at.scope.named;
+  following : after_statements l.self l.at.scope.named (block_of (drop l.statement-index l.statements))
+      (handles_in l.self l.at.scope.table)
+      ≡ after_statements l.self l.initial.at.scope.named (block_of l.statements)
+      (handles_in l.self l.initial.at.scope.table);
+  named : named_following l.self (block_of (drop l.statement-index l.statements)) l.at.scope.named
+      ≡ named_following l.self (block_of l.statements) l.initial.at.scope.named;
   kept : Extends l.initial.at.scope l.at.scope;
-  counted : length l.at.scope.log + block_changes (block_of (drop l.statement-index l.statements)) ≤ length l.initial.at.scope.log + block_changes (block_of l.statements);
-  names : l.at.scope.named + block_changes (block_of (drop l.statement-index l.statements)) ≤ l.initial.at.scope.named + block_changes (block_of l.statements);
+  counted : length l.at.scope.log + block_changes (block_of (drop l.statement-index l.statements))
+      ≤ length l.initial.at.scope.log + block_changes (block_of l.statements);
+  names : l.at.scope.named + block_changes (block_of (drop l.statement-index l.statements))
+      ≤ l.initial.at.scope.named + block_changes (block_of l.statements);
   smaller : block_size (block_of (drop l.statement-index l.statements)) ≤ block_size (block_of l.statements);
   indent : l.at.indent ≡ l.initial.at.indent;
 }
@@ -91,14 +99,19 @@ invariant-write_lines-loop-statement g l = record {
 -- the labels of the cases from the first on wait for the next case that doesn't fall through
 abbrev pub invariant-write_cases-loop-index : goal.invariant-write_cases-loop-index
 invariant-write_cases-loop-index g l = record {
-  leaves : Leaves (output_view g.W.TextSink.text g.W.TextSink.failures l.initial.out) (output_view g.W.TextSink.text g.W.TextSink.failures l.out)
-      (cases_text l.self l.initial.at.scope.named (handles_in l.self l.initial.at.scope.table) l.initial.at.indent [] (cases_of l.cases))
-      (cases_text l.self l.at.scope.named (handles_in l.self l.initial.at.scope.table) l.initial.at.indent (case_values_between l.first l.index l.cases) (cases_of (drop l.index l.cases)));
+  leaves : Leaves (output_view g.W.TextSink.text g.W.TextSink.failures l.initial.out)
+      (output_view g.W.TextSink.text g.W.TextSink.failures l.out)
+      (cases_text l.self l.initial.at.scope.named (handles_in l.self l.initial.at.scope.table)
+      l.initial.at.indent [] (cases_of l.cases))
+      (cases_text l.self l.at.scope.named (handles_in l.self l.initial.at.scope.table) l.initial.at.indent
+      (case_values_between l.first l.index l.cases) (cases_of (drop l.index l.cases)));
   cases : CanWriteCases l.self (cases_of (drop l.index l.cases));
   first : l.first ≤ l.index;
-  named : named_after_cases l.self (cases_of (drop l.index l.cases)) l.at.scope.named ≡ named_after_cases l.self (cases_of l.cases) l.initial.at.scope.named;
+  named : named_after_cases l.self (cases_of (drop l.index l.cases)) l.at.scope.named
+      ≡ named_after_cases l.self (cases_of l.cases) l.initial.at.scope.named;
   same : Same l.initial.at.scope l.at.scope;
-  names : l.at.scope.named + cases_changes (cases_of (drop l.index l.cases)) ≤ l.initial.at.scope.named + cases_changes (cases_of l.cases);
+  names : l.at.scope.named + cases_changes (cases_of (drop l.index l.cases)) ≤ l.initial.at.scope.named
+      + cases_changes (cases_of l.cases);
   fewer : cases_changes (cases_of (drop l.index l.cases)) ≤ cases_changes (cases_of l.cases);
   smaller : cases_size (cases_of (drop l.index l.cases)) ≤ cases_size (cases_of l.cases);
   indent : l.at.indent ≡ l.initial.at.indent;

@@ -15,7 +15,8 @@ use Rattle.naga_wgsl_fns.proofs.functions.FunctionText.write_act.Goals as goal
 pub write_act_line-requires-clause-operands : goal.write_act_line-requires-clause-operands
 write_act_line-requires-clause-operands g c =
     let self = c.args.self.now in
-    subst (AreInText self) (act_roots (bound self) (tree_of c.args.statement.now) c.requires.act) c.requires.statement.roots
+    subst (AreInText self) (act_roots (bound self) (tree_of c.args.statement.now) c.requires.act)
+    c.requires.statement.roots
 
 pub returns-in-Some-clause-text : goal.returns-in-Some-clause-text
 returns-in-Some-clause-text g c =
@@ -24,7 +25,8 @@ returns-in-Some-clause-text g c =
     let s = handles_in self c.args.at.now.scope.table in
     let i = c.args.at.now.indent in
     writes_as
-    (ap (λ word. act_text self s i word (own_operands st) (own_result st)) c.act_str-word.ensures ∙ act_is self c.args.at.now.scope.named s i st c.requires.act)
+    (ap (λ word. act_text self s i word (own_operands st) (own_result st)) c.act_str-word.ensures
+    ∙ act_is self c.args.at.now.scope.named s i st c.requires.act)
     c.write_act_line.ensures
 
 pub returns-in_default-clause-text : goal.returns-in_default-clause-text
@@ -34,7 +36,8 @@ returns-in_default-clause-text g c =
     let s = handles_in self c.args.at.now.scope.table in
     let i = c.args.at.now.indent in
     writes_as
-    (ap (λ word. act_text self s i word (own_operands st) (own_result st)) c.act_str-word.ensures ∙ act_is self c.args.at.now.scope.named s i st c.requires.act)
+    (ap (λ word. act_text self s i word (own_operands st) (own_result st)) c.act_str-word.ensures
+    ∙ act_is self c.args.at.now.scope.named s i st c.requires.act)
     c.write_act_line.ensures
 
 pub returns-in-Some-clause-after : goal.returns-in-Some-clause-after
@@ -48,7 +51,8 @@ returns-in-Some-clause-after g c =
 pub returns-in-Some-clause-passed : goal.returns-in-Some-clause-passed
 returns-in-Some-clause-passed g c =
     let st = tree_of c.args.statement.now in
-    let one : statement_changes st ≡ 1 = act_changes st c.requires.act ∙ ap (λ o. length (option_to_list o)) (sym c.result.ensures ∙ c.in-Some.is) in
+    let one : statement_changes st ≡ 1 = act_changes st c.requires.act ∙ ap (λ o. length (option_to_list o))
+    (sym c.result.ensures ∙ c.in-Some.is) in
     let log = c.give.ensures.counted.log in
     let names = c.give.ensures.counted.names in
     record {

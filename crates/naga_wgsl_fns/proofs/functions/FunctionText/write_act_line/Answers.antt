@@ -14,7 +14,9 @@ write_outcome-requires-clause-outcome g c h is =
 pub returns : goal.returns
 returns g c =
     let st = tree_of c.args.statement.now in
-    writes_as (sym (act_row c.args.self.now c.args.at.now.scope.table c.args.at.now.indent c.args.word.now (own_operands st) (own_result st)))
+    writes_as (sym (act_row c.args.self.now c.args.at.now.scope.table c.args.at.now.indent c.args.word.now
+    (own_operands st) (own_result st)))
     (writes_then (writes_as c.as_str.ensures c.put.ensures)
     (writes_then (writes_as (ap (outcome_text c.args.self.now) c.result.ensures) c.write_outcome.ensures)
-    (writes_then c.put-2.ensures (writes_then c.put-3.ensures (writes_then c.write_act_operands.ensures c.put-4.ensures)))))
+    (writes_then c.put-2.ensures (writes_then c.put-3.ensures
+    (writes_then c.write_act_operands.ensures c.put-4.ensures)))))

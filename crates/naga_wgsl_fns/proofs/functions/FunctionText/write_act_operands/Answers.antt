@@ -37,4 +37,5 @@ returns g c =
     let table = c.args.scope.now.table in
     let first = c.loop-operand.is_first in
     leaves_last _ _ _ _ _ c.loop-operand.invariant.leaves
-    (writes_as (sym (ap (operands_left self table first) c.in-None.ensures.steps.0 ∙ operands_none self table first)) c.put.ensures)
+    (writes_as (sym (ap (operands_left self table first) c.in-None.ensures.steps.0
+    ∙ operands_none self table first)) c.put.ensures)

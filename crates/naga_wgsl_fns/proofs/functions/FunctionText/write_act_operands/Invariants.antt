@@ -9,7 +9,9 @@ use Rattle.naga_wgsl_fns.proofs.functions.FunctionText.write_act_operands.Given 
 
 abbrev pub invariant-loop-operand : goal.invariant-loop-operand
 invariant-loop-operand g l = record {
-  leaves : Leaves (output_view g.W.TextSink.text g.W.TextSink.failures l.initial.out) (output_view g.W.TextSink.text g.W.TextSink.failures l.out)
-      (operands_left l.self l.scope.table true (own_operands (tree_of l.statement))) (operands_left l.self l.scope.table l.is_first l.operand-iterator);
+  leaves : Leaves (output_view g.W.TextSink.text g.W.TextSink.failures l.initial.out)
+      (output_view g.W.TextSink.text g.W.TextSink.failures l.out)
+      (operands_left l.self l.scope.table true (own_operands (tree_of l.statement)))
+      (operands_left l.self l.scope.table l.is_first l.operand-iterator);
   inside : AreInText l.self l.operand-iterator;
 }

@@ -8,7 +8,8 @@ pub write_name-requires : goal.write_name-requires
 write_name-requires g c =
     let self = c.args.self.now in
     record {
-      named = subst (IsNamed self c.requires.can) (sym c.argument_key.ensures) (argument_is_named self c.requires.can c.args.number c.requires.argument);
+      named = subst (IsNamed self c.requires.can) (sym c.argument_key.ensures)
+          (argument_is_named self c.requires.can c.args.number c.requires.argument);
     }
 
 pub returns : goal.returns

@@ -7,5 +7,6 @@ use Rattle.naga_wgsl_fns.proofs.functions.FunctionText.write_arguments.Given as 
 
 abbrev pub invariant-loop-number : goal.invariant-loop-number
 invariant-loop-number g l =
-    Leaves (output_view g.W.TextSink.text g.W.TextSink.failures l.initial.out) (output_view g.W.TextSink.text g.W.TextSink.failures l.out) (arguments_text l.self)
+    Leaves (output_view g.W.TextSink.text g.W.TextSink.failures l.initial.out)
+    (output_view g.W.TextSink.text g.W.TextSink.failures l.out) (arguments_text l.self)
     (arguments_left l.self l.number (drop l.number l.argument-items))

@@ -32,7 +32,8 @@ loop-index-init g c = record {
 pub write_emitted-requires-clause-handle : goal.write_emitted-requires-clause-handle
 write_emitted-requires-clause-handle g c =
     let self = c.args.self.now in
-    let within = emit_within (callees self) (length self.function.now.expressions) c.args.range.first c.args.range.end c.requires.statement.in_range in
+    let within = emit_within (callees self) (length self.function.now.expressions) c.args.range.first
+    c.args.range.end c.requires.statement.in_range in
     let here = c.from_index-handle.ensures in
     let more = c.loop-index-test.true in
     omega (arith, within, here, more)
@@ -41,15 +42,19 @@ pub write_emitted-requires-clause-root : goal.write_emitted-requires-clause-root
 write_emitted-requires-clause-root g c =
     let self = c.args.self.now in
     subst (λ h. IsTrue (bound self h) → IsInText self h) (sym c.from_index-handle.ensures)
-    (first_of (IsInText self) (bound self c.loop-index.index) c.loop-index.index (filter (bound self) (from (c.loop-index.index + 1) (c.args.range.end - (c.loop-index.index + 1))))
-    (subst (λ hs. AreInText self (filter (bound self) hs)) (range_more c.loop-index.index c.args.range.end c.loop-index-test.true) c.loop-index.invariant.roots))
+    (first_of (IsInText self) (bound self c.loop-index.index) c.loop-index.index
+    (filter (bound self) (from (c.loop-index.index + 1) (c.args.range.end - (c.loop-index.index + 1))))
+    (subst (λ hs. AreInText self (filter (bound self) hs))
+    (range_more c.loop-index.index c.args.range.end c.loop-index-test.true) c.loop-index.invariant.roots))
 
 pub write_emitted-requires-clause-named : goal.write_emitted-requires-clause-named
 write_emitted-requires-clause-named g c =
     let self = c.args.self.now in
     subst (λ h. IsTrue (bound self h) → IsLet self h) (sym c.from_index-handle.ensures)
-    (first_of (IsLet self) (bound self c.loop-index.index) c.loop-index.index (filter (bound self) (from (c.loop-index.index + 1) (c.args.range.end - (c.loop-index.index + 1))))
-    (subst (λ hs. AreLets self (filter (bound self) hs)) (range_more c.loop-index.index c.args.range.end c.loop-index-test.true) c.loop-index.invariant.lets))
+    (first_of (IsLet self) (bound self c.loop-index.index) c.loop-index.index
+    (filter (bound self) (from (c.loop-index.index + 1) (c.args.range.end - (c.loop-index.index + 1))))
+    (subst (λ hs. AreLets self (filter (bound self) hs))
+    (range_more c.loop-index.index c.args.range.end c.loop-index-test.true) c.loop-index.invariant.lets))
 
 pub emit-requires-clause-size : goal.emit-requires-clause-size
 emit-requires-clause-size g c = c.loop-index.invariant.kept.size ∙ c.requires.scope.size
@@ -73,42 +78,56 @@ loop-index-preserved g c =
     let lt = c.loop-index-test.true in
     let here = c.from_index-handle.ensures in
     let k = c.loop-index.at.scope.named in
-    let one : handles_in self c.emit.new.self.table ≡ after_one (naming self) k h (handles_in self c.loop-index.at.scope.table) =
-    c.emit.ensures.handles (module_names self.shader.now) self.shader.now self.module_info.now (named_in self) (number self) refl in
-    let given : c.emit.new.self.named ≡ named_after (naming self).function h k = c.emit.ensures.named ∙ sym (named_after_one self c.requires.can h k) in
+    let one : handles_in self c.emit.new.self.table ≡ after_one (naming self) k h
+    (handles_in self c.loop-index.at.scope.table) =
+    c.emit.ensures.handles (module_names self.shader.now) self.shader.now self.module_info.now (named_in self)
+    (number self) refl in
+    let given : c.emit.new.self.named ≡ named_after (naming self).function h k = c.emit.ensures.named
+    ∙ sym (named_after_one self c.requires.can h k) in
     let log = i.counted in
     let names = i.names in
     let more = c.emit.ensures.counted.log in
     let named = c.emit.ensures.counted.names in
     record {
       leaves = leaves_more _ _ _ _ _ _ _ i.leaves
-          (lets_more self k c.emit.new.self.named (handles_in self c.loop-index.at.scope.table) (handles_in self c.emit.new.self.table) c.args.at.now.indent
+          (lets_more self k c.emit.new.self.named (handles_in self c.loop-index.at.scope.table)
+          (handles_in self c.emit.new.self.table) c.args.at.now.indent
           c.loop-index.index c.args.range.end h lt here given one)
-          (writes_as (ap (λ j. emitted_text self k (handles_in self c.loop-index.at.scope.table) j h) i.indent) c.write_emitted.ensures);
-      after = sym (emitted_after self k c.emit.new.self.named (handles_in self c.loop-index.at.scope.table) (handles_in self c.emit.new.self.table)
+          (writes_as (ap (λ j. emitted_text self k (handles_in self c.loop-index.at.scope.table) j h)
+          i.indent) c.write_emitted.ensures);
+      after = sym (emitted_after self k c.emit.new.self.named (handles_in self c.loop-index.at.scope.table)
+          (handles_in self c.emit.new.self.table)
           c.loop-index.index c.args.range.end h lt here given one) ∙ i.after;
-      named = sym (emitted_named self k c.emit.new.self.named c.loop-index.index c.args.range.end h lt here given) ∙ i.named;
+      named = sym (emitted_named self k c.emit.new.self.named c.loop-index.index c.args.range.end h lt here
+          given) ∙ i.named;
       kept = extends_then i.kept c.emit.ensures.kept;
       indent = i.indent;
       counted = omega (arith, log, more, lt);
       names = omega (arith, names, named, lt);
-      roots = others_of (IsInText self) (bound self c.loop-index.index) c.loop-index.index (filter (bound self) (from (c.loop-index.index + 1) (c.args.range.end - (c.loop-index.index + 1))))
-          (subst (λ hs. AreInText self (filter (bound self) hs)) (range_more c.loop-index.index c.args.range.end lt) i.roots);
-      lets = others_of (IsLet self) (bound self c.loop-index.index) c.loop-index.index (filter (bound self) (from (c.loop-index.index + 1) (c.args.range.end - (c.loop-index.index + 1))))
-          (subst (λ hs. AreLets self (filter (bound self) hs)) (range_more c.loop-index.index c.args.range.end lt) i.lets);
+      roots = others_of (IsInText self) (bound self c.loop-index.index) c.loop-index.index
+          (filter (bound self) (from (c.loop-index.index + 1) (c.args.range.end - (c.loop-index.index + 1))))
+          (subst (λ hs. AreInText self (filter (bound self) hs))
+          (range_more c.loop-index.index c.args.range.end lt) i.roots);
+      lets = others_of (IsLet self) (bound self c.loop-index.index) c.loop-index.index
+          (filter (bound self) (from (c.loop-index.index + 1) (c.args.range.end - (c.loop-index.index + 1))))
+          (subst (λ hs. AreLets self (filter (bound self) hs))
+          (range_more c.loop-index.index c.args.range.end lt) i.lets);
     }
 
 pub returns-clause-text : goal.returns-clause-text
 returns-clause-text g c =
     let self = c.args.self.now in
-    writes_as (emit_row self c.args.at.now.scope.named (handles_in self c.args.at.now.scope.table) c.args.at.now.indent c.args.range.first c.args.range.end)
+    writes_as (emit_row self c.args.at.now.scope.named (handles_in self c.args.at.now.scope.table)
+    c.args.at.now.indent c.args.range.first c.args.range.end)
     (leaves_none _ _ _ _ c.loop-index.invariant.leaves
-    (lets_none self c.loop-index.at.scope.named (handles_in self c.loop-index.at.scope.table) c.args.at.now.indent c.loop-index.index c.args.range.end c.loop-index-test.false))
+    (lets_none self c.loop-index.at.scope.named (handles_in self c.loop-index.at.scope.table)
+    c.args.at.now.indent c.loop-index.index c.args.range.end c.loop-index-test.false))
 
 pub returns-clause-after : goal.returns-clause-after
 returns-clause-after g c =
     let self = c.args.self.now in
-    ap (λ (hs : List ℕ). after_emit (naming self) c.loop-index.at.scope.named hs (handles_in self c.loop-index.at.scope.table))
+    ap (λ (hs : List ℕ). after_emit (naming self) c.loop-index.at.scope.named hs
+    (handles_in self c.loop-index.at.scope.table))
     (sym (range_none c.loop-index.index c.args.range.end c.loop-index-test.false))
     ∙ c.loop-index.invariant.after
 

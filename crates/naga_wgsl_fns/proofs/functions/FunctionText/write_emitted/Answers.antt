@@ -10,7 +10,8 @@ unfolding emitted_text
 returns-then-binds g c =
     let self = c.args.self.now in
     writes_as (ap
-    (λ (b : Bool). cond b (let_text self c.args.at.now.scope.named (handles_in self c.args.at.now.scope.table) c.args.at.now.indent c.args.handle) [])
+    (λ (b : Bool). cond b (let_text self c.args.at.now.scope.named (handles_in self c.args.at.now.scope.table)
+    c.args.at.now.indent c.args.handle) [])
     (sym c.if-binds.true ∙ c.binds.ensures self.shader.now self.module_info.now refl))
     c.write_let.ensures
 
@@ -19,7 +20,8 @@ unfolding emitted_text
 returns-else-binds g c =
     let self = c.args.self.now in
     writes_as (ap
-    (λ (b : Bool). cond b (let_text self c.args.at.now.scope.named (handles_in self c.args.at.now.scope.table) c.args.at.now.indent c.args.handle) [])
+    (λ (b : Bool). cond b (let_text self c.args.at.now.scope.named (handles_in self c.args.at.now.scope.table)
+    c.args.at.now.indent c.args.handle) [])
     (sym c.if-binds.false ∙ c.binds.ensures self.shader.now self.module_info.now refl))
     (writes_nothing _)
 

@@ -5,10 +5,12 @@ use Rattle.naga_wgsl_fns.proofs.functions.FunctionText.write_global_value.Goals 
 
 pub returns-then-is_handle_variable : goal.returns-then-is_handle_variable
 returns-then-is_handle_variable g c =
-    writes_as (handle_variable_value c.args.self.now c.args.variable (sym c.is_handle_variable.ensures ∙ c.if-is_handle_variable.true))
+    writes_as (handle_variable_value c.args.self.now c.args.variable
+    (sym c.is_handle_variable.ensures ∙ c.if-is_handle_variable.true))
     c.write_global_name.ensures
 
 pub returns-else-is_handle_variable : goal.returns-else-is_handle_variable
 returns-else-is_handle_variable g c =
-    writes_as (kept_value c.args.self.now c.args.variable (sym c.is_handle_variable.ensures ∙ c.if-is_handle_variable.false))
+    writes_as (kept_value c.args.self.now c.args.variable
+    (sym c.is_handle_variable.ensures ∙ c.if-is_handle_variable.false))
     c.write_global_address.ensures

@@ -5,4 +5,5 @@ use Rattle.naga_wgsl_fns.proofs.functions.FunctionText.write_let_annotation.Goal
 
 pub returns-else-annotates_types : goal.returns-else-annotates_types
 returns-else-annotates_types g c =
-    writes_as (sym (unannotated_row c.args.self.now c.requires.can c.args.handle (sym c.annotates_types.ensures ∙ c.if-annotates_types.false))) (writes_nothing _)
+    writes_as (sym (unannotated_row c.args.self.now c.requires.can c.args.handle
+    (sym c.annotates_types.ensures ∙ c.if-annotates_types.false))) (writes_nothing _)

@@ -15,4 +15,5 @@ returns-in-Some g c = writes_as (ap (outcome_text c.args.self.now) (sym c.in-Som
 
 pub returns-in-None : goal.returns-in-None
 returns-in-None g c =
-    writes_as (sym (no_outcome c.args.self.now) ∙ ap (outcome_text c.args.self.now) (sym c.in-None.is)) (writes_nothing _)
+    writes_as (sym (no_outcome c.args.self.now) ∙ ap (outcome_text c.args.self.now) (sym c.in-None.is))
+    (writes_nothing _)

@@ -17,7 +17,8 @@ returns-in-Some g c =
     let k = c.args.at.now.scope.named in
     let s = handles_in self c.args.at.now.scope.table in
     let i = c.args.at.now.indent in
-    writes_as (sym (return_value_row self k s i c.in-Some.value) ∙ ap (λ o. statement_text self k s i (simple (return o))) (sym c.in-Some.is))
+    writes_as (sym (return_value_row self k s i c.in-Some.value)
+    ∙ ap (λ o. statement_text self k s i (simple (return o))) (sym c.in-Some.is))
     c.write_around.ensures
 
 pub returns-in-None : goal.returns-in-None
@@ -26,5 +27,6 @@ returns-in-None g c =
     let k = c.args.at.now.scope.named in
     let s = handles_in self c.args.at.now.scope.table in
     let i = c.args.at.now.indent in
-    writes_as (sym (jump_row self k s i (return None) refl) ∙ ap (λ o. statement_text self k s i (simple (return o))) (sym c.in-None.is))
+    writes_as (sym (jump_row self k s i (return None) refl)
+    ∙ ap (λ o. statement_text self k s i (simple (return o))) (sym c.in-None.is))
     c.write_start.ensures

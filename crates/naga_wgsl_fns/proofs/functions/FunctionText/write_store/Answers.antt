@@ -19,17 +19,20 @@ pub write_act_line-requires-clause-operands : goal.write_act_line-requires-claus
 write_act_line-requires-clause-operands g c =
     let self = c.args.self.now in
     subst (λ st. AreInText self (own_operands st)) (sym c.requires.stored)
-    (stored_operands self c.args.pointer c.args.value (subst (CanWriteStatement self) c.requires.stored c.requires.statement))
+    (stored_operands self c.args.pointer c.args.value
+    (subst (CanWriteStatement self) c.requires.stored c.requires.statement))
 
 pub write_assignment-requires-clause-pointer : goal.write_assignment-requires-clause-pointer
 write_assignment-requires-clause-pointer g c =
     let self = c.args.self.now in
-    stored_pointer self c.args.pointer c.args.value (subst (CanWriteStatement self) c.requires.stored c.requires.statement)
+    stored_pointer self c.args.pointer c.args.value
+    (subst (CanWriteStatement self) c.requires.stored c.requires.statement)
 
 pub write_assignment-requires-clause-value : goal.write_assignment-requires-clause-value
 write_assignment-requires-clause-value g c =
     let self = c.args.self.now in
-    stored_value self c.args.pointer c.args.value (subst (CanWriteStatement self) c.requires.stored c.requires.statement)
+    stored_value self c.args.pointer c.args.value
+    (subst (CanWriteStatement self) c.requires.stored c.requires.statement)
 
 pub returns-then-is_atomic_pointer : goal.returns-then-is_atomic_pointer
 returns-then-is_atomic_pointer g c =
@@ -39,7 +42,8 @@ returns-then-is_atomic_pointer g c =
     let i = c.args.at.now.indent in
     writes_as
     (ap (λ st. act_text self s i (codes "atomicStore") (own_operands st) (own_result st)) c.requires.stored
-    ∙ (store_to_atomic self k s i c.args.pointer c.args.value (sym c.is_atomic_pointer.ensures ∙ c.if-is_atomic_pointer.true)
+    ∙ (store_to_atomic self k s i c.args.pointer c.args.value
+    (sym c.is_atomic_pointer.ensures ∙ c.if-is_atomic_pointer.true)
     ∙ ap (statement_text self k s i) (sym c.requires.stored)))
     c.write_act_line.ensures
 
@@ -50,6 +54,7 @@ returns-else-is_atomic_pointer g c =
     let s = handles_in self c.args.at.now.scope.table in
     let i = c.args.at.now.indent in
     writes_as
-    (store_to_other self k s i c.args.pointer c.args.value (sym c.is_atomic_pointer.ensures ∙ c.if-is_atomic_pointer.false)
+    (store_to_other self k s i c.args.pointer c.args.value
+    (sym c.is_atomic_pointer.ensures ∙ c.if-is_atomic_pointer.false)
     ∙ ap (statement_text self k s i) (sym c.requires.stored))
     c.write_assignment.ensures

@@ -8,7 +8,8 @@ use Rattle.naga_wgsl_fns.proofs.TypeRows.{resolution_within}
 use Rattle.naga_wgsl_fns.proofs.functions.FunctionText.write_type_of.Goals as goal
 
 pub write_resolution_in-requires-clause-order : goal.write_resolution_in-requires-clause-order
-write_resolution_in-requires-clause-order g c = in_order c.args.self.now.shader.now (can_of c.args.self.now c.requires.can)
+write_resolution_in-requires-clause-order g c =
+    in_order c.args.self.now.shader.now (can_of c.args.self.now c.requires.can)
     (names_in c.args.self.now.names.now)
 
 pub write_resolution_in-requires-clause-fits : goal.write_resolution_in-requires-clause-fits

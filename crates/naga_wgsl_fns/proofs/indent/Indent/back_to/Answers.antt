@@ -21,7 +21,8 @@ truncate-requires c within =
     let long = length_is _ _ c.self.invariant in
     let wide : c.len-width.result ≡ length (string_bytes c.self.inside.blanks) = search rules in
     let less : c.args.level ≤ c.self.inside.level = omega (arith, c.self.view_is, c.requires) in
-    let at : c.len-width.result - (c.self.inside.level - c.args.level) * 4 ≡ 4 * c.args.level = omega (arith, long, wide, less) in
+    let at : c.len-width.result - (c.self.inside.level - c.args.level) * 4 ≡ 4 * c.args.level =
+    omega (arith, long, wide, less) in
     cut_at _ _ _ _ c.self.invariant less at
 
 pub invariant_of-self : goal.invariant_of-self
@@ -29,5 +30,6 @@ invariant_of-self c =
     let long = length_is _ _ c.self.invariant in
     let wide : c.len-width.result ≡ length (string_bytes c.self.inside.blanks) = search rules in
     let less : c.args.level ≤ c.self.inside.level = omega (arith, c.self.view_is, c.requires) in
-    let at : c.len-width.result - (c.self.inside.level - c.args.level) * 4 ≡ 4 * c.args.level = omega (arith, long, wide, less) in
+    let at : c.len-width.result - (c.self.inside.level - c.args.level) * 4 ≡ 4 * c.args.level =
+    omega (arith, long, wide, less) in
     c.truncate.ensures.bytes ∙ cut_is _ _ _ _ c.self.invariant less at

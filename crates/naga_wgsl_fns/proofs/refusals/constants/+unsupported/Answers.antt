@@ -46,7 +46,8 @@ unsupported_global-returns t c =
       names = λ e told. is.names e
           (subst (NamesGlobal m e) c.representative.ensures (c.unsupported_representative.ensures.names e told));
       carries = is.carries c.unsupported_representative.result
-          (subst (λ h. CarriesOfGlobal m h c.unsupported_representative.result) c.representative.ensures c.unsupported_representative.ensures.carries);
+          (subst (λ h. CarriesOfGlobal m h c.unsupported_representative.result)
+          c.representative.ensures c.unsupported_representative.ensures.carries);
     }
 
 -- ---- a literal
@@ -57,7 +58,8 @@ unsupported_representative-returns-in-Literal t c =
           (unsupported.literal_fails c.args.«module».now c.requires.ordered c.args.handle c.requires.unsupported
           c.index.result.now c.in-Literal.literal c.index.ensures c.in-Literal.is)
           (c.literal_without_form.ensures.names e told);
-      carries = unsupported.no_scalar c.args.«module».now c.args.handle c.literal_without_form.result c.literal_without_form.ensures.carries;
+      carries = unsupported.no_scalar c.args.«module».now c.args.handle
+          c.literal_without_form.result c.literal_without_form.ensures.carries;
     }
 
 -- ---- the initialiser of a constant
@@ -82,7 +84,8 @@ unsupported_representative-returns-in-Constant t c =
       names = λ e told. OfConstant c.args.handle c.in-Constant.constant c.index-in-Constant.result.now
           (c.index.ensures ∙ ap Some c.in-Constant.is) c.index-in-Constant.ensures fails.2
           (c.unsupported_global.ensures.names e told);
-      carries = unsupported.initialiser_carries c.args.«module».now c.args.handle c.in-Constant.constant c.index-in-Constant.result.now
+      carries = unsupported.initialiser_carries c.args.«module».now c.args.handle c.in-Constant.constant
+          c.index-in-Constant.result.now
           (c.index.ensures ∙ ap Some c.in-Constant.is) c.index-in-Constant.ensures fails.2
           c.unsupported_global.result c.unsupported_global.ensures.carries;
     }
@@ -102,8 +105,10 @@ unsupported_representative-returns-in-ZeroValue t c =
           (unsupported.zero_fails c.args.«module».now c.requires.ordered c.args.handle c.requires.unsupported
           c.index.result.now c.in-ZeroValue.ty c.index.ensures c.in-ZeroValue.is)
           (c.type_without_form.ensures.names e told);
-      carries = unsupported.of_type c.args.«module».now c.args.handle c.in-ZeroValue.ty (expression.ZeroValue c.in-ZeroValue.ty)
-          (c.index.ensures ∙ ap Some c.in-ZeroValue.is) refl refl c.type_without_form.result c.type_without_form.ensures.carries;
+      carries = unsupported.of_type c.args.«module».now c.args.handle c.in-ZeroValue.ty
+          (expression.ZeroValue c.in-ZeroValue.ty)
+          (c.index.ensures ∙ ap Some c.in-ZeroValue.is) refl refl
+          c.type_without_form.result c.type_without_form.ensures.carries;
     }
 
 pub unsupported_representative-returns-in-None : goal.unsupported_representative-returns-in-None
@@ -119,7 +124,8 @@ unsupported_representative-returns-in-None t c =
           (unsupported.composed_fails c.args.«module».now c.requires.ordered c.args.handle
           c.requires.unsupported c.index.result.now c.in-Compose.ty parts c.index.ensures c.in-Compose.is all)
           (c.type_without_form-in-None.ensures.names e told);
-      carries = unsupported.of_type c.args.«module».now c.args.handle c.in-Compose.ty (expression.Compose c.in-Compose.ty parts)
+      carries = unsupported.of_type c.args.«module».now c.args.handle c.in-Compose.ty
+          (expression.Compose c.in-Compose.ty parts)
           (c.index.ensures ∙ ap Some c.in-Compose.is) refl all
           c.type_without_form-in-None.result c.type_without_form-in-None.ensures.carries;
     }
@@ -151,7 +157,8 @@ unsupported_representative-returns-in-Some t c =
     record {
       names = λ e told. OfOperand c.args.handle c.in-Some.component (expression.Compose c.in-Compose.ty parts)
           here refl first (c.unsupported_global-in-Some.ensures.names e told);
-      carries = unsupported.of_operand c.args.«module».now c.args.handle c.in-Some.component (expression.Compose c.in-Compose.ty parts)
+      carries = unsupported.of_operand c.args.«module».now c.args.handle c.in-Some.component
+          (expression.Compose c.in-Compose.ty parts)
           here refl first c.unsupported_global-in-Some.result c.unsupported_global-in-Some.ensures.carries;
     }
 

@@ -14,7 +14,9 @@ returns-in-ImageSample-clause-names c es unsupported error told =
     let lacks = subst (λ e. IsFalse (expression_has_form m info es e)) way.is unsupported in
     let named =
     subst
-    (λ compares. (offset : Bool) → IsFalse (sampling_is_written way.gather way.level compares way.clamp_to_edge && offset) →
-    Tells c.sampling_without_form.result (NamesSampling (sampling_is_written way.gather way.level compares way.clamp_to_edge) offset))
+    (λ compares. (offset : Bool) → IsFalse (sampling_is_written way.gather way.level compares way.clamp_to_edge
+    && offset) →
+    Tells c.sampling_without_form.result
+    (NamesSampling (sampling_is_written way.gather way.level compares way.clamp_to_edge) offset))
     c.is_some.ensures c.sampling_without_form.ensures in
     subst (λ e. NamesExpression m info es e error) (sym way.is) (named _ lacks error told)

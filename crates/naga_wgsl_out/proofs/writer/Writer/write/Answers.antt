@@ -4,7 +4,7 @@ use Rattle.naga_scope.proofs.FilledTables.{items_in_order}
 use Rattle.naga_wgsl_out.proofs.Faithful.{Concludes, concludes, concludes_in_front}
 use Rattle.naga_wgsl_out.proofs.Faithful.{leaves_untouched, refused}
 use Rattle.naga_wgsl_out.proofs.ModuleScopes.{declaration_refuses, declaration_tells_of_none}
-use Rattle.naga_wgsl_out.proofs.Places.{labels_told}
+use Rattle.naga_wgsl_out.proofs.Positions.{labels_told}
 use Rattle.naga_wgsl_out.proofs.ReportedNames.{tells_of_none}
 use Rattle.naga_wgsl_out.specs.declared.unwritable.RefusalPosition.TheVariants as position
 use Rattle.naga_wgsl_out.proofs.writer.Writer.write.Goals as goal
@@ -85,8 +85,8 @@ returns-in-Some-clause-leaves g c =
     leaves_untouched _ m c.args.info.now _ _ (Err error) error refl
     (declaration_tells_of_none m error c.declaration_without_form.ensures.names)
     (λ of. record {
-      refusal = record { construct = told.0; place = position.Declaration _ };
-      stands = (c.in-Some.declaration, found.place, told.1, told.2);
+      refusal = record { construct = told.0; position = position.Declaration _ };
+      stands = (c.in-Some.declaration, found.position, told.1, told.2);
       first = found.first;
       told = told.3;
     })

@@ -5,7 +5,8 @@ use Rattle.naga_words.proofs.Orders.{one_more, all_known, so_many_known}
 use Rattle.naga_words.proofs.types.order.types_in_order.Goals as goal
 
 pub loop-index-preserved : goal.loop-index-preserved
-loop-index-preserved c = one_more c.args.types.now c.loop-index.index c.args.overrides c.index.result.now (search rules) (search rules) c.loop-index.invariant
+loop-index-preserved c = one_more c.args.types.now c.loop-index.index c.args.overrides c.index.result.now
+    (search rules) (search rules) c.loop-index.invariant
 
 pub returns-clause-arena : goal.returns-clause-arena
 returns-clause-arena c whole =

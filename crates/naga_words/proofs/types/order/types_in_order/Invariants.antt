@@ -4,4 +4,5 @@ use Rattle.naga_words.specs.Spelling.{StandsAfter}
 use Rattle.naga_words.proofs.types.order.types_in_order.Given as goal
 
 abbrev pub invariant-loop-index : goal.invariant-loop-index
-invariant-loop-index l = (handle : ℕ) → handle < l.index → (t : Type_) → slice_get l.types handle ≡ Some t → StandsAfter handle l.overrides t.inner
+invariant-loop-index l = (handle : ℕ) → handle < l.index → (t : Type_) → slice_get l.types handle ≡ Some t →
+    StandsAfter handle l.overrides t.inner

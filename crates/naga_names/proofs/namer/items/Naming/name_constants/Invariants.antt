@@ -9,6 +9,10 @@ abbrev pub invariant-loop-handle : goal.invariant-loop-handle
 invariant-loop-handle l = record {
   named : Leaves (progress l.initial.self l.initial.output) (progress l.self l.output)
       (labelled_constants (type_names_in (names_in l.initial.output) (length l.types)) l.constants)
-      (map (λ p. (key.Constant p.0, value_label (type_names_in (names_in l.initial.output) (length l.types)) (codes "const_") p.1.name p.1.ty)) l.handle-iterator);
+      (map (λ p. (
+        key.Constant p.0,
+        value_label (type_names_in (names_in l.initial.output) (length l.types))
+            (codes "const_") p.1.name p.1.ty,
+      )) l.handle-iterator);
   kept : (t : ℕ) → names_in l.output (key.Type_ t) ≡ names_in l.initial.output (key.Type_ t);
 }

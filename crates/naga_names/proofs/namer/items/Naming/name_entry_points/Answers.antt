@@ -24,9 +24,13 @@ loop-index-preserved c =
     let n = c.in-Ok.index in
     let locals = labelled_entry_locals n entry_point.function.local_variables in
     leaves_turn (λ p. labelled_entry_point p.0 p.1)
-    (at_place c.args.entry_points.now c.loop-index.index entry_point c.loop-index-test.true c.index-entry_points-index.is) c.loop-index.invariant
+    (at_place c.args.entry_points.now c.loop-index.index entry_point c.loop-index-test.true
+    c.index-entry_points-index.is) c.loop-index.invariant
     (gives_same
-    ((λ i. (key.EntryPoint n, c.as_str.ensures.value i) ∷ (one_each (λ p. (key.EntryPointArgument n p.0, label_or p.1.name (codes "param"))) (enumerate_from 0 c.deref.result.now) i ++ locals))
-    ∙ (λ i. (key.EntryPoint n, string_bytes entry_point.name) ∷ (labelled_entry_arguments n (c.deref.ensures.value i) ++ locals))
+    ((λ i. (key.EntryPoint n, c.as_str.ensures.value i)
+    ∷ (one_each (λ p. (key.EntryPointArgument n p.0, label_or p.1.name (codes "param")))
+    (enumerate_from 0 c.deref.result.now) i ++ locals))
+    ∙ (λ i. (key.EntryPoint n, string_bytes entry_point.name)
+    ∷ (labelled_entry_arguments n (c.deref.ensures.value i) ++ locals))
     ∙ ap (λ n. labelled_entry_point n entry_point) c.in-Ok.ensures.1)
     (gives_then c.name.ensures.named (gives_then c.name_arguments.ensures c.name_locals.ensures)))

@@ -6,7 +6,8 @@ use Rattle.naga_names.proofs.Progress.{gives_same, gives_then, leaves_all, leave
 use Rattle.naga_names.proofs.namer.items.Naming.name_functions.Goals as goal
 
 pub loop-handle-init : goal.loop-handle-init
-loop-handle-init c = leaves_all _ (ap (flat_map (λ p. labelled_function c.args.types.now p.0 p.1)) (sym (c.into_iter-handle-iterator.ensures.into_iter_gives ∙ c.iter-handle-items.ensures)))
+loop-handle-init c = leaves_all _ (ap (flat_map (λ p. labelled_function c.args.types.now p.0 p.1))
+    (sym (c.into_iter-handle-iterator.ensures.into_iter_gives ∙ c.iter-handle-items.ensures)))
 
 pub loop-handle-preserved : goal.loop-handle-preserved
 loop-handle-preserved c =

@@ -9,7 +9,12 @@ use Rattle.naga_names.proofs.namer.items.Naming.name_overrides.Goals as goal
 pub loop-handle-init : goal.loop-handle-init
 loop-handle-init c = record {
   named =
-      leaves_all _ (ap (map (λ p. (key.Override p.0, value_label (type_names_in (names_in c.args.output.now) (length c.args.types.now)) (codes "override_") p.1.name p.1.ty)))
+      leaves_all _ (ap
+      (map (λ p. (
+        key.Override p.0,
+        value_label (type_names_in (names_in c.args.output.now)
+            (length c.args.types.now)) (codes "override_") p.1.name p.1.ty,
+      )))
       (sym (c.into_iter-handle-iterator.ensures.into_iter_gives ∙ c.iter-handle-items.ensures)));
   kept = λ t. refl;
 }
@@ -25,8 +30,12 @@ loop-handle-preserved c = record {
       )) c.in-Some.ensures.steps
       c.loop-handle.invariant.named
       (gives_same
-      (ap (λ (names : ℕ → List ℕ). (key.Override c.in-Some.handle, value_label names (codes "override_") c.in-Some.value.now.name c.in-Some.value.now.ty) ∷ [])
-      (same_type_names (names_in c.args.output.now) (names_in c.loop-handle.output) (length c.args.types.now) c.loop-handle.invariant.kept))
+      (ap (λ (names : ℕ → List ℕ). (
+        key.Override c.in-Some.handle,
+        value_label names (codes "override_") c.in-Some.value.now.name c.in-Some.value.now.ty,
+      ) ∷ [])
+      (same_type_names (names_in c.args.output.now) (names_in c.loop-handle.output)
+      (length c.args.types.now) c.loop-handle.invariant.kept))
       c.name_value.ensures.named);
   kept = λ t. c.name_value.ensures.kept t ∙ c.loop-handle.invariant.kept t;
 }

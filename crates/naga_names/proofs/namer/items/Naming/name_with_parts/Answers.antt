@@ -6,7 +6,8 @@ use Rattle.naga_names.proofs.namer.items.Naming.name_with_parts.Goals as goal
 
 pub returns-then-has_parts : goal.returns-then-has_parts
 returns-then-has_parts c =
-    gives_same (ap (λ has_parts. with_parts has_parts (part_key c.args.key.now) (c.args.key.now, c.args.label.now)) (sym c.if-has_parts.true))
+    gives_same (ap (λ has_parts. with_parts has_parts (part_key c.args.key.now)
+    (c.args.key.now, c.args.label.now)) (sym c.if-has_parts.true))
     (gives_then c.name.ensures.named
     (gives_then c.name_part.ensures
     (gives_then c.name_part-then-has_parts.ensures

@@ -1,8 +1,8 @@
 -- Places and refusals as they are told: lines that `docs/USING.md` has.
 use Rattle.std.proofs.Common.{◌≡◌, codes, refl, None, Some}
 use Rattle.std.specs.Fmt.{digits}
-use Rattle.module_answers.specs.Places.{json_place, json_refusal, json_refusal_place}
-use Rattle.naga_acceptance.specs.declared.faults.FunctionPosition.TheVariants as place
+use Rattle.module_answers.specs.Positions.{json_position, json_refusal, json_refusal_position}
+use Rattle.naga_acceptance.specs.declared.faults.FunctionPosition.TheVariants as position
 use Rattle.naga_acceptance.specs.declared.faults.Item.TheVariants as item
 use Rattle.naga_scope.specs.declared.declarations.DeclarationPosition.TheVariants as declaration
 use Rattle.naga_scope.specs.declared.lines.Line.TheVariants as line
@@ -11,27 +11,27 @@ use Rattle.naga_wgsl_fns.specs.declared.refusals.construct.Construct.TheVariants
 use Rattle.naga_wgsl_fns.specs.declared.plans.FunctionPart.TheVariants as part
 use Rattle.naga_wgsl_out.specs.declared.unwritable.RefusalPosition.TheVariants as refused
 
-an_expression : json_place (item.Function 3 (place.Expression 41)) ≡ codes "module.functions[3].expressions[41]"
+an_expression : json_position (item.Function 3 (position.Expression 41)) ≡ codes "module.functions[3].expressions[41]"
 unfolding digits
 an_expression = refl
 
-a_statement : json_place (item.EntryPoint 0 (place.Statement 3)) ≡ codes "module.entry_points[0].function, statement 3"
+a_statement : json_position (item.EntryPoint 0 (position.Statement 3)) ≡ codes "module.entry_points[0].function, statement 3"
 unfolding digits
 a_statement = refl
 
-out_of_scope : json_refusal_place (Some (codes "value", None)) (refused.Function 0 (part.Scope (scope.Operand 12 41)))
+out_of_scope : json_refusal_position (Some (codes "value", None)) (refused.Function 0 (part.Scope (scope.Operand 12 41)))
     ≡ codes "module.functions[0].expressions[41], operand value of statement 12"
 unfolding digits
 out_of_scope = refl
 
 in_an_emit :
-    json_refusal_place (Some (codes "components", Some 2))
+    json_refusal_position (Some (codes "components", Some 2))
     (refused.Function 0 (part.Scope (scope.EmittedOperand 12 42 41)))
     ≡ codes "module.functions[0].expressions[41], operand components[2] of expressions[42] in statement 12"
 unfolding digits
 in_an_emit = refl
 
-without_a_role : json_refusal_place None (refused.Function 0 (part.Scope (scope.Operand 12 41)))
+without_a_role : json_refusal_position None (refused.Function 0 (part.Scope (scope.Operand 12 41)))
     ≡ codes "module.functions[0].expressions[41], operand of statement 12"
 unfolding digits
 without_a_role = refl

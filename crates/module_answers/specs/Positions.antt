@@ -8,7 +8,7 @@ use Rattle.std.specs.Prelude.{ℕ, List, [], ◌++◌, codes, decimal, Option, N
 use Rattle.std.specs.Fmt.{◌++?◌}
 use Rattle.module_answers.specs.Roles.{Role}
 use Rattle.naga_acceptance.specs.declared.faults.FunctionPosition.{FunctionPosition}
-use Rattle.naga_acceptance.specs.declared.faults.FunctionPosition.TheVariants as place
+use Rattle.naga_acceptance.specs.declared.faults.FunctionPosition.TheVariants as position
 use Rattle.naga_acceptance.specs.declared.faults.Item.{Item}
 use Rattle.naga_acceptance.specs.declared.faults.Item.TheVariants as item
 use Rattle.naga_scope.specs.declared.declarations.DeclarationPosition.{DeclarationPosition}
@@ -52,11 +52,11 @@ entry_function_text h = entry_point_text h ++ codes ".function"
 -- ---- where a module is not accepted
 
 -- a part of a function, after the function; nothing of the whole
-abbrev pub part_place : FunctionPosition → List ℕ
-part_place place.Whole = []
-part_place (place.Local h) = listed (codes ".local_variables") h
-part_place (place.Expression h) = expression_text h
-part_place (place.Statement n) = statement_text n
+abbrev pub part_position : FunctionPosition → List ℕ
+part_position position.Whole = []
+part_position (position.Local h) = listed (codes ".local_variables") h
+part_position (position.Expression h) = expression_text h
+part_position (position.Statement n) = statement_text n
 
 -- an item, after the module; nothing of the module itself
 abbrev pub item_in_module : Item → List ℕ
@@ -66,12 +66,12 @@ item_in_module (item.Constant h) = listed (codes ".constants") h
 item_in_module (item.Override h) = listed (codes ".overrides") h
 item_in_module (item.GlobalVariable h) = listed (codes ".global_variables") h
 item_in_module (item.GlobalExpression h) = listed (codes ".global_expressions") h
-item_in_module (item.Function h at) = function_text h ++ part_place at
-item_in_module (item.EntryPoint h at) = entry_function_text h ++ part_place at
+item_in_module (item.Function h at) = function_text h ++ part_position at
+item_in_module (item.EntryPoint h at) = entry_function_text h ++ part_position at
 
 -- an item
-abbrev pub json_place : Item → List ℕ
-json_place at = codes "module" ++ item_in_module at
+abbrev pub json_position : Item → List ℕ
+json_position at = codes "module" ++ item_in_module at
 
 -- ---- where it is refused
 
@@ -87,40 +87,40 @@ operand_text (Some role) = codes "operand " ++ role_text role
 
 -- what is out of scope, after the function: the expression, and the local or the statement that
 -- uses it, or the statement that gives it
-abbrev pub scope_place : (role : Option Role) → ScopeFault → List ℕ
-scope_place role (scope.FirstValue local value) =
+abbrev pub scope_position : (role : Option Role) → ScopeFault → List ℕ
+scope_position role (scope.FirstValue local value) =
     expression_text value ++ (codes ", first value of " ++ listed (codes "local_variables") local)
-scope_place role (scope.Operand statement operand) =
+scope_position role (scope.Operand statement operand) =
     expression_text operand
     ++ (codes ", " ++ (operand_text role ++ (codes " of statement " ++ decimal statement)))
-scope_place role (scope.EmittedOperand statement expression operand) =
+scope_position role (scope.EmittedOperand statement expression operand) =
     expression_text operand ++ (codes ", " ++ (operand_text role ++ (codes " of "
     ++ (listed (codes "expressions") expression ++ (codes " in statement " ++ decimal statement)))))
-scope_place role (scope.GivenBefore statement expression) =
+scope_position role (scope.GivenBefore statement expression) =
     expression_text expression ++ (codes ", given again by statement " ++ decimal statement)
-scope_place role (scope.NeedsNoEmit statement expression) =
+scope_position role (scope.NeedsNoEmit statement expression) =
     expression_text expression
     ++ (codes ", which needs no Emit, in statement " ++ decimal statement)
 
 -- the line that writes an expression, after the expression
-abbrev pub line_place : Line → List ℕ
-line_place line.Signature = []
-line_place (line.Local h) = codes ", first value of " ++ listed (codes "local_variables") h
-line_place (line.Statement n) = codes ", in statement " ++ decimal n
+abbrev pub line_position : Line → List ℕ
+line_position line.Signature = []
+line_position (line.Local h) = codes ", first value of " ++ listed (codes "local_variables") h
+line_position (line.Statement n) = codes ", in statement " ++ decimal n
 
 -- what declares a type, after the function
-abbrev pub declared_place : Declared → List ℕ
-declared_place (declared.Argument h) = listed (codes ".arguments") h
-declared_place declared.Result = codes ".result"
-declared_place (declared.Local h) = listed (codes ".local_variables") h
+abbrev pub declared_position : Declared → List ℕ
+declared_position (declared.Argument h) = listed (codes ".arguments") h
+declared_position declared.Result = codes ".result"
+declared_position (declared.Local h) = listed (codes ".local_variables") h
 
 -- a part of a function, after the function
 abbrev pub refused_part : (role : Option Role) → FunctionPart → List ℕ
 refused_part role part.Labels = codes ".named_expressions"
-refused_part role (part.Scope fault) = scope_place role fault
+refused_part role (part.Scope fault) = scope_position role fault
 refused_part role (part.Statement n) = statement_text n
-refused_part role (part.Expression at h) = expression_text h ++ line_place at
-refused_part role (part.Type_ at ty) = declared_place at
+refused_part role (part.Expression at h) = expression_text h ++ line_position at
+refused_part role (part.Type_ at ty) = declared_position at
 refused_part role (part.Let n h) =
     expression_text h ++ (codes ", the type of its let in statement " ++ decimal n)
 
@@ -140,11 +140,11 @@ refused_in_module role (refused.Declaration at) = declaration_in_module at
 refused_in_module role (refused.Function h at) = function_text h ++ refused_part role at
 refused_in_module role (refused.EntryPoint h at) = entry_function_text h ++ refused_part role at
 
-abbrev pub json_refusal_place : (role : Option Role) → RefusalPosition → List ℕ
-json_refusal_place role at = codes "module" ++ refused_in_module role at
+abbrev pub json_refusal_position : (role : Option Role) → RefusalPosition → List ℕ
+json_refusal_position role at = codes "module" ++ refused_in_module role at
 
 -- a refusal, by its construct and its place: `float literal: module.constants[0]`. Nothing is said
 -- of a construct of whose text nothing is known
 abbrev pub json_refusal : Construct → (role : Option Role) → RefusalPosition → Option (List ℕ)
 json_refusal construct role at =
-    construct_text construct ++? Some (codes ": " ++ json_refusal_place role at)
+    construct_text construct ++? Some (codes ": " ++ json_refusal_position role at)

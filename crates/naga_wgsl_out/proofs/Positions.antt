@@ -53,7 +53,7 @@ use Rattle.naga_wgsl_out.specs.ModuleRefusals.{NamerIsFull, NothingIsRefused}
 use Rattle.naga_wgsl_out.specs.Unwritable.{AreWritableBefore, IsFirst, IsFoundOf, IsRefusalOf}
 use Rattle.naga_wgsl_out.specs.Unwritable.{IsUnspelled, IsWritable, LabelsGetNamesIn, StandsAt}
 use Rattle.naga_wgsl_out.specs.Unwritable.{StandsAtPart, StandsIn, StandsInFunction, StandsInLabels}
-use Rattle.naga_wgsl_out.specs.Unwritable.{TellsFirst, TellsRefusalOf, place_at}
+use Rattle.naga_wgsl_out.specs.Unwritable.{TellsFirst, TellsRefusalOf, position_at}
 use Rattle.naga_wgsl_out.specs.declared.unwritable.Refusal.{Refusal}
 use Rattle.naga_wgsl_out.specs.declared.unwritable.RefusalPosition.TheVariants as position
 use Rattle.naga_back.specs.declared.context.FunctionType.{FunctionType}
@@ -77,12 +77,14 @@ module _ (explicit : Bool) (m : Module) (info : ModuleInfo) (accepted : IsTrue (
       written : (o : Option Expression) → IsSomeAnd o (λ e. IsFalse (expression_has_form m known f.expressions e)) →
           Tells it (λ reported. IsSomeAnd o (λ e. NamesExpression m known f.expressions e reported)) →
           IsSomeAnd o (λ e. CarriesOfExpression m known e it) →
-          IsSomeAnd o (λ e. IsFalse (expression_has_form m known f.expressions e) × Tells it (NamesExpression m known f.expressions e) × CarriesOfExpression m known e it)
+          IsSomeAnd o (λ e. IsFalse (expression_has_form m known f.expressions e)
+          × Tells it (NamesExpression m known f.expressions e) × CarriesOfExpression m known e it)
       written None lacks told carries = lacks
       written (Some e) lacks told carries = (lacks, told, carries)
   by_error (plan_error.TypeWithoutForm declared ty) it refused told carries other =
       (refused.0, (declared_is_spelled m f explicit info known declared ty refused.0, refused.1, told, carries))
-  by_error (plan_error.LetWithoutForm n h) it refused told carries other = (refused.0, let_ (slice_get known h) refused.1 told carries)
+  by_error (plan_error.LetWithoutForm n h) it refused told carries other =
+      (refused.0, let_ (slice_get known h) refused.1 told carries)
     where
       let_ : (o : Option ExpressionInfo) →
           IsSomeAnd o (λ k. IsSpelledIn explicit m info f known k.ty × IsFalse (is_spellable m k.ty)) →
@@ -125,18 +127,22 @@ module _ (explicit : Bool) (m : Module) (info : ModuleInfo) (accepted : IsTrue (
     stands = stands;
     is_known = is_known;
     at = subst (λ at. StandsAtPart explicit m info number f known at it) (sym r.part)
-        (by_error r.error it (r.refused f known stands is_known) (r.told f known stands is_known) (r.carries f known stands is_known) r.other);
+        (by_error r.error it (r.refused f known stands is_known) (r.told f known stands is_known)
+        (r.carries f known stands is_known) r.other);
     first = (r.error, r.part, first_in r.error (r.first f known stands is_known));
   }
 
   -- so what is found where there is no plan
   pub found_in : {E : Type 0} (ty : FunctionType) → number ≡ function_number m ty → (next : Names)
-      (r : Result (Option Refusal) E) (u : Unplanned) → IfOk r (IsFoundOf ty u) → IsUnplanned explicit m info number namer u →
-      IfOk r (λ found. MatchOption found (IsWritable explicit m info (function_number m ty) next) (IsRefusalOf explicit m info ty))
+      (r : Result (Option Refusal) E) (u : Unplanned) → IfOk r (IsFoundOf ty u) →
+      IsUnplanned explicit m info number namer u →
+      IfOk r (λ found. MatchOption found (IsWritable explicit m info (function_number m ty) next)
+      (IsRefusalOf explicit m info ty))
   found_in ty same next (Err e) u found r = tt
   found_in ty same next (Ok o) (unplanned.Memory e) found r = absurd found
   found_in ty same next (Ok o) (unplanned.Refused it at) found r =
-      subst (λ o. MatchOption o (IsWritable explicit m info (function_number m ty) next) (IsRefusalOf explicit m info ty)) (sym found)
+      subst (λ o. MatchOption o (IsWritable explicit m info (function_number m ty) next)
+      (IsRefusalOf explicit m info ty)) (sym found)
       (at, refl, subst (λ n. StandsInFunction explicit m info n (it, at)) same (stands_in it at r))
 
   -- and so what is told of it
@@ -144,7 +150,7 @@ module _ (explicit : Bool) (m : Module) (info : ModuleInfo) (accepted : IsTrue (
       IsToldOfUnplanned explicit m info number namer error → TellsOfModule error →
       TellsRefusalOf explicit m info ty error
   told_of ty same error (unplanned.Refused it at, r, told) of = record {
-    refusal = record { construct = it; place = place_at ty at };
+    refusal = record { construct = it; position = position_at ty at };
     is = (at, refl, subst (λ n. StandsInFunction explicit m info n (it, at)) same (stands_in it at r));
     told = told;
   }
@@ -152,7 +158,8 @@ module _ (explicit : Bool) (m : Module) (info : ModuleInfo) (accepted : IsTrue (
 
 -- what is known of a function that there is
 pub known_at : (m : Module) (info : ModuleInfo) → IsTrue (is_accepted m info) → (number : ℕ) (f : Function) →
-    slice_get (all_functions m) number ≡ Some f → (es : List ExpressionInfo) × (slice_get (all_infos info) number ≡ Some es)
+    slice_get (all_functions m) number ≡ Some f → (es : List ExpressionInfo)
+    × (slice_get (all_infos info) number ≡ Some es)
 known_at m info accepted number f stands =
     let within = slice_get_within (all_functions m) number f stands in
     let counted = all_counted m info accepted in
@@ -210,7 +217,7 @@ refusal_stands explicit m info (item.EntryPoint i) refusal there r =
 
 pub refusal_first : (explicit : Bool) (m : Module) (info : ModuleInfo) (ty : FunctionType) (refusal : Refusal) →
     IsRefusalOf explicit m info ty refusal → AreWritableBefore explicit m info (function_number m ty) →
-    IsFirst explicit m info refusal.place
+    IsFirst explicit m info refusal.position
 refusal_first explicit m info (item.Function h) refusal r before = subst (IsFirst explicit m info) (sym r.1) before
 refusal_first explicit m info (item.EntryPoint i) refusal r before = subst (IsFirst explicit m info) (sym r.1) before
 
@@ -282,13 +289,13 @@ labels_stand m (namer_error.Memory e) it refused told other = absurd cc
 pub labels_told : (explicit : Bool) (m : Module) (info : ModuleInfo) (error : Error) → DeclarationsHaveForms m →
     IsNamesRefusal m error → TellsOfModule error → TellsFirst explicit m info error
 labels_told explicit m info (Custom message) declarations (inl is) of = record {
-  refusal = record { construct = construct.FullNamer; place = position.Labels };
+  refusal = record { construct = construct.FullNamer; position = position.Labels };
   stands = inl (is.1, λ error told. told);
   first = declarations;
   told = is.0;
 }
 labels_told explicit m info (Custom message) declarations (inr is) of = record {
-  refusal = record { construct = construct.NameKey; place = position.Labels };
+  refusal = record { construct = construct.NameKey; position = position.Labels };
   stands = inr (is.1, λ error told. told);
   first = declarations;
   told = is.0;
@@ -298,14 +305,16 @@ labels_told explicit m info _ declarations is of = absurd is
 
 -- ---- no refusal
 -- a call that ends early for want of memory or of the sink tells nothing
-pub stopped_told : (X : Error → Type 0) (r : Result Unit Error) (error : Error) {content text now : List ℕ} {failed failures : ℕ} →
+pub stopped_told : (X : Error → Type 0) (r : Result Unit Error) (error : Error) {content text now : List ℕ}
+    {failed failures : ℕ} →
     IsErrAnd r (λ e. e ≡ error) → StoppedWithin content failed text now failures error →
     IfErr r (λ e. TellsOfModule e → X e)
 stopped_told X (Ok x) error reported stopped = tt
 stopped_told X (Err e) error {failed = failed} {failures = failures} reported stopped =
     λ of. absurd (want_tells_nothing error failed failures stopped.reason (subst TellsOfModule reported of))
 
-pub appended_told : (X : Error → Type 0) (r : Result Unit Error) (content : List ℕ) (failed : ℕ) (text now : List ℕ) (failures : ℕ) →
+pub appended_told : (X : Error → Type 0) (r : Result Unit Error) (content : List ℕ) (failed : ℕ)
+    (text now : List ℕ) (failures : ℕ) →
     Appends r content failed text now failures → IfErr r (λ e. TellsOfModule e → X e)
 appended_told X (Ok x) content failed text now failures appends = tt
 appended_told X (Err e) content failed text now failures appends = stopped_told X (Err e) e refl appends
