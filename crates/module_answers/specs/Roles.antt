@@ -17,7 +17,7 @@ use Rattle.naga_ir.specs.declared.module.Module.{Module}
 use Rattle.naga_ir.specs.Fields.{Field, expression_fields, holds, statement_fields}
 use Rattle.naga_ir.specs.Operands.{expression_operands, own_operands}
 use Rattle.naga_ir.specs.StatementTree.{StatementTree, simple, call}
-use Rattle.naga_listing.specs.Named.{trees_in}
+use Rattle.naga_ir.specs.InOrder.{trees_in}
 use Rattle.naga_scope.specs.declared.scope_faults.ScopeFault.{ScopeFault}
 use Rattle.naga_scope.specs.declared.scope_faults.ScopeFault.TheVariants.{Operand, EmittedOperand}
 use Rattle.naga_wgsl_fns.specs.declared.plans.FunctionPart.{FunctionPart}

@@ -9,7 +9,7 @@ use naga_wgsl_out::info::{Unaccepted, explain};
 use naga_wgsl_out::ir::Module;
 use std::alloc::{AllocError, Global};
 
-/// A fault of the module as one line: its place in the JSON, its kind, and what was wanted there, if
+/// A fault of the module as one line: its position in the JSON, its kind, and what was wanted there, if
 /// more can be told than the kind.
 ///
 /// `module.functions[0].expressions[3]: the known type is another: wanted vec4<f32>, got f32`
@@ -24,10 +24,10 @@ pub fn fault_line(
 {
     let position = JsonPosition(unaccepted.item);
     let fault = fault_text(alloc, module, info, unaccepted)?;
-    format!(in alloc; "{place}: {fault}")
+    format!(in alloc; "{position}: {fault}")
 }
 
-/// The same without the place.
+/// The same without the position.
 pub fn fault_text(
     alloc: Global,
     module: &Module,

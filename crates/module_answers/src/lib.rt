@@ -1,5 +1,5 @@
 //! What is told of a module by those that read it from JSON: its text, a fault or a refusal with its
-//! place, and where the members of its structs stand. Programs and libraries can share it.
+//! position, and where the members of its structs stand. Programs and libraries can share it.
 #![tactic(auto)]
 
 mod faults;

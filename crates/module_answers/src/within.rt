@@ -25,7 +25,7 @@ pub enum Unwritten {
     /// This of the module is nested deeper than the limit.
     #[error("{0}")]
     TooDeep(Nested),
-    /// The module is not accepted, at this place, for a fault of this kind.
+    /// The module is not accepted, at this position, for a fault of this kind.
     #[error("not accepted: {0}")]
     NotAccepted(Unaccepted),
     /// What was written of the module has more bytes than the limit: its text, or of a module that is

@@ -82,7 +82,8 @@ both_done (returned_alike {v = v} {e = e} h) k t q = absurd (not_returned v k e 
 both_done (stopped {x = x} {e = e}) k t q = absurd (not_stopped x k e t q)
 both_done (mistyped {e = e}) k t q = absurd (not_stopped _ k e t q)
 
-then_done : {S : Type 0} (o : Outcome S) → and_then o (λ s t. Done s t) ≡ o
+-- where nothing goes on
+pub then_done : {S : Type 0} (o : Outcome S) → and_then o (λ s t. Done s t) ≡ o
 then_done (Done s t) = refl
 then_done _ = refl
 

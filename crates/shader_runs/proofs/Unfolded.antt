@@ -32,6 +32,7 @@ use Rattle.shader_runs.specs.Premises.{AllTypedIn, ConstantTyped, ConstantsTyped
 use Rattle.shader_runs.specs.Premises.{LeafTyped, constant_type, constant_types_of, handle_types}
 use Rattle.shader_runs.specs.ProgramRun.{tree_value}
 use Rattle.shader_runs.proofs.Callees.{body_runs}
+use Rattle.shader_runs.proofs.Passes.{then_done}
 
 -- ---- cases without a fall
 -- the statements of a case, and those of the next one after them where it falls through
@@ -72,11 +73,6 @@ abbrev pub unfolded_module : Module → Module
 unfolded_module p = record p { functions = unfolded_functions p.functions }
 
 -- ---- runs of statements
--- where nothing goes on
-ended : {S : Type 0} (o : Outcome S) → and_then o (λ s t. Done s t) ≡ o
-ended (Done s t) = refl
-ended _ = refl
-
 case_values_stay : (x : CaseValue) (cs : Cases) → has_case_value x (unfolded_cases cs) ≡ has_case_value x cs
 case_values_stay x no_case = refl
 case_values_stay x (case l b falls cs) = ap (λ c. same_case_value x l || c) (case_values_stay x cs)
@@ -92,10 +88,10 @@ module _ (c : Call) (n : ℕ) where
       run_all c n (followed falls (unfolded_all b) (unfolded_on cs)) kept t
       ≡ and_then (run_all c n b kept t)
       (λ kept1 t1. cond falls (run_on c n cs kept1 t1) (Done kept1 t1))
-  followed_on false b cs own next kept t = own kept t ∙ sym (ended (run_all c n b kept t))
+  followed_on false b cs own next kept t = own kept t ∙ sym (then_done (run_all c n b kept t))
   followed_on true b cs own next kept t =
       λ i. and_then (own kept t i)
-      (λ kept1 t1. (ended (run_all c n (unfolded_on cs) kept1 t1) ∙ next kept1 t1) i)
+      (λ kept1 t1. (then_done (run_all c n (unfolded_on cs) kept1 t1) ∙ next kept1 t1) i)
 
   mutual
     one_unfolded : (s : Statement) (kept : KeptValues) (t : List Event) →
@@ -126,7 +122,7 @@ module _ (c : Call) (n : ℕ) where
     cases_unfolded no_case x kept t = refl
     cases_unfolded (case l b falls cs) x kept t =
         λ i. cond (same_case_value x l)
-        ((ended (run_all c n (followed falls (unfolded_all b) (unfolded_on cs)) kept t)
+        ((then_done (run_all c n (followed falls (unfolded_all b) (unfolded_on cs)) kept t)
         ∙ followed_on falls b cs (all_unfolded b) (on_unfolded cs) kept t) i)
         (cases_unfolded cs x kept t i)
 
