@@ -10,7 +10,7 @@ ghost use Rattle.naga_ir.specs.InOrder.{trees_of};
 ghost use Rattle.naga_scope.specs.InOrder.{own_labels};
 ghost use Rattle.shader_runs.specs.Program.{from};
 
-use crate::binding::label_of;
+use crate::lets::label_of;
 use naga_ir::{Expression, Function, Handle, ItemIndex, Range, Statement};
 use naga_names::NamerError;
 use naga_names::namer::Namer;
