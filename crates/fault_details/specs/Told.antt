@@ -18,8 +18,8 @@ use Rattle.fault_details.specs.Reasons.{Reason, OtherType, OtherClass, NoValue, 
 use Rattle.fault_details.specs.Reasons.{Later, OtherNumber, PastParts, LacksLetter, Needs}
 use Rattle.fault_details.specs.Texts.{item_text}
 use Rattle.fault_details.specs.declared.words.ListName.TheVariants as list
-use Rattle.fault_details.specs.declared.expected.Expected.{Expected}
-use Rattle.fault_details.specs.declared.expected.Expected.TheVariants as told
+use Rattle.fault_details.specs.declared.mismatch.Mismatch.{Mismatch}
+use Rattle.fault_details.specs.declared.mismatch.Mismatch.TheVariants as told
 
 -- a type by its place in the module
 abbrev pub place_text : (h : ℕ) → List ℕ
@@ -95,7 +95,7 @@ TypesAreToldApart = (m : Module) (wanted got : TypeResolution) (text other : Lis
     TellsBoth m wanted got text other → text ≢ other
 
 -- the reason is told, with its types and its numbers
-abbrev pub Tells : Module → Reason → Expected → Type 0
+abbrev pub Tells : Module → Reason → Mismatch → Type 0
 Tells m (OtherType wanted got) (told.Type wanted_text got_text) =
     TellsBoth m wanted got (string_bytes wanted_text) (string_bytes got_text)
 Tells m (OtherClass class got) (told.Class told_class text) =
@@ -112,7 +112,7 @@ Tells m (Needs need) w = w ≡ told.Need need
 Tells m _ w = ⊥
 
 -- so is a reason that there is, and nothing where there is none
-abbrev pub TellsOf : Module → Option Reason → Option Expected → Type 0
+abbrev pub TellsOf : Module → Option Reason → Option Mismatch → Type 0
 TellsOf m None None = ⊤
 TellsOf m None (Some w) = ⊥
 TellsOf m (Some why) None = ⊥

@@ -1,4 +1,4 @@
-//! What was wanted, with types as they are spelled.
+//! Makes the explanation of a fault, with types spelled.
 
 ghost use Rattle.std.specs.Prelude.{◌≡◌, IfNone, IfOk, IsTrue, Some, codes, string_bytes};
 ghost use Rattle.std.specs.Option.{IfSome};
@@ -15,8 +15,8 @@ ghost use Rattle.fault_details.specs.Told.{HasNoOrder, IsOfModule, IsPlaced, IsT
 ghost use Rattle.fault_details.specs.Told.{Tells, TellsBoth, TellsOf, named_type, unspelled_text};
 ghost use Rattle.fault_details.specs.Told.{with_place};
 
-use crate::expected::Expected;
 use crate::items::fault_reason;
+use crate::mismatch::Mismatch;
 use crate::order::{fits, is_in_order};
 use crate::reasons::Reason;
 use crate::words::{ListName, Numbered, TypeClass};
@@ -227,12 +227,12 @@ fn other_type(
     module: &Module,
     wanted: InferredType,
     got: &TypeResolution,
-) -> Result<Expected, AllocError>
+) -> Result<Mismatch, AllocError>
     ensures { IfOk result (Tells «module».now (OtherType (inferred wanted) got.now)) }
 {
     let wanted = resolution_of(wanted);
     let TwoTypes { wanted, got } = told_types(alloc, module, &wanted, got)?;
-    Ok(Expected::Type { wanted, got })
+    Ok(Mismatch::Type { wanted, got })
 }
 
 /// Two scalars.
@@ -241,7 +241,7 @@ fn other_scalar(
     module: &Module,
     wanted: Scalar,
     got: Scalar,
-) -> Result<Expected, AllocError>
+) -> Result<Mismatch, AllocError>
     ensures { IfOk result (Tells «module».now (OtherType (Value (TypeInner.Scalar wanted))
         (Value (TypeInner.Scalar got)))) }
 {
@@ -250,20 +250,20 @@ fn other_scalar(
 }
 
 /// A type of which there is no value.
-fn no_value(alloc: Global, module: &Module, wanted: InferredType) -> Result<Expected, AllocError>
+fn no_value(alloc: Global, module: &Module, wanted: InferredType) -> Result<Mismatch, AllocError>
     ensures { IfOk result (Tells «module».now (NoValue (inferred wanted))) }
 {
     let wanted = resolution_of(wanted);
-    Ok(Expected::Value {
+    Ok(Mismatch::Value {
         wanted: told(alloc, module, &wanted)?,
     })
 }
 
 /// A type where none is wanted.
-fn unexpected(alloc: Global, module: &Module, got: &TypeResolution) -> Result<Expected, AllocError>
+fn unexpected(alloc: Global, module: &Module, got: &TypeResolution) -> Result<Mismatch, AllocError>
     ensures { IfOk result (Tells «module».now (Unexpected got.now)) }
 {
-    Ok(Expected::Nothing {
+    Ok(Mismatch::Nothing {
         got: told(alloc, module, got)?,
     })
 }
@@ -274,10 +274,10 @@ fn other_class(
     module: &Module,
     class: TypeClass,
     got: &TypeResolution,
-) -> Result<Expected, AllocError>
+) -> Result<Mismatch, AllocError>
     ensures { IfOk result (Tells «module».now (OtherClass class got.now)) }
 {
-    Ok(Expected::Class {
+    Ok(Mismatch::Class {
         class,
         got: told(alloc, module, got)?,
     })
@@ -289,17 +289,17 @@ fn lacking(
     module: &Module,
     letter: SwizzleComponent,
     got: &TypeResolution,
-) -> Result<Expected, AllocError>
+) -> Result<Mismatch, AllocError>
     ensures { IfOk result (Tells «module».now (LacksLetter letter got.now)) }
 {
-    Ok(Expected::Letter {
+    Ok(Mismatch::Letter {
         letter,
         got: told(alloc, module, got)?,
     })
 }
 
 /// A reason, as it is told.
-fn told_reason(alloc: Global, module: &Module, reason: &Reason<'_>) -> Result<Expected, AllocError>
+fn told_reason(alloc: Global, module: &Module, reason: &Reason<'_>) -> Result<Mismatch, AllocError>
     ensures { IfOk result (Tells «module».now (shown reason.now)) }
 {
     match reason {
@@ -308,7 +308,7 @@ fn told_reason(alloc: Global, module: &Module, reason: &Reason<'_>) -> Result<Ex
         Reason::OtherClass { class, got } => other_class(alloc, module, *class, *got),
         Reason::NoValue { wanted } => no_value(alloc, module, *wanted),
         Reason::Unexpected { got } => unexpected(alloc, module, *got),
-        Reason::Absent { list, index, count } => Ok(Expected::Item {
+        Reason::Absent { list, index, count } => Ok(Mismatch::Item {
             list: *list,
             index: *index,
             count: *count,
@@ -317,22 +317,22 @@ fn told_reason(alloc: Global, module: &Module, reason: &Reason<'_>) -> Result<Ex
             list,
             index,
             before,
-        } => Ok(Expected::EarlierItem {
+        } => Ok(Mismatch::EarlierItem {
             list: *list,
             index: *index,
             before: *before,
         }),
-        Reason::OtherNumber { of, wanted, got } => Ok(Expected::Number {
+        Reason::OtherNumber { of, wanted, got } => Ok(Mismatch::Number {
             of: *of,
             wanted: *wanted,
             got: *got,
         }),
-        Reason::PastParts { count, got } => Ok(Expected::Part {
+        Reason::PastParts { count, got } => Ok(Mismatch::Part {
             count: *count,
             got: *got,
         }),
         Reason::LacksLetter { letter, got } => lacking(alloc, module, *letter, *got),
-        Reason::Needs { need } => Ok(Expected::Need(*need)),
+        Reason::Needs { need } => Ok(Mismatch::Need(*need)),
     }
 }
 
@@ -365,7 +365,7 @@ pub fn explain(
     module: &Module,
     info: &ModuleInfo,
     fault: Unaccepted,
-) -> Result<Option<Expected>, AllocError>
+) -> Result<Option<Mismatch>, AllocError>
     ensures { IfOk result (TellsOf «module».now (fault_reason «module».now info.now fault)) }
 {
     match fault_reason(module, info, fault) {

@@ -68,7 +68,7 @@ impl fmt::Display for There {
     }
 }
 
-/// What there are as many of as are wanted, or not.
+/// What is counted in a fault about a wrong number of things.
 #[derive(Debug, Clone, Copy, PartialEq, Eq)]
 pub enum Counted {
     /// Values that a call passes.
@@ -111,7 +111,7 @@ impl fmt::Display for Many {
     }
 }
 
-/// Types of which any is wanted.
+/// A class of types, any of which will do.
 #[derive(Debug, Clone, Copy, PartialEq, Eq)]
 pub enum TypeClass {
     /// `bool`

@@ -9,18 +9,18 @@ use Rattle.naga_acceptance.specs.declared.faults.Unaccepted.{Unaccepted}
 use Rattle.fault_details.specs.Reasons.{fault_reason}
 use Rattle.fault_details.specs.Texts.{wanted_text}
 use Rattle.fault_details.specs.Told.{TellsOf}
-use Rattle.fault_details.specs.declared.expected.Expected.{Expected}
+use Rattle.fault_details.specs.declared.mismatch.Mismatch.{Mismatch}
 use Rattle.module_answers.specs.Positions.{json_position}
 
 -- what was wanted, after the kind of fault, if more can be told than that
-abbrev pub wanted_after : Option Expected → List ℕ
+abbrev pub wanted_after : Option Mismatch → List ℕ
 wanted_after None = []
 wanted_after (Some wanted) = codes ": " ++ wanted_text wanted
 
 -- the kind of fault and what was wanted: `the known type is another: wanted vec4<f32>, got f32`
 abbrev pub TellsFault : Module → ModuleInfo → Unaccepted → (text : List ℕ) → Type 0
 TellsFault m info u text =
-    (wanted : Option Expected) × TellsOf m (fault_reason m info u) wanted
+    (wanted : Option Mismatch) × TellsOf m (fault_reason m info u) wanted
     × (text ≡ fault_text u.fault ++ wanted_after wanted)
 
 -- the same after its place

@@ -9,8 +9,8 @@ use Rattle.std.specs.Fmt.{◌++?◌}
 use Rattle.module_answers.specs.Roles.{Role}
 use Rattle.naga_acceptance.specs.declared.faults.FunctionPosition.{FunctionPosition}
 use Rattle.naga_acceptance.specs.declared.faults.FunctionPosition.TheVariants as position
-use Rattle.naga_acceptance.specs.declared.faults.Item.{Item}
-use Rattle.naga_acceptance.specs.declared.faults.Item.TheVariants as item
+use Rattle.naga_acceptance.specs.declared.faults.FaultPosition.{FaultPosition}
+use Rattle.naga_acceptance.specs.declared.faults.FaultPosition.TheVariants as item
 use Rattle.naga_scope.specs.declared.declarations.DeclarationPosition.{DeclarationPosition}
 use Rattle.naga_scope.specs.declared.declarations.DeclarationPosition.TheVariants as declaration
 use Rattle.naga_scope.specs.declared.lines.Declared.{Declared}
@@ -21,8 +21,8 @@ use Rattle.naga_scope.specs.declared.scope_faults.ScopeFault.{ScopeFault}
 use Rattle.naga_scope.specs.declared.scope_faults.ScopeFault.TheVariants as scope
 use Rattle.naga_wgsl_fns.specs.Constructs.{construct_text}
 use Rattle.naga_wgsl_fns.specs.declared.refusals.construct.Construct.{Construct}
-use Rattle.naga_wgsl_fns.specs.declared.plans.FunctionPart.{FunctionPart}
-use Rattle.naga_wgsl_fns.specs.declared.plans.FunctionPart.TheVariants as part
+use Rattle.naga_wgsl_fns.specs.declared.plans.FunctionRefusalPosition.{FunctionRefusalPosition}
+use Rattle.naga_wgsl_fns.specs.declared.plans.FunctionRefusalPosition.TheVariants as part
 use Rattle.naga_wgsl_out.specs.declared.unwritable.RefusalPosition.{RefusalPosition}
 use Rattle.naga_wgsl_out.specs.declared.unwritable.RefusalPosition.TheVariants as refused
 
@@ -59,7 +59,7 @@ part_position (position.Expression h) = expression_text h
 part_position (position.Statement n) = statement_text n
 
 -- an item, after the module; nothing of the module itself
-abbrev pub item_in_module : Item → List ℕ
+abbrev pub item_in_module : FaultPosition → List ℕ
 item_in_module item.Module = []
 item_in_module (item.Type h) = listed (codes ".types") h
 item_in_module (item.Constant h) = listed (codes ".constants") h
@@ -70,7 +70,7 @@ item_in_module (item.Function h at) = function_text h ++ part_position at
 item_in_module (item.EntryPoint h at) = entry_function_text h ++ part_position at
 
 -- an item
-abbrev pub json_position : Item → List ℕ
+abbrev pub json_position : FaultPosition → List ℕ
 json_position at = codes "module" ++ item_in_module at
 
 -- ---- where it is refused
@@ -96,7 +96,7 @@ scope_position role (scope.Operand statement operand) =
 scope_position role (scope.EmittedOperand statement expression operand) =
     expression_text operand ++ (codes ", " ++ (operand_text role ++ (codes " of "
     ++ (listed (codes "expressions") expression ++ (codes " in statement " ++ decimal statement)))))
-scope_position role (scope.GivenBefore statement expression) =
+scope_position role (scope.IntroducedBefore statement expression) =
     expression_text expression ++ (codes ", given again by statement " ++ decimal statement)
 scope_position role (scope.NeedsNoEmit statement expression) =
     expression_text expression
@@ -115,7 +115,7 @@ declared_position declared.Result = codes ".result"
 declared_position (declared.Local h) = listed (codes ".local_variables") h
 
 -- a part of a function, after the function
-abbrev pub refused_part : (role : Option Role) → FunctionPart → List ℕ
+abbrev pub refused_part : (role : Option Role) → FunctionRefusalPosition → List ℕ
 refused_part role part.Labels = codes ".named_expressions"
 refused_part role (part.Scope fault) = scope_position role fault
 refused_part role (part.Statement n) = statement_text n

@@ -24,10 +24,10 @@ pub fn fault_line(
 {
     let position = JsonPosition(unaccepted.item);
     let fault = fault_text(alloc, module, info, unaccepted)?;
-    format!(in alloc; "{place}: {fault}")
+    format!(in alloc; "{position}: {fault}")
 }
 
-/// The same without the place.
+/// The fault as a line, without its position.
 pub fn fault_text(
     alloc: Global,
     module: &Module,

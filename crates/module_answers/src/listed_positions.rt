@@ -1,25 +1,25 @@
 //! Where a module is not accepted or refused, as a place of a listing.
 
 use naga_listing::{Listed, ListingPosition, Spot};
-use naga_wgsl_out::info::{FunctionPosition, Item};
+use naga_wgsl_out::info::{FaultPosition, FunctionPosition};
 use naga_wgsl_out::wgsl::{
-    DeclarationPosition, Declared, FunctionPart, Line, RefusalPosition, ScopeFault,
+    DeclarationPosition, Declared, FunctionRefusalPosition, Line, RefusalPosition, ScopeFault,
 };
 
 /// The place of an item in a listing of what it is in.
-pub fn listed_position(item: Item) -> ListingPosition {
+pub fn listed_position(item: FaultPosition) -> ListingPosition {
     match item {
-        Item::Module => declared(Spot::Whole),
-        Item::Type(handle) => declared(Spot::Type_(handle)),
-        Item::Constant(handle) => declared(Spot::Constant(handle)),
-        Item::Override(handle) => declared(Spot::Override(handle)),
-        Item::GlobalVariable(handle) => declared(Spot::GlobalVariable(handle)),
-        Item::GlobalExpression(handle) => declared(Spot::GlobalExpression(handle)),
-        Item::Function(handle, part) => ListingPosition::of(
+        FaultPosition::Module => declared(Spot::Whole),
+        FaultPosition::Type(handle) => declared(Spot::Type_(handle)),
+        FaultPosition::Constant(handle) => declared(Spot::Constant(handle)),
+        FaultPosition::Override(handle) => declared(Spot::Override(handle)),
+        FaultPosition::GlobalVariable(handle) => declared(Spot::GlobalVariable(handle)),
+        FaultPosition::GlobalExpression(handle) => declared(Spot::GlobalExpression(handle)),
+        FaultPosition::Function(handle, part) => ListingPosition::of(
             Listed::Function(handle),
             part_spot(part),
         ),
-        Item::EntryPoint(index, part) => ListingPosition::of(
+        FaultPosition::EntryPoint(index, part) => ListingPosition::of(
             Listed::EntryPoint(index),
             part_spot(part),
         ),
@@ -68,11 +68,14 @@ fn declaration_position(position: DeclarationPosition) -> ListingPosition {
     }
 }
 
-fn refused_in(listed: Listed, part: FunctionPart) -> ListingPosition {
+fn refused_in(listed: Listed, part: FunctionRefusalPosition) -> ListingPosition {
     match part {
-        FunctionPart::Labels => ListingPosition::of(listed, Spot::Whole),
-        FunctionPart::Type_(declared, _) => ListingPosition::of(listed, declared_spot(declared)),
-        FunctionPart::Scope(fault) => {
+        FunctionRefusalPosition::Labels => ListingPosition::of(listed, Spot::Whole),
+        FunctionRefusalPosition::Type_(declared, _) => ListingPosition::of(
+            listed,
+            declared_spot(declared),
+        ),
+        FunctionRefusalPosition::Scope(fault) => {
             let (spot, beside) = fault_spots(fault);
             ListingPosition {
                 listed,
@@ -80,13 +83,16 @@ fn refused_in(listed: Listed, part: FunctionPart) -> ListingPosition {
                 beside: Some(beside),
             }
         }
-        FunctionPart::Statement(number) => ListingPosition::of(listed, Spot::Statement(number)),
-        FunctionPart::Expression(line, handle) => ListingPosition {
+        FunctionRefusalPosition::Statement(number) => ListingPosition::of(
+            listed,
+            Spot::Statement(number),
+        ),
+        FunctionRefusalPosition::Expression(line, handle) => ListingPosition {
             listed,
             spot: Spot::Expression(handle),
             beside: line_spot(line),
         },
-        FunctionPart::Let(number, handle) => ListingPosition {
+        FunctionRefusalPosition::Let(number, handle) => ListingPosition {
             listed,
             spot: Spot::Expression(handle),
             beside: Some(Spot::Statement(number)),
@@ -121,7 +127,7 @@ fn fault_spots(fault: ScopeFault) -> (Spot, Spot) {
             operand,
             ..
         } => (Spot::Expression(operand), Spot::Statement(statement)),
-        ScopeFault::GivenBefore {
+        ScopeFault::IntroducedBefore {
             statement,
             expression,
         }

@@ -1,4 +1,4 @@
-//! What a line names, so that its lines are shown too.
+//! The items that a line names, whose own lines are shown too.
 
 ghost use Rattle.std.specs.Prelude.{◌≡◌, ◌∷◌, IfOk, map, take};
 ghost use Rattle.std.specs.Option.{option_to_list};

@@ -1,4 +1,4 @@
-//! The writer, after the question whether a module is accepted.
+//! Writes a module after asking whether it is accepted.
 
 ghost use Rattle.std.specs.Prelude.{◌≡◌, [], IfErr, OnOk};
 ghost use Rattle.std.specs.Option.{IfSome, is_none};
