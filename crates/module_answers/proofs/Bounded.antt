@@ -13,7 +13,7 @@ use Rattle.naga_wgsl_out.specs.declared.unwritable.Refusal.{Refusal}
 use Rattle.naga_wgsl_out.proofs.Bounded.{whole_is_longer}
 use Rattle.naga_wgsl_out.proofs.Faithful.{leaves_beginning}
 use Rattle.module_answers.specs.Within.{IsTooLong, IsUnwritten, TellsDepth}
-use Rattle.module_answers.specs.WriteOutcome.{AnswersWriting}
+use Rattle.module_answers.specs.WriteOutcomes.{AnswersWriting}
 use Rattle.module_answers.specs.declared.within.NoOutcome.{NoOutcome}
 use Rattle.module_answers.specs.declared.within.NoOutcome.TheVariants as unwritten
 

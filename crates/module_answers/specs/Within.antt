@@ -3,7 +3,7 @@
 -- Throughout, given is the module before the call and m after it, old is what is known of it before
 -- the call and new after it, and levels is how deep it may be nested.
 use Rattle.std.specs.Prelude.{◌≡◌, ◌<◌, ⊤, ℕ, IsTrue, List, [], None, Option, Result, Some, length}
-use Rattle.module_answers.specs.WriteOutcome.{AnswersWriting}
+use Rattle.module_answers.specs.WriteOutcomes.{AnswersWriting}
 use Rattle.module_answers.specs.declared.within.NoOutcome.{NoOutcome}
 use Rattle.module_answers.specs.declared.within.NoOutcome.TheVariants as unwritten
 use Rattle.module_limits.specs.Nesting.{nested_past}
