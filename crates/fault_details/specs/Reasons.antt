@@ -1,6 +1,6 @@
 -- What was wanted where a module is not accepted, and what stands there: by the clause of
--- acceptance that a fault is of, and the item at its place. A kind of fault of which no more can be
--- told than its name has no reason.
+-- acceptance that a fault is of, and the item at its position. A kind of fault of which no more can
+-- be told than its name has no reason.
 --
 -- Throughout, m is a module, info what is known of it, f a function, p an entry point, e an
 -- expression, s a statement, it a type by itself, r a type that is known or wanted, known are the
@@ -84,7 +84,7 @@ use Rattle.fault_details.specs.declared.words.Need.TheVariants as need
 use Rattle.fault_details.specs.declared.words.TypeClass.{TypeClass}
 use Rattle.fault_details.specs.declared.words.TypeClass.TheVariants as class
 
--- why a module is not accepted at a place
+-- why a module is not accepted at a position
 pub data Reason : Type 0 where
   -- a value of one type is wanted, and one of another stands there
   OtherType : (wanted got : TypeResolution) → Reason
@@ -596,6 +596,6 @@ item_reason m info kind (item.EntryPoint h place) =
     option_and_then (λ p. entry_point_reason m p (known_of info.entry_points.items h) kind place)
     (slice_get m.entry_points.items h)
 
--- why the module is not accepted at a place, for a fault of a kind
+-- why the module is not accepted at a position, for a fault of a kind
 abbrev pub fault_reason : Module → ModuleInfo → Unaccepted → Option Reason
 fault_reason m info u = item_reason m info u.fault u.item

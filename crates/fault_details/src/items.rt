@@ -476,8 +476,8 @@ fn item_reason<'a>(
     }
 }
 
-/// Why the module is not accepted at a place, for a fault of a kind: none where no more can be told
-/// than the kind, and where the fault is none of this module.
+/// Why the module is not accepted at a position, for a fault of a kind: none where no more can be
+/// told than the kind, and where the fault is none of this module.
 pub(crate) fn fault_reason<'a>(
     module: &'a Module,
     info: &'a ModuleInfo,

@@ -1,7 +1,7 @@
 //! Explains a fault: the type, item or number that was expected, and the one that was found.
 //!
 //! Whether a module is accepted, and where not, takes no memory to say, and tells a kind of fault
-//! alone. [`explain`] goes to that place once more and tells the rest, with types as they are
+//! alone. [`explain`] goes to that position once more and tells the rest, with types as they are
 //! spelled.
 #![tactic(auto)]
 

@@ -35,7 +35,7 @@ pub(crate) struct TwoTypes {
     got: String,
 }
 
-/// A type of the module by its place.
+/// A type of the module by its position.
 fn unspelled(alloc: Global, ty: &TypeResolution) -> Result<String, AllocError>
     ensures { IfOk result (λ t. string_bytes t ≡ unspelled_text ty.now) }
 {
@@ -83,7 +83,7 @@ fn has_braces(ty: &TypeResolution, spelled: &str) -> bool
     }
 }
 
-/// A type as it is told: as it is spelled, on one line, or by its place.
+/// A type as it is told: as it is spelled, on one line, or by its position.
 fn told(alloc: Global, module: &Module, ty: &TypeResolution) -> Result<String, AllocError>
     ensures { IfOk result (λ t. IsTold «module».now ty.now (string_bytes t)) }
 {
@@ -111,7 +111,7 @@ fn named_type(inner: &TypeInner) -> Option<Handle<Type_>>
     }
 }
 
-/// A type with the place of the one that it names.
+/// A type with the position of the one that it names.
 fn with_place(
     alloc: Global,
     alone: String,
@@ -128,8 +128,8 @@ fn with_place(
     }
 }
 
-/// A type by its place, if it is one of the module, or else as it is told, with the place of the
-/// type that it names.
+/// A type by its position, if it is one of the module, or else as it is told, with the position of
+/// the type that it names.
 fn placed(alloc: Global, module: &Module, ty: &TypeResolution) -> Result<String, AllocError>
     ensures { IfOk result (λ t. IsPlaced «module».now ty.now (string_bytes t)) }
 {
@@ -142,7 +142,7 @@ fn placed(alloc: Global, module: &Module, ty: &TypeResolution) -> Result<String,
     }
 }
 
-/// Two types by their places, or as one type and another where these are told alike.
+/// Two types by their positions, or as one type and another where these are told alike.
 fn placed_types(
     alloc: Global,
     module: &Module,
@@ -167,7 +167,7 @@ fn placed_types(
     })
 }
 
-/// Two types, each as it is told, or by their places where both are told alike.
+/// Two types, each as it is told, or by their positions where both are told alike.
 fn told_types(
     alloc: Global,
     module: &Module,
@@ -336,20 +336,20 @@ fn told_reason(alloc: Global, module: &Module, reason: &Reason<'_>) -> Result<Mi
     }
 }
 
-/// What was wanted at a place where the module is not accepted, and what stands there, by the fault
-/// that [`unaccepted`](naga_acceptance::unaccepted) gives; none where no more can be told than the
-/// kind of the fault.
+/// What was wanted at a position where the module is not accepted, and what stands there, by the
+/// fault that [`unaccepted`](naga_acceptance::unaccepted) gives; none where no more can be told
+/// than the kind of the fault.
 ///
 /// - Of a type: the one that is wanted, or the class of those of which any is, and the one that is
 ///   known.
 /// - Of what is named and is not there: its list, its number, and how many items the list has; of
-///   what is there, but not before what names it, the place of that.
+///   what is there, but not before what names it, the position of that.
 /// - Of a swizzle: the first letter for which its vector has no component, and the vector's type.
 /// - Of a number, as of the arguments of a call: the one that is wanted, and the one that is there.
 /// - Of a statement that stands where it may not, or a switch whose labels do not fit: what it
 ///   needs.
 ///
-/// It looks at the place alone, and goes through the types once. An error is want of memory; the
+/// It looks at the position alone, and goes through the types once. An error is want of memory; the
 /// fault stands as it was.
 ///
 /// ```text

@@ -17,11 +17,11 @@ pub enum ListName {
     GlobalVariables,
     GlobalExpressions,
     Functions,
-    /// The expressions of the function at the place.
+    /// The expressions of the function at the position.
     Expressions,
-    /// The arguments of the function at the place.
+    /// The arguments of the function at the position.
     Arguments,
-    /// The variables of the function at the place.
+    /// The variables of the function at the position.
     LocalVariables,
 }
 

@@ -1,6 +1,6 @@
 -- What is told of a fault, at which a module is not accepted.
 --
--- Throughout, m is a module, info what is known of it, and u a place with a kind of fault.
+-- Throughout, m is a module, info what is known of it, and u a position with a kind of fault.
 use Rattle.std.specs.Prelude.{◌≡◌, ℕ, List, [], ◌++◌, codes, Option, Some, None}
 use Rattle.naga_ir.specs.declared.module.Module.{Module}
 use Rattle.naga_info.specs.declared.info.ModuleInfo.{ModuleInfo}
@@ -23,7 +23,7 @@ TellsFault m info u text =
     (wanted : Option Mismatch) × TellsOf m (fault_reason m info u) wanted
     × (text ≡ fault_text u.fault ++ wanted_after wanted)
 
--- the same after its place
+-- the same after its position
 abbrev pub TellsFaultAt : Module → ModuleInfo → Unaccepted → (line : List ℕ) → Type 0
 TellsFaultAt m info u line =
     (text : List ℕ) × TellsFault m info u text

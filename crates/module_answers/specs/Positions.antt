@@ -1,5 +1,5 @@
--- How places in a module are told to one who holds it as JSON: by the path in the JSON that has it
--- as the member `module`, as `module.functions[3].expressions[41]`. A statement is told by its
+-- How positions in a module are told to one who holds it as JSON: by the path in the JSON that has
+-- it as the member `module`, as `module.functions[3].expressions[41]`. A statement is told by its
 -- number, after its function: `module.functions[3], statement 12`.
 --
 -- Throughout, h is a handle or an index, n the number of a statement, and role what an operand that
@@ -143,8 +143,8 @@ refused_in_module role (refused.EntryPoint h at) = entry_function_text h ++ refu
 abbrev pub json_refusal_position : (role : Option Role) → RefusalPosition → List ℕ
 json_refusal_position role at = codes "module" ++ refused_in_module role at
 
--- a refusal, by its construct and its place: `float literal: module.constants[0]`. Nothing is said
--- of a construct of whose text nothing is known
+-- a refusal, by its construct and its position: `float literal: module.constants[0]`. Nothing is
+-- said of a construct of whose text nothing is known
 abbrev pub json_refusal : Construct → (role : Option Role) → RefusalPosition → Option (List ℕ)
 json_refusal construct role at =
     construct_text construct ++? Some (codes ": " ++ json_refusal_position role at)

@@ -96,7 +96,7 @@ abbrev pub part_role : FunctionRefusalPosition → Function → Option Role
 part_role (Scope fault) g = fault_role g fault
 part_role part g = None
 
--- the role of the operand that is out of scope at this place
+-- the role of the operand that is out of scope at this position
 abbrev pub role_in : Module → RefusalPosition → Option Role
 role_in m (refused.Function h part) = option_and_then (part_role part) (slice_get m.functions h)
 role_in m (refused.EntryPoint i part) =

@@ -1,4 +1,4 @@
-//! Where a module is not accepted or refused, as a place of a listing.
+//! Where a module is not accepted or refused, as a position of a listing.
 
 use naga_listing::{Listed, ListingPosition, Spot};
 use naga_wgsl_out::info::{FaultPosition, FunctionPosition};
@@ -6,7 +6,7 @@ use naga_wgsl_out::wgsl::{
     DeclarationPosition, Declared, FunctionRefusalPosition, Line, RefusalPosition, ScopeFault,
 };
 
-/// The place of an item in a listing of what it is in.
+/// The position of an item in a listing of what it is in.
 pub fn listed_position(item: FaultPosition) -> ListingPosition {
     match item {
         FaultPosition::Module => declared(Spot::Whole),
@@ -26,9 +26,10 @@ pub fn listed_position(item: FaultPosition) -> ListingPosition {
     }
 }
 
-/// The place of a construct for which a module is refused in a listing of what it is in: of what is
-/// out of scope the expression, with the statement that uses or gives it beside; of an expression
-/// without a form, or whose `let` tells a type without one, the expression with its line beside.
+/// The position of a construct for which a module is refused in a listing of what it is in: of what
+/// is out of scope the expression, with the statement that uses or gives it beside; of an
+/// expression without a form, or whose `let` tells a type without one, the expression with its line
+/// beside.
 pub fn refused_position(position: RefusalPosition) -> ListingPosition {
     match position {
         RefusalPosition::Labels => declared(Spot::Whole),

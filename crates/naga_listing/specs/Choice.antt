@@ -102,7 +102,7 @@ marked_line s lines = unwrap_or (position (λ l. is_about s l.row) lines) 0
 abbrev pub shown_lines : Spot → (spots : List Spot) → List Line → List Line
 shown_lines s spots lines = (kept_from (marked_line s lines) spots 0 lines).lines
 
--- The lines of a place: those near its own, which is marked, those that enclose it, and those that
--- it names. In the place of others stands a gap.
+-- The lines of a position: those near its own, which is marked, those that enclose it, and those
+-- that it names. In the position of others stands a gap.
 abbrev pub position_lines : Module → ListingPosition → List Line
 position_lines m p = shown_lines p.spot (named_spots m p) (all_lines m p.listed)

@@ -17,15 +17,15 @@ use std::marker::Model;
 /// So many lines before the marked one and after it are shown.
 const RADIUS: usize = 5;
 
-/// The lines of a place, some forty at most: the first of what is listed, those near the place's
-/// own line, those of statements around it, those that it names, and the titles of their lists. A
-/// mark follows its own line, and a gap stands in the place of lines that are left out.
+/// The lines of a position, some forty at most: the first of what is listed, those near the
+/// position's own line, those of statements around it, those that it names, and the titles of their
+/// lists. A mark follows its own line, and a gap stands in the place of lines that are left out.
 ///
-/// Where the module has no such place, the first line is marked.
+/// Where the module has no such position, the first line is marked.
 ///
 /// ```text
-/// let place = ListingPosition::of(Listed::Function(double), Spot::Expression(sum));
-/// let lines = listing(alloc, &module, &place)?;
+/// let position = ListingPosition::of(Listed::Function(double), Spot::Expression(sum));
+/// let lines = listing(alloc, &module, &position)?;
 /// ```
 pub fn listing(
     alloc: Global,

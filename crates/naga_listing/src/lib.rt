@@ -1,9 +1,9 @@
 //! Lists the lines around a position in a module, numbered, with what is wrong there.
 //!
 //! [`listing`] chooses the lines, and [`explain`] writes them as a text, with a message under the
-//! line of the place. Whether the module is accepted does not matter: what it names and has not is
-//! told by its number. Items are found by [`item_at`] and [`entry_point_at`], and statements by their
-//! numbers by [`statement_at`].
+//! line of the position. Whether the module is accepted does not matter: what it names and has not
+//! is told by its number. Items are found by [`item_at`] and [`entry_point_at`], and statements by
+//! their numbers by [`statement_at`].
 #![tactic(auto)]
 
 mod choice;

@@ -49,7 +49,7 @@ pub struct ListingPosition {
 }
 
 impl ListingPosition {
-    /// The place of this, with nothing beside it.
+    /// The position of this, with nothing beside it.
     pub fn of(listed: Listed, spot: Spot) -> Self
         ensures { result ≡ record { listed = listed; spot = spot; beside = None } }
     {

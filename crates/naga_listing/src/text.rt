@@ -8,13 +8,13 @@ use naga_info::ModuleInfo;
 use naga_ir::Module;
 use std::alloc::{AllocError, Global};
 
-/// The lines of a place as a text, each with its end: items with their numbers, their operands by
-/// name and handle, and their types as WGSL spells them, where they are known; statements under
-/// those that hold them; and the message under the place's own line.
+/// The lines of a position as a text, each with its end: items with their numbers, their operands
+/// by name and handle, and their types as WGSL spells them, where they are known; statements under
+/// those that hold them; and the message under the position's own line.
 ///
 /// ```text
-/// let place = ListingPosition::of(Listed::Function(double), Spot::Expression(sum));
-/// let text = explain(alloc, &module, &info, &place, "an operand is no number")?;
+/// let position = ListingPosition::of(Listed::Function(double), Spot::Expression(sum));
+/// let text = explain(alloc, &module, &info, &position, "an operand is no number")?;
 /// // function 0 "double"("x": i32) -> i32
 /// //   expressions
 /// //      0  FunctionArgument 0 "x"                                      i32

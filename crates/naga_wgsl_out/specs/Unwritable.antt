@@ -121,7 +121,8 @@ StandsInLabels m it =
     ⊎ (KeyIsOutOfRange m × TellsCustom it (codes "name key out of range"))
 
 -- ---- modules
--- the construct stands at its place in the module; the entry points are numbered after the functions
+-- the construct stands at its position in the module; the entry points are numbered after the
+-- functions
 abbrev pub StandsAt : (explicit : Bool) → Module → ModuleInfo → RefusalPosition → Construct → Type 0
 StandsAt explicit m info position.Labels it = StandsInLabels m it
 StandsAt explicit m info (position.Declaration at) it = StandsInDeclaration m at it
@@ -144,7 +145,7 @@ pub record AreWritableBefore (explicit : Bool) (m : Module) (info : ModuleInfo)
   pub planned : (i : ℕ) → i < number → HasPlan explicit m info i
 
 -- a module is looked at by its declarations, by the labels of its items, and by its functions and
--- entry points: nothing stands in front of this place for which it is refused
+-- entry points: nothing stands in front of this position for which it is refused
 abbrev pub IsFirst : (explicit : Bool) → Module → ModuleInfo → RefusalPosition → Type 0
 IsFirst explicit m info (position.Declaration at) = HaveFormsBefore m at
 IsFirst explicit m info position.Labels = DeclarationsHaveForms m
@@ -153,7 +154,7 @@ IsFirst explicit m info (position.EntryPoint i at) =
     AreWritableBefore explicit m info (length m.functions + i)
 
 -- ---- on the way
--- the place of this part of a function or an entry point
+-- the position of this part of a function or an entry point
 abbrev pub position_at : FunctionType → FunctionRefusalPosition → RefusalPosition
 position_at (item.Function h) at = position.Function h at
 position_at (item.EntryPoint i) at = position.EntryPoint i at
