@@ -387,7 +387,8 @@ module _ (w : World) (n : ℕ) where
     first_alone kept None = refl
     first_alone kept (Some h) = ap (option_map Some) (used_alone kept h)
 
-    firsts_alone : (kept : EmittedValues) (os : List (Option ℕ)) → first_used_all c kept os ≡ first_used_all alone kept os
+    firsts_alone : (kept : EmittedValues) (os : List (Option ℕ)) → first_used_all c kept os
+        ≡ first_used_all alone kept os
     firsts_alone kept [] = refl
     firsts_alone kept (o ∷ os) = ap₂ with_first (first_alone kept o) (firsts_alone kept os)
 

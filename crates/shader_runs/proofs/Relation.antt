@@ -99,7 +99,8 @@ agree_refl s kept h p = refl
 pub extends_trans : (s s1 s2 : Handles) → Extends s s1 → Extends s1 s2 → Extends s s2
 extends_trans s s1 s2 a b h p = b h (a h p)
 
-pub agree_trans : (s s1 : Handles) (k k1 k2 : EmittedValues) → Extends s s1 → Agree s k k1 → Agree s1 k1 k2 → Agree s k k2
+pub agree_trans : (s s1 : Handles) (k k1 k2 : EmittedValues) → Extends s s1 → Agree s k k1 → Agree s1 k1 k2 →
+    Agree s k k2
 agree_trans s s1 k k1 k2 x a b h p = b h (x h p) ∙ a h p
 
 used_agree_as : (c : Call) (e : Option Expression) (st : Availability) (o o' : Option Value) →

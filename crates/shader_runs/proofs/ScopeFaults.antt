@@ -193,7 +193,8 @@ module _ (f : Function) (at : ScopeState) (first count : ℕ) where
       let operands = usable_all f s (operands_of x) in
       let asked = not (binds f first) || operands in
       ⊎_elim (λ e. introduced_before at (Emitted first) introduces_first (old f at s t first e))
-      (λ p. ⊎_elim (λ e. not_emittable at first introduces_first e) (λ p. unbound (or_false (binds f first) operands p.1))
+      (λ p. ⊎_elim (λ e. not_emittable at first introduces_first e)
+          (λ p. unbound (or_false (binds f first) operands p.1))
       (first_false (is_emittable x) asked p.1))
       (first_false (is_new (s first)) (is_emittable x && asked) e)
     where
@@ -222,7 +223,8 @@ abbrev Found : Function → ScopeState → Statements → Type 0
 Found f at ss = (there : ScopeState) × (st : Statement) × StandsIn f at ss there st × BreaksScope f there st
 
 -- the first one does
-itself : (f : Function) (at : ScopeState) (st : Statement) (ss : Statements) → BreaksScope f at st → Found f at (then st ss)
+itself : (f : Function) (at : ScopeState) (st : Statement) (ss : Statements) → BreaksScope f at st →
+    Found f at (then st ss)
 itself f at st ss b = (at, st, stands_first, b)
 
 uses_itself : (f : Function) (at : ScopeState) (st : Statement) (ss : Statements) (s : Handles) → Tracks f at s →

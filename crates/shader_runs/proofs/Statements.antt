@@ -56,7 +56,8 @@ use Rattle.shader_runs.proofs.Scope.{among_append, first_followed_by, has_all_ca
 use Rattle.shader_runs.proofs.Scope.{extends_all, told_continues}
 
 -- both runs of a list from the scope s end alike, in the scope s2; held: it holds a `continue`
-abbrev pub Same : Call → Names → Handles → EmittedValues → Handles → Bool → Outcome EmittedValues → Outcome Scope → Type 0
+abbrev pub Same : Call → Names → Handles → EmittedValues → Handles → Bool → Outcome EmittedValues →
+    Outcome Scope → Type 0
 Same c n s kept s2 held =
     Alike (Returns c.environment.parts c.function) (λ k l. Related c n s2 l k × Agree s kept k)
     (λ k l. Related c n s2 l k × Agree s kept k × IsTrue held) (λ k l. Agree s kept k)

@@ -79,7 +79,8 @@ no_number [] e = refl
 no_number (b ∷ bytes) e = by (nat_eq b 1) refl
   where
     by : (x : Bool) → nat_eq b 1 ≡ x → x ≡ false
-    by true is = absurd (false≢true (ap (λ c. is_word_text (word_before_parts (c ∷ bytes))) (sym (eqb-true b 1 is)) ∙ e))
+    by true is = absurd
+        (false≢true (ap (λ c. is_word_text (word_before_parts (c ∷ bytes))) (sym (eqb-true b 1 is)) ∙ e))
     by false is = refl
 
 type_begins : (w : List ℕ) → SpellsAType w → is_word_text (word_before_parts w) ≡ true
