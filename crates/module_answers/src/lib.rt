@@ -1,4 +1,4 @@
-//! What is told of a module by those that read it from JSON: its text, a fault or a refusal with its
+//! Answers about a module that was read from JSON: its text, a fault or a refusal with its
 //! position, and where the members of its structs stand. Programs and libraries can share it.
 #![tactic(auto)]
 

@@ -39,8 +39,9 @@ pub fn operands_have_roles()
     ensures { OperandsHaveRoles }
 {}
 
-/// The role of the operand that is out of scope at this position of the module: in the statement that
-/// uses it, or in the expression that an `Emit` binds. There is none where something else is wrong.
+/// The role of the operand that is out of scope at this position of the module: in the statement
+/// that uses it, or in the expression that an `Emit` binds. There is none where something else is
+/// wrong.
 pub fn role_at<'a>(module: &'a Module, at: &RefusalPosition) -> Option<Role<'a>>
     ensures { option_map seen result ≡ role_in «module».now at.now }
 {
