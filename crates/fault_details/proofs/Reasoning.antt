@@ -186,7 +186,7 @@ module _ (types : List Type_) (known : List TypeResolution) where
       let end = need_unless (not (last_falls_through false cs)) need.End in
       ⊎_elim
       (λ a. some_first (case_value_types_reason s cs) (option_or differ (option_or default end))
-          (label_types_told s cs a))
+      (label_types_told s cs a))
       (λ others. some_second (case_value_types_reason s cs) (option_or differ (option_or default end)) (⊎_elim
       (λ b. some_first differ (option_or default end) (need_told _ _ b))
       (λ last. some_second differ (option_or default end) (⊎_elim

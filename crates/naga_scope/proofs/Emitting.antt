@@ -126,7 +126,7 @@ module _ (m : Module) (info : ModuleInfo) (f : ir_function.Function) (es : List 
         Err (NeedsNoEmit n h) ≡ check_emitted of s n h
     stopped_kind new kind =
         λ i. result_and (unless (sym new i) (IntroducedBefore n h))
-            (emittable (sym (emittable_at m info f es h ∙ kind) i))
+        (emittable (sym (emittable_at m info f es h ∙ kind) i))
 
     -- else it is where no name binds it, or its operands are in scope
     pub checked_by : OperandsStandBefore f.expressions → KeepsStart of s → (b : Bool) (own : Checked) →

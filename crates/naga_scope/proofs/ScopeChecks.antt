@@ -97,7 +97,7 @@ module _ (f : Function) (s : Handles) (n : ℕ) where
       let operands = check_operands f s n h (operands_of e) in
       let bound = check_bound (binds f h) operands in
       and_ok (unless (is_new (s h)) (IntroducedBefore n h))
-          (result_and (unless (is_emittable e) (NeedsNoEmit n h)) bound)
+      (result_and (unless (is_emittable e) (NeedsNoEmit n h)) bound)
       (unless_ok (is_new (s h)) (IntroducedBefore n h))
       (and_ok (unless (is_emittable e) (NeedsNoEmit n h)) bound (unless_ok (is_emittable e) (NeedsNoEmit n h))
       (bound_ok (binds f h) operands (operands_ok h (operands_of e))))

@@ -194,7 +194,7 @@ module _ (f : Function) (at : ScopeState) (first count : ℕ) where
       let asked = not (binds f first) || operands in
       ⊎_elim (λ e. introduced_before at (Emitted first) introduces_first (old f at s t first e))
       (λ p. ⊎_elim (λ e. not_emittable at first introduces_first e)
-          (λ p. unbound (or_false (binds f first) operands p.1))
+      (λ p. unbound (or_false (binds f first) operands p.1))
       (first_false (is_emittable x) asked p.1))
       (first_false (is_new (s first)) (is_emittable x && asked) e)
     where

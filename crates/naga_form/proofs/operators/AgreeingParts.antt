@@ -94,7 +94,7 @@ module _ (m : Module) (info : ModuleInfo) where
       by : (b : Bool) →
           struct_distinguished
           (identity_by (if b then Some (level 1 (kind_number s.kind) s.width (component_count n) 0 0) else None)
-              r) ≡ None
+          r) ≡ None
       by true = refl
       by false = refl
 

@@ -117,7 +117,7 @@ head_whole [] all = refl
 head_whole (b ∷ bytes) all =
     let parts = and_parts (is_identifier_char b) (list_all is_identifier_char bytes) all in
     ap (λ t. if t then [] else b ∷ word_before_parts bytes) (goes_on b parts.0)
-        ∙ ap (λ bs. b ∷ bs) (head_whole bytes parts.1)
+    ∙ ap (λ bs. b ∷ bs) (head_whole bytes parts.1)
 
 -- each is a built-in word that begins with no `_`
 abbrev begins_plainly : List ℕ → Bool

@@ -17,7 +17,7 @@ returns-then-is_new-clause-check c =
     ∙ ap (λ t. is_new (availability_of (λ number. []) (numbered_name h) t)) c.availability.ensures)
     ∙ c.if-is_new.true in
     sym (ap (λ o. check_result c.args.number o s) c.in-Some.is
-        ∙ ap (λ b. unless b (IntroducedBefore c.args.number h)) new)
+    ∙ ap (λ b. unless b (IntroducedBefore c.args.number h)) new)
 
 pub returns-else-is_new-clause-check : goal.returns-else-is_new-clause-check
 returns-else-is_new-clause-check c =
@@ -27,7 +27,7 @@ returns-else-is_new-clause-check c =
     ∙ ap (λ t. is_new (availability_of (λ number. []) (numbered_name h) t)) c.availability.ensures)
     ∙ c.if-is_new.false in
     sym (ap (λ o. check_result c.args.number o s) c.in-Some.is
-        ∙ ap (λ b. unless b (IntroducedBefore c.args.number h)) old)
+    ∙ ap (λ b. unless b (IntroducedBefore c.args.number h)) old)
 
 pub returns-then-is_new-clause-after : goal.returns-then-is_new-clause-after
 returns-then-is_new-clause-after c names m g =
