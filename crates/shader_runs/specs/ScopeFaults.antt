@@ -45,7 +45,7 @@ pub data UsesAt (f : Function) (at : ScopeState) : Statement → ScopeState → 
 -- a statement that stands at the first point gives this, at the second point. An Emit gives each
 -- handle that it names, also a read that it does not bring into scope
 pub data IntroducesAt (f : Function) (at : ScopeState) : Statement → ScopeState →
-IntroducedHandle → Type 0 where
+    IntroducedHandle → Type 0 where
   emitted : {first count : ℕ} (i : ℕ) → i < count →
       IntroducesAt f at (Emit first count) (after_some f first i at) (Emitted (first + i))
   as_result : {act : Action} {xs : List ℕ} {h : ℕ} →
