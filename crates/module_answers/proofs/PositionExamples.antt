@@ -1,7 +1,8 @@
 -- Places and refusals as they are told: lines that `docs/USING.md` has.
 use Rattle.std.proofs.Common.{◌≡◌, codes, refl, None, Some}
-use Rattle.std.specs.Fmt.{digits}
+use Rattle.std.specs.Fmt.{debug_str, digits}
 use Rattle.module_answers.specs.Positions.{json_position, json_refusal, json_refusal_position}
+use Rattle.module_answers.specs.Positions.{labelled_position}
 use Rattle.naga_acceptance.specs.declared.faults.FunctionPosition.TheVariants as position
 use Rattle.naga_acceptance.specs.declared.faults.Item.TheVariants as item
 use Rattle.naga_scope.specs.declared.declarations.DeclarationPosition.TheVariants as declaration
@@ -36,15 +37,22 @@ without_a_role : json_refusal_position None (refused.Function 0 (part.Scope (sco
 unfolding digits
 without_a_role = refl
 
-a_refusal : json_refusal construct.FloatLiteral None (refused.Function 0 (part.Expression (line.Statement 1) 3))
-    ≡ Some (codes "float literal: module.functions[0].expressions[3], in statement 1")
+labelled : labelled_position (item.Function 0 (position.Expression 3)) (Some (codes "half"))
+    ≡ Some (codes "module.functions[0].expressions[3], in \"half\"")
+unfolding digits
+labelled = refl
+
+a_refusal :
+    json_refusal construct.FloatLiteral None (refused.Function 0 (part.Expression (line.Statement 1) 3))
+    (Some (codes "half"))
+    ≡ Some (codes "float literal: module.functions[0].expressions[3], in statement 1, in \"half\"")
 unfolding digits
 a_refusal = refl
 
-a_declaration : json_refusal construct.Overlap None (refused.Declaration (declaration.Struct 5))
+a_declaration : json_refusal construct.Overlap None (refused.Declaration (declaration.Struct 5)) None
     ≡ Some (codes "members overlap: module.types[5]")
 unfolding digits
 a_declaration = refl
 
-labels_of_items : json_refusal construct.FullNamer None refused.Labels ≡ Some (codes "namer is full: module")
+labels_of_items : json_refusal construct.FullNamer None refused.Labels None ≡ Some (codes "namer is full: module")
 labels_of_items = refl

@@ -10,7 +10,8 @@ use Rattle.fault_details.specs.Reasons.{fault_reason}
 use Rattle.fault_details.specs.Texts.{wanted_text}
 use Rattle.fault_details.specs.Told.{TellsOf}
 use Rattle.fault_details.specs.declared.expected.Expected.{Expected}
-use Rattle.module_answers.specs.Positions.{json_position}
+use Rattle.module_answers.specs.Labels.{label_of}
+use Rattle.module_answers.specs.Positions.{labelled_position}
 
 -- what was wanted, after the kind of fault, if more can be told than that
 abbrev pub wanted_after : Option Expected → List ℕ
@@ -23,8 +24,9 @@ TellsFault m info u text =
     (wanted : Option Expected) × TellsOf m (fault_reason m info u) wanted
     × (text ≡ fault_text u.fault ++ wanted_after wanted)
 
--- the same after its place
+-- the same after its place and the label there. Nothing is said where nothing is said of the label
 abbrev pub TellsFaultAt : Module → ModuleInfo → Unaccepted → (line : List ℕ) → Type 0
 TellsFaultAt m info u line =
     (text : List ℕ) × TellsFault m info u text
-    × (line ≡ json_position u.item ++ (codes ": " ++ text))
+    × ((place : List ℕ) → labelled_position u.item (label_of m u.item) ≡ Some place →
+    line ≡ place ++ (codes ": " ++ text))

@@ -3,9 +3,10 @@
 -- number, after its function: `module.functions[3], statement 12`.
 --
 -- Throughout, h is a handle or an index, n the number of a statement, and role what an operand that
--- is out of scope is where it is used, if that is known.
+-- is out of scope is where it is used, if that is known. A label is that of the function or the
+-- entry point that a place is in, if there is one and it has a label.
 use Rattle.std.specs.Prelude.{ℕ, List, [], ◌++◌, codes, decimal, Option, None, Some}
-use Rattle.std.specs.Fmt.{◌++?◌}
+use Rattle.std.specs.Fmt.{◌++?◌, debug_str}
 use Rattle.module_answers.specs.Roles.{Role}
 use Rattle.naga_acceptance.specs.declared.faults.FunctionPosition.{FunctionPosition}
 use Rattle.naga_acceptance.specs.declared.faults.FunctionPosition.TheVariants as position
@@ -49,6 +50,12 @@ entry_point_text h = listed (codes ".entry_points") h
 abbrev pub entry_function_text : (h : ℕ) → List ℕ
 entry_function_text h = entry_point_text h ++ codes ".function"
 
+-- a label, after the place: `, in "half"`. Nothing is said of one of whose text in quotes nothing is
+-- known, as of one past ASCII
+abbrev pub in_function : (label : Option (List ℕ)) → Option (List ℕ)
+in_function None = Some []
+in_function (Some label) = Some (codes ", in ") ++? debug_str label
+
 -- ---- where a module is not accepted
 
 -- a part of a function, after the function; nothing of the whole
@@ -72,6 +79,10 @@ item_in_module (item.EntryPoint h at) = entry_function_text h ++ part_position a
 -- an item
 abbrev pub json_position : Item → List ℕ
 json_position at = codes "module" ++ item_in_module at
+
+-- the same with the label: `module.functions[0].expressions[3], in "half"`
+abbrev pub labelled_position : Item → (label : Option (List ℕ)) → Option (List ℕ)
+labelled_position at label = Some (json_position at) ++? in_function label
 
 -- ---- where it is refused
 
@@ -143,8 +154,10 @@ refused_in_module role (refused.EntryPoint h at) = entry_function_text h ++ refu
 abbrev pub json_refusal_position : (role : Option Role) → RefusalPosition → List ℕ
 json_refusal_position role at = codes "module" ++ refused_in_module role at
 
--- a refusal, by its construct and its place: `float literal: module.constants[0]`. Nothing is said
--- of a construct of whose text nothing is known
-abbrev pub json_refusal : Construct → (role : Option Role) → RefusalPosition → Option (List ℕ)
-json_refusal construct role at =
-    construct_text construct ++? Some (codes ": " ++ json_refusal_position role at)
+-- a refusal, by its construct, its place and the label: `float literal: module.constants[0]`. Nothing
+-- is said of a construct of whose text nothing is known
+abbrev pub json_refusal : Construct → (role : Option Role) → RefusalPosition →
+    (label : Option (List ℕ)) → Option (List ℕ)
+json_refusal construct role at label =
+    construct_text construct
+    ++? (Some (codes ": " ++ json_refusal_position role at) ++? in_function label)

@@ -2,7 +2,7 @@
 
 use crate::texts::{Style, write_in};
 use module_answers::{
-    JsonPosition, JsonRefusal, Unwritten, Written, fault_text, label_at, listed_position,
+    JsonRefusal, LabelledPosition, Unwritten, Written, fault_text, listed_position,
     refused_position,
 };
 use naga_json::Known;
@@ -67,10 +67,7 @@ fn of_refusal(alloc: Global, known: &Known, refusal: Refusal) -> Result<Explanat
         construct.as_str(),
     )?;
     let told = JsonRefusal::of(&known.module, refusal);
-    not_written(match label_at(&known.module, refusal.position) {
-        Some(label) => format!(in alloc; "refused: {told}, in {label:?}\n\n{listing}"),
-        None => format!(in alloc; "refused: {told}\n\n{listing}"),
-    })
+    not_written(format!(in alloc; "refused: {told}\n\n{listing}"))
 }
 
 /// Tells where a module is not accepted and why, and shows the lines around.
@@ -80,7 +77,7 @@ fn of_unaccepted(
     unaccepted: Unaccepted,
 ) -> Result<Explanation, AllocError> {
     let position = listed_position(unaccepted.item);
-    let told = JsonPosition(unaccepted.item);
+    let told = LabelledPosition::of(&known.module, unaccepted.item);
     let fault = fault_text(alloc, &known.module, &known.info, unaccepted)?;
     let listing = explain(alloc, &known.module, &known.info, &position, fault.as_str())?;
     not_written(format!(in alloc; "not accepted: {told}: {fault}\n\n{listing}"))

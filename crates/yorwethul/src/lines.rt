@@ -4,7 +4,7 @@ use crate::failure::Failure;
 use crate::progress::{Outcome, Progress};
 use crate::texts::{Style, write_in};
 use json::Scratch;
-use module_answers::{JsonPosition, JsonRefusalPosition, Unwritten, Written, label_at};
+use module_answers::{JsonPosition, JsonRefusalPosition, Unwritten, Written, label_at, label_of};
 use naga_json::{Known, ReadError, known_of, parse_bytes};
 use naga_wgsl_out::info::{Unaccepted, explain};
 use naga_wgsl_out::ir::Module;
@@ -266,6 +266,9 @@ fn tell_unaccepted(
     let mut told = Map::new(alloc);
     tell(alloc, "place", JsonPosition(unaccepted.item), &mut told)?;
     tell(alloc, "fault", unaccepted.fault, &mut told)?;
+    if let Some(label) = label_of(&known.module, unaccepted.item) {
+        tell(alloc, "function", label, &mut told)?;
+    }
     if let Some(wanted) = explain(alloc, &known.module, &known.info, unaccepted)? {
         tell(alloc, "wanted", wanted, &mut told)?;
     }

@@ -7,13 +7,11 @@ use crate::lines::answer_lines;
 use crate::progress::Progress;
 use crate::texts::write_in;
 use crate::words::{Request, Task, request_of};
-use module_answers::{
-    JsonRefusal, Unwritten, Written, check_nesting, fault_line, label_at, layout_table,
-};
+use module_answers::{JsonRefusal, Unwritten, Written, check_nesting, fault_line, layout_table};
 use naga_json::Known;
 use naga_wgsl_out::info::{Unaccepted, unaccepted};
 use naga_wgsl_out::ir::Module;
-use naga_wgsl_out::wgsl::{Error, Refusal};
+use naga_wgsl_out::wgsl::Error;
 use std::alloc::Global;
 use std::fmt::Display;
 use std::io::{BufReader, Read, Write};
@@ -229,21 +227,8 @@ fn print_written<O: Write, E: Write>(
     } = written;
     match (answer, refusal) {
         (Ok(()), _) => print(sink, out, err),
-        (Err(_), Some(refusal)) => refuse_at(refusal, module, err),
+        (Err(_), Some(refusal)) => refuse(JsonRefusal::of(module, refusal), err),
         (Err(error), None) => tell_error(error, err),
-    }
-}
-
-/// Tells what the module is refused for, where that stands, and the label of the function there.
-fn refuse_at<E: Write>(refusal: Refusal, module: &Module, err: &mut E) -> u8 {
-    let label = label_at(module, refusal.position);
-    refuse_in(&JsonRefusal::of(module, refusal), label, err)
-}
-
-fn refuse_in<E: Write>(told: &JsonRefusal<'_>, label: Option<&str>, err: &mut E) -> u8 {
-    match label {
-        Some(label) => refuse(format_args!("{told}, in {label:?}"), err),
-        None => refuse(told, err),
     }
 }
 

@@ -311,12 +311,12 @@ struct Out: no layout
     a: bound
 ";
 
-const OPERAND_FAULT: &str = "not accepted: module.functions[0].expressions[1]: \
+const OPERAND_FAULT: &str = "not accepted: module.functions[0].expressions[1], in \"double\": \
     an operand does not stand before the expression: \
     names expressions[1], wanted one before expressions[1]\n";
 
 const OPERAND_LISTING: &str = "\
-not accepted: module.functions[0].expressions[1]: an operand does not stand before the expression: \
+not accepted: module.functions[0].expressions[1], in \"double\": an operand does not stand before the expression: \
     names expressions[1], wanted one before expressions[1]
 
 function 0 \"double\"(\"x\": i32) -> i32
