@@ -355,13 +355,13 @@ def test_depth(folder, _):
             must(told[0] == wanted, f"{name}: {told} of {data[:40]}")
     for kind in KINDS:
         for depth in (DEEPEST_NESTING + 1, DEEPEST_NESTING + 2, 100_000):
-            data = json.dumps(nested(kind, depth)).encode()
+            data = nested(kind, depth).encode()
             for name, flags in (("write", [0]), ("check", []), ("layout", [])):
                 told = library.call(name, data, *flags)
                 is_deep = levels(kind, depth) > DEEPEST_NESTING
                 is_told = told[0] == TOO_DEEP and told[1].startswith("nested too deep: ")
                 must(is_deep == is_told, f"{name}: {told} of {kind}, {depth} deep")
-    told = library.call("write", json.dumps(doubled(100)).encode(), 0)
+    told = library.call("write", doubled(100).encode(), 0)
     must(told == (TOO_LONG, "text of more than 67108864 bytes"), f"{told} of a text that doubles")
 
 

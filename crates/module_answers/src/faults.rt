@@ -3,7 +3,7 @@
 ghost use Rattle.std.specs.Prelude.{IfOk, string_bytes};
 ghost use Rattle.module_answers.specs.Faults.{TellsFault, TellsFaultAt};
 
-use crate::positions::LabelledPosition;
+use crate::positions::{JsonRoot, LabelledPosition};
 use naga_info::ModuleInfo;
 use naga_wgsl_out::info::{Unaccepted, explain};
 use naga_wgsl_out::ir::Module;
@@ -18,11 +18,12 @@ pub fn fault_line(
     module: &Module,
     info: &ModuleInfo,
     unaccepted: Unaccepted,
+    root: JsonRoot,
 ) -> Result<String, AllocError>
-    ensures { IfOk result (λ line. TellsFaultAt «module».now info.now unaccepted
+    ensures { IfOk result (λ line. TellsFaultAt root «module».now info.now unaccepted
         (string_bytes line)) }
 {
-    let position = LabelledPosition::of(module, unaccepted.item);
+    let position = LabelledPosition::of(root, module, unaccepted.item);
     let fault = fault_text(alloc, module, info, unaccepted)?;
     format!(in alloc; "{position}: {fault}")
 }
