@@ -5,23 +5,26 @@ use Rattle.module_answers.specs.Positions.{json_position, json_refusal, json_ref
 use Rattle.module_answers.specs.Positions.{labelled_position}
 use Rattle.module_answers.specs.declared.positions.JsonRoot.TheVariants as root
 use Rattle.naga_acceptance.specs.declared.faults.FunctionPosition.TheVariants as position
-use Rattle.naga_acceptance.specs.declared.faults.Item.TheVariants as item
+use Rattle.naga_acceptance.specs.declared.faults.FaultPosition.TheVariants as item
 use Rattle.naga_scope.specs.declared.declarations.DeclarationPosition.TheVariants as declaration
 use Rattle.naga_scope.specs.declared.lines.Line.TheVariants as line
 use Rattle.naga_scope.specs.declared.scope_faults.ScopeFault.TheVariants as scope
 use Rattle.naga_wgsl_fns.specs.declared.refusals.construct.Construct.TheVariants as construct
-use Rattle.naga_wgsl_fns.specs.declared.plans.FunctionPart.TheVariants as part
+use Rattle.naga_wgsl_fns.specs.declared.plans.FunctionRefusalPosition.TheVariants as part
 use Rattle.naga_wgsl_out.specs.declared.unwritable.RefusalPosition.TheVariants as refused
 
-an_expression : json_position root.Member (item.Function 3 (position.Expression 41)) ≡ codes "module.functions[3].expressions[41]"
+an_expression : json_position root.Member (item.Function 3 (position.Expression 41))
+    ≡ codes "module.functions[3].expressions[41]"
 unfolding digits
 an_expression = refl
 
-a_statement : json_position root.Member (item.EntryPoint 0 (position.Statement 3)) ≡ codes "module.entry_points[0].function, statement 3"
+a_statement : json_position root.Member (item.EntryPoint 0 (position.Statement 3))
+    ≡ codes "module.entry_points[0].function, statement 3"
 unfolding digits
 a_statement = refl
 
-out_of_scope : json_refusal_position root.Member (Some (codes "value", None)) (refused.Function 0 (part.Scope (scope.Operand 12 41)))
+out_of_scope : json_refusal_position root.Member (Some (codes "value", None))
+    (refused.Function 0 (part.Scope (scope.Operand 12 41)))
     ≡ codes "module.functions[0].expressions[41], operand value of statement 12"
 unfolding digits
 out_of_scope = refl
@@ -55,5 +58,6 @@ a_declaration : json_refusal root.Member construct.Overlap None (refused.Declara
 unfolding digits
 a_declaration = refl
 
-labels_of_items : json_refusal root.Member construct.FullNamer None refused.Labels None ≡ Some (codes "namer is full: module")
+labels_of_items : json_refusal root.Member construct.FullNamer None refused.Labels None
+    ≡ Some (codes "namer is full: module")
 labels_of_items = refl

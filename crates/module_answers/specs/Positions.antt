@@ -1,12 +1,12 @@
--- How places in a module are told to one who holds it as JSON: by the path in the JSON that has it
--- as the member `module`, as `module.functions[3].expressions[41]`, or in the JSON that is the module,
--- as `functions[3].expressions[41]`. A statement is told by its number, after its function:
+-- How positions in a module are told to one who holds it as JSON: by the path in the JSON that has
+-- it as the member `module`, as `module.functions[3].expressions[41]`, or in the JSON that is the
+-- module, as `functions[3].expressions[41]`. A statement is told by its number, after its function:
 -- `module.functions[3], statement 12`.
 --
 -- Throughout, from is what the JSON holds, h a handle or an index, n the number of a statement, and
 -- role what an operand that
 -- is out of scope is where it is used, if that is known. A label is that of the function or the
--- entry point that a place is in, if there is one and it has a label.
+-- entry point that a position is in, if there is one and it has a label.
 use Rattle.std.specs.Prelude.{ℕ, List, [], ◌++◌, codes, decimal, Option, None, Some}
 use Rattle.std.specs.Fmt.{◌++?◌, debug_str}
 use Rattle.module_answers.specs.Roles.{Role}
@@ -14,8 +14,8 @@ use Rattle.module_answers.specs.declared.positions.JsonRoot.{JsonRoot}
 use Rattle.module_answers.specs.declared.positions.JsonRoot.TheVariants as root
 use Rattle.naga_acceptance.specs.declared.faults.FunctionPosition.{FunctionPosition}
 use Rattle.naga_acceptance.specs.declared.faults.FunctionPosition.TheVariants as position
-use Rattle.naga_acceptance.specs.declared.faults.Item.{Item}
-use Rattle.naga_acceptance.specs.declared.faults.Item.TheVariants as item
+use Rattle.naga_acceptance.specs.declared.faults.FaultPosition.{FaultPosition}
+use Rattle.naga_acceptance.specs.declared.faults.FaultPosition.TheVariants as item
 use Rattle.naga_scope.specs.declared.declarations.DeclarationPosition.{DeclarationPosition}
 use Rattle.naga_scope.specs.declared.declarations.DeclarationPosition.TheVariants as declaration
 use Rattle.naga_scope.specs.declared.lines.Declared.{Declared}
@@ -26,8 +26,8 @@ use Rattle.naga_scope.specs.declared.scope_faults.ScopeFault.{ScopeFault}
 use Rattle.naga_scope.specs.declared.scope_faults.ScopeFault.TheVariants as scope
 use Rattle.naga_wgsl_fns.specs.Constructs.{construct_text}
 use Rattle.naga_wgsl_fns.specs.declared.refusals.construct.Construct.{Construct}
-use Rattle.naga_wgsl_fns.specs.declared.plans.FunctionPart.{FunctionPart}
-use Rattle.naga_wgsl_fns.specs.declared.plans.FunctionPart.TheVariants as part
+use Rattle.naga_wgsl_fns.specs.declared.plans.FunctionRefusalPosition.{FunctionRefusalPosition}
+use Rattle.naga_wgsl_fns.specs.declared.plans.FunctionRefusalPosition.TheVariants as part
 use Rattle.naga_wgsl_out.specs.declared.unwritable.RefusalPosition.{RefusalPosition}
 use Rattle.naga_wgsl_out.specs.declared.unwritable.RefusalPosition.TheVariants as refused
 
@@ -59,8 +59,8 @@ entry_point_text h = listed (codes "entry_points") h
 abbrev pub entry_function_text : (h : ℕ) → List ℕ
 entry_function_text h = entry_point_text h ++ codes ".function"
 
--- a label, after the place: `, in "half"`. Nothing is said of one of whose text in quotes nothing is
--- known, as of one past ASCII
+-- a label, after the position: `, in "half"`. Nothing is said of one of whose text in quotes
+-- nothing is known, as of one past ASCII
 abbrev pub in_function : (label : Option (List ℕ)) → Option (List ℕ)
 in_function None = Some []
 in_function (Some label) = Some (codes ", in ") ++? debug_str label
@@ -75,7 +75,7 @@ part_position (position.Expression h) = expression_text h
 part_position (position.Statement n) = statement_text n
 
 -- an item
-abbrev pub json_position : JsonRoot → Item → List ℕ
+abbrev pub json_position : JsonRoot → FaultPosition → List ℕ
 json_position from item.Module = codes "module"
 json_position from (item.Type h) = root_text from ++ listed (codes "types") h
 json_position from (item.Constant h) = root_text from ++ listed (codes "constants") h
@@ -87,7 +87,8 @@ json_position from (item.EntryPoint h at) =
     root_text from ++ (entry_function_text h ++ part_position at)
 
 -- the same with the label: `module.functions[0].expressions[3], in "half"`
-abbrev pub labelled_position : JsonRoot → Item → (label : Option (List ℕ)) → Option (List ℕ)
+abbrev pub labelled_position : JsonRoot → FaultPosition → (label : Option (List ℕ)) →
+    Option (List ℕ)
 labelled_position from at label = Some (json_position from at) ++? in_function label
 
 -- ---- where it is refused
@@ -113,7 +114,7 @@ scope_position role (scope.Operand statement operand) =
 scope_position role (scope.EmittedOperand statement expression operand) =
     expression_text operand ++ (codes ", " ++ (operand_text role ++ (codes " of "
     ++ (listed (codes "expressions") expression ++ (codes " in statement " ++ decimal statement)))))
-scope_position role (scope.GivenBefore statement expression) =
+scope_position role (scope.IntroducedBefore statement expression) =
     expression_text expression ++ (codes ", given again by statement " ++ decimal statement)
 scope_position role (scope.NeedsNoEmit statement expression) =
     expression_text expression
@@ -132,7 +133,7 @@ declared_position declared.Result = codes ".result"
 declared_position (declared.Local h) = listed (codes ".local_variables") h
 
 -- a part of a function, after the function
-abbrev pub refused_part : (role : Option Role) → FunctionPart → List ℕ
+abbrev pub refused_part : (role : Option Role) → FunctionRefusalPosition → List ℕ
 refused_part role part.Labels = codes ".named_expressions"
 refused_part role (part.Scope fault) = scope_position role fault
 refused_part role (part.Statement n) = statement_text n
@@ -159,8 +160,8 @@ json_refusal_position from role (refused.Function h at) =
 json_refusal_position from role (refused.EntryPoint h at) =
     root_text from ++ (entry_function_text h ++ refused_part role at)
 
--- a refusal, by its construct, its place and the label: `float literal: module.constants[0]`. Nothing
--- is said of a construct of whose text nothing is known
+-- a refusal, by its construct, its position and the label: `float literal: module.constants[0]`.
+-- Nothing is said of a construct of whose text nothing is known
 abbrev pub json_refusal : JsonRoot → Construct → (role : Option Role) → RefusalPosition →
     (label : Option (List ℕ)) → Option (List ℕ)
 json_refusal from construct role at label =

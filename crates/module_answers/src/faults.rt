@@ -9,8 +9,8 @@ use naga_wgsl_out::info::{Unaccepted, explain};
 use naga_wgsl_out::ir::Module;
 use std::alloc::{AllocError, Global};
 
-/// A fault of the module as one line: its place in the JSON, with the label of the function or the
-/// entry point there, its kind, and what was wanted, if more can be told than the kind.
+/// A fault of the module as one line: its position in the JSON, with the label of the function or
+/// the entry point there, its kind, and what was wanted, if more can be told than the kind.
 ///
 /// `module.functions[0].expressions[3], in "half": the known type is another: wanted i32, got f32`
 pub fn fault_line(
@@ -28,7 +28,7 @@ pub fn fault_line(
     format!(in alloc; "{position}: {fault}")
 }
 
-/// The same without the place and the label.
+/// The same without the position and the label.
 pub fn fault_text(
     alloc: Global,
     module: &Module,

@@ -2,7 +2,7 @@
 
 use crate::texts::{Style, write_in};
 use module_answers::{
-    JsonRefusal, JsonRoot, LabelledPosition, Unwritten, Written, fault_text, listed_position,
+    JsonRefusal, JsonRoot, LabelledPosition, NoOutcome, WriteOutcome, fault_text, listed_position,
     refused_position,
 };
 use naga_json::Known;
@@ -29,8 +29,8 @@ pub fn explained(
 ) -> Result<Explanation, AllocError> {
     match write_in(alloc, style, known) {
         Ok(written) => of_written(alloc, root, known, written),
-        Err(Unwritten::NotAccepted(fault)) => of_unaccepted(alloc, root, known, fault),
-        Err(Unwritten::Memory(error)) => Err(error),
+        Err(NoOutcome::NotAccepted(fault)) => of_unaccepted(alloc, root, known, fault),
+        Err(NoOutcome::Memory(error)) => Err(error),
         Err(reason) => not_written(format!(in alloc; "refused: {reason}\n")),
     }
 }
@@ -39,9 +39,9 @@ fn of_written(
     alloc: Global,
     root: JsonRoot,
     known: &Known,
-    written: Written<String>,
+    written: WriteOutcome<String>,
 ) -> Result<Explanation, AllocError> {
-    let Written {
+    let WriteOutcome {
         answer,
         refusal,
         sink: _,

@@ -8,7 +8,7 @@ use crate::progress::Progress;
 use crate::texts::write_in;
 use crate::words::{Request, Task, request_of};
 use module_answers::{
-    JsonRefusal, JsonRoot, Unwritten, Written, check_nesting, fault_line, layout_table,
+    JsonRefusal, JsonRoot, NoOutcome, WriteOutcome, check_nesting, fault_line, layout_table,
 };
 use naga_json::Known;
 use naga_wgsl_out::info::{Unaccepted, unaccepted};
@@ -217,13 +217,13 @@ fn tell_layouts<O: Write, E: Write>(
 }
 
 fn print_written<O: Write, E: Write>(
-    written: Written<String>,
+    written: WriteOutcome<String>,
     root: JsonRoot,
     module: &Module,
     out: &mut O,
     err: &mut E,
 ) -> u8 {
-    let Written {
+    let WriteOutcome {
         answer,
         refusal,
         sink,
@@ -277,12 +277,12 @@ fn tell_unwritten<E: Write>(
     alloc: Global,
     request: Request<'_>,
     known: &Known,
-    unwritten: Unwritten,
+    unwritten: NoOutcome,
     err: &mut E,
 ) -> u8 {
     match unwritten {
-        Unwritten::NotAccepted(fault) => refuse_unaccepted(alloc, request, known, fault, err),
-        Unwritten::Memory(_) => fail(Failure::Memory, err),
+        NoOutcome::NotAccepted(fault) => refuse_unaccepted(alloc, request, known, fault, err),
+        NoOutcome::Memory(_) => fail(Failure::Memory, err),
         reason => refuse(reason, err),
     }
 }
