@@ -13,7 +13,9 @@ mod writing;
 pub use faults::{fault_line, fault_text};
 pub use layouts::layout_table;
 pub use listed_positions::{listed_position, refused_position};
-pub use positions::{JsonPosition, JsonRefusal, JsonRefusalPosition, label_at};
+pub use positions::{
+    JsonPosition, JsonRefusal, JsonRefusalPosition, JsonRoot, LabelledPosition, label_at, label_of,
+};
 pub use roles::{Role, operands_have_roles, role_at};
 pub use within::{NoOutcome, check_nesting, write_told_within, write_within};
 pub use writing::{WriteOutcome, flags_for, write, write_told};

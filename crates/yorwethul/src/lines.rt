@@ -4,7 +4,9 @@ use crate::failure::Failure;
 use crate::progress::{Outcome, Progress};
 use crate::texts::{Style, write_in};
 use json::Scratch;
-use module_answers::{JsonPosition, JsonRefusalPosition, NoOutcome, WriteOutcome, label_at};
+use module_answers::{
+    JsonPosition, JsonRefusalPosition, JsonRoot, NoOutcome, WriteOutcome, label_at, label_of,
+};
 use naga_json::{Known, ReadError, known_of, parse_bytes};
 use naga_wgsl_out::info::{Unaccepted, explain};
 use naga_wgsl_out::ir::Module;
@@ -248,7 +250,7 @@ fn tell_refused(
 ) -> Result<(), AllocError> {
     tell(alloc, "refused", reason, members)?;
     if let Some(refusal) = refusal {
-        let position = JsonRefusalPosition::of(module, refusal.position);
+        let position = JsonRefusalPosition::of(JsonRoot::Member, module, refusal.position);
         tell(alloc, "place", position, members)?;
         if let Some(label) = label_at(module, refusal.position) {
             tell(alloc, "function", label, members)?;
@@ -264,8 +266,16 @@ fn tell_unaccepted(
     members: &mut Members,
 ) -> Result<(), AllocError> {
     let mut told = Map::new(alloc);
-    tell(alloc, "place", JsonPosition(unaccepted.item), &mut told)?;
+    tell(
+        alloc,
+        "place",
+        JsonPosition(JsonRoot::Member, unaccepted.item),
+        &mut told,
+    )?;
     tell(alloc, "fault", unaccepted.fault, &mut told)?;
+    if let Some(label) = label_of(&known.module, unaccepted.item) {
+        tell(alloc, "function", label, &mut told)?;
+    }
     if let Some(wanted) = explain(alloc, &known.module, &known.info, unaccepted)? {
         tell(alloc, "wanted", wanted, &mut told)?;
     }

@@ -10,7 +10,7 @@ use crate::nesting::nests_past;
 use crate::status::{Status, status_of};
 use bitflags::Flags;
 use module_answers::{
-    JsonRefusal, NoOutcome, WriteOutcome, check_nesting, fault_line, layout_table,
+    JsonRefusal, JsonRoot, NoOutcome, WriteOutcome, check_nesting, fault_line, layout_table,
     write_told_within, write_within,
 };
 use naga_json::{Known, ReadError, read_known};
@@ -207,7 +207,11 @@ fn told_refusal(
     ensures { Says status result.status (string_bytes result.text) }
 {
     match refusal {
-        Some(refusal) => told(alloc, status, JsonRefusal::of(module, refusal)),
+        Some(refusal) => told(
+            alloc,
+            status,
+            JsonRefusal::of(JsonRoot::Member, module, refusal),
+        ),
         None => told(alloc, status, error),
     }
 }
@@ -276,7 +280,7 @@ fn laid_out_flat(alloc: Global, known: &Known) -> Answer
 fn not_accepted(alloc: Global, known: &Known, fault: Unaccepted) -> Answer
     ensures { Says Status.NotAccepted result.status (string_bytes result.text) }
 {
-    let text = fault_line(alloc, &known.module, &known.info, fault);
+    let text = fault_line(alloc, &known.module, &known.info, fault, JsonRoot::Member);
     settled(alloc, Status::NotAccepted, text)
 }
 
