@@ -7,6 +7,7 @@ use Rattle.std.specs.List.{list_any}
 use Rattle.std.specs.Option.{is_some, option_map, option_to_list}
 use Rattle.std.proofs.lemmas.Bool.{ltb-true, ltb-false, lt-ltb, le-ltb}
 use Rattle.std.proofs.lemmas.Map.Made.{is_some-lookup}
+use Rattle.naga_info.proofs.Options.{some_kept}
 use Rattle.naga_ir.specs.StatementTree.{emit, store, StatementTree, simple, block, branch}
 use Rattle.naga_ir.specs.StatementTree.{switch, loop, BlockTree, no_statements, statement}
 use Rattle.naga_ir.specs.StatementTree.{CaseTrees, no_cases, case}
@@ -68,10 +69,6 @@ named_at ks n (e ∷ es) (suc h) =
     named_at ks (n + 1) es h
     ∙ (λ i. sym (lt_suc h (length es)) i && list_any (nat_eq (same i)) ks)
 
-some_mapped : {X Y : Type 0} (t : X → Y) (o : Option X) → is_some (option_map t o) ≡ is_some o
-some_mapped t None = refl
-some_mapped t (Some x) = refl
-
 -- ---- how many names front ends gave in front of a point
 joined : (k : ℕ) (xs ys : List (List ℕ)) → k + length xs + length ys ≡ k + length (xs ++ ys)
 joined k xs ys = let both = length-append xs ys in omega (arith, both)
@@ -92,7 +89,7 @@ module _ (m : Module) (info : ModuleInfo) (f : ir_function.Function) (es : List 
     where
       found : is_some (option_map string_bytes (get nat_eq f.named_expressions h))
           ≡ list_any (nat_eq h) (keys f.named_expressions)
-      found = some_mapped string_bytes (get nat_eq f.named_expressions h)
+      found = some_kept string_bytes (get nat_eq f.named_expressions h)
           ∙ is_some-lookup (nat_eq h) f.named_expressions.entries
 
       by : (b : Bool) → (b && list_any (nat_eq h) (keys f.named_expressions))

@@ -104,7 +104,8 @@ gives_up a b items error map_is is why =
     either start first earlier None was stands =
         let has : HasNamedItems start first earlier a.names a.map =
         subst (Stands start first earlier a.names a.map) was stands in
-        subst (Stands start first (earlier ++ items) b.names b.map) (sym (is ∙ ap (λ o. option_or o (Some error)) was)) (
+        subst (Stands start first (earlier ++ items) b.names b.map)
+        (sym (is ∙ ap (λ o. option_or o (Some error)) was)) (
           record {
             named = earlier;
             left = items;

@@ -27,6 +27,7 @@ use Rattle.module_meaning.specs.Undeclared.{names_undeclared_by, names_undeclare
 use Rattle.naga_form.proofs.declarations.AcceptedGroups.{types_range}
 use Rattle.naga_form.proofs.types.AlikeParts.{at_depth, parts_stand}
 use Rattle.naga_form.proofs.declarations.OwnExpressions.{declared_in_range}
+use Rattle.naga_info.proofs.Options.{some_kept}
 use Rattle.naga_info.specs.declared.info.ModuleInfo.{ModuleInfo}
 use Rattle.naga_info.specs.declared.info.TypeResolution.{TypeResolution}
 use Rattle.naga_info.specs.declared.info.TypeResolution.TheVariants.{Handle, Value}
@@ -226,10 +227,6 @@ type_marked m marks are (Value it) = by (over it)
     by (Some base) = are base
 
 -- ---- types that are spelled
-pub some_kept : {X Y : Type 0} (f : X → Y) (o : Option X) → is_some (option_map f o) ≡ is_some o
-some_kept f None = refl
-some_kept f (Some x) = refl
-
 -- a type that is over one is spelled where that one is
 spelled_as_base : (f : ℕ → Option (List ℕ)) (it : TypeInner) (base : ℕ) → over it ≡ Some base →
     is_some (inner_key_by f it) ≡ is_some (f base)

@@ -15,6 +15,7 @@ use Rattle.module_meaning.specs.Undeclared.{is_spellable, names_undeclared}
 use Rattle.module_meaning.specs.FunctionShapes.{function_shape}
 use Rattle.module_meaning.specs.Written.{IsSpelledIn, OfArgument, OfLet, OfLocal, OfResult}
 use Rattle.module_meaning.specs.Written.{block_lets}
+use Rattle.naga_info.proofs.Options.{map_some}
 use Rattle.naga_info.specs.declared.info.ExpressionInfo.{ExpressionInfo}
 use Rattle.naga_info.specs.declared.info.ModuleInfo.{ModuleInfo}
 use Rattle.naga_info.specs.declared.info.TypeResolution.{TypeResolution}
@@ -213,11 +214,6 @@ parted m f =
     ∙ ap (option_or (first_unsupported m (argument_types f.arguments.items)))
     (find-append (λ d. is_unsupported m d.1) (result_types f.result) (local_types f.local_variables))
 
-mapped_some : {X Y : Type 0} (g : X → Y) (o : Option X) (y : Y) → option_map g o ≡ Some y →
-    (x : X) × (o ≡ Some x) × (g x ≡ y)
-mapped_some g None y is = absurd cc
-mapped_some g (Some x) y is = let same : g x ≡ y = cc in (x, refl, same)
-
 none_more : (x : ℕ) → 0 + x ≡ x
 none_more x = omega arith
 
@@ -232,7 +228,7 @@ module _ (m : Module) (f : Function) where
   arguments_spelled : first_unsupported m (argument_types f.arguments.items) ≡ None → (i ty : ℕ) →
       declared_type f (Argument i) ≡ Some ty → IsSpellable ty
   arguments_spelled none i ty is =
-      let a = mapped_some (λ a. a.ty) (slice_get f.arguments.items i) ty is in
+      let a = map_some (λ a. a.ty) (slice_get f.arguments.items i) ty is in
       let at = numbered_at (λ p. (Argument p.0, p.1.ty)) 0 f.arguments.items i a.0 a.1 in
       subst IsSpellable a.2
       (not-false _ (none_passes lacks (argument_types f.arguments.items) none i (Argument (0 + i), a.0.ty) at))
@@ -240,7 +236,7 @@ module _ (m : Module) (f : Function) where
   result_spelled : first_unsupported m (result_types f.result) ≡ None → (ty : ℕ) →
       declared_type f declared.Result ≡ Some ty → IsSpellable ty
   result_spelled none ty is =
-      let r = mapped_some (λ r. r.ty) f.result ty is in
+      let r = map_some (λ r. r.ty) f.result ty is in
       subst IsSpellable r.2
       (not-false _ (none_passes lacks (result_types f.result) none 0 (declared.Result, r.0.ty) (there r.0 r.1)))
     where
@@ -251,7 +247,7 @@ module _ (m : Module) (f : Function) where
   local_at : (i ty : ℕ) → declared_type f (Local i) ≡ Some ty → slice_get (local_types f.local_variables) i
       ≡ Some (Local i, ty)
   local_at i ty is =
-      let v = mapped_some (λ l. l.ty) (slice_get f.local_variables i) ty is in
+      let v = map_some (λ l. l.ty) (slice_get f.local_variables i) ty is in
       numbered_at (λ p. (Local p.0, p.1.ty)) 0 f.local_variables i v.0 v.1 ∙ (λ j. Some (Local (none_more i j), v.2 j))
 
   locals_spelled : first_unsupported m (local_types f.local_variables) ≡ None → (i ty : ℕ) →
@@ -276,13 +272,13 @@ module _ (m : Module) (f : Function) where
   pub declared_is_spelled : (explicit : Bool) (info : ModuleInfo) (es : List ExpressionInfo) (at : Declared) (ty : ℕ) →
       declared_type f at ≡ Some ty → IsSpelledIn explicit m info f es (Handle ty)
   declared_is_spelled explicit info es (Argument i) ty is =
-      let a = mapped_some (λ a. a.ty) (slice_get f.arguments.items i) ty is in
+      let a = map_some (λ a. a.ty) (slice_get f.arguments.items i) ty is in
       subst (λ ty. IsSpelledIn explicit m info f es (Handle ty)) a.2 (OfArgument i a.0 a.1)
   declared_is_spelled explicit info es declared.Result ty is =
-      let r = mapped_some (λ r. r.ty) f.result ty is in
+      let r = map_some (λ r. r.ty) f.result ty is in
       subst (λ ty. IsSpelledIn explicit m info f es (Handle ty)) r.2 (OfResult r.0 r.1)
   declared_is_spelled explicit info es (Local i) ty is =
-      let v = mapped_some (λ l. l.ty) (slice_get f.local_variables i) ty is in
+      let v = map_some (λ l. l.ty) (slice_get f.local_variables i) ty is in
       subst (λ ty. IsSpelledIn explicit m info f es (Handle ty)) v.2 (OfLocal i v.0 v.1)
 
   -- what is found is declared there, has no form, and each that is declared on a line before has one

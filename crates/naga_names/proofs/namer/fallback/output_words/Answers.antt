@@ -10,7 +10,8 @@ use Rattle.naga_names.proofs.namer.fallback.output_words.Goals as goal
 pub loop-entry_point-preserved-in_default : goal.loop-entry_point-preserved-in_default
 loop-entry_point-preserved-in_default c = λ t.
     c.loop-entry_point.invariant t
-    ∙ sym (returns_nothing t c.args.entry_points.now c.loop-entry_point.entry_point-index c.entry_point-item.result c.loop-entry_point-test.true c.entry_point-item.is c.in_default.is)
+    ∙ sym (returns_nothing t c.args.entry_points.now c.loop-entry_point.entry_point-index
+    c.entry_point-item.result c.loop-entry_point-test.true c.entry_point-item.is c.in_default.is)
 
 pub loop-entry_point-preserved : goal.loop-entry_point-preserved
 loop-entry_point-preserved c = λ t.

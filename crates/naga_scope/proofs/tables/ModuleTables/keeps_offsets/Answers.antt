@@ -4,7 +4,7 @@ use Rattle.module_meaning.proofs.Layouts.{rules_alike}
 use Rattle.naga_layout.specs.Tables.{written_rule}
 use Rattle.naga_layout.specs.Types.{kept_struct, layout_at}
 use Rattle.wgsl_layout.specs.Capped.{capped}
-use Rattle.naga_scope.proofs.FilledTables.{some_kept}
+use Rattle.naga_info.proofs.Options.{some_kept}
 use Rattle.naga_scope.specs.Tables.{MarksUndeclared, Tables}
 use Rattle.naga_scope.proofs.tables.ModuleTables.keeps_offsets.Goals as goal
 
