@@ -33,7 +33,11 @@ use Rattle.naga_info.specs.declared.info.ModuleInfo.{ModuleInfo}
 use Rattle.naga_info.specs.declared.info.TypeResolution.{TypeResolution}
 use Rattle.naga_info.specs.declared.info.TypeResolution.TheVariants.{Handle, Value}
 use Rattle.naga_info.specs.Resolution.{inner_of}
-use Rattle.naga_acceptance.specs.Faults.{known_of}
+use Rattle.naga_acceptance.specs.Faults.{known_of, site_of}
+use Rattle.naga_acceptance.specs.FirstUses.{first_use, other_type, other_use, other_use_in}
+use Rattle.naga_acceptance.specs.FirstUses.{use_item}
+use Rattle.naga_acceptance.specs.Uses.{use_in}
+use Rattle.module_meaning.specs.acceptance.AgreeingOperators.{Group, groups_of}
 use Rattle.naga_acceptance.specs.TextOrder.{PlacedStatement, text_order}
 use Rattle.naga_acceptance.specs.declared.faults.Fault.{Fault}
 use Rattle.naga_acceptance.specs.declared.faults.Fault.TheVariants as fault
@@ -53,7 +57,8 @@ use Rattle.module_meaning.specs.TypeParts.{known_pointee}
 use Rattle.fault_details.specs.Holds.{IsReason, ReasonsHold}
 use Rattle.fault_details.specs.Reasons.{Reason, Absent, Later, OtherClass, OtherNumber, OtherType}
 use Rattle.fault_details.specs.Reasons.{PastParts, LacksLetter, Unexpected}
-use Rattle.fault_details.specs.Reasons.{has_letter, letter_reason, swizzle_reason}
+use Rattle.fault_details.specs.Reasons.{has_letter, letter_reason, reason_at, swizzle_reason}
+use Rattle.fault_details.specs.Reasons.{use_reason}
 use Rattle.fault_details.specs.Reasons.{absent, class_reason, declared_reason, emitted_reason}
 use Rattle.fault_details.specs.Reasons.{first_reason, index_reason}
 use Rattle.fault_details.specs.Reasons.{initialiser_reason, item_reason, known_reason}
@@ -506,5 +511,33 @@ module _ (m : Module) where
       then_holds (IsReason m) _ (λ p. entry_point_holds p (known_of info.entry_points.items h) kind place)
       (slice_get m.entry_points.items h)
 
+  -- ---- operators
+
+  -- the two types of a use are not alike
+  abbrev IsOther : Item × (TypeResolution × TypeResolution) → Type 0
+  IsOther found = are_alike m.types found.1.1 found.1.0 ≡ false
+
+  other_in : (gs : List Group) (g : Group) (index : ℕ) → IfSome (other_use_in m gs g index) IsOther
+  other_in gs g index =
+      then_holds IsOther (λ v. option_and_then (λ here. option_and_then (other_type m here) (first_use m.types gs v)) (slice_get g.known index))
+      (λ v. then_holds IsOther (λ here. option_and_then (other_type m here) (first_use m.types gs v))
+      (λ here. then_holds IsOther (other_type m here)
+      (λ found. unless_holds IsOther (are_alike m.types here found.1.1) (use_item m found.0 found.1.0, (found.1.1, here)) (λ fails. fails)) (first_use m.types gs v))
+      (slice_get g.known index)) (use_in m.types g index)
+
+  other_at : (info : ModuleInfo) (at : Item) → IfSome (other_use m info at) IsOther
+  other_at info at =
+      then_holds IsOther (λ site. option_and_then (λ g. other_use_in m (groups_of m info) g site.1) (slice_get (groups_of m info) site.0))
+      (λ site. then_holds IsOther (λ g. other_use_in m (groups_of m info) g site.1) (λ g. other_in (groups_of m info) g site.1) (slice_get (groups_of m info) site.0))
+      (site_of m at)
+
+  use_holds : (o : Option (Item × (TypeResolution × TypeResolution))) → IfSome o IsOther → Holds (option_map use_reason o)
+  use_holds None other = tt
+  use_holds (Some first) other = other
+
+  reason_holds : (info : ModuleInfo) (kind : Fault) (at : Item) → Holds (reason_at m info kind at)
+  reason_holds info fault.Disagreement at = use_holds (other_use m info at) (other_at info at)
+  reason_holds info kind at = item_holds info kind at
+
 pub fault_holds : ReasonsHold
-fault_holds m info u = item_holds m info u.fault u.item
+fault_holds m info u = reason_holds m info u.fault u.item

@@ -1,6 +1,8 @@
 pub mod Apart
 pub mod Completing
+pub mod Disagreeing
 pub mod Fitting
+pub mod FunctionReasons
 pub mod Holding
 pub mod Passing
 pub mod Reasoning

@@ -1,5 +1,5 @@
--- Which faults have a reason: each that says that a type is wrong, or that a statement does not get
--- what it wants.
+-- Which faults have a reason: each that says that a type is wrong, that a statement does not get
+-- what it wants, or that an operator does not agree with an earlier one.
 --
 -- Throughout, m is a module, info what is known of it, u a place with a kind of fault, f a
 -- function, p an entry point, and h is a handle.

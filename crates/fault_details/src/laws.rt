@@ -5,7 +5,7 @@ ghost use Rattle.fault_details.specs.Told.{TypesAreToldApart};
 ghost use Rattle.fault_details.specs.WithReason.{TypeFaultsHaveReasons};
 
 /// Each reason that [`explain`](crate::explain) tells is one, whatever fault it is asked of: of two
-/// types, they are not alike; of a class or a letter, the type has it not; of an item, its number
+/// types, also of two uses of an operator, they are not alike; of a class or a letter, the type has it not; of an item, its number
 /// is not below how many there are, or not below that of the item before which it is to stand; of
 /// numbers, they differ. Of a value that is not there or not wanted, and of what a statement needs,
 /// this says nothing.
@@ -16,7 +16,7 @@ pub fn reasons_hold()
 /// Each fault of types has a reason, where all that the module names is there and no body has more
 /// than 2^64 statements: an expression has another type than what it stands for, or takes no
 /// operands of these types; an initialiser has another type; a statement does not get what it
-/// wants. [`unaccepted`](naga_acceptance::unaccepted) tells such a fault only where all that is
+/// wants; an operator does not agree with an earlier one. [`unaccepted`](naga_acceptance::unaccepted) tells such a fault only where all that is
 /// named is there, so that [`explain`](crate::explain) tells a reason of each.
 pub fn type_faults_have_reasons()
     ensures { TypeFaultsHaveReasons }

@@ -3,7 +3,9 @@
 ghost use Rattle.std.specs.Prelude.{◌≡◌, Some};
 ghost use Rattle.fault_details.specs.Texts.{class_text, count_text, item_text, letter_text};
 ghost use Rattle.fault_details.specs.Texts.{list_text, many_text, need_text, singular_text};
+ghost use Rattle.fault_details.specs.Texts.{use_text};
 
+use naga_acceptance::{FunctionPosition, Item};
 use naga_ir::SwizzleComponent;
 use std::fmt;
 
@@ -52,6 +54,33 @@ impl fmt::Display for Numbered {
 
     fn fmt<W: fmt::Write>(&self, f: &mut fmt::Formatter<W>) -> fmt::Result {
         write!(f, "{}[{}]", self.0, self.1)
+    }
+}
+
+/// An expression by its position in the JSON of a module: `module.functions[0].expressions[1]`.
+#[derive(Clone, Copy)]
+pub(crate) struct UsePosition(pub Item);
+
+impl fmt::Display for UsePosition {
+    ghost output = { λ path. Some (use_text path.0) };
+
+    fn fmt<W: fmt::Write>(&self, f: &mut fmt::Formatter<W>) -> fmt::Result {
+        match self.0 {
+            Item::Function(handle, FunctionPosition::Expression(expression)) => {
+                let function = Numbered(ListName::Functions, handle.index());
+                let expression = Numbered(ListName::Expressions, expression.index());
+                write!(f, "module.{}.{}", function, expression)
+            }
+            Item::EntryPoint(index, FunctionPosition::Expression(expression)) => {
+                let expression = Numbered(ListName::Expressions, expression.index());
+                write!(f, "module.entry_points[{}].function.{}", index, expression)
+            }
+            Item::GlobalExpression(expression) => {
+                let expression = Numbered(ListName::GlobalExpressions, expression.index());
+                write!(f, "module.{}", expression)
+            }
+            _ => f.write_str("module"),
+        }
     }
 }
 
