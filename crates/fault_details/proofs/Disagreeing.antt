@@ -10,7 +10,7 @@ use Rattle.std.proofs.Common.{Bool, true, false, List, [], ◌∷◌, ◌++◌, 
 use Rattle.std.proofs.Common.{IsSome, append-nil, arith, ap, is_some, option_and_then, option_map}
 use Rattle.std.proofs.Common.{option_to_list, refl, slice_get, subst, sym, true≢false, zip, ⊎_elim}
 use Rattle.std.specs.List.{list_all, enumerate_from}
-use Rattle.std.specs.Option.{option_map_or, option_or}
+use Rattle.std.specs.Option.{option_map_or}
 use Rattle.std.specs.Prelude.{if◌then◌else◌}
 use Rattle.std.specs.Str.{bytes_eq}
 use Rattle.std.proofs.lemmas.Bool.{and_parts, eqb-true, lt-ltb}

@@ -4,6 +4,7 @@ pub mod Disagreeing
 pub mod Fitting
 pub mod FunctionReasons
 pub mod Holding
+pub mod NameReasons
 pub mod Passing
 pub mod Reasoning
 pub mod ScalarsApart
