@@ -163,18 +163,19 @@ module _ (types : List Type_) where
       before : (k : ℕ) → slice_get (group_uses types gs number) k ≡ Some w → IsUse gs w
       before k front =
           let found = of_number (λ n. option_map_or (uses_of types) (slice_get gs n) []) number k w front in
-          let use = of_group (slice_get gs found.0) found.1 w found.2 in
-          (found.0, use.0, use.1, use.2, use.3)
+          let taken = of_group (slice_get gs found.0) found.1 w found.2 in
+          (found.0, taken.0, taken.1, taken.2, taken.3)
 
 -- of each expression of a group one thing is known
 abbrev IsSized : Group → Type 0
 IsSized g = length g.expressions ≡ length g.known
 
 module _ (types : List Type_) (g : Group) (sized : IsSized g) (index : ℕ) (v : Operation)
-    (use : use_in types g index ≡ Some v) where
+    (taken : use_in types g index ≡ Some v) where
   -- the expression of a use, and its type
-  use_expression : (e : Expression) × (slice_get g.expressions index ≡ Some e) × (expression_use types g.known index e ≡ Some v)
-  use_expression = then_some (expression_use types g.known index) (slice_get g.expressions index) v use
+  use_expression : (e : Expression) × (slice_get g.expressions index ≡ Some e)
+      × (expression_use types g.known index e ≡ Some v)
+  use_expression = then_some (expression_use types g.known index) (slice_get g.expressions index) v taken
 
   use_type : (r : TypeResolution) × (slice_get g.known index ≡ Some r)
   use_type =
@@ -218,14 +219,14 @@ module _ (types : List Type_) (gs : List Group)
   -- one that does not agree is found in its group
   other_there : (g : Group) → IsSized g → (k : ℕ) (w : Operation) → use_in types g k ≡ Some w →
       agrees w v ≡ false → IsSome (first_other_in types here v g)
-  other_there g fits k w use fails =
-      let e = use_expression types g fits k w use in
-      let there = use_type types g fits k w use in
+  other_there g fits k w taken fails =
+      let e = use_expression types g fits k w taken in
+      let there = use_type types g fits k w taken in
       let apart = disagreeing w v fails in
       let start : 0 + k ≡ k = omega arith in
       let unlike : are_alike types here there.0 ≡ false =
       differ (type_identity types there.0) (type_identity types here)
-      ((λ i. bytes_eq (sym (use_answer types g fits k w use) i) (sym is_here i)) ∙ apart.1) in
+      ((λ i. bytes_eq (sym (use_answer types g fits k w taken) i) (sym is_here i)) ∙ apart.1) in
       some_faulty (other_type types here g v) 0 g.expressions k e.0 e.1
       (ap (λ k. is_some (other_type types here g v k e.0)) start
       ∙ chosen (option_map_or (λ w. is_same_operator w v) (expression_use types g.known k e.0) false)
@@ -235,10 +236,10 @@ module _ (types : List Type_) (gs : List Group)
       (some_unless (are_alike types here there.0) there.0 unlike)))
 
   other_found : (w : Operation) → IsUse types gs w → agrees w v ≡ false → IsSome (first_other types here gs v)
-  other_found w use fails =
-      some_below (first_other_at types here gs v) use.0 (length gs) (slice_get_within gs use.0 use.1 use.3)
-      (some_then (first_other_in types here v) (slice_get gs use.0) use.1 use.3
-      (other_there use.1 (sized use.0 use.1 use.3) use.2 w use.4 fails))
+  other_found w taken fails =
+      some_below (first_other_at types here gs v) taken.0 (length gs) (slice_get_within gs taken.0 taken.1 taken.3)
+      (some_then (first_other_in types here v) (slice_get gs taken.0) taken.1 taken.3
+      (other_there taken.1 (sized taken.0 taken.1 taken.3) taken.2 w taken.4 fails))
 
 module _ (m : Module) (gs : List Group) (sized : (n : ℕ) (g : Group) → slice_get gs n ≡ Some g → IsSized g)
     (number index : ℕ) (g : Group) (at : slice_get gs number ≡ Some g)
@@ -298,11 +299,14 @@ module _ (m : Module) (info : ModuleInfo)
     (functions : all_paired function_size_fits m.functions info.functions.items ≡ true)
     (entry_points : all_paired entry_point_size_fits m.entry_points.items info.entry_points.items ≡ true)
     (globals : length m.global_expressions ≡ length info.const_expression_types.items) where
-  own_sized : (n : ℕ) (g : Group) → slice_get (record {
-        expressions = m.global_expressions;
-        known = info.const_expression_types.items;
-      } ∷ []) n ≡ Some g → IsSized g
-  own_sized zero g at = subst IsSized (same_Some _ g at) globals
+  abbrev entries : List Function
+  entries = map (λ p. p.function) m.entry_points.items
+
+  abbrev own_group : Group
+  own_group = record { expressions = m.global_expressions; known = info.const_expression_types.items }
+
+  own_sized : (n : ℕ) (g : Group) → slice_get (own_group ∷ []) n ≡ Some g → IsSized g
+  own_sized zero g at = subst IsSized (same_Some own_group g at) globals
   own_sized (suc n) g at = absurd (true≢false (sym (ap is_some at)))
 
   groups_sized : (n : ℕ) (g : Group) → slice_get (groups_of m info) n ≡ Some g → IsSized g
@@ -318,12 +322,6 @@ module _ (m : Module) (info : ModuleInfo)
       entry_points).1) front.0 g front.1) (λ own. own_sized own.0 g own.1)
       (of_either (function_groups entries info.entry_points.items) (own_group ∷ []) back.0 g back.1))
       (of_either (function_groups m.functions info.functions.items) (further_groups_of m info) n g at)
-    where
-      abbrev entries : List Function
-      entries = map (λ p. p.function) m.entry_points.items
-
-      abbrev own_group : Group
-      own_group = record { expressions = m.global_expressions; known = info.const_expression_types.items }
 
   -- an operator that does not agree is told with a use
   pub disagreement_told : (at : Item) → OperatorFails m info at → IsSome (option_map use_reason (other_use m info at))

@@ -225,7 +225,8 @@ module _ (m : Module) (f : Option Function) (known : List TypeResolution) (argum
       lacking_told r (inner.Vector size scalar) is (take (component_count n) pattern) fails
   letters_told n pattern r _ is vector fails = absurd (true≢false (sym vector))
 
-  pub operands_told : (e : Expression) → operands_fit m.types known e ≡ false → all_below h (expression_operands e) ≡ true →
+  pub operands_told : (e : Expression) → operands_fit m.types known e ≡ false →
+      all_below h (expression_operands e) ≡ true →
       IsSome (operand_reason m.types known e)
   operands_told (expression.Access base index) fails below =
       let parts = and_parts (nat_lt base h) (all_below h (index ∷ [])) below in

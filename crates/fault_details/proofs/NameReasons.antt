@@ -227,14 +227,15 @@ emitted_told : (expressions first end : ℕ) → (nat_le first expressions && na
     IsSome (emitted_reason expressions first end)
 emitted_told expressions first end fails = by (nat_le first expressions) (nat_le end expressions) fails
   where
-    by : (a b : Bool) → (a && b) ≡ false → IsSome (if a then (if b then None
-        else Some (Absent list.Expressions (end - 1) expressions)) else Some (Absent list.Expressions first expressions))
+    by : (a b : Bool) → (a && b) ≡ false →
+        IsSome (if a then (if b then None else Some (Absent list.Expressions (end - 1) expressions))
+        else Some (Absent list.Expressions first expressions))
     by true true fails = absurd (true≢false fails)
     by true false fails = refl
     by false b fails = refl
 
-named_told : (m : Module) (callees expressions : ℕ) (s : SimpleStatement) → named_in_range callees expressions s ≡ false →
-    IsSome (simple_name_reason m callees expressions s)
+named_told : (m : Module) (callees expressions : ℕ) (s : SimpleStatement) →
+    named_in_range callees expressions s ≡ false → IsSome (simple_name_reason m callees expressions s)
 named_told m callees expressions (emit first end) fails = emitted_told expressions first end fails
 named_told m callees expressions (call function arguments outcome) fails =
     before_told list.Functions callees (length m.functions) function fails
@@ -345,10 +346,6 @@ module _ (m : Module) (f : Function) (known : List TypeResolution) (callees : �
   part_of_told (part.Statement number) kind of fails = placed_told number kind of fails
 
 -- ---- items
-
-abbrev is_whole : FunctionPosition → Bool
-is_whole part.Whole = true
-is_whole _ = false
 
 module _ (m : Module) (info : ModuleInfo) (fit : AreOfTheirTypes m) (numbered : AreNumbered m) where
   abbrev ItemTold : Fault → Item → Type 0
@@ -483,37 +480,13 @@ module _ (m : Module) (info : ModuleInfo) (fit : AreOfTheirTypes m) (numbered : 
       (below_told list.GlobalVariables n p.task_payload)
       (λ fails. below_told list.GlobalVariables n p.incoming_ray_payload (kept ray group sizes fails))) fails
 
-  -- what is told of a part of its function is told of the entry point
-  entry_same : (p : EntryPoint) (known : List TypeResolution) (kind : Fault) (place : FunctionPosition) →
-      is_whole place ≡ false →
-      entry_point_reason m p known kind place ≡ function_reason m (length m.functions) p.function known kind place
-  entry_same p known fault.Names part.Whole whole = absurd (true≢false whole)
-  entry_same p known fault.Names (part.Local h) whole = refl
-  entry_same p known fault.Names (part.Expression h) whole = refl
-  entry_same p known fault.Names (part.Statement number) whole = refl
-  entry_same p known _ place whole = refl
-
   entry_told : (p : EntryPoint) (known : List TypeResolution) →
       IsTrue (workgroup_fits_32_bits p.workgroup_size) × HasItsNumbers p.function →
       length (text_order p.function.body) ≤ 2 ^ 64 → (place : FunctionPosition) (kind : Fault) → IsOfNames kind →
       EntryPositionFails m p known place kind → IsSome (entry_point_reason m p known kind place)
   entry_told p known within few part.Whole fault.Names of fails = variables_told p within.0 fails
-  entry_told p known within few part.Whole fault.InfoSize of fails =
-      part_of_told m p.function known (length m.functions) within.1 few part.Whole fault.InfoSize of fails
-  entry_told p known within few part.Whole fault.Signature of fails =
-      part_of_told m p.function known (length m.functions) within.1 few part.Whole fault.Signature of fails
-  entry_told p known within few part.Whole fault.NamedExpressions of fails =
-      part_of_told m p.function known (length m.functions) within.1 few part.Whole fault.NamedExpressions of fails
-  entry_told p known within few part.Whole _ of fails = absurd fails
-  entry_told p known within few (part.Local h) kind of fails =
-      ap is_some (entry_same p known kind (part.Local h) refl)
-      ∙ part_of_told m p.function known (length m.functions) within.1 few (part.Local h) kind of fails
-  entry_told p known within few (part.Expression h) kind of fails =
-      ap is_some (entry_same p known kind (part.Expression h) refl)
-      ∙ part_of_told m p.function known (length m.functions) within.1 few (part.Expression h) kind of fails
-  entry_told p known within few (part.Statement number) kind of fails =
-      ap is_some (entry_same p known kind (part.Statement number) refl)
-      ∙ part_of_told m p.function known (length m.functions) within.1 few (part.Statement number) kind of fails
+  entry_told p known within few place kind of fails =
+      part_of_told m p.function known (length m.functions) within.1 few place kind of fails
 
   entry_point_told : (h : ℕ) (place : FunctionPosition) (kind : Fault) → IsOfNames kind →
       EntryPointFails m info h place kind → ItemTold kind (item.EntryPoint h place)

@@ -3,7 +3,9 @@
 ghost use Rattle.std.specs.Prelude.{Some};
 ghost use Rattle.fault_details.specs.Texts.{wanted_text};
 
-use crate::words::{Counted, ListName, Many, Need, Numbered, There, TypeClass, UsePosition, letter_str};
+use crate::words::{
+    Counted, ListName, Many, Need, Numbered, There, TypeClass, UsePosition, letter_str,
+};
 use naga_acceptance::Item;
 use naga_ir::SwizzleComponent;
 use std::fmt;
@@ -137,7 +139,13 @@ impl fmt::Display for Expected {
                 )
             }
             Expected::Use { item, wanted, got } => {
-                write!(f, "wanted {} as at {}, got {}", wanted, UsePosition(*item), got)
+                write!(
+                    f,
+                    "wanted {} as at {}, got {}",
+                    wanted,
+                    UsePosition(*item),
+                    got
+                )
             }
             Expected::Need(need) => write!(f, "wanted {}", need),
         }
