@@ -77,12 +77,13 @@ of_option (Some y) (suc i) x is = absurd (true≢false (sym (ap is_some is)))
 one_fails : {X : Type 0} (test : X → Bool) (xs : List X) → list_all test xs ≡ false →
     (i : ℕ) × (x : X) × (slice_get xs i ≡ Some x) × (test x ≡ false)
 one_fails test [] fails = absurd (true≢false fails)
-one_fails {X} test (x ∷ xs) fails = by (test x) refl
+one_fails {X} test (x ∷ xs) fails = by (one_fails test xs) (test x) refl
   where
-    by : (b : Bool) → test x ≡ b → (i : ℕ) × (y : X) × (slice_get (x ∷ xs) i ≡ Some y) × (test y ≡ false)
-    by false is = (0, x, refl, is)
-    by true is =
-        let further = one_fails test xs (sym (ap (λ b. b && list_all test xs) is) ∙ fails) in
+    by : (list_all test xs ≡ false → (i : ℕ) × (y : X) × (slice_get xs i ≡ Some y) × (test y ≡ false)) →
+        (b : Bool) → test x ≡ b → (i : ℕ) × (y : X) × (slice_get (x ∷ xs) i ≡ Some y) × (test y ≡ false)
+    by rest false is = (0, x, refl, is)
+    by rest true is =
+        let further = rest (sym (ap (λ b. b && list_all test xs) is) ∙ fails) in
         (suc further.0, further.1, further.2, further.3)
 
 -- ---- what is found

@@ -8,7 +8,7 @@ use Rattle.std.proofs.Common.{Bool, true, false, List, [], ◌∷◌, length, Op
 use Rattle.std.proofs.Common.{IsSome}
 use Rattle.std.proofs.Common.{arith, ⊎_elim, ap, is_some, nat_lt, option_and_then}
 use Rattle.std.proofs.Common.{option_map, option_to_list, refl, slice_get, sym, true≢false}
-use Rattle.std.specs.Prelude.{if◌then◌else◌, take}
+use Rattle.std.specs.Prelude.{⊤, if◌then◌else◌, take}
 use Rattle.std.specs.List.{list_all, enumerate_from}
 use Rattle.std.specs.Option.{option_map_or, option_or}
 use Rattle.std.proofs.lemmas.Bool.{and_parts, and_cases, lt-ltb}

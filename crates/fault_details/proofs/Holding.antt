@@ -544,12 +544,12 @@ module _ (m : Module) where
         (by (f n) (each n))
       where
         by : (o : Option (ℕ × TypeResolution)) → IfSome o HasOther →
-            IfSome (option_map (λ x. (n, x)) o) (λ found. HasOther found.1)
+            IfSome {T = ℕ × (ℕ × TypeResolution)} (option_map (λ x. (n, x)) o) (λ found. HasOther found.1)
         by None other = tt
         by (Some x) other = other
 
-    type_holds : (g : Group) (v : Operation) (h : ℕ) (e : Expression) → IfSome (other_type m.types here g v h e) IsOther
-    type_holds g v h e = by (option_map_or (λ w. is_same_operator w v) (expression_use m.types g.known h e) false)
+    other_type_holds : (g : Group) (v : Operation) (h : ℕ) (e : Expression) → IfSome (other_type m.types here g v h e) IsOther
+    other_type_holds g v h e = by (option_map_or (λ w. is_same_operator w v) (expression_use m.types g.known h e) false)
       where
         by : (same : Bool) → IfSome (if same then option_and_then (unless_alike m.types here) (slice_get g.known h)
             else None) IsOther
@@ -562,7 +562,7 @@ module _ (m : Module) where
     found_holds gs v =
         other_below (first_other_at m.types here gs v)
         (λ number. then_holds HasOther (first_other_in m.types here v)
-        (λ g. other_in (other_type m.types here g v) (type_holds g v) (enumerate_from 0 g.expressions))
+        (λ g. other_in (other_type m.types here g v) (other_type_holds g v) (enumerate_from 0 g.expressions))
         (slice_get gs number)) (length gs)
 
   -- the two types of a use are not alike

@@ -75,10 +75,12 @@ or_told : (a b : Bool) (x y : Option Reason) → (a ≡ false → IsSome x) → 
 or_told true b x y first second fails = some_second x y (second fails)
 or_told false b x y first second fails = some_first x y (first refl)
 
--- a test that passes, and one that fails after it
-passed : (a b : Bool) → a ≡ true → (a && b) ≡ false → b ≡ false
-passed true b passes fails = fails
-passed false b passes fails = absurd (true≢false (sym passes))
+-- of three tests one fails, of which the reason of the first is told last
+any_told : (a b c : Bool) (x y z : Option Reason) → (a && (b && c)) ≡ false → (b ≡ false → IsSome x) →
+    (c ≡ false → IsSome y) → (a ≡ false → IsSome z) → IsSome (option_or x (option_or y z))
+any_told true true c x y z fails first second third = some_second x (option_or y z) (some_first y z (second fails))
+any_told true false c x y z fails first second third = some_first x (option_or y z) (first refl)
+any_told false b c x y z fails first second third = some_second x (option_or y z) (some_second y z (third refl))
 
 -- one that passes, and one that fails before it
 kept : (a b : Bool) → b ≡ true → (a && b) ≡ false → a ≡ false
@@ -244,32 +246,32 @@ named_told m callees expressions _ fails = absurd (true≢false fails)
 statement_told : (m : Module) (callees expressions : ℕ) (s : StatementTree) → case_numbers_fit s ≡ true →
     own_in_range callees expressions s ≡ false → IsSome (statement_name_reason m callees expressions s)
 statement_told m callees expressions (simple s) fit fails =
-    by (named_in_range callees expressions s) (all_below expressions (simple_operands s)) fails
-    (named_told m callees expressions s) (all_told list.Expressions expressions (simple_operands s))
-    (below_told list.Expressions expressions (simple_result s))
-  where
-    by : (a b : Bool) → (a && (b && is_below expressions (simple_result s))) ≡ false →
-        (a ≡ false → IsSome (simple_name_reason m callees expressions s)) →
-        (b ≡ false → IsSome (first_reason (absent list.Expressions expressions) (simple_operands s))) →
-        (is_below expressions (simple_result s) ≡ false →
-        IsSome (option_and_then (absent list.Expressions expressions) (simple_result s))) →
-        IsSome (statement_name_reason m callees expressions (simple s))
-    by true true fails name operands outcome = some_second _ _ (some_first _ _ (outcome fails))
-    by true false fails name operands outcome = some_first _ _ (operands refl)
-    by false b fails name operands outcome = some_second _ _ (some_second _ _ (name refl))
+    any_told (named_in_range callees expressions s) (all_below expressions (simple_operands s))
+    (is_below expressions (simple_result s))
+    (first_reason (absent list.Expressions expressions) (simple_operands s))
+    (option_and_then (absent list.Expressions expressions) (simple_result s))
+    (simple_name_reason m callees expressions s) fails
+    (all_told list.Expressions expressions (simple_operands s))
+    (below_told list.Expressions expressions (simple_result s)) (named_told m callees expressions s)
 statement_told m callees expressions (block b) fit fails = absurd (true≢false fails)
 statement_told m callees expressions (branch condition accept reject) fit fails =
-    some_first _ _ (some_first _ _ (absent_told list.Expressions expressions condition fails))
+    some_first (first_reason (absent list.Expressions expressions) (condition ∷ [])) None
+    (some_first (absent list.Expressions expressions condition) None
+    (absent_told list.Expressions expressions condition fails))
 statement_told m callees expressions (switch selector cs) fit fails =
-    some_first _ _ (some_first _ _ (absent_told list.Expressions expressions selector
+    some_first (first_reason (absent list.Expressions expressions) (selector ∷ [])) None
+    (some_first (absent list.Expressions expressions selector) None
+    (absent_told list.Expressions expressions selector
     (kept (nat_lt selector expressions) (case_values_fit_32_bits cs) fit fails)))
 statement_told m callees expressions (loop body continuing break_if) fit fails =
-    some_first _ _ (operand break_if fails)
+    some_first (first_reason (absent list.Expressions expressions) (option_to_list break_if)) None
+    (operand break_if fails)
   where
     operand : (o : Option ℕ) → is_below expressions o ≡ false →
         IsSome (first_reason (absent list.Expressions expressions) (option_to_list o))
     operand None fails = absurd (true≢false fails)
-    operand (Some h) fails = some_first _ _ (absent_told list.Expressions expressions h fails)
+    operand (Some h) fails =
+        some_first (absent list.Expressions expressions h) None (absent_told list.Expressions expressions h fails)
 
 -- ---- functions
 

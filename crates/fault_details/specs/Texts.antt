@@ -7,6 +7,7 @@ use Rattle.naga_ir.specs.declared.expression.SwizzleComponent.{SwizzleComponent}
 use Rattle.naga_ir.specs.declared.expression.SwizzleComponent.TheVariants as component
 use Rattle.naga_acceptance.specs.declared.faults.Item.{Item}
 use Rattle.naga_acceptance.specs.declared.faults.Item.TheVariants as item
+use Rattle.naga_acceptance.specs.declared.faults.FunctionPosition.{FunctionPosition}
 use Rattle.naga_acceptance.specs.declared.faults.FunctionPosition.TheVariants as part
 use Rattle.fault_details.specs.declared.expected.Expected.{Expected}
 use Rattle.fault_details.specs.declared.expected.Expected.TheVariants as wanted
@@ -67,15 +68,20 @@ letter_text component.Y = codes "y"
 letter_text component.Z = codes "z"
 letter_text component.W = codes "w"
 
+-- an expression of a function, after the function
+abbrev pub part_text : FunctionPosition → List ℕ
+part_text (part.Expression e) = codes ".expressions[" ++ (decimal e ++ codes "]")
+part_text _ = []
+
 -- an expression of a function, of an entry point or of the module itself, by its position in the
 -- JSON of a module
 abbrev pub use_text : Item → List ℕ
-use_text (item.Function h (part.Expression e)) =
-    codes "module." ++ (item_text list.Functions h ++ (codes "." ++ item_text list.Expressions e))
-use_text (item.EntryPoint h (part.Expression e)) =
-    codes "module.entry_points[" ++ (decimal h ++ (codes "].function." ++
-    item_text list.Expressions e))
-use_text (item.GlobalExpression e) = codes "module." ++ item_text list.GlobalExpressions e
+use_text (item.Function h place) =
+    codes "module.functions[" ++ (decimal h ++ (codes "]" ++ part_text place))
+use_text (item.EntryPoint h place) =
+    codes "module.entry_points[" ++ (decimal h ++ (codes "].function" ++ part_text place))
+use_text (item.GlobalExpression e) =
+    codes "module.global_expressions[" ++ (decimal e ++ codes "]")
 use_text _ = codes "module"
 
 -- what a statement needs beside types

@@ -3,7 +3,7 @@
 ghost use Rattle.std.specs.Prelude.{◌≡◌, Some};
 ghost use Rattle.fault_details.specs.Texts.{class_text, count_text, item_text, letter_text};
 ghost use Rattle.fault_details.specs.Texts.{list_text, many_text, need_text, singular_text};
-ghost use Rattle.fault_details.specs.Texts.{use_text};
+ghost use Rattle.fault_details.specs.Texts.{part_text, use_text};
 
 use naga_acceptance::{FunctionPosition, Item};
 use naga_ir::SwizzleComponent;
@@ -66,20 +66,41 @@ impl fmt::Display for UsePosition {
 
     fn fmt<W: fmt::Write>(&self, f: &mut fmt::Formatter<W>) -> fmt::Result {
         match self.0 {
-            Item::Function(handle, FunctionPosition::Expression(expression)) => {
-                let function = Numbered(ListName::Functions, handle.index());
-                let expression = Numbered(ListName::Expressions, expression.index());
-                write!(f, "module.{}.{}", function, expression)
+            Item::Function(handle, part) => {
+                write!(
+                    f,
+                    "module.functions[{}]{}",
+                    handle.index(),
+                    PartPosition(part)
+                )
             }
-            Item::EntryPoint(index, FunctionPosition::Expression(expression)) => {
-                let expression = Numbered(ListName::Expressions, expression.index());
-                write!(f, "module.entry_points[{}].function.{}", index, expression)
+            Item::EntryPoint(index, part) => {
+                write!(
+                    f,
+                    "module.entry_points[{}].function{}",
+                    index,
+                    PartPosition(part)
+                )
             }
-            Item::GlobalExpression(expression) => {
-                let expression = Numbered(ListName::GlobalExpressions, expression.index());
-                write!(f, "module.{}", expression)
+            Item::GlobalExpression(handle) => {
+                write!(f, "module.global_expressions[{}]", handle.index())
             }
             _ => f.write_str("module"),
+        }
+    }
+}
+
+/// An expression of a function, after the function.
+#[derive(Clone, Copy)]
+struct PartPosition(FunctionPosition);
+
+impl fmt::Display for PartPosition {
+    ghost output = { λ at. Some (part_text at.0) };
+
+    fn fmt<W: fmt::Write>(&self, f: &mut fmt::Formatter<W>) -> fmt::Result {
+        match self.0 {
+            FunctionPosition::Expression(handle) => write!(f, ".expressions[{}]", handle.index()),
+            _ => Ok(()),
         }
     }
 }

@@ -1,6 +1,10 @@
 -- What the code's uses stand for, as they are looked for.
-use Rattle.std.specs.Prelude.{ℕ}
+--
+-- Throughout, e is the handle of an expression.
+use Rattle.std.specs.Prelude.{ℕ, Option, Some, None}
 use Rattle.naga_info.specs.declared.info.TypeResolution.{TypeResolution}
+use Rattle.naga_acceptance.specs.declared.faults.FunctionPosition.{FunctionPosition}
+use Rattle.naga_acceptance.specs.declared.faults.FunctionPosition.TheVariants as part
 use Rattle.naga_acceptance.specs.declared.faults.Item.{Item}
 use Rattle.naga_acceptance.specs.declared.other_uses.FoundUse.{FoundUse}
 use Rattle.naga_acceptance.specs.declared.other_uses.OtherUse.{OtherUse}
@@ -10,6 +14,11 @@ use Rattle.naga_acceptance.specs.declared.other_uses.Sited.{Sited}
 -- an expression by its group and its number there
 abbrev pub sited : Sited → ℕ × ℕ
 sited site = (site.group, site.index)
+
+-- a part of the function that is this group, where it is an expression
+abbrev pub site_in : (group : ℕ) → FunctionPosition → Option (ℕ × ℕ)
+site_in group (part.Expression e) = Some (group, e)
+site_in group _ = None
 
 -- a use in a group, by its number there and its type
 abbrev pub seen : Seen → ℕ × TypeResolution

@@ -5,7 +5,7 @@ ghost use Rattle.std.specs.Option.{option_copied, option_map};
 ghost use Rattle.naga_acceptance.specs.Faults.{site_of};
 ghost use Rattle.naga_acceptance.specs.FirstUses.{first_other, first_other_in, other_type};
 ghost use Rattle.naga_acceptance.specs.FirstUses.{other_use, other_use_in};
-ghost use Rattle.naga_acceptance.specs.OtherUses.{found_use, other, seen, sited};
+ghost use Rattle.naga_acceptance.specs.OtherUses.{found_use, other, seen, site_in, sited};
 ghost use Rattle.naga_acceptance.specs.Uses.{group_of, operation};
 ghost use Rattle.module_meaning.specs.acceptance.AgreeingOperators.{groups_of};
 
@@ -49,24 +49,38 @@ pub(crate) struct FoundUse<'a> {
     seen: Seen<'a>,
 }
 
+/// An expression of the group of this number.
+fn sited_at(group: u128, expression: Handle<Expression>) -> Sited
+    ensures { sited result ≡ (group, expression) }
+{
+    Sited {
+        group,
+        index: expression.index(),
+    }
+}
+
+/// The same of a part of a function that is one.
+fn sited_in(group: u128, part: FunctionPosition) -> Option<Sited>
+    ensures { option_map sited result ≡ site_in group part }
+{
+    match part {
+        FunctionPosition::Expression(expression) => Some(sited_at(group, expression)),
+        _ => None,
+    }
+}
+
 /// Where the expression at a position stands among the groups.
 fn site_of(module: &Module, item: Item) -> Option<Sited>
     ensures { option_map sited result ≡ site_of «module».now item }
 {
     let functions = module.functions.len() as u128;
     match item {
-        Item::Function(handle, FunctionPosition::Expression(expression)) => Some(Sited {
-            group: handle.index() as u128,
-            index: expression.index(),
-        }),
-        Item::EntryPoint(index, FunctionPosition::Expression(expression)) => Some(Sited {
-            group: functions + index as u128,
-            index: expression.index(),
-        }),
-        Item::GlobalExpression(expression) => Some(Sited {
-            group: functions + module.entry_points.len() as u128,
-            index: expression.index(),
-        }),
+        Item::Function(handle, part) => sited_in(handle.index() as u128, part),
+        Item::EntryPoint(index, part) => sited_in(functions + index as u128, part),
+        Item::GlobalExpression(expression) => Some(sited_at(
+            functions + module.entry_points.len() as u128,
+            expression,
+        )),
         _ => None,
     }
 }
