@@ -16,8 +16,10 @@ extern "C" {
 /* what a call gives */
 enum yorwethul_status {
     YORWETHUL_DONE = 0,          /* out has what was asked for: WGSL, layouts, or nothing of yorwethul_check */
-    YORWETHUL_REFUSED = 1,       /* it is accepted, and refused: "float literal: module.functions[0].expressions[3], in statement 1" */
-    YORWETHUL_NOT_ACCEPTED = 2,  /* it is not accepted: "module.functions[0].expressions[3]: .." */
+    YORWETHUL_REFUSED = 1,       /* it is accepted, and refused, by the construct, its position and the label of
+                                    the function there, quoted as Rust does:
+                                    float literal: module.functions[0].expressions[3], in statement 1, in "half" */
+    YORWETHUL_NOT_ACCEPTED = 2,  /* it is not accepted: module.functions[0].expressions[3], in "half": .. */
     YORWETHUL_NO_MODULE = 3,     /* the bytes hold none; out tells where and why */
     YORWETHUL_UNKNOWN_FLAG = 4,  /* a bit is set that no flag has */
     YORWETHUL_OUT_OF_MEMORY = 5, /* memory was refused; *needed is 0 */

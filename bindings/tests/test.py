@@ -245,12 +245,13 @@ def test_lines(folder, _):
         if answer.get("error", "").endswith((": no truth value", ": no number of 32 bits")) or any(name in line for name in LIMITS_OF_LINES):
             continue
         if "refused" in answer:
-            wanted = (REFUSED, "{refused}: {place}".format(**answer))
+            wanted = (REFUSED, "{refused}: {place}".format(**answer) + in_function(answer))
         elif "text" in answer:
             wanted = (DONE, answer["text"])
         elif "not_accepted" in answer:
             told = answer["not_accepted"]
-            wanted = (NOT_ACCEPTED, ": ".join(told[name] for name in ("place", "fault", "wanted") if name in told))
+            reason = ": ".join(told[name] for name in ("fault", "wanted") if name in told)
+            wanted = (NOT_ACCEPTED, told["place"] + in_function(told) + ": " + reason)
         else:
             wanted = (NO_MODULE, answer["error"])
         told = library.call("write", line, flags_of_line(line))
@@ -259,6 +260,11 @@ def test_lines(folder, _):
         must(checked == (wanted if wanted[0] in (NOT_ACCEPTED, NO_MODULE) else (DONE, "")), f"check: {checked} of {line[:200]}")
     told = library.call("write", b"{}", ALL_FLAGS + 1)
     must(told == (UNKNOWN_FLAG, "a bit is set that no flag has"), f"{told} of an unknown flag")
+
+
+def in_function(answer):
+    """The label of an answer as a text has it after the place, of labels without what Rust escapes in another way than JSON."""
+    return ", in " + json.dumps(answer["function"], ensure_ascii=False) if "function" in answer else ""
 
 
 def flags_of_line(line):
@@ -304,6 +310,8 @@ def cut_answers(output, names):
 
 # What an operand is where it is used: `operand components[2] of expressions[42]`.
 ROLE = re.compile(r", operand [a-z0-9_]+(?:\[\d+\])? of\b")
+# The label after a place: `, in "half"`.
+LABEL = re.compile(r', in "(?:[^"\\]|\\.)*"')
 
 
 def wanted_of(answer, text):
@@ -314,8 +322,8 @@ def wanted_of(answer, text):
         return NOT_ACCEPTED, (text if text and text.endswith(f": {fault}") else fault)
     if last.startswith("at: "):
         wanted = f'{front.rpartition("refused: ")[2]}: {last.removeprefix("at: ")}'
-        # The library tells the role of an operand too.
-        return REFUSED, (text if text and ROLE.sub(", operand of", text) == wanted else wanted)
+        # The library tells the role of an operand and the label of the function too.
+        return REFUSED, (text if text and ROLE.sub(", operand of", LABEL.sub("", text, count=1)) == wanted else wanted)
     if last.startswith("refused: "):
         construct = last.removeprefix("refused: ")
         return REFUSED, (text if text and text.startswith(f"{construct}: module") else construct)
@@ -347,13 +355,13 @@ def test_depth(folder, _):
             must(told[0] == wanted, f"{name}: {told} of {data[:40]}")
     for kind in KINDS:
         for depth in (DEEPEST_NESTING + 1, DEEPEST_NESTING + 2, 100_000):
-            data = json.dumps(nested(kind, depth)).encode()
+            data = nested(kind, depth).encode()
             for name, flags in (("write", [0]), ("check", []), ("layout", [])):
                 told = library.call(name, data, *flags)
                 is_deep = levels(kind, depth) > DEEPEST_NESTING
                 is_told = told[0] == TOO_DEEP and told[1].startswith("nested too deep: ")
                 must(is_deep == is_told, f"{name}: {told} of {kind}, {depth} deep")
-    told = library.call("write", json.dumps(doubled(100)).encode(), 0)
+    told = library.call("write", doubled(100).encode(), 0)
     must(told == (TOO_LONG, "text of more than 67108864 bytes"), f"{told} of a text that doubles")
 
 

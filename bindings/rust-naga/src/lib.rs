@@ -62,6 +62,14 @@ impl Error {
             Error::Untold(_) => None,
         }
     }
+
+    /// The label of the function or the entry point at the place, where there is one.
+    pub fn function(&self) -> Option<&str> {
+        match self {
+            Error::Yorwethul(error) => error.function(),
+            Error::Untold(_) => None,
+        }
+    }
 }
 
 impl fmt::Display for Error {

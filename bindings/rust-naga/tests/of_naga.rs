@@ -169,7 +169,11 @@ fn a_refusal_tells_the_construct_and_its_place() {
     assert_eq!(error.construct(), Some("float literal"));
     let place = "module.functions[0].expressions[0], in statement 0";
     assert_eq!(error.place(), Some(place));
-    assert_eq!(error.to_string(), format!("refused: float literal: {place}"));
+    assert_eq!(error.function(), Some("half"));
+    assert_eq!(
+        error.to_string(),
+        format!("refused: float literal: {place}, in \"half\"")
+    );
     let text = "fn half(x: f32) -> f32 {\n    return 0.5f;\n}\n\n";
     let told = write(&module, &known(&module), Flags::TELL_FLOATS);
     assert_eq!(told.as_deref(), Ok(text));
@@ -190,6 +194,7 @@ fn an_info_of_another_module_is_not_accepted() {
         panic!("{error}")
     };
     assert_eq!(error.place(), Some("module.functions[0], statement 1"));
+    assert_eq!(error.function(), Some("double"));
 }
 
 #[test]

@@ -13,12 +13,16 @@ pub enum Error {
         /// Where it stands: `module.functions[0].expressions[3]`. It is empty where memory was
         /// refused to find it.
         place: String,
+        /// The label of the function or the entry point there, where there is one.
+        function: Option<String>,
     },
     /// The module is not accepted with what is known of it.
     #[non_exhaustive]
     NotAccepted {
         /// Where: `module.functions[0].expressions[3]`, or `module.functions[0], statement 3`.
         place: String,
+        /// The label of the function or the entry point there, where there is one.
+        function: Option<String>,
         /// What is wrong there, and what was wanted:
         /// `the known type is another: wanted vec4<f32>, got f32`.
         fault: String,
@@ -71,16 +75,54 @@ impl Error {
             _ => None,
         }
     }
+
+    /// The label of the function or the entry point at the place, where there is one.
+    pub fn function(&self) -> Option<&str> {
+        match self {
+            Error::Refused { function, .. } | Error::NotAccepted { function, .. } => {
+                function.as_deref()
+            }
+            _ => None,
+        }
+    }
+}
+
+/// A label after its place: `, in "half"`.
+struct InFunction<'a>(&'a Option<String>);
+
+impl fmt::Display for InFunction<'_> {
+    fn fmt(&self, f: &mut fmt::Formatter<'_>) -> fmt::Result {
+        match self.0 {
+            Some(label) => write!(f, ", in {label:?}"),
+            None => Ok(()),
+        }
+    }
 }
 
 impl fmt::Display for Error {
     fn fmt(&self, f: &mut fmt::Formatter<'_>) -> fmt::Result {
         match self {
-            Error::Refused { construct, place } if place.is_empty() => {
+            Error::Refused {
+                construct, place, ..
+            } if place.is_empty() => {
                 write!(f, "refused: {construct}")
             }
-            Error::Refused { construct, place } => write!(f, "refused: {construct}: {place}"),
-            Error::NotAccepted { place, fault } => write!(f, "not accepted: {place}: {fault}"),
+            Error::Refused {
+                construct,
+                place,
+                function,
+            } => {
+                let label = InFunction(function);
+                write!(f, "refused: {construct}: {place}{label}")
+            }
+            Error::NotAccepted {
+                place,
+                function,
+                fault,
+            } => {
+                let label = InFunction(function);
+                write!(f, "not accepted: {place}{label}: {fault}")
+            }
             Error::NoModule { place, problem } if place.is_empty() => {
                 write!(f, "no module: {problem}")
             }

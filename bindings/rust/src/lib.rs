@@ -69,6 +69,7 @@ pub use flags::Flags;
 
 use alloc::string::String;
 use alloc::vec::Vec;
+use core::str::Chars;
 
 /// Writes the module that the JSON holds, `{"module": .., "info": ..}`, as WGSL.
 ///
@@ -215,12 +216,20 @@ fn answer(status: u32, text: String) -> Result<String, Error> {
     Err(match status {
         sys::DONE => return Ok(text),
         sys::REFUSED => {
-            let (construct, place) = refused_at(&text);
-            Error::Refused { construct, place }
+            let (construct, place, function) = refused_at(&text);
+            Error::Refused {
+                construct,
+                place,
+                function,
+            }
         }
         sys::NOT_ACCEPTED => {
-            let (place, fault) = placed(&text);
-            Error::NotAccepted { place, fault }
+            let (place, function, fault) = fault_at(&text);
+            Error::NotAccepted {
+                place,
+                function,
+                fault,
+            }
         }
         sys::NO_MODULE => {
             let (place, problem) = placed(&text);
@@ -234,11 +243,71 @@ fn answer(status: u32, text: String) -> Result<String, Error> {
     })
 }
 
-/// The construct in front of its place, and the place, which is empty where none is told.
-fn refused_at(text: &str) -> (String, String) {
+/// The construct in front of its place, the place, which is empty where none is told, and the label
+/// there.
+fn refused_at(text: &str) -> (String, String, Option<String>) {
     match text.find(": module") {
-        Some(at) => (text[..at].into(), text[at + 2..].into()),
-        None => (text.into(), String::new()),
+        Some(at) => {
+            let (place, function, _) = labelled(&text[at + 2..]);
+            (text[..at].into(), place.into(), function)
+        }
+        None => (text.into(), String::new(), None),
+    }
+}
+
+/// The place of a fault, the label there, and the fault.
+fn fault_at(text: &str) -> (String, Option<String>, String) {
+    match labelled(text) {
+        (place, Some(function), fault) => {
+            let fault = fault.strip_prefix(": ").unwrap_or(fault);
+            (place.into(), Some(function), fault.into())
+        }
+        _ => {
+            let (place, fault) = placed(text);
+            (place, None, fault)
+        }
+    }
+}
+
+/// The place in front of a label in quotes, the label, and what stands after it; or the whole, where
+/// no label follows the place, which has no `: ` itself.
+fn labelled(text: &str) -> (&str, Option<String>, &str) {
+    const IN: &str = ", in \"";
+    match text.find(IN) {
+        Some(at) if !text[..at].contains(": ") => match unquoted(&text[at + IN.len()..]) {
+            Some((label, rest)) => (&text[..at], Some(label), rest),
+            None => (text, None, ""),
+        },
+        _ => (text, None, ""),
+    }
+}
+
+/// What stands up to the quote that ends a text, as Rust escapes it, and what stands after that quote.
+fn unquoted(quoted: &str) -> Option<(String, &str)> {
+    let mut label = String::new();
+    let mut rest = quoted.chars();
+    loop {
+        match rest.next()? {
+            '"' => return Some((label, rest.as_str())),
+            '\\' => label.push(unescaped(&mut rest)?),
+            letter => label.push(letter),
+        }
+    }
+}
+
+/// The character that these, which follow a backslash, stand for.
+fn unescaped(rest: &mut Chars<'_>) -> Option<char> {
+    match rest.next()? {
+        '0' => Some('\0'),
+        't' => Some('\t'),
+        'n' => Some('\n'),
+        'r' => Some('\r'),
+        'u' => {
+            let (number, after) = rest.as_str().strip_prefix('{')?.split_once('}')?;
+            *rest = after.chars();
+            char::from_u32(u32::from_str_radix(number, 16).ok()?)
+        }
+        itself => Some(itself),
     }
 }
 

@@ -48,7 +48,8 @@ fn a_longer_error_takes_two() {
         told(sys::REFUSED, &construct),
         Err(Error::Refused {
             construct,
-            place: String::new()
+            place: String::new(),
+            function: None
         })
     );
 }
@@ -67,6 +68,16 @@ fn each_status_is_told() {
             2,
             "module.types[3]: bad",
             "not accepted: module.types[3]: bad",
+        ),
+        (
+            1,
+            "a: module.functions[0], in \"f\"",
+            "refused: a: module.functions[0], in \"f\"",
+        ),
+        (
+            2,
+            "module.functions[0], in \"f\": bad",
+            "not accepted: module.functions[0], in \"f\": bad",
         ),
         (3, "module: missing", "no module: module: missing"),
         (3, "not UTF-8", "no module: not UTF-8"),
@@ -98,11 +109,44 @@ fn a_place_is_apart_from_its_reason() {
     assert_eq!(error.place(), None);
     let text = "Unsupported math function: Outer: module.functions[0].expressions[1]";
     let error = told(sys::REFUSED, text).unwrap_err();
-    assert_eq!(
-        error.construct(),
-        Some("Unsupported math function: Outer")
-    );
+    assert_eq!(error.construct(), Some("Unsupported math function: Outer"));
     assert_eq!(error.place(), Some("module.functions[0].expressions[1]"));
+}
+
+#[test]
+fn a_label_is_apart_from_its_place() {
+    for label in [
+        "half",
+        "",
+        "a: module",
+        "\"\\",
+        "', in \"x\": y",
+        "\0\t\n\r\u{1b}\u{e9}\u{301}",
+    ] {
+        let error = told(
+            sys::NOT_ACCEPTED,
+            &alloc::format!("module.functions[0], statement 3, in {label:?}: no: such"),
+        )
+        .unwrap_err();
+        assert_eq!(error.place(), Some("module.functions[0], statement 3"));
+        assert_eq!(error.function(), Some(label));
+        assert!(matches!(error, Error::NotAccepted { fault, .. } if fault == "no: such"));
+        let at = "module.functions[0].expressions[3], in statement 1";
+        let error = told(
+            sys::REFUSED,
+            &alloc::format!("float literal: {at}, in {label:?}"),
+        )
+        .unwrap_err();
+        assert_eq!(error.construct(), Some("float literal"));
+        assert_eq!(error.place(), Some(at));
+        assert_eq!(error.function(), Some(label));
+    }
+    // a fault may name a label, but not so
+    let error = told(sys::NOT_ACCEPTED, "module.types[3]: bad, in \"s\"").unwrap_err();
+    assert_eq!(
+        (error.place(), error.function()),
+        (Some("module.types[3]"), None)
+    );
 }
 
 #[test]

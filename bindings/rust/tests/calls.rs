@@ -92,8 +92,15 @@ fn a_refused_module_tells_the_construct_and_its_place() {
     let error = write_json(&half, Flags::empty()).unwrap_err();
     assert_eq!(error.construct(), Some("float literal"));
     let place = error.place().unwrap();
-    assert!(place.starts_with("module.functions[0].expressions["), "{place}");
-    assert_eq!(error.to_string(), format!("refused: float literal: {place}"));
+    assert!(
+        place.starts_with("module.functions[0].expressions["),
+        "{place}"
+    );
+    assert_eq!(error.function(), Some("double"));
+    assert_eq!(
+        error.to_string(),
+        format!("refused: float literal: {place}, in \"double\"")
+    );
     assert_eq!(check_json(&half), Ok(()));
 }
 
@@ -107,6 +114,7 @@ fn a_module_that_is_not_accepted_tells_the_place() {
     ] {
         assert!(matches!(error, Error::NotAccepted { .. }), "{error}");
         assert_eq!(error.place(), Some("module.functions[0].expressions[1]"));
+        assert_eq!(error.function(), Some("double"));
     }
 }
 

@@ -59,8 +59,8 @@ use Rattle.naga_acceptance.specs.declared.faults.Fault.{Fault}
 use Rattle.naga_acceptance.specs.declared.faults.Fault.TheVariants as fault
 use Rattle.naga_acceptance.specs.declared.faults.FunctionPosition.{FunctionPosition}
 use Rattle.naga_acceptance.specs.declared.faults.FunctionPosition.TheVariants as part
-use Rattle.naga_acceptance.specs.declared.faults.Item.{Item}
-use Rattle.naga_acceptance.specs.declared.faults.Item.TheVariants as item
+use Rattle.naga_acceptance.specs.declared.faults.FaultPosition.{FaultPosition}
+use Rattle.naga_acceptance.specs.declared.faults.FaultPosition.TheVariants as item
 use Rattle.naga_acceptance.proofs.Finding.{unfit_item}
 use Rattle.fault_details.specs.Reasons.{reason_at}
 use Rattle.fault_details.specs.Reasons.{entry_point_reason, expression_reason, function_reason}
@@ -190,7 +190,7 @@ module _ (m : Module) (info : ModuleInfo) (ranges : IsTrue (module_ranges_fit m 
       let b = and_parts entry_points globals a.1 in
       (a.0, b.0, b.1)
 
-  abbrev Told : Fault → Item → Type 0
+  abbrev Told : Fault → FaultPosition → Type 0
   Told kind at = IsSome (item_reason m info kind at)
 
   -- of the module itself and of its types there is no such fault
@@ -362,7 +362,7 @@ module _ (m : Module) (info : ModuleInfo) (ranges : IsTrue (module_ranges_fit m 
           (and_parts group own (and_parts ray (group && own)
           (and_parts task (ray && (group && own)) (and_parts mesh (task && (ray && (group && own))) fits).1).1).1).1
 
-  item_told : (at : Item) (kind : Fault) → IsOfItem kind → ItemFails m info at kind → Told kind at
+  item_told : (at : FaultPosition) (kind : Fault) → IsOfItem kind → ItemFails m info at kind → Told kind at
   item_told item.Module kind of fails = absurd (no_module kind of fails)
   item_told (item.Type h) kind of fails = absurd (no_type h kind of fails)
   item_told (item.Constant h) kind of fails = constant_told h kind of fails
@@ -372,7 +372,7 @@ module _ (m : Module) (info : ModuleInfo) (ranges : IsTrue (module_ranges_fit m 
   item_told (item.Function h place) kind of fails = function_at_told h place kind of fails
   item_told (item.EntryPoint h place) kind of fails = entry_point_told h place kind of fails
 
-  by_kind : (at : Item) (kind : Fault) → IsOfTypes kind → FaultIs m info at kind →
+  by_kind : (at : FaultPosition) (kind : Fault) → IsOfTypes kind → FaultIs m info at kind →
       IsSome (reason_at m info kind at)
   by_kind at fault.OtherType of fails = item_told at fault.OtherType of fails
   by_kind at fault.OperandTypes of fails = item_told at fault.OperandTypes of fails

@@ -34,7 +34,7 @@ use Rattle.naga_acceptance.specs.FirstUses.{unless_alike}
 use Rattle.naga_acceptance.specs.Searching.{first_faulty, or_further}
 use Rattle.naga_acceptance.specs.Uses.{earlier_uses, first_uses, group_uses, is_same_operator}
 use Rattle.naga_acceptance.specs.Uses.{joined_below, use_in}
-use Rattle.naga_acceptance.specs.declared.faults.Item.{Item}
+use Rattle.naga_acceptance.specs.declared.faults.FaultPosition.{FaultPosition}
 use Rattle.naga_acceptance.proofs.Agreement.{agree_after, other_agrees, same_agrees}
 use Rattle.naga_acceptance.proofs.Groups.{all_uses, one_more}
 use Rattle.module_meaning.specs.AlikeTypes.{are_alike, type_identity}
@@ -325,7 +325,7 @@ module _ (m : Module) (info : ModuleInfo)
       (of_either (function_groups m.functions info.functions.items) (further_groups_of m info) n g at)
 
   -- an operator that does not agree is told with a use
-  pub disagreement_told : (at : Item) → OperatorFails m info at → IsSome (option_map use_reason (other_use m info at))
+  pub disagreement_told : (at : FaultPosition) → OperatorFails m info at → IsSome (option_map use_reason (other_use m info at))
   disagreement_told at fails = mapped use_reason (other_use m info at) (by (site_of m at) refl fails)
     where
       by : (site : Option (ℕ × ℕ)) → site_of m at ≡ site → DisagreesAt m info site → IsSome (other_use m info at)

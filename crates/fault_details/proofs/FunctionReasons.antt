@@ -42,7 +42,7 @@ use Rattle.module_meaning.specs.acceptance.ExpressionTypes.{has_its_type, if_any
 use Rattle.module_meaning.specs.acceptance.ExpressionTypes.{is_expected, local_type}
 use Rattle.module_meaning.specs.acceptance.ExpressionTypes.{logical_type, only, vector_of}
 use Rattle.module_meaning.specs.acceptance.ExpressionTypes.{expected_type}
-use Rattle.module_meaning.specs.acceptance.OperandDemands.{is_components, is_integer, operand_is}
+use Rattle.module_meaning.specs.acceptance.OperandDemands.{is_scalar_or_vector, is_integer, operand_is}
 use Rattle.module_meaning.specs.acceptance.OperandDemands.{is_swizzled, operands_fit}
 use Rattle.module_meaning.specs.acceptance.Initialisers.{initialiser_fits, local_is_sound}
 use Rattle.module_meaning.specs.acceptance.Ranges.{all_below, block_in_range}
@@ -128,7 +128,7 @@ binary_given binary.LogicalAnd left = logical_given left
 binary_given binary.LogicalOr left = logical_given left
 binary_given _ left = refl
 
-components_same : (it : TypeInner) → is_components it ≡ is_some (component_scalar it)
+components_same : (it : TypeInner) → is_scalar_or_vector it ≡ is_some (component_scalar it)
 components_same (inner.Scalar s) = refl
 components_same (inner.Vector n s) = refl
 components_same _ = refl
@@ -169,7 +169,7 @@ module _ (m : Module) (f : Option Function) (known : List TypeResolution) (argum
       absurd (true≢false (sym (ap is_nothing nothing) ∙ any_given _))
   typeless_told own (expression.Splat n value) nothing below named =
       class_told m.types known class.Components value (first_there value [] below)
-      (none_is is_components component_scalar components_same (known_inner m.types known value)
+      (none_is is_scalar_or_vector component_scalar components_same (known_inner m.types known value)
       (map_none (vector_of n) _ (only_none _ nothing)))
   typeless_told own (expression.Swizzle n vector pattern) nothing below named =
       class_told m.types known class.Vector vector (first_there vector [] below)

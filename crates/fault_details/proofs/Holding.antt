@@ -45,8 +45,8 @@ use Rattle.module_meaning.specs.acceptance.Operations.{Operation}
 use Rattle.naga_acceptance.specs.TextOrder.{PlacedStatement, text_order}
 use Rattle.naga_acceptance.specs.declared.faults.Fault.{Fault}
 use Rattle.naga_acceptance.specs.declared.faults.Fault.TheVariants as fault
-use Rattle.naga_acceptance.specs.declared.faults.Item.{Item}
-use Rattle.naga_acceptance.specs.declared.faults.Item.TheVariants as item
+use Rattle.naga_acceptance.specs.declared.faults.FaultPosition.{FaultPosition}
+use Rattle.naga_acceptance.specs.declared.faults.FaultPosition.TheVariants as item
 use Rattle.naga_acceptance.specs.declared.faults.FunctionPosition.{FunctionPosition}
 use Rattle.naga_acceptance.specs.declared.faults.FunctionPosition.TheVariants as part
 use Rattle.module_meaning.specs.AlikeTypes.{are_alike}
@@ -493,7 +493,7 @@ module _ (m : Module) where
   made_holds fault.TypeLength h it = length_holds (length m.overrides) it
   made_holds _ h it = tt
 
-  item_holds : (info : ModuleInfo) (kind : Fault) (at : Item) → Holds (item_reason m info kind at)
+  item_holds : (info : ModuleInfo) (kind : Fault) (at : FaultPosition) → Holds (item_reason m info kind at)
   item_holds info kind item.Module = module_holds info kind
   item_holds info kind (item.Type h) = then_holds (IsReason m) (made_reason m kind h) (made_holds kind h) _
   item_holds info kind (item.Constant h) =
@@ -566,7 +566,7 @@ module _ (m : Module) where
         (slice_get gs number)) (length gs)
 
   -- the two types of a use are not alike
-  abbrev AreApart : Item × (TypeResolution × TypeResolution) → Type 0
+  abbrev AreApart : FaultPosition × (TypeResolution × TypeResolution) → Type 0
   AreApart found = are_alike m.types found.1.1 found.1.0 ≡ false
 
   use_at_holds : (here : TypeResolution) (o : Option (ℕ × (ℕ × TypeResolution))) →
@@ -582,19 +582,19 @@ module _ (m : Module) where
       (λ here. use_at_holds here (first_other m.types here gs v) (found_holds here gs v)) (slice_get g.known index))
       (use_in m.types g index)
 
-  other_at : (info : ModuleInfo) (at : Item) → IfSome (other_use m info at) AreApart
+  other_at : (info : ModuleInfo) (at : FaultPosition) → IfSome (other_use m info at) AreApart
   other_at info at =
       then_holds AreApart (λ site. option_and_then (λ g. other_use_in m (groups_of m info) g site.1)
       (slice_get (groups_of m info) site.0))
       (λ site. then_holds AreApart (λ g. other_use_in m (groups_of m info) g site.1)
       (λ g. use_in_holds (groups_of m info) g site.1) (slice_get (groups_of m info) site.0)) (site_of m at)
 
-  use_holds : (o : Option (Item × (TypeResolution × TypeResolution))) → IfSome o AreApart →
+  use_holds : (o : Option (FaultPosition × (TypeResolution × TypeResolution))) → IfSome o AreApart →
       Holds (option_map use_reason o)
   use_holds None other = tt
   use_holds (Some found) other = other
 
-  reason_holds : (info : ModuleInfo) (kind : Fault) (at : Item) → Holds (reason_at m info kind at)
+  reason_holds : (info : ModuleInfo) (kind : Fault) (at : FaultPosition) → Holds (reason_at m info kind at)
   reason_holds info fault.Disagreement at = use_holds (other_use m info at) (other_at info at)
   reason_holds info kind at = item_holds info kind at
 

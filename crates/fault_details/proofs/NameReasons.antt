@@ -39,8 +39,8 @@ use Rattle.naga_acceptance.specs.declared.faults.Fault.{Fault}
 use Rattle.naga_acceptance.specs.declared.faults.Fault.TheVariants as fault
 use Rattle.naga_acceptance.specs.declared.faults.FunctionPosition.{FunctionPosition}
 use Rattle.naga_acceptance.specs.declared.faults.FunctionPosition.TheVariants as part
-use Rattle.naga_acceptance.specs.declared.faults.Item.{Item}
-use Rattle.naga_acceptance.specs.declared.faults.Item.TheVariants as item
+use Rattle.naga_acceptance.specs.declared.faults.FaultPosition.{FaultPosition}
+use Rattle.naga_acceptance.specs.declared.faults.FaultPosition.TheVariants as item
 use Rattle.naga_acceptance.proofs.Finding.{unfit_item}
 use Rattle.module_meaning.proofs.Lists.{list_all_at}
 use Rattle.module_meaning.specs.acceptance.Numbers.{fits_16_bits, resource_fits_32_bits}
@@ -350,7 +350,7 @@ module _ (m : Module) (f : Function) (known : List TypeResolution) (callees : �
 -- ---- items
 
 module _ (m : Module) (info : ModuleInfo) (fit : AreOfTheirTypes m) (numbered : AreNumbered m) where
-  abbrev ItemTold : Fault → Item → Type 0
+  abbrev ItemTold : Fault → FaultPosition → Type 0
   ItemTold kind at = IsSome (item_reason m info kind at)
 
   module_told : (kind : Fault) → IsOfNames kind → ModuleFails m info kind → ItemTold kind item.Module
@@ -498,7 +498,7 @@ module _ (m : Module) (info : ModuleInfo) (fit : AreOfTheirTypes m) (numbered : 
       (entry_told p (known_of info.entry_points.items h) (fit.entry_points h p at) (numbered.entry_points h p at)
       place kind of fails)
 
-  item_told : (at : Item) (kind : Fault) → IsOfNames kind → ItemFails m info at kind → ItemTold kind at
+  item_told : (at : FaultPosition) (kind : Fault) → IsOfNames kind → ItemFails m info at kind → ItemTold kind at
   item_told item.Module kind of fails = module_told kind of fails
   item_told (item.Type h) kind of fails = type_told h kind of fails
   item_told (item.Constant h) kind of fails = constant_told h kind of fails
@@ -508,7 +508,7 @@ module _ (m : Module) (info : ModuleInfo) (fit : AreOfTheirTypes m) (numbered : 
   item_told (item.Function h place) kind of fails = function_at_told h place kind of fails
   item_told (item.EntryPoint h place) kind of fails = entry_point_told h place kind of fails
 
-  by_kind : (at : Item) (kind : Fault) → IsOfNames kind → FaultIs m info at kind → IsSome (reason_at m info kind at)
+  by_kind : (at : FaultPosition) (kind : Fault) → IsOfNames kind → FaultIs m info at kind → IsSome (reason_at m info kind at)
   by_kind at fault.Disagreement of fails = absurd of
   by_kind at kind of fails = item_told at kind of fails
 

@@ -5,12 +5,12 @@
 use Rattle.std.specs.Prelude.{ℕ, List, [], ◌++◌, ◌==◌, codes, decimal, if◌then◌else◌, string_bytes}
 use Rattle.naga_ir.specs.declared.expression.SwizzleComponent.{SwizzleComponent}
 use Rattle.naga_ir.specs.declared.expression.SwizzleComponent.TheVariants as component
-use Rattle.naga_acceptance.specs.declared.faults.Item.{Item}
-use Rattle.naga_acceptance.specs.declared.faults.Item.TheVariants as item
+use Rattle.naga_acceptance.specs.declared.faults.FaultPosition.{FaultPosition}
+use Rattle.naga_acceptance.specs.declared.faults.FaultPosition.TheVariants as item
 use Rattle.naga_acceptance.specs.declared.faults.FunctionPosition.{FunctionPosition}
 use Rattle.naga_acceptance.specs.declared.faults.FunctionPosition.TheVariants as part
-use Rattle.fault_details.specs.declared.expected.Expected.{Expected}
-use Rattle.fault_details.specs.declared.expected.Expected.TheVariants as wanted
+use Rattle.fault_details.specs.declared.mismatch.Mismatch.{Mismatch}
+use Rattle.fault_details.specs.declared.mismatch.Mismatch.TheVariants as wanted
 use Rattle.fault_details.specs.declared.words.Counted.{Counted}
 use Rattle.fault_details.specs.declared.words.Counted.TheVariants as counted
 use Rattle.fault_details.specs.declared.words.ListName.{ListName}
@@ -74,14 +74,14 @@ part_text (part.Expression e) = codes ".expressions[" ++ (decimal e ++ codes "]"
 part_text _ = []
 
 -- an expression of a function, of an entry point or of the module itself, by its position in the
--- JSON of a module
-abbrev pub use_text : Item → List ℕ
+-- module
+abbrev pub use_text : FaultPosition → List ℕ
 use_text (item.Function h place) =
-    codes "module.functions[" ++ (decimal h ++ (codes "]" ++ part_text place))
+    codes "functions[" ++ (decimal h ++ (codes "]" ++ part_text place))
 use_text (item.EntryPoint h place) =
-    codes "module.entry_points[" ++ (decimal h ++ (codes "].function" ++ part_text place))
+    codes "entry_points[" ++ (decimal h ++ (codes "].function" ++ part_text place))
 use_text (item.GlobalExpression e) =
-    codes "module.global_expressions[" ++ (decimal e ++ codes "]")
+    codes "global_expressions[" ++ (decimal e ++ codes "]")
 use_text _ = codes "module"
 
 -- what a statement needs beside types
@@ -99,7 +99,7 @@ abbrev pub count_text : (n : ℕ) → List ℕ
 count_text n = (if n == 1 then codes "is" else codes "are") ++ codes " " ++ decimal n
 
 -- what was wanted and what stands there: `wanted vec4<f32>, got f32`
-abbrev pub wanted_text : Expected → List ℕ
+abbrev pub wanted_text : Mismatch → List ℕ
 wanted_text (wanted.Type ty got) =
     codes "wanted " ++ string_bytes ty ++ codes ", got " ++ string_bytes got
 wanted_text (wanted.Class any got) =

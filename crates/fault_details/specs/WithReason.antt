@@ -2,7 +2,7 @@
 -- what it wants, or that an operator does not agree with an earlier one; and each that says that
 -- something is not there, or not before what names it.
 --
--- Throughout, m is a module, info what is known of it, u a place with a kind of fault, f a
+-- Throughout, m is a module, info what is known of it, u a position with a kind of fault, f a
 -- function, p an entry point, t a type, s a statement, k an item of a module, and h is a handle.
 use Rattle.std.specs.Prelude.{◌≡◌, ◌≤◌, ◌^◌, ◌&&◌, ℕ, Bool, true, ⊤, length, slice_get, Some}
 use Rattle.std.specs.Prelude.{IsSome, IsTrue}

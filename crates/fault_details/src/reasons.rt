@@ -1,4 +1,4 @@
-//! Why a module is not accepted at a place, without memory.
+//! Why a module is not accepted at a position, without memory.
 
 ghost use Rattle.std.specs.Prelude.{◌≡◌};
 ghost use Rattle.std.specs.Option.{option_map};
@@ -6,12 +6,12 @@ ghost use Rattle.fault_details.specs.Reasons.{absent, need_unless, not_before, n
 ghost use Rattle.fault_details.specs.Shown.{shown};
 
 use crate::words::{Counted, ListName, Need, TypeClass};
-use naga_acceptance::Item;
+use naga_acceptance::FaultPosition;
 use naga_acceptance::parts::InferredType;
 use naga_info::TypeResolution;
 use naga_ir::{Scalar, SwizzleComponent};
 
-/// What was wanted at a place, and what stands there.
+/// What was wanted at a position, and what stands there.
 #[derive(Debug, Clone, Copy)]
 pub(crate) enum Reason<'a> {
     /// A value of one type is wanted, and one of another stands there.
@@ -67,7 +67,7 @@ pub(crate) enum Reason<'a> {
     },
     /// The operator has another type where it is used at this position, over operands of types alike.
     OtherUse {
-        item: Item,
+        item: FaultPosition,
         wanted: &'a TypeResolution,
         got: &'a TypeResolution,
     },

@@ -5,7 +5,7 @@ ghost use Rattle.fault_details.specs.Texts.{class_text, count_text, item_text, l
 ghost use Rattle.fault_details.specs.Texts.{list_text, many_text, need_text, singular_text};
 ghost use Rattle.fault_details.specs.Texts.{part_text, use_text};
 
-use naga_acceptance::{FunctionPosition, Item};
+use naga_acceptance::{FaultPosition, FunctionPosition};
 use naga_ir::SwizzleComponent;
 use std::fmt;
 
@@ -19,11 +19,11 @@ pub enum ListName {
     GlobalVariables,
     GlobalExpressions,
     Functions,
-    /// The expressions of the function at the place.
+    /// The expressions of the function at the position.
     Expressions,
-    /// The arguments of the function at the place.
+    /// The arguments of the function at the position.
     Arguments,
-    /// The variables of the function at the place.
+    /// The variables of the function at the position.
     LocalVariables,
 }
 
@@ -57,33 +57,23 @@ impl fmt::Display for Numbered {
     }
 }
 
-/// An expression by its position in the JSON of a module: `module.functions[0].expressions[1]`.
+/// An expression by its position in a module: `functions[0].expressions[1]`.
 #[derive(Clone, Copy)]
-pub(crate) struct UsePosition(pub Item);
+pub(crate) struct UsePosition(pub FaultPosition);
 
 impl fmt::Display for UsePosition {
     ghost output = { λ path. Some (use_text path.0) };
 
     fn fmt<W: fmt::Write>(&self, f: &mut fmt::Formatter<W>) -> fmt::Result {
         match self.0 {
-            Item::Function(handle, part) => {
-                write!(
-                    f,
-                    "module.functions[{}]{}",
-                    handle.index(),
-                    PartPosition(part)
-                )
+            FaultPosition::Function(handle, part) => {
+                write!(f, "functions[{}]{}", handle.index(), PartPosition(part))
             }
-            Item::EntryPoint(index, part) => {
-                write!(
-                    f,
-                    "module.entry_points[{}].function{}",
-                    index,
-                    PartPosition(part)
-                )
+            FaultPosition::EntryPoint(index, part) => {
+                write!(f, "entry_points[{}].function{}", index, PartPosition(part))
             }
-            Item::GlobalExpression(handle) => {
-                write!(f, "module.global_expressions[{}]", handle.index())
+            FaultPosition::GlobalExpression(handle) => {
+                write!(f, "global_expressions[{}]", handle.index())
             }
             _ => f.write_str("module"),
         }
@@ -118,7 +108,7 @@ impl fmt::Display for There {
     }
 }
 
-/// What there are as many of as are wanted, or not.
+/// What is counted in a fault about a wrong number of things.
 #[derive(Debug, Clone, Copy, PartialEq, Eq)]
 pub enum Counted {
     /// Values that a call passes.
@@ -161,7 +151,7 @@ impl fmt::Display for Many {
     }
 }
 
-/// Types of which any is wanted.
+/// A class of types, any of which will do.
 #[derive(Debug, Clone, Copy, PartialEq, Eq)]
 pub enum TypeClass {
     /// `bool`

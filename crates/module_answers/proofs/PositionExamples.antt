@@ -1,50 +1,63 @@
 -- Places and refusals as they are told: lines that `docs/USING.md` has.
 use Rattle.std.proofs.Common.{◌≡◌, codes, refl, None, Some}
-use Rattle.std.specs.Fmt.{digits}
+use Rattle.std.specs.Fmt.{debug_str, digits}
 use Rattle.module_answers.specs.Positions.{json_position, json_refusal, json_refusal_position}
+use Rattle.module_answers.specs.Positions.{labelled_position}
+use Rattle.module_answers.specs.declared.positions.JsonRoot.TheVariants as root
 use Rattle.naga_acceptance.specs.declared.faults.FunctionPosition.TheVariants as position
-use Rattle.naga_acceptance.specs.declared.faults.Item.TheVariants as item
+use Rattle.naga_acceptance.specs.declared.faults.FaultPosition.TheVariants as item
 use Rattle.naga_scope.specs.declared.declarations.DeclarationPosition.TheVariants as declaration
 use Rattle.naga_scope.specs.declared.lines.Line.TheVariants as line
 use Rattle.naga_scope.specs.declared.scope_faults.ScopeFault.TheVariants as scope
 use Rattle.naga_wgsl_fns.specs.declared.refusals.construct.Construct.TheVariants as construct
-use Rattle.naga_wgsl_fns.specs.declared.plans.FunctionPart.TheVariants as part
+use Rattle.naga_wgsl_fns.specs.declared.plans.FunctionRefusalPosition.TheVariants as part
 use Rattle.naga_wgsl_out.specs.declared.unwritable.RefusalPosition.TheVariants as refused
 
-an_expression : json_position (item.Function 3 (position.Expression 41)) ≡ codes "module.functions[3].expressions[41]"
+an_expression : json_position root.Member (item.Function 3 (position.Expression 41))
+    ≡ codes "module.functions[3].expressions[41]"
 unfolding digits
 an_expression = refl
 
-a_statement : json_position (item.EntryPoint 0 (position.Statement 3)) ≡ codes "module.entry_points[0].function, statement 3"
+a_statement : json_position root.Member (item.EntryPoint 0 (position.Statement 3))
+    ≡ codes "module.entry_points[0].function, statement 3"
 unfolding digits
 a_statement = refl
 
-out_of_scope : json_refusal_position (Some (codes "value", None)) (refused.Function 0 (part.Scope (scope.Operand 12 41)))
+out_of_scope : json_refusal_position root.Member (Some (codes "value", None))
+    (refused.Function 0 (part.Scope (scope.Operand 12 41)))
     ≡ codes "module.functions[0].expressions[41], operand value of statement 12"
 unfolding digits
 out_of_scope = refl
 
 in_an_emit :
-    json_refusal_position (Some (codes "components", Some 2))
+    json_refusal_position root.Member (Some (codes "components", Some 2))
     (refused.Function 0 (part.Scope (scope.EmittedOperand 12 42 41)))
     ≡ codes "module.functions[0].expressions[41], operand components[2] of expressions[42] in statement 12"
 unfolding digits
 in_an_emit = refl
 
-without_a_role : json_refusal_position None (refused.Function 0 (part.Scope (scope.Operand 12 41)))
+without_a_role : json_refusal_position root.Member None (refused.Function 0 (part.Scope (scope.Operand 12 41)))
     ≡ codes "module.functions[0].expressions[41], operand of statement 12"
 unfolding digits
 without_a_role = refl
 
-a_refusal : json_refusal construct.FloatLiteral None (refused.Function 0 (part.Expression (line.Statement 1) 3))
-    ≡ Some (codes "float literal: module.functions[0].expressions[3], in statement 1")
+labelled : labelled_position root.Module (item.Function 0 (position.Expression 3)) (Some (codes "half"))
+    ≡ Some (codes "functions[0].expressions[3], in \"half\"")
+unfolding digits
+labelled = refl
+
+a_refusal :
+    json_refusal root.Member construct.FloatLiteral None (refused.Function 0 (part.Expression (line.Statement 1) 3))
+    (Some (codes "half"))
+    ≡ Some (codes "float literal: module.functions[0].expressions[3], in statement 1, in \"half\"")
 unfolding digits
 a_refusal = refl
 
-a_declaration : json_refusal construct.Overlap None (refused.Declaration (declaration.Struct 5))
+a_declaration : json_refusal root.Member construct.Overlap None (refused.Declaration (declaration.Struct 5)) None
     ≡ Some (codes "members overlap: module.types[5]")
 unfolding digits
 a_declaration = refl
 
-labels_of_items : json_refusal construct.FullNamer None refused.Labels ≡ Some (codes "namer is full: module")
+labels_of_items : json_refusal root.Member construct.FullNamer None refused.Labels None
+    ≡ Some (codes "namer is full: module")
 labels_of_items = refl

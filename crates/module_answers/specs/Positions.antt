@@ -1,16 +1,21 @@
--- How places in a module are told to one who holds it as JSON: by the path in the JSON that has it
--- as the member `module`, as `module.functions[3].expressions[41]`. A statement is told by its
--- number, after its function: `module.functions[3], statement 12`.
+-- How positions in a module are told to one who holds it as JSON: by the path in the JSON that has
+-- it as the member `module`, as `module.functions[3].expressions[41]`, or in the JSON that is the
+-- module, as `functions[3].expressions[41]`. A statement is told by its number, after its function:
+-- `module.functions[3], statement 12`.
 --
--- Throughout, h is a handle or an index, n the number of a statement, and role what an operand that
--- is out of scope is where it is used, if that is known.
+-- Throughout, from is what the JSON holds, h a handle or an index, n the number of a statement, and
+-- role what an operand that
+-- is out of scope is where it is used, if that is known. A label is that of the function or the
+-- entry point that a position is in, if there is one and it has a label.
 use Rattle.std.specs.Prelude.{ℕ, List, [], ◌++◌, codes, decimal, Option, None, Some}
-use Rattle.std.specs.Fmt.{◌++?◌}
+use Rattle.std.specs.Fmt.{◌++?◌, debug_str}
 use Rattle.module_answers.specs.Roles.{Role}
+use Rattle.module_answers.specs.declared.positions.JsonRoot.{JsonRoot}
+use Rattle.module_answers.specs.declared.positions.JsonRoot.TheVariants as root
 use Rattle.naga_acceptance.specs.declared.faults.FunctionPosition.{FunctionPosition}
 use Rattle.naga_acceptance.specs.declared.faults.FunctionPosition.TheVariants as position
-use Rattle.naga_acceptance.specs.declared.faults.Item.{Item}
-use Rattle.naga_acceptance.specs.declared.faults.Item.TheVariants as item
+use Rattle.naga_acceptance.specs.declared.faults.FaultPosition.{FaultPosition}
+use Rattle.naga_acceptance.specs.declared.faults.FaultPosition.TheVariants as item
 use Rattle.naga_scope.specs.declared.declarations.DeclarationPosition.{DeclarationPosition}
 use Rattle.naga_scope.specs.declared.declarations.DeclarationPosition.TheVariants as declaration
 use Rattle.naga_scope.specs.declared.lines.Declared.{Declared}
@@ -21,8 +26,8 @@ use Rattle.naga_scope.specs.declared.scope_faults.ScopeFault.{ScopeFault}
 use Rattle.naga_scope.specs.declared.scope_faults.ScopeFault.TheVariants as scope
 use Rattle.naga_wgsl_fns.specs.Constructs.{construct_text}
 use Rattle.naga_wgsl_fns.specs.declared.refusals.construct.Construct.{Construct}
-use Rattle.naga_wgsl_fns.specs.declared.plans.FunctionPart.{FunctionPart}
-use Rattle.naga_wgsl_fns.specs.declared.plans.FunctionPart.TheVariants as part
+use Rattle.naga_wgsl_fns.specs.declared.plans.FunctionRefusalPosition.{FunctionRefusalPosition}
+use Rattle.naga_wgsl_fns.specs.declared.plans.FunctionRefusalPosition.TheVariants as part
 use Rattle.naga_wgsl_out.specs.declared.unwritable.RefusalPosition.{RefusalPosition}
 use Rattle.naga_wgsl_out.specs.declared.unwritable.RefusalPosition.TheVariants as refused
 
@@ -38,16 +43,27 @@ expression_text h = listed (codes ".expressions") h
 abbrev pub statement_text : (n : ℕ) → List ℕ
 statement_text n = codes ", statement " ++ decimal n
 
--- functions and entry points, after the module
+-- what stands in front of a member of the module
+abbrev pub root_text : JsonRoot → List ℕ
+root_text root.Member = codes "module."
+root_text root.Module = []
+
+-- functions and entry points, as members of the module
 abbrev pub function_text : (h : ℕ) → List ℕ
-function_text h = listed (codes ".functions") h
+function_text h = listed (codes "functions") h
 
 abbrev pub entry_point_text : (h : ℕ) → List ℕ
-entry_point_text h = listed (codes ".entry_points") h
+entry_point_text h = listed (codes "entry_points") h
 
--- the function of an entry point, after the module
+-- the function of an entry point
 abbrev pub entry_function_text : (h : ℕ) → List ℕ
 entry_function_text h = entry_point_text h ++ codes ".function"
+
+-- a label, after the position: `, in "half"`. Nothing is said of one of whose text in quotes
+-- nothing is known, as of one past ASCII
+abbrev pub in_function : (label : Option (List ℕ)) → Option (List ℕ)
+in_function None = Some []
+in_function (Some label) = Some (codes ", in ") ++? debug_str label
 
 -- ---- where a module is not accepted
 
@@ -58,20 +74,22 @@ part_position (position.Local h) = listed (codes ".local_variables") h
 part_position (position.Expression h) = expression_text h
 part_position (position.Statement n) = statement_text n
 
--- an item, after the module; nothing of the module itself
-abbrev pub item_in_module : Item → List ℕ
-item_in_module item.Module = []
-item_in_module (item.Type h) = listed (codes ".types") h
-item_in_module (item.Constant h) = listed (codes ".constants") h
-item_in_module (item.Override h) = listed (codes ".overrides") h
-item_in_module (item.GlobalVariable h) = listed (codes ".global_variables") h
-item_in_module (item.GlobalExpression h) = listed (codes ".global_expressions") h
-item_in_module (item.Function h at) = function_text h ++ part_position at
-item_in_module (item.EntryPoint h at) = entry_function_text h ++ part_position at
-
 -- an item
-abbrev pub json_position : Item → List ℕ
-json_position at = codes "module" ++ item_in_module at
+abbrev pub json_position : JsonRoot → FaultPosition → List ℕ
+json_position from item.Module = codes "module"
+json_position from (item.Type h) = root_text from ++ listed (codes "types") h
+json_position from (item.Constant h) = root_text from ++ listed (codes "constants") h
+json_position from (item.Override h) = root_text from ++ listed (codes "overrides") h
+json_position from (item.GlobalVariable h) = root_text from ++ listed (codes "global_variables") h
+json_position from (item.GlobalExpression h) = root_text from ++ listed (codes "global_expressions") h
+json_position from (item.Function h at) = root_text from ++ (function_text h ++ part_position at)
+json_position from (item.EntryPoint h at) =
+    root_text from ++ (entry_function_text h ++ part_position at)
+
+-- the same with the label: `module.functions[0].expressions[3], in "half"`
+abbrev pub labelled_position : JsonRoot → FaultPosition → (label : Option (List ℕ)) →
+    Option (List ℕ)
+labelled_position from at label = Some (json_position from at) ++? in_function label
 
 -- ---- where it is refused
 
@@ -96,7 +114,7 @@ scope_position role (scope.Operand statement operand) =
 scope_position role (scope.EmittedOperand statement expression operand) =
     expression_text operand ++ (codes ", " ++ (operand_text role ++ (codes " of "
     ++ (listed (codes "expressions") expression ++ (codes " in statement " ++ decimal statement)))))
-scope_position role (scope.GivenBefore statement expression) =
+scope_position role (scope.IntroducedBefore statement expression) =
     expression_text expression ++ (codes ", given again by statement " ++ decimal statement)
 scope_position role (scope.NeedsNoEmit statement expression) =
     expression_text expression
@@ -115,7 +133,7 @@ declared_position declared.Result = codes ".result"
 declared_position (declared.Local h) = listed (codes ".local_variables") h
 
 -- a part of a function, after the function
-abbrev pub refused_part : (role : Option Role) → FunctionPart → List ℕ
+abbrev pub refused_part : (role : Option Role) → FunctionRefusalPosition → List ℕ
 refused_part role part.Labels = codes ".named_expressions"
 refused_part role (part.Scope fault) = scope_position role fault
 refused_part role (part.Statement n) = statement_text n
@@ -124,27 +142,28 @@ refused_part role (part.Type_ at ty) = declared_position at
 refused_part role (part.Let n h) =
     expression_text h ++ (codes ", the type of its let in statement " ++ decimal n)
 
--- a declaration, after the module
+-- a declaration, as a member of the module
 abbrev pub declaration_in_module : DeclarationPosition → List ℕ
-declaration_in_module (declaration.Struct h) = listed (codes ".types") h
-declaration_in_module (declaration.Constant h) = listed (codes ".constants") h
-declaration_in_module (declaration.Override h) = listed (codes ".overrides") h
-declaration_in_module (declaration.GlobalVariable h) = listed (codes ".global_variables") h
+declaration_in_module (declaration.Struct h) = listed (codes "types") h
+declaration_in_module (declaration.Constant h) = listed (codes "constants") h
+declaration_in_module (declaration.Override h) = listed (codes "overrides") h
+declaration_in_module (declaration.GlobalVariable h) = listed (codes "global_variables") h
 declaration_in_module (declaration.Function h) = function_text h
 declaration_in_module (declaration.EntryPoint h) = entry_point_text h
 
--- what is refused, after the module; nothing where it is the labels of items
-abbrev pub refused_in_module : (role : Option Role) → RefusalPosition → List ℕ
-refused_in_module role refused.Labels = []
-refused_in_module role (refused.Declaration at) = declaration_in_module at
-refused_in_module role (refused.Function h at) = function_text h ++ refused_part role at
-refused_in_module role (refused.EntryPoint h at) = entry_function_text h ++ refused_part role at
+-- what is refused; the module where it is the labels of items
+abbrev pub json_refusal_position : JsonRoot → (role : Option Role) → RefusalPosition → List ℕ
+json_refusal_position from role refused.Labels = codes "module"
+json_refusal_position from role (refused.Declaration at) = root_text from ++ declaration_in_module at
+json_refusal_position from role (refused.Function h at) =
+    root_text from ++ (function_text h ++ refused_part role at)
+json_refusal_position from role (refused.EntryPoint h at) =
+    root_text from ++ (entry_function_text h ++ refused_part role at)
 
-abbrev pub json_refusal_position : (role : Option Role) → RefusalPosition → List ℕ
-json_refusal_position role at = codes "module" ++ refused_in_module role at
-
--- a refusal, by its construct and its place: `float literal: module.constants[0]`. Nothing is said
--- of a construct of whose text nothing is known
-abbrev pub json_refusal : Construct → (role : Option Role) → RefusalPosition → Option (List ℕ)
-json_refusal construct role at =
-    construct_text construct ++? Some (codes ": " ++ json_refusal_position role at)
+-- a refusal, by its construct, its position and the label: `float literal: module.constants[0]`.
+-- Nothing is said of a construct of whose text nothing is known
+abbrev pub json_refusal : JsonRoot → Construct → (role : Option Role) → RefusalPosition →
+    (label : Option (List ℕ)) → Option (List ℕ)
+json_refusal from construct role at label =
+    construct_text construct
+    ++? (Some (codes ": " ++ json_refusal_position from role at) ++? in_function label)

@@ -3,31 +3,32 @@
 ghost use Rattle.std.specs.Prelude.{IfOk, string_bytes};
 ghost use Rattle.module_answers.specs.Faults.{TellsFault, TellsFaultAt};
 
-use crate::positions::JsonPosition;
+use crate::positions::{JsonRoot, LabelledPosition};
 use naga_info::ModuleInfo;
 use naga_wgsl_out::info::{Unaccepted, explain};
 use naga_wgsl_out::ir::Module;
 use std::alloc::{AllocError, Global};
 
-/// A fault of the module as one line: its place in the JSON, its kind, and what was wanted there, if
-/// more can be told than the kind.
+/// A fault of the module as one line: its position in the JSON, with the label of the function or
+/// the entry point there, its kind, and what was wanted, if more can be told than the kind.
 ///
-/// `module.functions[0].expressions[3]: the known type is another: wanted vec4<f32>, got f32`
+/// `module.functions[0].expressions[3], in "half": the known type is another: wanted i32, got f32`
 pub fn fault_line(
     alloc: Global,
     module: &Module,
     info: &ModuleInfo,
     unaccepted: Unaccepted,
+    root: JsonRoot,
 ) -> Result<String, AllocError>
-    ensures { IfOk result (λ line. TellsFaultAt «module».now info.now unaccepted
+    ensures { IfOk result (λ line. TellsFaultAt root «module».now info.now unaccepted
         (string_bytes line)) }
 {
-    let position = JsonPosition(unaccepted.item);
+    let position = LabelledPosition::of(root, module, unaccepted.item);
     let fault = fault_text(alloc, module, info, unaccepted)?;
     format!(in alloc; "{position}: {fault}")
 }
 
-/// The same without the place.
+/// The same without the position and the label.
 pub fn fault_text(
     alloc: Global,
     module: &Module,

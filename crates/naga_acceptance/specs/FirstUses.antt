@@ -18,8 +18,8 @@ use Rattle.naga_info.specs.declared.info.TypeResolution.{TypeResolution}
 use Rattle.naga_acceptance.specs.Faults.{site_of}
 use Rattle.naga_acceptance.specs.Searching.{first_faulty}
 use Rattle.naga_acceptance.specs.Uses.{is_same_operator, use_in}
-use Rattle.naga_acceptance.specs.declared.faults.Item.{Item}
-use Rattle.naga_acceptance.specs.declared.faults.Item.TheVariants as item
+use Rattle.naga_acceptance.specs.declared.faults.FaultPosition.{FaultPosition}
+use Rattle.naga_acceptance.specs.declared.faults.FaultPosition.TheVariants as item
 use Rattle.naga_acceptance.specs.declared.faults.FunctionPosition.TheVariants as part
 use Rattle.module_meaning.specs.AlikeTypes.{are_alike}
 use Rattle.module_meaning.specs.acceptance.AgreeingOperators.{Group, expression_use, groups_of}
@@ -62,7 +62,7 @@ abbrev pub first_other :
 first_other types here gs v = first_below (first_other_at types here gs v) (length gs)
 
 -- where an expression stands that is in the group of this number, with this number there
-abbrev pub use_item : Module → (number index : ℕ) → Item
+abbrev pub use_item : Module → (number index : ℕ) → FaultPosition
 use_item m number index =
     if nat_lt number (length m.functions) then item.Function number (part.Expression index)
     else (if nat_lt (number - length m.functions) (length m.entry_points.items)
@@ -72,12 +72,12 @@ use_item m number index =
 -- a use that was found by its position, with its type and this
 abbrev pub placed_use :
     Module → (here : TypeResolution) → (found : ℕ × (ℕ × TypeResolution)) →
-    Item × (TypeResolution × TypeResolution)
+    FaultPosition × (TypeResolution × TypeResolution)
 placed_use m here found = (use_item m found.0 found.1.0, (found.1.1, here))
 
 -- the use with which that of an expression of a group does not agree
 abbrev pub other_use_in :
-    Module → List Group → Group → (index : ℕ) → Option (Item × (TypeResolution × TypeResolution))
+    Module → List Group → Group → (index : ℕ) → Option (FaultPosition × (TypeResolution × TypeResolution))
 other_use_in m gs g index =
     option_and_then (λ v. option_and_then
     (λ here. option_map (placed_use m here) (first_other m.types here gs v))
@@ -85,7 +85,7 @@ other_use_in m gs g index =
 
 -- the one with which that at a position does not agree
 abbrev pub other_use :
-    Module → ModuleInfo → Item → Option (Item × (TypeResolution × TypeResolution))
+    Module → ModuleInfo → FaultPosition → Option (FaultPosition × (TypeResolution × TypeResolution))
 other_use m info at =
     option_and_then (λ site. option_and_then
     (λ g. other_use_in m (groups_of m info) g site.1) (slice_get (groups_of m info) site.0))

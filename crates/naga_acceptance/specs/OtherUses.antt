@@ -5,7 +5,7 @@ use Rattle.std.specs.Prelude.{ℕ, Option, Some, None}
 use Rattle.naga_info.specs.declared.info.TypeResolution.{TypeResolution}
 use Rattle.naga_acceptance.specs.declared.faults.FunctionPosition.{FunctionPosition}
 use Rattle.naga_acceptance.specs.declared.faults.FunctionPosition.TheVariants as part
-use Rattle.naga_acceptance.specs.declared.faults.Item.{Item}
+use Rattle.naga_acceptance.specs.declared.faults.FaultPosition.{FaultPosition}
 use Rattle.naga_acceptance.specs.declared.other_uses.FoundUse.{FoundUse}
 use Rattle.naga_acceptance.specs.declared.other_uses.OtherUse.{OtherUse}
 use Rattle.naga_acceptance.specs.declared.other_uses.Seen.{Seen}
@@ -29,5 +29,5 @@ abbrev pub found_use : FoundUse → ℕ × (ℕ × TypeResolution)
 found_use found = (found.group, seen found.seen)
 
 -- one by its place, with both types
-abbrev pub other : OtherUse → Item × (TypeResolution × TypeResolution)
+abbrev pub other : OtherUse → FaultPosition × (TypeResolution × TypeResolution)
 other it = (it.item, (it.there.now, it.here.now))

@@ -11,7 +11,7 @@ ghost use Rattle.module_meaning.specs.acceptance.AgreeingOperators.{groups_of};
 
 use crate::agreeing::{Expressions, group_at, use_in, use_item};
 use crate::alike::are_known_alike;
-use crate::faults::{FunctionPosition, Item};
+use crate::faults::{FaultPosition, FunctionPosition};
 use crate::parts::known_type;
 use crate::uses::{Use, expression_use, is_same_operator};
 use naga_info::{ModuleInfo, TypeResolution};
@@ -21,7 +21,7 @@ use naga_ir::{Expression, Handle, ItemIndex, Module, Type_, UniqueArena};
 #[derive(Debug, Clone, Copy)]
 pub struct OtherUse<'a> {
     /// Where it stands: an expression of a function, of an entry point or of the module itself.
-    pub item: Item,
+    pub item: FaultPosition,
     /// The type that it has.
     pub there: &'a TypeResolution,
     /// The type that the other one has.
@@ -70,14 +70,14 @@ fn sited_in(group: u128, part: FunctionPosition) -> Option<Sited>
 }
 
 /// Where the expression at a position stands among the groups.
-fn site_of(module: &Module, item: Item) -> Option<Sited>
+fn site_of(module: &Module, item: FaultPosition) -> Option<Sited>
     ensures { option_map sited result ≡ site_of «module».now item }
 {
     let functions = module.functions.len() as u128;
     match item {
-        Item::Function(handle, part) => sited_in(handle.index() as u128, part),
-        Item::EntryPoint(index, part) => sited_in(functions + index as u128, part),
-        Item::GlobalExpression(expression) => Some(sited_at(
+        FaultPosition::Function(handle, part) => sited_in(handle.index() as u128, part),
+        FaultPosition::EntryPoint(index, part) => sited_in(functions + index as u128, part),
+        FaultPosition::GlobalExpression(expression) => Some(sited_at(
             functions + module.entry_points.len() as u128,
             expression,
         )),
@@ -186,7 +186,11 @@ fn other_use_in<'a>(
 ///
 /// It takes no memory and answers whatever numbers a module holds, in time that grows with the
 /// module.
-pub fn other_use<'a>(module: &'a Module, info: &'a ModuleInfo, item: Item) -> Option<OtherUse<'a>>
+pub fn other_use<'a>(
+    module: &'a Module,
+    info: &'a ModuleInfo,
+    item: FaultPosition,
+) -> Option<OtherUse<'a>>
     ensures { option_map other result ≡ other_use «module».now info.now item }
 {
     let Some(site) = site_of(module, item) else {

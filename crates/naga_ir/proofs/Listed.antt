@@ -1,7 +1,8 @@
 -- Loops along a list, of statements and of cases among them, and an item of a list.
-use Rattle.std.proofs.Common.{◌≡◌, ℕ, ◌+◌, ◌<◌, ◌≤◌, List, [], ◌∷◌, length, drop, sym, ap, ◌∙◌, slice_index_or}
+use Rattle.std.proofs.Common.{◌≡◌, ℕ, zero, suc, ◌+◌, ◌<◌, ◌≤◌, List, [], ◌∷◌, length, drop, sym, ap, ◌∙◌}
+use Rattle.std.proofs.Common.{arith, slice_index_or, None}
 use Rattle.std.proofs.lemmas.List.{drop_all, drop_more}
-use Rattle.std.proofs.lemmas.Option.{slice_get-map}
+use Rattle.std.proofs.lemmas.Option.{none-some, slice_get-map}
 use Rattle.std.specs.Borrow.{Bor}
 use Rattle.std.specs.Option.{option_map}
 use Rattle.std.specs.Prelude.{Option, map, slice_get}
@@ -10,6 +11,12 @@ use Rattle.naga_ir.specs.StatementTree.{statement, case}
 use Rattle.naga_ir.specs.StatementViews.{block_of, cases_of, tree_of}
 use Rattle.naga_ir.specs.declared.statement.Statement.{Statement}
 use Rattle.naga_ir.specs.declared.statement.SwitchCase.{SwitchCase}
+
+-- where there is no item, the list has ended
+pub past_end : {X : Type 0} (xs : List X) (i : ℕ) → slice_get xs i ≡ None → length xs ≤ i
+past_end [] i e = omega arith
+past_end (y ∷ xs) zero e = absurd (none-some y (sym e))
+past_end (y ∷ xs) (suc i) e = omega (arith, past_end xs i e)
 
 -- a list from one of its items on
 pub drop_first : {X : Type 0} (i : ℕ) (xs : List X) (x : X) → i < length xs → x ≡ slice_index_or xs i x →

@@ -3,6 +3,7 @@ pub mod StatementCode
 pub mod StatementViews
 pub mod StatementSizes
 pub mod Empty
+pub mod InOrder
 pub mod Operands
 pub mod Kinds
 pub mod Arenas

@@ -5,7 +5,8 @@ use Rattle.std.specs.Prelude.{Result, Ok, Err}
 use Rattle.std.specs.Result.{result_ok}
 use Rattle.naga_ir.specs.StatementTree.{StatementTree, BlockTree, statement, CaseTrees, case}
 use Rattle.naga_ir.specs.declared.statement.SwitchValue.{SwitchValue}
-use Rattle.naga_listing.specs.Named.{case_trees, sought, statement_trees, trees_in}
+use Rattle.naga_ir.specs.InOrder.{case_trees, trees_in}
+use Rattle.naga_listing.specs.Named.{sought, statement_trees}
 
 -- goes on in another list
 abbrev pub onward : Result StatementTree ℕ → List StatementTree → Result StatementTree ℕ

@@ -1,7 +1,6 @@
 -- What a line names, whose lines are shown too, and statements by their numbers.
 --
--- Throughout, m is a module, f a function, s a statement, b a block or the rest of one, and cs are
--- the further cases of a switch.
+-- Throughout, m is a module, f a function and s a statement.
 use Rattle.std.specs.Prelude.{ℕ, zero, suc, List, [], ◌∷◌, ◌++◌, map, slice_get, take}
 use Rattle.std.specs.Prelude.{Option, Some, Result, Ok, Err}
 use Rattle.std.specs.Option.{option_map_or, option_to_list}
@@ -14,9 +13,8 @@ use Rattle.naga_ir.specs.declared.types.ArraySize.TheVariants as size
 use Rattle.naga_ir.specs.declared.types.TypeInner.{TypeInner}
 use Rattle.naga_ir.specs.declared.types.TypeInner.TheVariants as inner
 use Rattle.naga_ir.specs.Operands.{expression_operands, own_operands, own_result}
-use Rattle.naga_ir.specs.StatementTree.{StatementTree, simple, block, branch, switch, loop}
-use Rattle.naga_ir.specs.StatementTree.{BlockTree, no_statements, statement, CaseTrees, no_cases}
-use Rattle.naga_ir.specs.StatementTree.{case}
+use Rattle.naga_ir.specs.InOrder.{trees_in, trees_inside}
+use Rattle.naga_ir.specs.StatementTree.{StatementTree}
 use Rattle.naga_listing.specs.declared.positions.Listed.{Listed}
 use Rattle.naga_listing.specs.declared.positions.Listed.TheVariants as listed
 use Rattle.naga_listing.specs.declared.positions.ListingPosition.{ListingPosition}
@@ -24,26 +22,9 @@ use Rattle.naga_listing.specs.declared.positions.Spot.{Spot}
 use Rattle.naga_listing.specs.declared.positions.Spot.TheVariants as spot
 
 -- ---- statements in the order of the text
--- the statements inside one, those of a block, those of cases
-abbrev mutual
-  pub inside_trees : StatementTree → List StatementTree
-  inside_trees (simple s) = []
-  inside_trees (block b) = trees_in b
-  inside_trees (branch condition accept reject) = trees_in accept ++ trees_in reject
-  inside_trees (switch selector cs) = case_trees cs
-  inside_trees (loop body continuing break_if) = trees_in body ++ trees_in continuing
-
-  pub trees_in : BlockTree → List StatementTree
-  trees_in no_statements = []
-  trees_in (statement s b) = s ∷ (inside_trees s ++ trees_in b)
-
-  pub case_trees : CaseTrees → List StatementTree
-  case_trees no_cases = []
-  case_trees (case v b falls cs) = trees_in b ++ case_trees cs
-
 -- a statement and those inside it
 abbrev pub statement_trees : StatementTree → List StatementTree
-statement_trees s = s ∷ inside_trees s
+statement_trees s = s ∷ trees_inside s
 
 -- the one before which so many stand, or how many are left to be gone past
 abbrev pub sought : ℕ → List StatementTree → Result StatementTree ℕ
@@ -129,6 +110,6 @@ listed_spots m (listed.Function handle) s =
 listed_spots m (listed.EntryPoint index) s =
     option_map_or (λ e. part_spots e.function s) (slice_get m.entry_points.items index) []
 
--- what a place names, and what is to be seen beside it
+-- what a position names, and what is to be seen beside it
 abbrev pub named_spots : Module → ListingPosition → List Spot
 named_spots m p = listed_spots m p.listed p.spot ++ option_to_list p.beside

@@ -3,8 +3,10 @@
 ghost use Rattle.std.specs.Prelude.{◌≡◌, ◌++◌, slice_get};
 ghost use Rattle.std.specs.Option.{option_map};
 ghost use Rattle.naga_ir.specs.StatementViews.{cases_of, tree_of};
-ghost use Rattle.naga_listing.specs.Named.{case_trees, found_as, inside_trees, sought};
-ghost use Rattle.naga_listing.specs.Named.{statement_trees, trees_in};
+ghost use Rattle.naga_ir.specs.InOrder.{case_trees, trees_inside};
+ghost use Rattle.naga_listing.specs.Named.{found_as, sought};
+ghost use Rattle.naga_ir.specs.InOrder.{trees_in};
+ghost use Rattle.naga_listing.specs.Named.{statement_trees};
 
 use naga_ir::{Block, Statement, SwitchCase};
 
@@ -38,7 +40,7 @@ fn seek_statement(statement: &Statement, left: usize) -> Result<&Statement, usiz
 #[cycle(seek)]
 fn seek_inside(statement: &Statement, left: usize) -> Result<&Statement, usize>
     ensures { found_as (λ s. tree_of s.now) result
-        ≡ sought left (inside_trees (tree_of statement.now)) }
+        ≡ sought left (trees_inside (tree_of statement.now)) }
 {
     match statement {
         Statement::Block(block) => seek_block(block, left),

@@ -5,7 +5,8 @@ use Rattle.std.proofs.Common.{unwrap_or}
 use borrow.Author.Tests.{lt-ltb}
 use Rattle.std.specs.List.{flat_map, enumerate_from, AllByRecursion}
 use Rattle.std.proofs.lemmas.List.{take-append-le}
-use Rattle.std.proofs.lemmas.Option.{slice_get_within, none-some}
+use Rattle.std.proofs.lemmas.Option.{slice_get_within}
+use Rattle.naga_ir.proofs.Listed.{past_end}
 use Rattle.naga_ir.specs.declared.module.Module.{Module}
 use Rattle.naga_ir.specs.declared.module.EntryPoint.{EntryPoint}
 use Rattle.naga_ir.specs.declared.types.StructMember.{StructMember}
@@ -22,11 +23,6 @@ use Rattle.naga_names.proofs.Keys.{all_append, unlike_types, types_apart, declar
 use Rattle.naga_names.proofs.Reset.{not_below}
 use Rattle.naga_names.proofs.NamedItems.{place_left, item_put, type_among_types, name_found}
 use Rattle.naga_names.proofs.NamedItems.{name_absent}
-
-past : {X : Type 0} (xs : List X) (i : ℕ) → slice_get xs i ≡ None → length xs ≤ i
-past [] i e = omega arith
-past (y ∷ xs) zero e = absurd (none-some y (sym e))
-past (y ∷ xs) (suc i) e = omega (arith, past xs i e)
 
 -- no item is a type after the last one
 no_type : (entry_points : List EntryPoint) (t n : ℕ) (types : List Type_) → n + length types ≤ t →
@@ -80,11 +76,11 @@ module _ (start : Names) («module» : Module) where
             (lt-ltb t (length «module».types) (slice_get_within «module».types t ty e))
             ∙ ap (λ o. unwrap_or o []) (there t ty e)
         by None e =
-            let past_end : length «module».types ≤ t = past «module».types t e in
+            let past : length «module».types ≤ t = past_end «module».types t e in
             ap (λ b. cond b (unwrap_or (now (key.Type_ t)) []) [])
-            (not_below t (length «module».types) (λ lt. omega (arith, lt, past_end)))
+            (not_below t (length «module».types) (λ lt. omega (arith, lt, past)))
             ∙ sym (ap (λ o. unwrap_or o []) (name_absent start the_types (key.Type_ t)
-            (no_type «module».entry_points.items t 0 «module».types (omega (arith, past_end)))))
+            (no_type «module».entry_points.items t 0 «module».types (omega (arith, past)))))
 
     pub agree : type_names_in now (length «module».types) ≡ type_name start «module»
     agree = λ i t. agrees t i

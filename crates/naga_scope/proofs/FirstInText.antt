@@ -25,7 +25,7 @@ use Rattle.naga_scope.proofs.SpelledTypes.{declared_found, declared_spelled, let
 use Rattle.naga_scope.proofs.WrittenLines.{from_line, on_some_line, to_line}
 use Rattle.naga_scope.specs.Earliest.{earlier, first_lack, line_of, line_of_declared, line_of_fault, scope_lack}
 use Rattle.naga_scope.specs.FirstLines.{ComesNoEarlier, FindsEarliest, function_writes}
-use Rattle.naga_scope.specs.InOrder.{trees_in}
+use Rattle.naga_ir.specs.InOrder.{trees_in}
 use Rattle.naga_scope.specs.Lines.{IsWrittenAt, declared_type, is_before, is_up_to}
 use Rattle.naga_scope.specs.Plans.{ComesBefore, IsFirstInText, IsFirstOfKind, IsFirstToPlan, IsRefusalToPlan, Kind}
 use Rattle.naga_scope.specs.Plans.{DeclaredType, ExpressionForm, LetType, NothingAt, ScopeRule, StatementForm}

@@ -21,7 +21,7 @@ use Rattle.naga_scope.specs.UnsupportedStatements.{LacksForm, SomeCaseFalls}
 use Rattle.naga_scope.specs.UnsupportedStatements.{falls_unsupported, first_unsupported}
 use Rattle.naga_scope.specs.UnsupportedStatements.{unsupported_case, unsupported_statement}
 use Rattle.naga_scope.specs.UnsupportedStatements.{own_unsupported, simple_unsupported, unless}
-use Rattle.naga_scope.specs.InOrder.{trees_in}
+use Rattle.naga_ir.specs.InOrder.{trees_in}
 use Rattle.naga_scope.specs.declared.statements.UnsupportedStatement.{UnsupportedStatement}
 
 unless_none : (b : Bool) (it : UnsupportedStatement) → is_none (unless b it) ≡ b

@@ -23,8 +23,10 @@ use Rattle.naga_ir.specs.declared.module.Function.{Function}
 use Rattle.naga_ir.specs.declared.statement.Statement.{Statement}
 use Rattle.naga_ir.specs.declared.statement.SwitchValue.{SwitchValue}
 use Rattle.naga_scope.specs.Changes.{block_changes, cases_changes, statement_changes}
-use Rattle.naga_scope.specs.InOrder.{case_trees, own_changes, own_labels, own_lets, own_roots}
-use Rattle.naga_scope.specs.InOrder.{roots_with, trees_in, trees_inside, trees_of}
+use Rattle.naga_ir.specs.InOrder.{case_trees}
+use Rattle.naga_scope.specs.InOrder.{own_changes, own_labels, own_lets, own_roots}
+use Rattle.naga_ir.specs.InOrder.{trees_in, trees_inside, trees_of}
+use Rattle.naga_scope.specs.InOrder.{roots_with}
 use Rattle.naga_scope.specs.Marks.{is_one_of}
 
 -- ---- for all that is told alike

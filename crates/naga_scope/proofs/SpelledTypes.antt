@@ -28,7 +28,8 @@ use Rattle.naga_ir.specs.declared.module.Module.{Module}
 use Rattle.naga_scope.proofs.InOrder.{lets_in_order}
 use Rattle.naga_scope.proofs.Sweeping.{among_one, one_among}
 use Rattle.naga_scope.specs.Earliest.{line_of_declared}
-use Rattle.naga_scope.specs.InOrder.{own_lets, trees_in}
+use Rattle.naga_ir.specs.InOrder.{trees_in}
+use Rattle.naga_scope.specs.InOrder.{own_lets}
 use Rattle.naga_scope.specs.Lines.{declared_type, is_before, lets_at}
 use Rattle.naga_scope.specs.Marks.{is_one_of}
 use Rattle.naga_scope.specs.SpelledTypes.{FindsAnnotated, argument_types, declared_unsupported}

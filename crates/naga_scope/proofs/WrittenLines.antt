@@ -16,7 +16,8 @@ use Rattle.naga_scope.proofs.InOrder.{same_roots}
 use Rattle.naga_scope.proofs.LineOrder.{not_before_itself}
 use Rattle.naga_scope.proofs.Sweeping.{among_one, one_among}
 use Rattle.naga_scope.specs.FirstLines.{function_writes, handles_to, local_writes, statement_writes, writes_at}
-use Rattle.naga_scope.specs.InOrder.{own_roots, roots_with, trees_in}
+use Rattle.naga_ir.specs.InOrder.{trees_in}
+use Rattle.naga_scope.specs.InOrder.{own_roots, roots_with}
 use Rattle.naga_scope.specs.Lines.{is_up_to, roots_at}
 use Rattle.naga_scope.specs.Marks.{is_one_of}
 use Rattle.naga_scope.specs.declared.lines.Line.{Line}

@@ -11,7 +11,8 @@ use Rattle.naga_info.specs.declared.info.ExpressionInfo.{ExpressionInfo}
 use Rattle.naga_info.specs.declared.info.ModuleInfo.{ModuleInfo}
 use Rattle.naga_ir.specs.declared.module.Function.{Function}
 use Rattle.naga_ir.specs.declared.module.Module.{Module}
-use Rattle.naga_scope.specs.InOrder.{own_lets, own_roots, trees_in}
+use Rattle.naga_ir.specs.InOrder.{trees_in}
+use Rattle.naga_scope.specs.InOrder.{own_lets, own_roots}
 use Rattle.naga_scope.specs.declared.lines.Declared.{Declared}
 use Rattle.naga_scope.specs.declared.lines.Declared.TheVariants as declared
 use Rattle.naga_scope.specs.declared.lines.Line.{Line}

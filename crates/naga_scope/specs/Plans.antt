@@ -30,7 +30,7 @@ use Rattle.naga_scope.specs.Changes.{block_changes}
 use Rattle.naga_scope.specs.UnsupportedStatements.{IsUnsupportedAt, own_unsupported}
 use Rattle.naga_scope.specs.UnsupportedStatements.{unsupported_statement}
 use Rattle.naga_scope.specs.Earliest.{line_of, line_of_declared, line_of_fault}
-use Rattle.naga_scope.specs.InOrder.{trees_in}
+use Rattle.naga_ir.specs.InOrder.{trees_in}
 use Rattle.naga_scope.specs.ScopeChecks.{check_function}
 use Rattle.naga_scope.specs.ScopeFaults.{IsScopeFault}
 use Rattle.naga_scope.specs.Lines.{IsWrittenAt, declared_type, is_before, lets_at}

@@ -4,7 +4,8 @@ ghost use Rattle.std.specs.Prelude.{◌≡◌, IfSome, length, sum_by};
 ghost use Rattle.std.specs.Option.{option_to_list};
 ghost use Rattle.naga_ir.specs.Operands.{own_result};
 ghost use Rattle.naga_ir.specs.StatementViews.{tree_of};
-ghost use Rattle.naga_scope.specs.InOrder.{own_changes, trees_of};
+ghost use Rattle.naga_ir.specs.InOrder.{trees_of};
+ghost use Rattle.naga_scope.specs.InOrder.{own_changes};
 
 use naga_ir::Statement;
 

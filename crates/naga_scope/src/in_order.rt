@@ -2,7 +2,7 @@
 
 ghost use Rattle.std.specs.Prelude.{◌≡◌, ◌++◌, IfOk, OnOk};
 ghost use Rattle.naga_ir.specs.StatementViews.{cases_of, tree_of};
-ghost use Rattle.naga_scope.specs.InOrder.{case_trees, trees_in, trees_inside, trees_of};
+ghost use Rattle.naga_ir.specs.InOrder.{case_trees, trees_in, trees_inside, trees_of};
 
 use naga_ir::{Block, Statement, SwitchCase};
 use std::alloc::{AllocError, Global};

@@ -6,10 +6,11 @@ ghost use Rattle.std.specs.Option.{option_to_list};
 ghost use Rattle.module_meaning.specs.ExpressionLabels.{label_of, labels_of_each};
 ghost use Rattle.naga_ir.specs.StatementViews.{tree_of};
 ghost use Rattle.naga_scope.specs.ExpressionNames.{NamesLabels, RefusesLabels};
-ghost use Rattle.naga_scope.specs.InOrder.{own_labels, trees_of};
+ghost use Rattle.naga_ir.specs.InOrder.{trees_of};
+ghost use Rattle.naga_scope.specs.InOrder.{own_labels};
 ghost use Rattle.shader_runs.specs.Program.{from};
 
-use crate::binding::label_of;
+use crate::lets::label_of;
 use naga_ir::{Expression, Function, Handle, ItemIndex, Range, Statement};
 use naga_names::NamerError;
 use naga_names::namer::Namer;

@@ -1,11 +1,12 @@
-//! Which of the types that the text of a function spells no text can spell.
+//! Which type in a function's text cannot be spelled.
 
 ghost use Rattle.std.specs.Prelude.{◌≡◌, ◌-◌, ◌&&◌, true};
 ghost use Rattle.std.specs.List.{filter, find};
 ghost use Rattle.std.specs.Option.{option_to_list};
 ghost use Rattle.naga_ir.specs.Operands.{own_result};
 ghost use Rattle.naga_ir.specs.StatementViews.{tree_of};
-ghost use Rattle.naga_scope.specs.InOrder.{own_lets, trees_of};
+ghost use Rattle.naga_ir.specs.InOrder.{trees_of};
+ghost use Rattle.naga_scope.specs.InOrder.{own_lets};
 ghost use Rattle.naga_scope.specs.KnownFunctions.{bound_in};
 ghost use Rattle.naga_scope.specs.SpelledTypes.{FindsAnnotated, argument_types};
 ghost use Rattle.naga_scope.specs.SpelledTypes.{declared_unsupported, first_unsupported};

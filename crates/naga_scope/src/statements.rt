@@ -8,7 +8,7 @@ ghost use Rattle.naga_ir.specs.StatementViews.{cases_of, tree_of};
 ghost use Rattle.naga_scope.specs.UnsupportedStatements.{FindsUnsupported, unsupported_case};
 ghost use Rattle.naga_scope.specs.UnsupportedStatements.{own_unsupported};
 ghost use Rattle.naga_scope.specs.UnsupportedStatements.{unless};
-ghost use Rattle.naga_scope.specs.InOrder.{trees_of};
+ghost use Rattle.naga_ir.specs.InOrder.{trees_of};
 ghost use Rattle.naga_scope.specs.declared.statements.UnsupportedStatement.TheVariants as unsupported;
 
 use naga_ir::{AtomicFunction, CollectiveOperation, Statement, SubgroupOperation, SwitchCase};

@@ -5,7 +5,7 @@ ghost use Rattle.module_meaning.specs.acceptance.Accepted.{is_accepted};
 
 use bitflags::Flags;
 use json::{Scratch, Value};
-use module_answers::JsonRefusalPosition;
+use module_answers::{JsonRefusalPosition, JsonRoot};
 use naga_json::{Known, known_of, parse};
 use naga_wgsl_out::info::{Unaccepted, count, explain, unaccepted};
 use naga_wgsl_out::wgsl::{Writer, WriterFlags, unwritable};
@@ -153,8 +153,8 @@ fn push_place(
     requires { IsTrue (is_accepted known.now.module known.now.info) }
 {
     if let Some(refusal) = unwritable(alloc, &known.module, &known.info, flags)? {
-        let position = JsonRefusalPosition::of(&known.module, refusal.position);
-        let told = format!(in alloc; "at: {place}\n")?;
+        let position = JsonRefusalPosition::of(JsonRoot::Member, &known.module, refusal.position);
+        let told = format!(in alloc; "at: {position}\n")?;
         text.push_str(told.as_str())?;
     }
     Ok(())

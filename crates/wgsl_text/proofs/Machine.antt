@@ -14,10 +14,8 @@ use Rattle.wgsl_text.specs.Token.{KeywordCase, KeywordDefault, KeywordReturn, Ke
 use Rattle.wgsl_text.specs.Token.{KeywordFn, KeywordStruct, KeywordConst, KeywordEnable}
 use Rattle.wgsl_text.specs.Token.{KeywordOverride, Suffix, NoSuffix, SuffixU, Token, Fixed, Word}
 use Rattle.wgsl_text.specs.Token.{Number, ZeroPointZero, Foreign, Piece, TokenPiece, Blank, LineEnd}
-use Rattle.wgsl_text.specs.Token.{Decimal}
-use Rattle.wgsl_text.specs.Literals.{Floating}
-use Rattle.wgsl_text.specs.Token.{Indent}
-use Rattle.wgsl_text.specs.Literals.{Literal, Truth, Suffixed, SignedShort, UnsignedShort}
+use Rattle.wgsl_text.specs.Token.{Decimal, Indent}
+use Rattle.wgsl_text.specs.Literals.{Literal, Truth, Suffixed, SignedShort, UnsignedShort, Floating}
 use Rattle.wgsl_text.specs.Literals.{LeastInteger, LeastLong}
 use Rattle.wgsl_text.specs.Types.{TypeSpecifier, Named, Template, TemplateArguments}
 use Rattle.wgsl_text.specs.Types.{NoTemplateArguments, TypeArgument}
@@ -31,11 +29,10 @@ use Rattle.wgsl_text.specs.Expressions.{Member, Index, IndexAt, AddressOf, Deref
 use Rattle.wgsl_text.specs.Expressions.{NoArguments, Argument, NumberArgument, ZeroArgument}
 use Rattle.wgsl_text.specs.Statements.{CaseValue, DefaultCase, SignedCase, UnsignedCase, CaseValues}
 use Rattle.wgsl_text.specs.Statements.{LastCaseValue, MoreCaseValues, Statement, Let, TypedLet}
-use Rattle.wgsl_text.specs.Statements.{Assign}
-use Rattle.wgsl_text.specs.Statements.{CallStatement, Return, ReturnValue, Discard, Break, Continue}
-use Rattle.wgsl_text.specs.Statements.{If, Loop, LoopBreakIf, Switch, Block, NoBlock, SomeBlock}
-use Rattle.wgsl_text.specs.Statements.{Statements}
-use Rattle.wgsl_text.specs.Statements.{NoStatements, Then, Cases, NoCases, Case}
+use Rattle.wgsl_text.specs.Statements.{Assign, CallStatement, Return, ReturnValue, Discard, Break}
+use Rattle.wgsl_text.specs.Statements.{Continue, If, Loop, LoopBreakIf, Switch, Block, NoBlock}
+use Rattle.wgsl_text.specs.Statements.{SomeBlock, Statements, NoStatements, Then, Cases, NoCases}
+use Rattle.wgsl_text.specs.Statements.{Case}
 use Rattle.wgsl_text.specs.Attributes.{PlainAttribute, Invariant, PerPrimitive, Coherent, Volatile}
 use Rattle.wgsl_text.specs.Attributes.{Vertex, Fragment, Compute, Task, RayGeneration, AnyHit}
 use Rattle.wgsl_text.specs.Attributes.{ClosestHit, Miss, NumberedAttribute, Location, BlendSource}

@@ -1,74 +1,120 @@
 """How much of the stack a level takes, and whether any module ends the program with a signal.
 
     python3 crates/yorwethul/nested_modules PROGRAM
-        asks the program, with 8 MB of stack, for modules of each kind that are nested 10 to 1,000,000 deep, and for texts
-        that double; it must answer each by name. It says what did not.
+        asks the program, with 8 MB of stack, for modules of each kind that are nested 10 to 1,000,000 deep, in each of its
+        ways, and for texts that double; each is to be answered by its status and its whole line. It says what was not.
     python3 crates/yorwethul/nested_modules PROGRAM gate
-        the same in a minute or two, as `.ci/run` does: a million deep of some kinds alone, and nothing is said where each
-        is answered by name.
+        the same in a minute or two, as `.ci/run` does: texts of all, and the other ways just at the limit and a level past
+        it, and of some kinds a million deep. Nothing is said where each is answered so.
     python3 crates/yorwethul/nested_modules PROGRAM levels
         says how many bytes of the stack a level of each kind takes, by the deepest module that the program writes in 1 MB
         and in 2 MB.
+
+With the last words `--nesting N` the program is asked with them: one that was compiled without a proof takes more of the
+stack for a level, and is to be asked with 1,000.
 """
 
 import json
 import resource
 import subprocess
 import sys
+from concurrent.futures import ThreadPoolExecutor
 
-from modules import KINDS, blocks, doubled, levels, nested
+from modules import KINDS, blocks, doubled, levels, levels_of_types, nested
 
 MEGABYTE = 1 << 20
-# JSON of blocks in one another is written by calls in one another
-sys.setrecursionlimit(20_000)
 WITHOUT_LIMITS = ["--nesting", "4294967295", "--text", "4294967295"]
-DEPTHS = [10, 100, 1_000, 4_000, 4_001, 10_000, 100_000, 1_000_000]
-# Of these kinds the gate asks for modules that are a million deep.
+# How deep a module may be where no word says it.
+STANDARD = 4_000
+MILLION = 1_000_000
+DEPTHS = [10, 100, 1_000, 10_000, 100_000, MILLION]
+WRITTEN = ""
+WAYS = [WRITTEN, "--check", "--layout", "--explain", "--lines"]
+# Of these kinds the gate asks for each way a million deep.
 LONG = ["negations", "array types"]
+TOO_LONG = "refused: text too long\n"
 
 
-def run(program, made, stack, *words):
-    """The status with which the program ends in so much stack, and how its answer begins."""
+def run(program, text, stack, *words):
+    """The status with which the program ends in so much stack, its output and its error output."""
     def limited():
         resource.setrlimit(resource.RLIMIT_STACK, (stack, stack))
-    text = json.dumps(made, separators=(",", ":")).encode()
-    done = subprocess.run([program, *words], input=text, capture_output=True, preexec_fn=limited)
-    return done.returncode, (done.stdout or done.stderr)[:60].decode()
+    done = subprocess.run([program, *filter(None, words)], input=text.encode(), capture_output=True, preexec_fn=limited)
+    return done.returncode, done.stdout.decode(), done.stderr.decode()
 
 
-def asked(is_short):
-    """Kinds, how deep, and with which words."""
-    for kind in KINDS:
-        for depth in DEPTHS:
-            for words in ([], ["--layout"], ["--check"]):
-                is_quick = depth in (10, 4_000, 4_001) or depth == 100_000 and not words
-                if not is_short or is_quick or depth == 1_000_000 and not words and kind in LONG:
-                    yield kind, depth, words
+def asked(limit, is_short):
+    """Kinds, how deep, and in which way."""
+    for depth in sorted({*DEPTHS, limit, limit + 1}):
+        for kind in KINDS:
+            for way in WAYS:
+                is_long = depth == MILLION and kind in LONG
+                if not is_short or way == WRITTEN or depth in (limit, limit + 1) or is_long:
+                    yield kind, depth, way
 
 
-def is_right(kind, depth, status, told):
+def is_written(way, status, out, err):
+    """Whether this is what is answered of a module that has a text."""
+    wholes = {"--check": "accepted\n", "--explain": "written\n"}
+    begins = {WRITTEN: "", "--layout": "", "--lines": '{"text":"'}
+    is_out = out == wholes[way] if way in wholes else out.startswith(begins[way])
+    return status == 0 and is_out and err == ""
+
+
+def is_refused(way, line, status, out, err):
+    """Whether this is what is answered of a module that is refused with this line."""
+    if way == "--explain":
+        return (status, out, err) == (1, line, "")
+    if way == "--lines":
+        reason = line.removeprefix("refused: ").rstrip()
+        told = json.loads(out) if out.endswith("\n") else None
+        return (status, err) == (0, "") and told and told.pop("text") is not None and told == {"refused": reason}
+    return (status, out, err) == (1, "", line)
+
+
+def is_right(kind, depth, way, limit, told):
     """Whether this is what is to be answered of such a module."""
-    if levels(kind, depth) > 4_000:
-        return status == 1 and told.startswith("refused: nested too deep: ")
-    # each of these spells its type, which is as deep
-    is_long = kind in ("compositions", "global compositions") and depth == 4_000
-    return status == 0 or is_long and (status, told) == (1, "refused: text too long\n")
+    if levels_of_types(kind, depth) > limit:
+        return is_refused(way, "refused: nested too deep: types\n", *told)
+    if levels(kind, depth) > limit:
+        return is_refused(way, "refused: nested too deep: operands\n", *told)
+    # each of these spells its type, which is as deep, or half as deep
+    if "compositions" in kind and depth == STANDARD and way in (WRITTEN, "--explain", "--lines"):
+        return is_refused(way, TOO_LONG, *told)
+    return is_written(way, *told)
 
 
-def faults(program, is_short=False):
-    """What was not answered by name."""
-    for kind, depth, words in asked(is_short):
-        status, told = run(program, nested(kind, depth), 8 * MEGABYTE, *words)
-        if not is_right(kind, depth, status, told):
-            yield f"{kind}, {depth} deep, {words}: status {status}, {told!r}"
+def is_right_of_blocks(depth, status, out, err):
+    """Whether this is what is to be answered of blocks that deep: some sixty nest as deep as JSON may."""
+    if depth < 60:
+        return is_written(WRITTEN, status, out, err)
+    at = blocks(depth).index("[", blocks(60).index('{"Block"'))
+    return (status, out) == (2, "") and err.startswith("standard input: no JSON at line 1, column ")
+
+
+def short(told):
+    return ", ".join(repr(part[:100]) if isinstance(part, str) else f"status {part}" for part in told)
+
+
+def fault_of(program, words, limit, kind, depth, way):
+    told = run(program, nested(kind, depth), 8 * MEGABYTE, way, *words)
+    return None if is_right(kind, depth, way, limit, told) else f"{kind}, {depth} deep, {way or 'written'}: {short(told)}"
+
+
+def faults(program, words, limit, is_short=False):
+    """What was not answered so."""
+    with ThreadPoolExecutor(4) as pool:
+        yield from filter(None, pool.map(lambda each: fault_of(program, words, limit, *each), asked(limit, is_short)))
     for depth in (10, 100, 1_000):
-        status, told = run(program, doubled(depth), 8 * MEGABYTE)
-        if (status, told) != (1, "refused: text too long\n") and not (depth == 10 and status == 0):
-            yield f"doubled {depth} times: status {status}, {told!r}"
-    for depth in (10, 30, 100, 1_000):
-        status, told = run(program, blocks(depth), 8 * MEGABYTE)
-        if status not in (0, 1, 2) or (depth == 10 and status):
-            yield f"blocks, {depth} deep: status {status}, {told!r}"
+        told = run(program, doubled(depth), 8 * MEGABYTE, *words)
+        is_deep = 2 * depth >= limit
+        line = "refused: nested too deep: operands\n" if is_deep else TOO_LONG
+        if not (is_written(WRITTEN, *told) if depth == 10 else is_refused(WRITTEN, line, *told)):
+            yield f"doubled {depth} times: {short(told)}"
+    for depth in (10, 30, 100, 1_000, MILLION):
+        told = run(program, blocks(depth), 8 * MEGABYTE, *words)
+        if not is_right_of_blocks(depth, *told):
+            yield f"blocks, {depth} deep: {short(told)}"
 
 
 def deepest(program, kind, stack, words):
@@ -86,18 +132,24 @@ def deepest(program, kind, stack, words):
     return low
 
 
+def tell_levels(program):
+    for kind in KINDS:
+        words = ["--layout"] if kind == "struct types" else []
+        one, two = (deepest(program, kind, n * MEGABYTE, words) for n in (1, 2))
+        told = f"{MEGABYTE // (two - one)} bytes a level" if one and two else "no bound"
+        print(f"{kind}: {one} levels in 1 MB, {two} in 2 MB, {told}", flush=True)
+
+
 def main():
-    program = sys.argv[1]
-    if sys.argv[2:] == ["levels"]:
-        for kind in KINDS:
-            words = ["--layout"] if kind == "struct types" else []
-            one, two = (deepest(program, kind, n * MEGABYTE, words) for n in (1, 2))
-            print(f"{kind}: {one} levels in 1 MB, {two} in 2 MB, " + (f"{MEGABYTE // (two - one)} bytes a level" if one and two else "no bound"), flush=True)
+    program, *words = sys.argv[1:]
+    way = words.pop(0) if words[:1] in (["gate"], ["levels"]) else None
+    if way == "levels":
+        tell_levels(program)
         return
-    is_short = sys.argv[2:] == ["gate"]
-    found = list(faults(program, is_short))
-    if found or not is_short:
-        print("\n".join(found) if found else "each was answered by name")
+    limit = int(words[1]) if words[:1] == ["--nesting"] else STANDARD
+    found = list(faults(program, words, limit, way == "gate"))
+    if found or way != "gate":
+        print("\n".join(found) if found else "each was answered so")
     sys.exit(1 if found else 0)
 
 

@@ -2,7 +2,7 @@
 
 use crate::texts::{Style, write_in};
 use module_answers::{
-    JsonPosition, JsonRefusal, Unwritten, Written, fault_text, label_at, listed_position,
+    JsonRefusal, JsonRoot, LabelledPosition, NoOutcome, WriteOutcome, fault_text, listed_position,
     refused_position,
 };
 use naga_json::Known;
@@ -24,22 +24,24 @@ pub struct Explanation {
 pub fn explained(
     alloc: Global,
     style: Style,
+    root: JsonRoot,
     known: &mut Known,
 ) -> Result<Explanation, AllocError> {
     match write_in(alloc, style, known) {
-        Ok(written) => of_written(alloc, known, written),
-        Err(Unwritten::NotAccepted(fault)) => of_unaccepted(alloc, known, fault),
-        Err(Unwritten::Memory(error)) => Err(error),
+        Ok(written) => of_written(alloc, root, known, written),
+        Err(NoOutcome::NotAccepted(fault)) => of_unaccepted(alloc, root, known, fault),
+        Err(NoOutcome::Memory(error)) => Err(error),
         Err(reason) => not_written(format!(in alloc; "refused: {reason}\n")),
     }
 }
 
 fn of_written(
     alloc: Global,
+    root: JsonRoot,
     known: &Known,
-    written: Written<String>,
+    written: WriteOutcome<String>,
 ) -> Result<Explanation, AllocError> {
-    let Written {
+    let WriteOutcome {
         answer,
         refusal,
         sink: _,
@@ -50,13 +52,18 @@ fn of_written(
             is_written: true,
         }),
         (Err(Error::Memory(error)), _) => Err(error),
-        (Err(_), Some(refusal)) => of_refusal(alloc, known, refusal),
+        (Err(_), Some(refusal)) => of_refusal(alloc, root, known, refusal),
         (Err(reason), None) => not_written(format!(in alloc; "refused: {reason}\n")),
     }
 }
 
 /// Tells what a module is refused for and where, and shows the lines around.
-fn of_refusal(alloc: Global, known: &Known, refusal: Refusal) -> Result<Explanation, AllocError> {
+fn of_refusal(
+    alloc: Global,
+    root: JsonRoot,
+    known: &Known,
+    refusal: Refusal,
+) -> Result<Explanation, AllocError> {
     let construct = format!(in alloc; "{}", refusal.construct)?;
     let position = refused_position(refusal.position);
     let listing = explain(
@@ -66,21 +73,19 @@ fn of_refusal(alloc: Global, known: &Known, refusal: Refusal) -> Result<Explanat
         &position,
         construct.as_str(),
     )?;
-    let told = JsonRefusal::of(&known.module, refusal);
-    not_written(match label_at(&known.module, refusal.position) {
-        Some(label) => format!(in alloc; "refused: {told}, in {label:?}\n\n{listing}"),
-        None => format!(in alloc; "refused: {told}\n\n{listing}"),
-    })
+    let told = JsonRefusal::of(root, &known.module, refusal);
+    not_written(format!(in alloc; "refused: {told}\n\n{listing}"))
 }
 
 /// Tells where a module is not accepted and why, and shows the lines around.
 fn of_unaccepted(
     alloc: Global,
+    root: JsonRoot,
     known: &Known,
     unaccepted: Unaccepted,
 ) -> Result<Explanation, AllocError> {
     let position = listed_position(unaccepted.item);
-    let told = JsonPosition(unaccepted.item);
+    let told = LabelledPosition::of(root, &known.module, unaccepted.item);
     let fault = fault_text(alloc, &known.module, &known.info, unaccepted)?;
     let listing = explain(alloc, &known.module, &known.info, &position, fault.as_str())?;
     not_written(format!(in alloc; "not accepted: {told}: {fault}\n\n{listing}"))

@@ -4,7 +4,9 @@ use crate::failure::Failure;
 use crate::progress::{Outcome, Progress};
 use crate::texts::{Style, write_in};
 use json::Scratch;
-use module_answers::{JsonPosition, JsonRefusalPosition, Unwritten, Written, label_at};
+use module_answers::{
+    JsonPosition, JsonRefusalPosition, JsonRoot, NoOutcome, WriteOutcome, label_at, label_of,
+};
 use naga_json::{Known, ReadError, known_of, parse_bytes};
 use naga_wgsl_out::info::{Unaccepted, explain};
 use naga_wgsl_out::ir::Module;
@@ -199,12 +201,12 @@ fn tell_known(
 ) -> Result<(), AllocError> {
     match write_in(alloc, style, known) {
         Ok(written) => tell_written(alloc, written, &known.module, members),
-        Err(Unwritten::NotAccepted(unaccepted)) => {
+        Err(NoOutcome::NotAccepted(unaccepted)) => {
             tell_unaccepted(alloc, known, unaccepted, members)
         }
-        Err(Unwritten::Memory(error)) => Err(error),
-        Err(Unwritten::TooDeep(nested)) => tell_limited(alloc, known, nested, members),
-        Err(Unwritten::TooLong) => tell_limited(alloc, known, Unwritten::TooLong, members),
+        Err(NoOutcome::Memory(error)) => Err(error),
+        Err(NoOutcome::TooDeep(nested)) => tell_limited(alloc, known, nested, members),
+        Err(NoOutcome::TooLong) => tell_limited(alloc, known, NoOutcome::TooLong, members),
     }
 }
 
@@ -221,11 +223,11 @@ fn tell_limited(
 
 fn tell_written(
     alloc: Global,
-    written: Written<String>,
+    written: WriteOutcome<String>,
     module: &Module,
     members: &mut Members,
 ) -> Result<(), AllocError> {
-    let Written {
+    let WriteOutcome {
         answer,
         refusal,
         sink,
@@ -248,7 +250,7 @@ fn tell_refused(
 ) -> Result<(), AllocError> {
     tell(alloc, "refused", reason, members)?;
     if let Some(refusal) = refusal {
-        let position = JsonRefusalPosition::of(module, refusal.position);
+        let position = JsonRefusalPosition::of(JsonRoot::Member, module, refusal.position);
         tell(alloc, "place", position, members)?;
         if let Some(label) = label_at(module, refusal.position) {
             tell(alloc, "function", label, members)?;
@@ -264,8 +266,16 @@ fn tell_unaccepted(
     members: &mut Members,
 ) -> Result<(), AllocError> {
     let mut told = Map::new(alloc);
-    tell(alloc, "place", JsonPosition(unaccepted.item), &mut told)?;
+    tell(
+        alloc,
+        "place",
+        JsonPosition(JsonRoot::Member, unaccepted.item),
+        &mut told,
+    )?;
     tell(alloc, "fault", unaccepted.fault, &mut told)?;
+    if let Some(label) = label_of(&known.module, unaccepted.item) {
+        tell(alloc, "function", label, &mut told)?;
+    }
     if let Some(wanted) = explain(alloc, &known.module, &known.info, unaccepted)? {
         tell(alloc, "wanted", wanted, &mut told)?;
     }

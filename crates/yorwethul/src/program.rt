@@ -8,12 +8,12 @@ use crate::progress::Progress;
 use crate::texts::write_in;
 use crate::words::{Request, Task, request_of};
 use module_answers::{
-    JsonRefusal, Unwritten, Written, check_nesting, fault_line, label_at, layout_table,
+    JsonRefusal, JsonRoot, NoOutcome, WriteOutcome, check_nesting, fault_line, layout_table,
 };
 use naga_json::Known;
 use naga_wgsl_out::info::{Unaccepted, unaccepted};
 use naga_wgsl_out::ir::Module;
-use naga_wgsl_out::wgsl::{Error, Refusal};
+use naga_wgsl_out::wgsl::Error;
 use std::alloc::Global;
 use std::fmt::Display;
 use std::io::{BufReader, Read, Write};
@@ -158,8 +158,8 @@ fn print_text<O: Write, E: Write>(
     err: &mut E,
 ) -> u8 {
     match write_in(alloc, request.style, known) {
-        Ok(written) => print_written(written, &known.module, out, err),
-        Err(unwritten) => tell_unwritten(alloc, known, unwritten, err),
+        Ok(written) => print_written(written, request.root(), &known.module, out, err),
+        Err(unwritten) => tell_unwritten(alloc, request, known, unwritten, err),
     }
 }
 
@@ -171,10 +171,10 @@ fn check<O: Write, E: Write>(
     err: &mut E,
 ) -> u8 {
     if let Err(unwritten) = check_nesting(alloc, &known.module, request.style.limits.nesting) {
-        return tell_unwritten(alloc, known, unwritten, err);
+        return tell_unwritten(alloc, request, known, unwritten, err);
     }
     match unaccepted(&known.module, &known.info) {
-        Some(fault) => refuse_unaccepted(alloc, known, fault, err),
+        Some(fault) => refuse_unaccepted(alloc, request, known, fault, err),
         None => print("accepted\n", out, err),
     }
 }
@@ -187,7 +187,7 @@ fn explain<O: Write, E: Write>(
     out: &mut O,
     err: &mut E,
 ) -> u8 {
-    match explained(alloc, request.style, known) {
+    match explained(alloc, request.style, request.root(), known) {
         Ok(Explanation { text, is_written }) => match print(text, out, err) {
             0 if !is_written => REFUSED,
             status => status,
@@ -205,10 +205,10 @@ fn tell_layouts<O: Write, E: Write>(
     err: &mut E,
 ) -> u8 {
     if let Err(unwritten) = check_nesting(alloc, &known.module, request.style.limits.nesting) {
-        return tell_unwritten(alloc, known, unwritten, err);
+        return tell_unwritten(alloc, request, known, unwritten, err);
     }
     match unaccepted(&known.module, &known.info) {
-        Some(fault) => refuse_unaccepted(alloc, known, fault, err),
+        Some(fault) => refuse_unaccepted(alloc, request, known, fault, err),
         None => match layout_table(alloc, &known.module, &known.info) {
             Ok(table) => print(table, out, err),
             Err(error) => tell_error(error, err),
@@ -217,33 +217,21 @@ fn tell_layouts<O: Write, E: Write>(
 }
 
 fn print_written<O: Write, E: Write>(
-    written: Written<String>,
+    written: WriteOutcome<String>,
+    root: JsonRoot,
     module: &Module,
     out: &mut O,
     err: &mut E,
 ) -> u8 {
-    let Written {
+    let WriteOutcome {
         answer,
         refusal,
         sink,
     } = written;
     match (answer, refusal) {
         (Ok(()), _) => print(sink, out, err),
-        (Err(_), Some(refusal)) => refuse_at(refusal, module, err),
+        (Err(_), Some(refusal)) => refuse(JsonRefusal::of(root, module, refusal), err),
         (Err(error), None) => tell_error(error, err),
-    }
-}
-
-/// Tells what the module is refused for, where that stands, and the label of the function there.
-fn refuse_at<E: Write>(refusal: Refusal, module: &Module, err: &mut E) -> u8 {
-    let label = label_at(module, refusal.position);
-    refuse_in(&JsonRefusal::of(module, refusal), label, err)
-}
-
-fn refuse_in<E: Write>(told: &JsonRefusal<'_>, label: Option<&str>, err: &mut E) -> u8 {
-    match label {
-        Some(label) => refuse(format_args!("{told}, in {label:?}"), err),
-        None => refuse(told, err),
     }
 }
 
@@ -268,8 +256,14 @@ fn write_and_flush<O: Write>(text: impl Display + Drop, out: &mut O) -> io::Resu
 }
 
 /// Tells where and why the module is not accepted, and what was wanted there.
-fn refuse_unaccepted<E: Write>(alloc: Global, known: &Known, fault: Unaccepted, err: &mut E) -> u8 {
-    match fault_line(alloc, &known.module, &known.info, fault) {
+fn refuse_unaccepted<E: Write>(
+    alloc: Global,
+    request: Request<'_>,
+    known: &Known,
+    fault: Unaccepted,
+    err: &mut E,
+) -> u8 {
+    match fault_line(alloc, &known.module, &known.info, fault, request.root()) {
         Ok(line) => {
             let _ = writeln!(err, "not accepted: {line}");
             REFUSED
@@ -279,10 +273,16 @@ fn refuse_unaccepted<E: Write>(alloc: Global, known: &Known, fault: Unaccepted, 
 }
 
 /// Tells why the writer was not asked for a module, or was stopped at it.
-fn tell_unwritten<E: Write>(alloc: Global, known: &Known, unwritten: Unwritten, err: &mut E) -> u8 {
+fn tell_unwritten<E: Write>(
+    alloc: Global,
+    request: Request<'_>,
+    known: &Known,
+    unwritten: NoOutcome,
+    err: &mut E,
+) -> u8 {
     match unwritten {
-        Unwritten::NotAccepted(fault) => refuse_unaccepted(alloc, known, fault, err),
-        Unwritten::Memory(_) => fail(Failure::Memory, err),
+        NoOutcome::NotAccepted(fault) => refuse_unaccepted(alloc, request, known, fault, err),
+        NoOutcome::Memory(_) => fail(Failure::Memory, err),
         reason => refuse(reason, err),
     }
 }

@@ -2,6 +2,7 @@
 
 use crate::texts::Style;
 use clap::{Arg, ArgAction, ArgMatches, Command, Error, value_parser};
+use module_answers::JsonRoot;
 use naga_wgsl_out::wgsl::Limits;
 use std::alloc::{AllocError, Global};
 
@@ -31,6 +32,16 @@ pub struct Request<'a> {
     pub module: &'a str,
     /// The file with what is known of the module, where it does not stand beside the module.
     pub info: Option<&'a str>,
+}
+
+impl Request<'_> {
+    /// What the file with the module holds, by which places are told.
+    pub fn root(self) -> JsonRoot {
+        match self.info {
+            Some(_) => JsonRoot::Module,
+            None => JsonRoot::Member,
+        }
+    }
 }
 
 /// What the words after the program's name ask for. The error is also what tells the help and the

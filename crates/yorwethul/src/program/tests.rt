@@ -311,12 +311,12 @@ struct Out: no layout
     a: bound
 ";
 
-const OPERAND_FAULT: &str = "not accepted: module.functions[0].expressions[1]: \
+const OPERAND_FAULT: &str = "not accepted: module.functions[0].expressions[1], in \"double\": \
     an operand does not stand before the expression: \
     names expressions[1], wanted one before expressions[1]\n";
 
 const OPERAND_LISTING: &str = "\
-not accepted: module.functions[0].expressions[1]: an operand does not stand before the expression: \
+not accepted: module.functions[0].expressions[1], in \"double\": an operand does not stand before the expression: \
     names expressions[1], wanted one before expressions[1]
 
 function 0 \"double\"(\"x\": i32) -> i32
@@ -499,10 +499,51 @@ const MODULES: &[(&str, Task, Style, Told)] = &[
     ),
 ];
 
+/// What is told of modules whose info came from a file of its own.
+const ALONE: &[(&str, Task, Style, Told)] = &[
+    (
+        ITS_OWN_OPERAND,
+        Task::Check,
+        STANDARD,
+        (
+            REFUSED,
+            "",
+            "not accepted: functions[0].expressions[1], in \"double\": an operand",
+        ),
+    ),
+    (
+        ITS_OWN_OPERAND,
+        Task::Explain,
+        STANDARD,
+        (
+            REFUSED,
+            "not accepted: functions[0].expressions[1], in \"double\": an operand",
+            "",
+        ),
+    ),
+    (
+        FLOAT_LITERAL,
+        Task::Write,
+        PLAIN,
+        (
+            REFUSED,
+            "",
+            "refused: float literal: functions[0].expressions[0], in statement 0, in \"half\"\n",
+        ),
+    ),
+    (
+        STRUCTS,
+        Task::Explain,
+        STANDARD,
+        (REFUSED, "refused: member off its alignment: types[2]\n", ""),
+    ),
+];
+
 /// The status where this is done with a module, or none where it cannot be read.
 fn status_of<O: Write, E: Write>(
     alloc: Global,
     json: &str,
+    info: Option<&'static str>,
     task: Task,
     style: Style,
     out: &mut O,
@@ -512,7 +553,7 @@ fn status_of<O: Write, E: Write>(
         task,
         style,
         module: "-",
-        info: None,
+        info,
     };
     match read_known(alloc, json) {
         Ok(mut known) => Some(answer(alloc, request, &mut known, out, err)),
@@ -520,10 +561,17 @@ fn status_of<O: Write, E: Write>(
     }
 }
 
-fn module_gives(alloc: Global, json: &str, task: Task, style: Style, told: Told) -> bool {
+fn module_gives(
+    alloc: Global,
+    json: &str,
+    info: Option<&'static str>,
+    task: Task,
+    style: Style,
+    told: Told,
+) -> bool {
     let mut out = Vec::new(alloc);
     let mut err = Vec::new(alloc);
-    match status_of(alloc, json, task, style, &mut out, &mut err) {
+    match status_of(alloc, json, info, task, style, &mut out, &mut err) {
         Some(status) => is_told(told, status, out.as_slice(), err.as_slice()),
         None => false,
     }
@@ -533,8 +581,14 @@ fn module_gives(alloc: Global, json: &str, task: Task, style: Style, told: Told)
 fn modules_are_answered(rt: HostRuntime) -> Result<(), Fail> {
     for (json, task, style, told) in MODULES {
         assert!(rt;
-            module_gives(rt.alloc(), *json, *task, *style, *told),
+            module_gives(rt.alloc(), *json, None, *task, *style, *told),
             "{json}, {task:?}, {style:?}"
+        );
+    }
+    for (json, task, style, told) in ALONE {
+        assert!(rt;
+            module_gives(rt.alloc(), *json, Some("info.json"), *task, *style, *told),
+            "{json}, {task:?}, {style:?}, by its info"
         );
     }
     Ok(())
@@ -558,7 +612,15 @@ impl Write for Broken {
 fn broken_outputs_are_told(rt: HostRuntime) -> Result<(), Fail> {
     let alloc = rt.alloc();
     let mut err = Vec::new(alloc);
-    let status = status_of(alloc, DOUBLE, Task::Write, STANDARD, &mut Broken, &mut err);
+    let status = status_of(
+        alloc,
+        DOUBLE,
+        None,
+        Task::Write,
+        STANDARD,
+        &mut Broken,
+        &mut err,
+    );
     assert_eq!(rt; status, Some(FAILED));
     assert_eq!(rt;
         err.as_slice(),

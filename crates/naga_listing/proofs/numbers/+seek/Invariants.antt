@@ -1,7 +1,8 @@
 use Rattle.std.proofs.Common.{◌≡◌, ◌+◌, ◌-◌, ◌*◌, ◌≤◌, drop}
 use Rattle.naga_ir.specs.StatementTree.{statement_size, block_size, cases_size}
 use Rattle.naga_ir.specs.StatementViews.{tree_of, block_of, cases_of}
-use Rattle.naga_listing.specs.Named.{case_trees, sought, trees_in}
+use Rattle.naga_ir.specs.InOrder.{case_trees, trees_in}
+use Rattle.naga_listing.specs.Named.{sought}
 use Rattle.naga_listing.proofs.numbers.+seek.Given as goal
 
 abbrev pub decreases-seek_statement : goal.decreases-seek_statement

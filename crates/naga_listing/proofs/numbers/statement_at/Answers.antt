@@ -1,6 +1,6 @@
 use Rattle.std.proofs.Common.{ap, ◌∙◌}
 use Rattle.std.specs.Result.{result_ok}
-use Rattle.naga_listing.specs.Named.{trees_in}
+use Rattle.naga_ir.specs.InOrder.{trees_in}
 use Rattle.naga_listing.proofs.Seeking.{sought_item}
 use Rattle.naga_listing.proofs.numbers.statement_at.Goals as goal
 

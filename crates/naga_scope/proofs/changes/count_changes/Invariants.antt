@@ -1,6 +1,7 @@
 use Rattle.std.proofs.Common.{◌≡◌, ◌+◌, drop}
 use Rattle.std.specs.Prelude.{sum_by}
-use Rattle.naga_scope.specs.InOrder.{own_changes, trees_of}
+use Rattle.naga_ir.specs.InOrder.{trees_of}
+use Rattle.naga_scope.specs.InOrder.{own_changes}
 use Rattle.naga_scope.proofs.changes.count_changes.Given as goal
 
 abbrev pub invariant-loop-statement : goal.invariant-loop-statement

@@ -1,6 +1,7 @@
 use Rattle.std.proofs.Common.{[], drop, map, string_bytes}
 use Rattle.std.specs.List.{flat_map}
-use Rattle.naga_scope.specs.InOrder.{own_labels, trees_of}
+use Rattle.naga_ir.specs.InOrder.{trees_of}
+use Rattle.naga_scope.specs.InOrder.{own_labels}
 use Rattle.naga_scope.proofs.ExpressionNames.{NamedSoFar}
 use Rattle.naga_scope.proofs.named.expression_names.Given as goal
 

@@ -2,7 +2,7 @@ use Rattle.std.proofs.Common.{◌≡◌, ◌∙◌, ℕ, None, arith, refl, sym,
 use Rattle.std.proofs.lemmas.List.{length-map}
 use Rattle.naga_ir.specs.StatementTree.{StatementTree}
 use Rattle.naga_ir.specs.StatementViews.{tree_of}
-use Rattle.naga_scope.specs.InOrder.{trees_of}
+use Rattle.naga_ir.specs.InOrder.{trees_of}
 use Rattle.naga_scope.specs.KnownFunctions.{bound_in}
 use Rattle.naga_scope.specs.SpelledTypes.{own_annotated}
 use Rattle.naga_scope.specs.declared.known_function.KnownFunction.{KnownFunction}

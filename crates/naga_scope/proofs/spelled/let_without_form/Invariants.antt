@@ -1,5 +1,5 @@
 use Rattle.std.proofs.Common.{◌≡◌, None, true}
-use Rattle.naga_scope.specs.InOrder.{trees_of}
+use Rattle.naga_ir.specs.InOrder.{trees_of}
 use Rattle.naga_scope.specs.KnownFunctions.{bound_in}
 use Rattle.naga_scope.specs.SpelledTypes.{own_annotated}
 use Rattle.naga_scope.proofs.Searching.{Passed}

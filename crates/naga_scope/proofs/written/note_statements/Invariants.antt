@@ -1,7 +1,7 @@
 use Rattle.std.proofs.Common.{◌≡◌, drop}
 use Rattle.naga_scope.proofs.FirstLines.{NotedSoFar, written_from}
 use Rattle.naga_scope.specs.FirstLines.{statement_writes}
-use Rattle.naga_scope.specs.InOrder.{trees_of}
+use Rattle.naga_ir.specs.InOrder.{trees_of}
 use Rattle.naga_scope.specs.KnownFunctions.{bound_in}
 use Rattle.naga_scope.proofs.written.note_statements.Given as goal
 

@@ -2,7 +2,7 @@ use Rattle.std.proofs.Common.{None, ap, length, ◌∙◌}
 use Rattle.std.proofs.lemmas.List.{length-replicate}
 use Rattle.naga_scope.proofs.FirstLines.{just_noted, size_kept, writes_then}
 use Rattle.naga_scope.specs.FirstLines.{function_writes}
-use Rattle.naga_scope.specs.InOrder.{trees_of}
+use Rattle.naga_ir.specs.InOrder.{trees_of}
 use Rattle.naga_scope.specs.KnownFunctions.{bound_in, expressions_of}
 use Rattle.naga_scope.proofs.written.without_form.Goals as goal
 

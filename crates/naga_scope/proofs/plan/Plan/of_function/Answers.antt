@@ -17,7 +17,8 @@ use Rattle.naga_names.specs.declared.error.NamerError.{NamerError}
 use Rattle.naga_scope.specs.Availabilities.{KeepsStart}
 use Rattle.naga_scope.specs.Changes.{block_changes}
 use Rattle.naga_scope.specs.ExpressionNames.{HasBegunLabels, NamesLabels, RefusesLabels}
-use Rattle.naga_scope.specs.InOrder.{own_changes, own_labels, trees_in, trees_of}
+use Rattle.naga_ir.specs.InOrder.{trees_in, trees_of}
+use Rattle.naga_scope.specs.InOrder.{own_changes, own_labels}
 use Rattle.naga_scope.specs.KnownFunctions.{shape_of}
 use Rattle.naga_scope.specs.Log.{HasRoom}
 use Rattle.naga_scope.specs.Plans.{IsRefusalToPlanFor, LabelsGetNames}
