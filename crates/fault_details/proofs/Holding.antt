@@ -1,9 +1,10 @@
 -- Each reason is one: each comes from a test that fails.
-use Rattle.std.proofs.Common.{◌≡◌, ◌<◌, ◌==◌, ◌-◌, ℕ, Bool, true, false, List, [], ◌∷◌, arith}
+use Rattle.std.proofs.Common.{◌≡◌, ◌<◌, ◌==◌, ◌-◌, ℕ, zero, suc, Bool, true, false, List, [], ◌∷◌, arith}
 use Rattle.std.proofs.Common.{Option, Some, None}
 use Rattle.std.proofs.Common.{refl, length, nat_lt, nat_le, not, slice_get, true≢false, sym, eq-eqb}
 use Rattle.std.proofs.Common.{◌∙◌}
 use Rattle.std.proofs.lemmas.Bool.{ltb-false, leb-false}
+use Rattle.std.specs.List.{enumerate_from}
 use Rattle.std.specs.Prelude.{if◌then◌else◌, take}
 use Rattle.std.specs.Option.{IfSome, is_some, option_and_then, option_map, option_map_or, option_or}
 use Rattle.naga_ir.specs.StatementTree.{SimpleStatement, emit, break, continue, return, store}
@@ -33,7 +34,14 @@ use Rattle.naga_info.specs.declared.info.ModuleInfo.{ModuleInfo}
 use Rattle.naga_info.specs.declared.info.TypeResolution.{TypeResolution}
 use Rattle.naga_info.specs.declared.info.TypeResolution.TheVariants.{Handle, Value}
 use Rattle.naga_info.specs.Resolution.{inner_of}
-use Rattle.naga_acceptance.specs.Faults.{known_of}
+use Rattle.naga_acceptance.specs.Faults.{known_of, site_of}
+use Rattle.naga_acceptance.specs.FirstUses.{first_below, first_other, first_other_at, first_other_in}
+use Rattle.naga_acceptance.specs.FirstUses.{other_type, other_use, other_use_in, placed_use}
+use Rattle.naga_acceptance.specs.FirstUses.{unless_alike}
+use Rattle.naga_acceptance.specs.Searching.{first_faulty, or_further}
+use Rattle.naga_acceptance.specs.Uses.{is_same_operator, use_in}
+use Rattle.module_meaning.specs.acceptance.AgreeingOperators.{Group, expression_use, groups_of}
+use Rattle.module_meaning.specs.acceptance.Operations.{Operation}
 use Rattle.naga_acceptance.specs.TextOrder.{PlacedStatement, text_order}
 use Rattle.naga_acceptance.specs.declared.faults.Fault.{Fault}
 use Rattle.naga_acceptance.specs.declared.faults.Fault.TheVariants as fault
@@ -53,7 +61,8 @@ use Rattle.module_meaning.specs.TypeParts.{known_pointee}
 use Rattle.fault_details.specs.Holds.{IsReason, ReasonsHold}
 use Rattle.fault_details.specs.Reasons.{Reason, Absent, Later, OtherClass, OtherNumber, OtherType}
 use Rattle.fault_details.specs.Reasons.{PastParts, LacksLetter, Unexpected}
-use Rattle.fault_details.specs.Reasons.{has_letter, letter_reason, swizzle_reason}
+use Rattle.fault_details.specs.Reasons.{has_letter, letter_reason, reason_at, swizzle_reason}
+use Rattle.fault_details.specs.Reasons.{use_reason}
 use Rattle.fault_details.specs.Reasons.{absent, class_reason, declared_reason, emitted_reason}
 use Rattle.fault_details.specs.Reasons.{first_reason, index_reason}
 use Rattle.fault_details.specs.Reasons.{initialiser_reason, item_reason, known_reason}
@@ -506,5 +515,88 @@ module _ (m : Module) where
       then_holds (IsReason m) _ (λ p. entry_point_holds p (known_of info.entry_points.items h) kind place)
       (slice_get m.entry_points.items h)
 
+  -- ---- operators
+
+  module _ (here : TypeResolution) where
+    -- a type that is not like this
+    abbrev IsOther : TypeResolution → Type 0
+    IsOther there = are_alike m.types here there ≡ false
+
+    -- a use by its number, which has one
+    abbrev HasOther : ℕ × TypeResolution → Type 0
+    HasOther found = IsOther found.1
+
+    other_in : {X : Type 0} (f : ℕ → X → Option TypeResolution) → ((h : ℕ) (x : X) → IfSome (f h x) IsOther) →
+        (xs : List (ℕ × X)) → IfSome (first_faulty f xs) HasOther
+    other_in f each [] = tt
+    other_in f each (p ∷ xs) = by (f p.0 p.1) (each p.0 p.1) (first_faulty f xs) (other_in f each xs)
+      where
+        by : (o : Option TypeResolution) → IfSome o IsOther → (further : Option (ℕ × TypeResolution)) →
+            IfSome further HasOther → IfSome (or_further o p.0 further) HasOther
+        by None other further rest = rest
+        by (Some there) other further rest = other
+
+    other_below : (f : ℕ → Option (ℕ × TypeResolution)) → ((n : ℕ) → IfSome (f n) HasOther) → (n : ℕ) →
+        IfSome (first_below f n) (λ found. HasOther found.1)
+    other_below f each zero = tt
+    other_below f each (suc n) =
+        or_holds (λ found. HasOther found.1) (first_below f n) (option_map (λ x. (n, x)) (f n)) (other_below f each n)
+        (by (f n) (each n))
+      where
+        by : (o : Option (ℕ × TypeResolution)) → IfSome o HasOther →
+            IfSome {T = ℕ × (ℕ × TypeResolution)} (option_map (λ x. (n, x)) o) (λ found. HasOther found.1)
+        by None other = tt
+        by (Some x) other = other
+
+    other_type_holds : (g : Group) (v : Operation) (h : ℕ) (e : Expression) → IfSome (other_type m.types here g v h e) IsOther
+    other_type_holds g v h e = by (option_map_or (λ w. is_same_operator w v) (expression_use m.types g.known h e) false)
+      where
+        by : (same : Bool) → IfSome (if same then option_and_then (unless_alike m.types here) (slice_get g.known h)
+            else None) IsOther
+        by true = then_holds IsOther (unless_alike m.types here)
+            (λ there. unless_holds IsOther (are_alike m.types here there) there (λ fails. fails)) (slice_get g.known h)
+        by false = tt
+
+    found_holds : (gs : List Group) (v : Operation) →
+        IfSome (first_other m.types here gs v) (λ found. HasOther found.1)
+    found_holds gs v =
+        other_below (first_other_at m.types here gs v)
+        (λ number. then_holds HasOther (first_other_in m.types here v)
+        (λ g. other_in (other_type m.types here g v) (other_type_holds g v) (enumerate_from 0 g.expressions))
+        (slice_get gs number)) (length gs)
+
+  -- the two types of a use are not alike
+  abbrev AreApart : FaultPosition × (TypeResolution × TypeResolution) → Type 0
+  AreApart found = are_alike m.types found.1.1 found.1.0 ≡ false
+
+  use_at_holds : (here : TypeResolution) (o : Option (ℕ × (ℕ × TypeResolution))) →
+      IfSome o (λ found. HasOther here found.1) → IfSome (option_map (placed_use m here) o) AreApart
+  use_at_holds here None other = tt
+  use_at_holds here (Some found) other = other
+
+  use_in_holds : (gs : List Group) (g : Group) (index : ℕ) → IfSome (other_use_in m gs g index) AreApart
+  use_in_holds gs g index =
+      then_holds AreApart (λ v. option_and_then (λ here. option_map (placed_use m here) (first_other m.types here gs v))
+      (slice_get g.known index))
+      (λ v. then_holds AreApart (λ here. option_map (placed_use m here) (first_other m.types here gs v))
+      (λ here. use_at_holds here (first_other m.types here gs v) (found_holds here gs v)) (slice_get g.known index))
+      (use_in m.types g index)
+
+  other_at : (info : ModuleInfo) (at : FaultPosition) → IfSome (other_use m info at) AreApart
+  other_at info at =
+      then_holds AreApart (λ site. option_and_then (λ g. other_use_in m (groups_of m info) g site.1)
+      (slice_get (groups_of m info) site.0))
+      (λ site. then_holds AreApart (λ g. other_use_in m (groups_of m info) g site.1)
+      (λ g. use_in_holds (groups_of m info) g site.1) (slice_get (groups_of m info) site.0)) (site_of m at)
+
+  use_holds : (o : Option (FaultPosition × (TypeResolution × TypeResolution))) → IfSome o AreApart →
+      Holds (option_map use_reason o)
+  use_holds None other = tt
+  use_holds (Some found) other = other
+
+  reason_holds : (info : ModuleInfo) (kind : Fault) (at : FaultPosition) → Holds (reason_at m info kind at)
+  reason_holds info fault.Disagreement at = use_holds (other_use m info at) (other_at info at)
+  reason_holds info kind at = item_holds info kind at
+
 pub fault_holds : ReasonsHold
-fault_holds m info u = item_holds m info u.fault u.item
+fault_holds m info u = reason_holds m info u.fault u.item

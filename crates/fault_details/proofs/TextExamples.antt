@@ -1,7 +1,9 @@
 -- What was wanted, as it is displayed: lines that `docs/USING.md` has.
 use Rattle.std.proofs.Common.{◌≡◌, codes, refl}
 use Rattle.std.specs.Fmt.{digits}
-use Rattle.fault_details.specs.Texts.{many_text, wanted_text}
+use Rattle.naga_acceptance.specs.declared.faults.FunctionPosition.TheVariants as part
+use Rattle.naga_acceptance.specs.declared.faults.FaultPosition.TheVariants as item
+use Rattle.fault_details.specs.Texts.{many_text, use_text, wanted_text}
 use Rattle.fault_details.specs.declared.mismatch.Mismatch.TheVariants as wanted
 use Rattle.fault_details.specs.declared.words.Counted.TheVariants as counted
 use Rattle.fault_details.specs.declared.words.ListName.TheVariants as list
@@ -34,3 +36,12 @@ past_the_parts = refl
 
 no_loop : wanted_text (wanted.Need need.Loop) ≡ codes "wanted a loop to go on with"
 no_loop = refl
+
+of_a_function : use_text (item.Function 0 (part.Expression 1)) ≡ codes "functions[0].expressions[1]"
+unfolding digits
+of_a_function = refl
+
+of_an_entry_point : use_text (item.EntryPoint 2 (part.Expression 10))
+    ≡ codes "entry_points[2].function.expressions[10]"
+unfolding digits
+of_an_entry_point = refl

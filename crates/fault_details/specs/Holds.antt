@@ -13,7 +13,7 @@ use Rattle.naga_info.specs.Resolution.{inner_of}
 use Rattle.naga_acceptance.specs.declared.faults.Unaccepted.{Unaccepted}
 use Rattle.module_meaning.specs.AlikeTypes.{are_alike}
 use Rattle.fault_details.specs.Reasons.{Reason, OtherType, OtherClass, NoValue, Unexpected, Absent}
-use Rattle.fault_details.specs.Reasons.{Later, OtherNumber, PastParts, LacksLetter, Needs}
+use Rattle.fault_details.specs.Reasons.{Later, OtherNumber, OtherUse, PastParts, LacksLetter, Needs}
 use Rattle.fault_details.specs.Reasons.{fault_reason, has_letter, is_in_class}
 
 abbrev pub IsReason : Module → Reason → Type 0
@@ -28,6 +28,7 @@ IsReason m (OtherNumber of wanted got) = wanted ≢ got
 IsReason m (PastParts count got) = count ≤ got
 IsReason m (LacksLetter letter got) =
     option_map_or (has_letter letter) (inner_of got m.types) false ≡ false
+IsReason m (OtherUse at wanted got) = are_alike m.types got wanted ≡ false
 IsReason m (Needs need) = ⊤
 
 abbrev pub ReasonsHold : Type 0

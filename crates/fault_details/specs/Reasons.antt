@@ -1,6 +1,7 @@
 -- What was wanted where a module is not accepted, and what stands there: by the clause of
--- acceptance that a fault is of, and the item at its position. A kind of fault of which no more can
--- be told than its name has no reason.
+-- acceptance that a fault is of, and the item at its position; of an operator that does not agree, by
+-- the first use of it in the module that is over operands of types alike and has another type. A
+-- kind of fault of which no more can be told than its name has no reason.
 --
 -- Throughout, m is a module, info what is known of it, f a function, p an entry point, e an
 -- expression, s a statement, it a type by itself, r a type that is known or wanted, known are the
@@ -47,6 +48,7 @@ use Rattle.naga_info.specs.declared.info.TypeResolution.{TypeResolution}
 use Rattle.naga_info.specs.declared.info.TypeResolution.TheVariants.{Handle, Value}
 use Rattle.naga_info.specs.Resolution.{inner_of}
 use Rattle.naga_acceptance.specs.Faults.{known_of}
+use Rattle.naga_acceptance.specs.FirstUses.{other_use}
 use Rattle.naga_acceptance.specs.TextOrder.{PlacedStatement, text_order}
 use Rattle.naga_acceptance.specs.declared.faults.Fault.{Fault}
 use Rattle.naga_acceptance.specs.declared.faults.Fault.TheVariants as fault
@@ -104,6 +106,8 @@ pub data Reason : Type 0 where
   PastParts : (count got : ℕ) → Reason
   -- a letter is named for which a type has no component
   LacksLetter : SwizzleComponent → (got : TypeResolution) → Reason
+  -- the operator has another type where it is used at this position, over operands of types alike
+  OtherUse : FaultPosition → (wanted got : TypeResolution) → Reason
   -- what else a statement needs
   Needs : Need → Reason
 
@@ -596,6 +600,14 @@ item_reason m info kind (item.EntryPoint h place) =
     option_and_then (λ p. entry_point_reason m p (known_of info.entry_points.items h) kind place)
     (slice_get m.entry_points.items h)
 
+-- the use of an operator that has another type
+abbrev pub use_reason : FaultPosition × (TypeResolution × TypeResolution) → Reason
+use_reason first = OtherUse first.0 first.1.0 first.1.1
+
+abbrev pub reason_at : Module → ModuleInfo → Fault → FaultPosition → Option Reason
+reason_at m info fault.Disagreement at = option_map use_reason (other_use m info at)
+reason_at m info kind at = item_reason m info kind at
+
 -- why the module is not accepted at a position, for a fault of a kind
 abbrev pub fault_reason : Module → ModuleInfo → Unaccepted → Option Reason
-fault_reason m info u = item_reason m info u.fault u.item
+fault_reason m info u = reason_at m info u.fault u.item

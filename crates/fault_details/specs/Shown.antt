@@ -6,7 +6,8 @@ use Rattle.naga_info.specs.declared.info.TypeResolution.TheVariants.{Value}
 use Rattle.naga_acceptance.specs.KnownTypes.{inferred}
 use Rattle.naga_acceptance.specs.TextOrder.{PlacedStatement}
 use Rattle.fault_details.specs.Reasons.{Reason as Told, OtherType, OtherClass, NoValue, Unexpected}
-use Rattle.fault_details.specs.Reasons.{Absent, Later, OtherNumber, PastParts, LacksLetter, Needs}
+use Rattle.fault_details.specs.Reasons.{Absent, Later, OtherNumber, OtherUse, PastParts}
+use Rattle.fault_details.specs.Reasons.{LacksLetter, Needs}
 use Rattle.fault_details.specs.declared.reasons.Reason.{Reason}
 use Rattle.fault_details.specs.declared.reasons.Reason.TheVariants as code
 use Rattle.fault_details.specs.declared.walk.StatementAt.{StatementAt}
@@ -24,6 +25,7 @@ shown (code.Later name index before) = Later name index before
 shown (code.OtherNumber of wanted got) = OtherNumber of wanted got
 shown (code.PastParts count got) = PastParts count got
 shown (code.LacksLetter letter got) = LacksLetter letter got.now
+shown (code.OtherUse at wanted got) = OtherUse at wanted.now got.now
 shown (code.Needs need) = Needs need
 
 -- a statement where it stands

@@ -1,9 +1,14 @@
 -- What is displayed of what was wanted, and of what stands there instead.
 --
--- Throughout, h is the number of an item in its list, and n counts several things.
+-- Throughout, h is the number of an item in its list, e that of an expression, and n counts several
+-- things.
 use Rattle.std.specs.Prelude.{ℕ, List, [], ◌++◌, ◌==◌, codes, decimal, if◌then◌else◌, string_bytes}
 use Rattle.naga_ir.specs.declared.expression.SwizzleComponent.{SwizzleComponent}
 use Rattle.naga_ir.specs.declared.expression.SwizzleComponent.TheVariants as component
+use Rattle.naga_acceptance.specs.declared.faults.FaultPosition.{FaultPosition}
+use Rattle.naga_acceptance.specs.declared.faults.FaultPosition.TheVariants as item
+use Rattle.naga_acceptance.specs.declared.faults.FunctionPosition.{FunctionPosition}
+use Rattle.naga_acceptance.specs.declared.faults.FunctionPosition.TheVariants as part
 use Rattle.fault_details.specs.declared.mismatch.Mismatch.{Mismatch}
 use Rattle.fault_details.specs.declared.mismatch.Mismatch.TheVariants as wanted
 use Rattle.fault_details.specs.declared.words.Counted.{Counted}
@@ -63,6 +68,22 @@ letter_text component.Y = codes "y"
 letter_text component.Z = codes "z"
 letter_text component.W = codes "w"
 
+-- an expression of a function, after the function
+abbrev pub part_text : FunctionPosition → List ℕ
+part_text (part.Expression e) = codes ".expressions[" ++ (decimal e ++ codes "]")
+part_text _ = []
+
+-- an expression of a function, of an entry point or of the module itself, by its position in the
+-- module
+abbrev pub use_text : FaultPosition → List ℕ
+use_text (item.Function h place) =
+    codes "functions[" ++ (decimal h ++ (codes "]" ++ part_text place))
+use_text (item.EntryPoint h place) =
+    codes "entry_points[" ++ (decimal h ++ (codes "].function" ++ part_text place))
+use_text (item.GlobalExpression e) =
+    codes "global_expressions[" ++ (decimal e ++ codes "]")
+use_text _ = codes "module"
+
 -- what a statement needs beside types
 abbrev pub need_text : Need → List ℕ
 need_text need.LoopOrSwitch = codes "a loop or a switch to leave"
@@ -96,4 +117,7 @@ wanted_text (wanted.Part n got) =
 wanted_text (wanted.Letter letter got) =
     codes "names ." ++ (letter_text letter ++ (codes ", which " ++ (string_bytes got ++
     codes " does not have")))
+wanted_text (wanted.Use at ty got) =
+    codes "wanted " ++ (string_bytes ty ++ (codes " as at " ++ (use_text at ++ (codes ", got " ++
+    string_bytes got))))
 wanted_text (wanted.Need it) = codes "wanted " ++ need_text it

@@ -15,7 +15,7 @@ use Rattle.naga_words.specs.Segments.{IsText}
 use Rattle.naga_words.specs.Spelling.{Context, FitsResolution, IsInOrder, resolution_segments}
 use Rattle.naga_listing.specs.OneLine.{on_one_line}
 use Rattle.fault_details.specs.Reasons.{Reason, OtherType, OtherClass, NoValue, Unexpected, Absent}
-use Rattle.fault_details.specs.Reasons.{Later, OtherNumber, PastParts, LacksLetter, Needs}
+use Rattle.fault_details.specs.Reasons.{Later, OtherNumber, OtherUse, PastParts, LacksLetter, Needs}
 use Rattle.fault_details.specs.Texts.{item_text}
 use Rattle.fault_details.specs.declared.words.ListName.TheVariants as list
 use Rattle.fault_details.specs.declared.mismatch.Mismatch.{Mismatch}
@@ -108,6 +108,9 @@ Tells m (OtherNumber of wanted got) w = w ≡ told.Number of wanted got
 Tells m (PastParts count got) w = w ≡ told.Part count got
 Tells m (LacksLetter letter got) (told.Letter told_letter text) =
     (told_letter ≡ letter) × IsTold m got (string_bytes text)
+Tells m (OtherUse at wanted got) (told.Use told_at wanted_text got_text) =
+    (told_at ≡ at)
+    × TellsBoth m wanted got (string_bytes wanted_text) (string_bytes got_text)
 Tells m (Needs need) w = w ≡ told.Need need
 Tells m _ w = ⊥
 

@@ -3,6 +3,7 @@
 ghost use Rattle.std.specs.Prelude.{◌≡◌, length, slice_get};
 ghost use Rattle.std.specs.Option.{option_and_then, option_copied, option_map};
 ghost use Rattle.naga_acceptance.specs.Faults.{known_of};
+ghost use Rattle.naga_acceptance.specs.FirstUses.{other_use};
 ghost use Rattle.naga_acceptance.specs.KnownTypes.{known_types};
 ghost use Rattle.naga_acceptance.specs.TextOrder.{text_order};
 ghost use Rattle.module_meaning.specs.TypeParts.{inner_at};
@@ -11,7 +12,7 @@ ghost use Rattle.fault_details.specs.Reasons.{expression_reason, fault_reason, f
 ghost use Rattle.fault_details.specs.Reasons.{global_reason};
 ghost use Rattle.fault_details.specs.Reasons.{item_reason, made_reason, module_reason};
 ghost use Rattle.fault_details.specs.Reasons.{sizes_reason, statement_reason, type_reason};
-ghost use Rattle.fault_details.specs.Reasons.{whole_reason};
+ghost use Rattle.fault_details.specs.Reasons.{use_reason, whole_reason};
 ghost use Rattle.fault_details.specs.Shown.{shown};
 
 use crate::names::{
@@ -24,6 +25,7 @@ use crate::types::{operand_reason, own_type_reason, type_reason};
 use crate::walk::statement_at;
 use crate::words::{Counted, ListName};
 use module_meaning::type_parts::inner_at;
+use naga_acceptance::other_uses::other_use;
 use naga_acceptance::parts::{InferredType, Known, known_type};
 use naga_acceptance::{Fault, FaultPosition, FunctionPosition, Unaccepted};
 use naga_info::{FunctionInfo, ModuleInfo};
@@ -476,6 +478,25 @@ fn item_reason<'a>(
     }
 }
 
+/// The use with which that of an operator at a position does not agree.
+fn use_reason<'a>(
+    module: &'a Module,
+    info: &'a ModuleInfo,
+    item: FaultPosition,
+) -> Option<Reason<'a>>
+    ensures { option_map shown result
+        ≡ option_map use_reason (other_use «module».now info.now item) }
+{
+    match other_use(module, info, item) {
+        Some(found) => Some(Reason::OtherUse {
+            item: found.item,
+            wanted: found.there,
+            got: found.here,
+        }),
+        None => None,
+    }
+}
+
 /// Why the module is not accepted at a position, for a fault of a kind: none where no more can be
 /// told than the kind, and where the fault is none of this module.
 pub(crate) fn fault_reason<'a>(
@@ -485,5 +506,8 @@ pub(crate) fn fault_reason<'a>(
 ) -> Option<Reason<'a>>
     ensures { option_map shown result ≡ fault_reason «module».now info.now unaccepted }
 {
-    item_reason(module, info, unaccepted.fault, unaccepted.item)
+    match unaccepted.fault {
+        Fault::Disagreement => use_reason(module, info, unaccepted.item),
+        _ => item_reason(module, info, unaccepted.fault, unaccepted.item),
+    }
 }

@@ -2,10 +2,10 @@
 
 ghost use Rattle.fault_details.specs.Holds.{ReasonsHold};
 ghost use Rattle.fault_details.specs.Told.{TypesAreToldApart};
-ghost use Rattle.fault_details.specs.WithReason.{TypeFaultsHaveReasons};
+ghost use Rattle.fault_details.specs.WithReason.{NameFaultsHaveReasons, TypeFaultsHaveReasons};
 
 /// Each reason that [`explain`](crate::explain) tells is one, whatever fault it is asked of: of two
-/// types, they are not alike; of a class or a letter, the type has it not; of an item, its number
+/// types, also of two uses of an operator, they are not alike; of a class or a letter, the type has it not; of an item, its number
 /// is not below how many there are, or not below that of the item before which it is to stand; of
 /// numbers, they differ. Of a value that is not there or not wanted, and of what a statement needs,
 /// this says nothing.
@@ -16,10 +16,18 @@ pub fn reasons_hold()
 /// Each fault of types has a reason, where all that the module names is there and no body has more
 /// than 2^64 statements: an expression has another type than what it stands for, or takes no
 /// operands of these types; an initialiser has another type; a statement does not get what it
-/// wants. [`unaccepted`](naga_acceptance::unaccepted) tells such a fault only where all that is
-/// named is there, so that [`explain`](crate::explain) tells a reason of each.
+/// wants; an operator does not agree with an earlier one.
+/// [`unaccepted`](naga_acceptance::unaccepted) tells such a fault only where all that is named is
+/// there, so that [`explain`](crate::explain) tells a reason of each.
 pub fn type_faults_have_reasons()
     ensures { TypeFaultsHaveReasons }
+{}
+
+/// Each fault of what is named has a reason, where no body has more than 2^64 statements and each
+/// number is one of its type: not as many things are known as there are; a type, an item, an
+/// operand or an initialiser is not there, or not before what names it.
+pub fn name_faults_have_reasons()
+    ensures { NameFaultsHaveReasons }
 {}
 
 /// No text tells two types: where [`explain`](crate::explain) tells one that is wanted and another

@@ -3,7 +3,10 @@
 ghost use Rattle.std.specs.Prelude.{Some};
 ghost use Rattle.fault_details.specs.Texts.{wanted_text};
 
-use crate::words::{Counted, ListName, Many, Need, Numbered, There, TypeClass, letter_str};
+use crate::words::{
+    Counted, ListName, Many, Need, Numbered, There, TypeClass, UsePosition, letter_str,
+};
+use naga_acceptance::FaultPosition;
 use naga_ir::SwizzleComponent;
 use std::fmt;
 
@@ -84,6 +87,17 @@ pub enum Mismatch {
         /// The type of the vector.
         got: String,
     },
+    /// The first use of the operator that is over operands of types alike and has another type:
+    /// `wanted i32 as at functions[0].expressions[1], got f32`.
+    Use {
+        /// The position of that use: an expression of a function, of an entry point or of the
+        /// module itself.
+        item: FaultPosition,
+        /// The type that it has.
+        wanted: String,
+        /// The type that stands here.
+        got: String,
+    },
     /// What else a statement needs: `wanted a loop to go on with`.
     Need(Need),
 }
@@ -121,6 +135,15 @@ impl fmt::Display for Mismatch {
                     f,
                     "names .{}, which {} does not have",
                     letter_str(*letter),
+                    got
+                )
+            }
+            Mismatch::Use { item, wanted, got } => {
+                write!(
+                    f,
+                    "wanted {} as at {}, got {}",
+                    wanted,
+                    UsePosition(*item),
                     got
                 )
             }

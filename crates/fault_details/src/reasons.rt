@@ -6,6 +6,7 @@ ghost use Rattle.fault_details.specs.Reasons.{absent, need_unless, not_before, n
 ghost use Rattle.fault_details.specs.Shown.{shown};
 
 use crate::words::{Counted, ListName, Need, TypeClass};
+use naga_acceptance::FaultPosition;
 use naga_acceptance::parts::InferredType;
 use naga_info::TypeResolution;
 use naga_ir::{Scalar, SwizzleComponent};
@@ -62,6 +63,12 @@ pub(crate) enum Reason<'a> {
     /// A letter is named for which a type has no component.
     LacksLetter {
         letter: SwizzleComponent,
+        got: &'a TypeResolution,
+    },
+    /// The operator has another type where it is used at this position, over operands of types alike.
+    OtherUse {
+        item: FaultPosition,
+        wanted: &'a TypeResolution,
         got: &'a TypeResolution,
     },
     /// What else a statement needs.

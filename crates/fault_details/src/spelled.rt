@@ -9,7 +9,7 @@ ghost use Rattle.naga_words.specs.Contexts.{global_context};
 ghost use Rattle.naga_words.specs.Segments.{IsText};
 ghost use Rattle.naga_words.specs.Spelling.{resolution_segments};
 ghost use Rattle.fault_details.specs.Reasons.{LacksLetter, NoValue, OtherClass, OtherType};
-ghost use Rattle.fault_details.specs.Reasons.{Unexpected, fault_reason};
+ghost use Rattle.fault_details.specs.Reasons.{OtherUse, Unexpected, fault_reason};
 ghost use Rattle.fault_details.specs.Shown.{shown};
 ghost use Rattle.fault_details.specs.Told.{HasNoOrder, IsOfModule, IsPlaced, IsTold, PlacesBoth};
 ghost use Rattle.fault_details.specs.Told.{Tells, TellsBoth, TellsOf, named_type, unspelled_text};
@@ -20,8 +20,8 @@ use crate::mismatch::Mismatch;
 use crate::order::{fits, is_in_order};
 use crate::reasons::Reason;
 use crate::words::{ListName, Numbered, TypeClass};
-use naga_acceptance::Unaccepted;
 use naga_acceptance::parts::InferredType;
+use naga_acceptance::{FaultPosition, Unaccepted};
 use naga_info::{ModuleInfo, ToCtx, TypeResolution};
 use naga_ir::{Handle, Module, Scalar, SwizzleComponent, Type_, TypeInner};
 use naga_listing::on_one_line;
@@ -298,6 +298,20 @@ fn lacking(
     })
 }
 
+/// A use of an operator with its type, and another type.
+fn other_use(
+    alloc: Global,
+    module: &Module,
+    item: FaultPosition,
+    wanted: &TypeResolution,
+    got: &TypeResolution,
+) -> Result<Mismatch, AllocError>
+    ensures { IfOk result (Tells «module».now (OtherUse item wanted.now got.now)) }
+{
+    let TwoTypes { wanted, got } = told_types(alloc, module, wanted, got)?;
+    Ok(Mismatch::Use { item, wanted, got })
+}
+
 /// A reason, as it is told.
 fn told_reason(alloc: Global, module: &Module, reason: &Reason<'_>) -> Result<Mismatch, AllocError>
     ensures { IfOk result (Tells «module».now (shown reason.now)) }
@@ -332,6 +346,7 @@ fn told_reason(alloc: Global, module: &Module, reason: &Reason<'_>) -> Result<Mi
             got: *got,
         }),
         Reason::LacksLetter { letter, got } => lacking(alloc, module, *letter, *got),
+        Reason::OtherUse { item, wanted, got } => other_use(alloc, module, *item, *wanted, *got),
         Reason::Needs { need } => Ok(Mismatch::Need(*need)),
     }
 }
@@ -346,11 +361,13 @@ fn told_reason(alloc: Global, module: &Module, reason: &Reason<'_>) -> Result<Mi
 ///   what is there, but not before what names it, the position of that.
 /// - Of a swizzle: the first letter for which its vector has no component, and the vector's type.
 /// - Of a number, as of the arguments of a call: the one that is wanted, and the one that is there.
+/// - Of an operator that does not agree: the first use of it in the module that is over operands of
+///   types alike and has another type, and the types of both.
 /// - Of a statement that stands where it may not, or a switch whose labels do not fit: what it
 ///   needs.
 ///
-/// It looks at the position alone, and goes through the types once. An error is want of memory; the
-/// fault stands as it was.
+/// It looks at the position alone, or of an operator at its uses in the module, and goes through the
+/// types once. An error is want of memory; the fault stands as it was.
 ///
 /// ```text
 /// if let Some(fault) = unaccepted(&shader.module, &shader.info) {

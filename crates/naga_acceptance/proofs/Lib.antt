@@ -5,6 +5,7 @@ pub mod EarlierUses
 pub mod Finding
 pub mod FaultOrder
 pub mod FirstFaults
+pub mod FirstUses
 pub mod Groups
 pub mod Identities
 pub mod CaseValueNumbers

@@ -275,10 +275,12 @@ pub data IsFirst (m : Module) (info : ModuleInfo) (u : Unaccepted) : Type 0 wher
   Disagreeing : IsTrue (module_ranges_fit m info) → IsTrue (module_is_sound m info) →
       IsDisagreement m info u → IsFirst m info u
 
--- a kind of fault that says that a type is wrong, or what a statement wants
+-- a kind of fault that says that a type is wrong, or what a statement wants, or that an operator
+-- does not agree with an earlier one
 abbrev pub IsOfTypes : Fault → Type 0
 IsOfTypes fault.OtherType = ⊤
 IsOfTypes fault.OperandTypes = ⊤
 IsOfTypes fault.InitialiserType = ⊤
 IsOfTypes fault.Unsatisfied = ⊤
+IsOfTypes fault.Disagreement = ⊤
 IsOfTypes _ = ⊥

@@ -2,9 +2,11 @@ pub mod Counts
 pub mod FaultTexts
 pub mod Faults
 pub mod FirstFaults
+pub mod FirstUses
 pub mod KnownTypes
 pub mod CaseValues
 pub mod OperatorKeys
+pub mod OtherUses
 pub mod Searching
 pub mod TextOrder
 pub mod Uses

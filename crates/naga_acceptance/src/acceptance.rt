@@ -28,7 +28,8 @@ use naga_ir::Module;
 ///   and the entry points; in a function its expressions, its locals and its statements.
 /// - Whether operators agree.
 ///
-/// So it tells of types, and of what a statement wants, only where all that is named is there.
+/// So it tells of types, of what a statement wants and of operators only where all that is named is
+/// there.
 ///
 /// It takes no memory, and answers whatever numbers a module holds, in the time that `accepts`
 /// takes.

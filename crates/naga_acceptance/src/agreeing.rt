@@ -14,6 +14,7 @@ ghost use Rattle.std.specs.Prelude.{◌%◌, [], IfOk, OnErr};
 ghost use Rattle.std.specs.Option.{IfSome, is_none, option_map, option_map_or, option_to_list};
 ghost use Rattle.naga_acceptance.specs.Faults.{Disagrees, site_of};
 ghost use Rattle.naga_acceptance.specs.FirstFaults.{IsDisagreement};
+ghost use Rattle.naga_acceptance.specs.FirstUses.{use_item};
 ghost use Rattle.naga_acceptance.specs.Uses.{AreHashed, DisagreesFirst, IsFirstDisagreement};
 ghost use Rattle.naga_acceptance.specs.Uses.{IsHashed, Probes, Remembers, earlier, earlier_uses};
 ghost use Rattle.naga_acceptance.specs.Uses.{first_answer, first_uses, group_of, group_uses};
@@ -35,8 +36,8 @@ use naga_ir::{Arena, Expression, Function, ItemIndex, Module, Type_, UniqueArena
 /// Expressions that stand together, with their types.
 #[derive(Debug, Clone, Copy)]
 pub(crate) struct Expressions<'a> {
-    arena: &'a Arena<Expression>,
-    known: Known<'a>,
+    pub(crate) arena: &'a Arena<Expression>,
+    pub(crate) known: Known<'a>,
 }
 
 /// How many slots the table of remembered uses has.
@@ -120,7 +121,11 @@ fn further_group_at<'a>(
 }
 
 /// The group of this number: functions, entry points and the module itself, in order.
-fn group_at<'a>(module: &'a Module, info: &'a ModuleInfo, number: u128) -> Option<Expressions<'a>>
+pub(crate) fn group_at<'a>(
+    module: &'a Module,
+    info: &'a ModuleInfo,
+    number: u128,
+) -> Option<Expressions<'a>>
     ensures group { option_map group_of result
         ≡ slice_get (groups_of «module».now info.now) number }
     ensures within { IfSome result (λ _. number < 2 ^ 66) }
@@ -139,7 +144,7 @@ fn group_at<'a>(module: &'a Module, info: &'a ModuleInfo, number: u128) -> Optio
 }
 
 /// The expression with this number as a use, if it is there and has an operator.
-fn use_in<'a>(
+pub(crate) fn use_in<'a>(
     types: &'a UniqueArena<Type_>,
     group: Expressions<'a>,
     index: usize,
@@ -508,9 +513,10 @@ fn disagreement(module: &Module, info: &ModuleInfo) -> Option<UsePosition>
 }
 
 /// Where an expression stands that is in the group of this number, with this number there.
-fn use_item(module: &Module, number: u128, index: usize) -> FaultPosition
-    requires { number ≤ length «module».now.functions + length «module».now.entry_points.items }
-    ensures { site_of «module».now result ≡ Some (number, index) }
+pub(crate) fn use_item(module: &Module, number: u128, index: usize) -> FaultPosition
+    ensures item { result ≡ use_item «module».now number index }
+    ensures site { number ≤ length «module».now.functions + length «module».now.entry_points.items
+        → site_of «module».now result ≡ Some (number, index) }
 {
     let functions = module.functions.len() as u128;
     let expression = ItemIndex::from_index(index);

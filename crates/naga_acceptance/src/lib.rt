@@ -14,6 +14,7 @@ pub mod expression_types;
 pub mod faults;
 mod initialisers;
 mod operator_keys;
+pub mod other_uses;
 pub mod parts;
 pub mod ranges;
 pub mod soundness;

@@ -6,6 +6,7 @@ use Rattle.module_meaning.specs.acceptance.AgreeingOperators.{groups_of}
 use Rattle.module_meaning.specs.acceptance.Operations.{all_agree}
 use Rattle.naga_acceptance.specs.declared.agreeing.TheConstants.{SLOTS}
 use Rattle.naga_acceptance.specs.Uses.{group_of, group_uses, part_uses}
+use Rattle.naga_acceptance.proofs.FirstUses.{past_end}
 use Rattle.naga_acceptance.proofs.Remembering.{none_remembered, remembers_same}
 use Rattle.naga_acceptance.proofs.agreeing.part_disagreement.Goals as goal
 
@@ -37,15 +38,6 @@ loop-group-preserved c =
       remembered = remembers_same types gs _ _ _ _ (ap before next) (c.in_ok-found.ensures.table none);
       within = omega (arith, within);
     }
-
--- where there is no item, the list has ended
-past_end : {X : Type 0} (xs : List X) (n : ℕ) → slice_get xs n ≡ None → length xs ≤ n
-past_end {X} xs n none = by_place (slice_get_cases xs n).1
-  where
-    by_place : ((x : X) × (n < length xs) × (slice_get xs n ≡ Some x) × (get_or xs n x ≡ x))
-        ⊎ ((length xs ≤ n) × (slice_get xs n ≡ None)) → length xs ≤ n
-    by_place (inl within) = absurd cc
-    by_place (inr past) = past.0
 
 pub returns-clause-found : goal.returns-clause-found
 returns-clause-found c =
