@@ -5,10 +5,10 @@ ghost use Rattle.fault_details.specs.Told.{TypesAreToldApart};
 ghost use Rattle.fault_details.specs.WithReason.{NameFaultsHaveReasons, TypeFaultsHaveReasons};
 
 /// Each reason that [`explain`](crate::explain) tells is one, whatever fault it is asked of: of two
-/// types, also of two uses of an operator, they are not alike; of a class or a letter, the type has it not; of an item, its number
-/// is not below how many there are, or not below that of the item before which it is to stand; of
-/// numbers, they differ. Of a value that is not there or not wanted, and of what a statement needs,
-/// this says nothing.
+/// types, also of two uses of an operator, they are not alike; of a class or a letter, the type has
+/// it not; of an item, its number is not below how many there are, or not below that of the item
+/// before which it is to stand; of numbers, they differ. Of a value that is not there or not wanted,
+/// and of what a statement needs, this says nothing.
 pub fn reasons_hold()
     ensures { ReasonsHold }
 {}
