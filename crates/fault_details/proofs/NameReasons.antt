@@ -487,6 +487,12 @@ module _ (m : Module) (info : ModuleInfo) (fit : AreOfTheirTypes m) (numbered : 
       length (text_order p.function.body) ≤ 2 ^ 64 → (place : FunctionPosition) (kind : Fault) → IsOfNames kind →
       EntryPositionFails m p known place kind → IsSome (entry_point_reason m p known kind place)
   entry_told p known within few part.Whole fault.Names of fails = variables_told p within.0 fails
+  entry_told p known within few (part.Local h) fault.Names of fails =
+      part_of_told m p.function known (length m.functions) within.1 few (part.Local h) fault.Names of fails
+  entry_told p known within few (part.Expression h) fault.Names of fails =
+      part_of_told m p.function known (length m.functions) within.1 few (part.Expression h) fault.Names of fails
+  entry_told p known within few (part.Statement number) fault.Names of fails =
+      part_of_told m p.function known (length m.functions) within.1 few (part.Statement number) fault.Names of fails
   entry_told p known within few place kind of fails =
       part_of_told m p.function known (length m.functions) within.1 few place kind of fails
 
