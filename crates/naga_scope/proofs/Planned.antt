@@ -1,6 +1,6 @@
 -- What a plan of a function says of its module.
 use Rattle.std.proofs.Common.{◌≡◌, ℕ, Bool, zero, suc, List, [], ◌∷◌, None, Some, ap, subst, sym}
-use Rattle.std.proofs.Common.{◌∙◌}
+use Rattle.std.proofs.Common.{◌<◌, ◌^◌, ◌∙◌, arith, length}
 use Rattle.std.proofs.lemmas.Option.{same_Some}
 use Rattle.std.specs.Prelude.{Err, IfErr, IfOk, Ok, Result, slice_get}
 use Rattle.std.specs.Result.{is_ok}
@@ -22,9 +22,11 @@ use Rattle.naga_form.proofs.operators.Ordered.{shape_ordered}
 use Rattle.naga_form.proofs.statements.WellFormed.{any_shape}
 use Rattle.naga_scope.specs.Plans.{IsPlan, IsPlanOf, Planned}
 use Rattle.naga_scope.specs.ScopeChecks.{check_function}
-use Rattle.naga_scope.specs.ScopeFaults.{IsScopeFault}
 use Rattle.naga_scope.specs.declared.scope_faults.ScopeFault.{ScopeFault}
-use Rattle.naga_scope.proofs.ScopeChecks.{check_finds, function_ok}
+use Rattle.naga_scope.proofs.FoundFaults.{FirstFault, check_finds}
+use Rattle.naga_scope.proofs.ScopeChecks.{function_ok}
+use Rattle.naga_scope.proofs.StandingCounts.{standing_count}
+use Rattle.naga_scope.specs.InOrder.{trees_in}
 use Rattle.module_meaning.specs.Written.{OfFunctionAt}
 
 module _ (m : Module) (info : ModuleInfo) (f : ir_function.Function) (es : List ExpressionInfo)
@@ -43,10 +45,12 @@ module _ (m : Module) (info : ModuleInfo) (f : ir_function.Function) (es : List 
   checked_holds is =
       (scope_check_is_the_rules unnamed operands_before).0 (sym (function_ok unnamed) ∙ ap is_ok is)
 
-  -- and what it finds is a fault
-  pub checked_fault : (fault : ScopeFault) → check_function unnamed ≡ Err fault →
-      IsScopeFault (function_shape m info f es) fault
-  checked_fault fault is = check_finds unnamed operands_before fault is
+  -- and what it finds is a fault, and none stands on a line before
+  pub checked_fault : length (trees_in f.body) < 2 ^ 64 → (fault : ScopeFault) → check_function unnamed ≡ Err fault →
+      FirstFault (function_shape m info f es) fault
+  checked_fault few fault is =
+      let count = standing_count m info f es in
+      check_finds unnamed operands_before (omega (arith, few, count)) fault is
 
 -- a function that there is, with what is known of it, has a shape
 pub shape_found : (m : Module) (info : ModuleInfo) (fs : List ir_function.Function)

@@ -57,6 +57,16 @@ abbrev pub own_roots : (binds : ℕ → Bool) → StatementTree → List ℕ
 own_roots binds (simple st) = simple_roots binds st
 own_roots binds st = own_operands st
 
+-- what its `break if` writes,
+abbrev pub break_root : StatementTree → List ℕ
+break_root (loop body continuing break_if) = option_to_list break_if
+break_root st = []
+
+-- and what it writes without it
+abbrev pub line_roots : (binds : ℕ → Bool) → StatementTree → List ℕ
+line_roots binds (loop body continuing break_if) = []
+line_roots binds st = own_roots binds st
+
 -- how many changes of scope it makes
 abbrev pub own_changes : StatementTree → ℕ
 own_changes (simple st) = simple_changes st

@@ -4,6 +4,7 @@
 #![tactic(auto)]
 
 pub mod binding;
+mod breaks;
 mod changes;
 pub mod check;
 pub mod continues;
