@@ -31,20 +31,20 @@ use Rattle.shader_runs.specs.ScopeFaults.{in_continuing, HasScopeFault, in_first
 -- a line that begins with a statement of this number or a later one,
 abbrev From : (m : ℕ) → Line → Type 0
 From m (line.Statement k) = m ≤ k
-From m (line.BreakIf k end) = (m ≤ k) × (k < end)
+From m (line.BreakIf k next) = (m ≤ k) × (k < next)
 From m l = ⊥
 
 -- and one in front of it
 abbrev UpTo : (m : ℕ) → Line → Type 0
 UpTo m (line.Statement k) = k < m
-UpTo m (line.BreakIf k end) = (k < end) × (end ≤ m)
+UpTo m (line.BreakIf k next) = (k < next) × (next ≤ m)
 UpTo m l = ⊥
 
 from_less : (m n : ℕ) (a : Line) → m ≤ n → From n a → From m a
 from_less m n line.Signature le from = from
 from_less m n (line.Local i) le from = from
 from_less m n (line.Statement k) le from = omega (arith, le, from)
-from_less m n (line.BreakIf k end) le from = let first = from.0 in (omega (arith, le, first), from.1)
+from_less m n (line.BreakIf k next) le from = let first = from.0 in (omega (arith, le, first), from.1)
 
 pub never : (a b : Line) → (is_before a b ≡ true → ⊥) → is_before a b ≡ false
 never a b none = by (is_before a b) refl
@@ -64,8 +64,8 @@ apart m a b from to = never a b (clash a b from to)
     clash (line.Statement q) (line.Local i) from to is = to
     clash (line.Statement q) (line.Statement k) from to is =
         let lt = ltb-true q k is in omega (arith, lt, from, to)
-    clash (line.Statement q) (line.BreakIf k end) from to is =
-        let lt = ltb-true q end is in let le = to.1 in omega (arith, lt, from, le)
+    clash (line.Statement q) (line.BreakIf k next) from to is =
+        let lt = ltb-true q next is in let le = to.1 in omega (arith, lt, from, le)
     clash (line.BreakIf q stop) line.Signature from to is = to
     clash (line.BreakIf q stop) (line.Local i) from to is = to
     clash (line.BreakIf q stop) (line.Statement k) from to is =
@@ -73,13 +73,13 @@ apart m a b from to = never a b (clash a b from to)
         let first = from.0 in
         let last = from.1 in
         omega (arith, le, first, last, to)
-    clash (line.BreakIf q stop) (line.BreakIf k end) from to is =
+    clash (line.BreakIf q stop) (line.BreakIf k next) from to is =
         let first = from.0 in
         let last = from.1 in
         let le = to.1 in
-        by first last le (ends_of q stop k end is)
+        by first last le (ends_of q stop k next is)
       where
-        by : m ≤ q → q < stop → end ≤ m → Ends q stop k end → ⊥
+        by : m ≤ q → q < stop → next ≤ m → Ends q stop k next → ⊥
         by first last le (inl lt) = omega (arith, first, last, le, lt)
         by first last le (inr (same, lt)) = omega (arith, first, last, le, same)
 
@@ -98,19 +98,19 @@ from_start m a from = never a (line.Statement m) (clash a from)
         omega (arith, le, first, last)
 
 -- a loop's `break if` stands before nothing that is in the loop
-after_loop : (m end : ℕ) (b : Line) → From (suc m) b → UpTo end b → is_before (line.BreakIf m end) b ≡ false
-after_loop m end b from to = never (line.BreakIf m end) b (clash b from to)
+after_loop : (m next : ℕ) (b : Line) → From (suc m) b → UpTo next b → is_before (line.BreakIf m next) b ≡ false
+after_loop m next b from to = never (line.BreakIf m next) b (clash b from to)
   where
-    clash : (b : Line) → From (suc m) b → UpTo end b → is_before (line.BreakIf m end) b ≡ true → ⊥
+    clash : (b : Line) → From (suc m) b → UpTo next b → is_before (line.BreakIf m next) b ≡ true → ⊥
     clash line.Signature from to is = to
     clash (line.Local i) from to is = to
-    clash (line.Statement k) from to is = let le = leb-true end k is in omega (arith, le, to)
+    clash (line.Statement k) from to is = let le = leb-true next k is in omega (arith, le, to)
     clash (line.BreakIf k stop) from to is =
         let first = from.0 in
         let last = to.1 in
-        by first last (ends_of m end k stop is)
+        by first last (ends_of m next k stop is)
       where
-        by : suc m ≤ k → stop ≤ end → Ends m end k stop → ⊥
+        by : suc m ≤ k → stop ≤ next → Ends m next k stop → ⊥
         by first last (inl lt) = omega (arith, last, lt)
         by first last (inr (same, lt)) = omega (arith, first, lt)
 
@@ -124,9 +124,9 @@ module _ (f : Function) (s : Standing) (n : ℕ) where
   from_line : (c : ScopeFault) → BreaksWith f s n c → From n (line_of_fault c)
   from_line (FirstValue i h) breaks = breaks
   from_line (Operand k h) breaks = let same = breaks.0 in omega (arith, same)
-  from_line (BreakIf k end h) breaks =
+  from_line (BreakIf k next h) breaks =
       let same = breaks.0 in
-      let is : end ≡ suc n + length (inside f s.at s.statement) = breaks.1 in
+      let is : next ≡ suc n + length (inside f s.at s.statement) = breaks.1 in
       (omega (arith, same), omega (arith, same, is))
   from_line (EmittedOperand k x h) breaks = let same = breaks.0 in omega (arith, same)
   from_line (GivenBefore k h) breaks = let same = breaks.0 in omega (arith, same)
@@ -136,9 +136,9 @@ module _ (f : Function) (s : Standing) (n : ℕ) where
       UpTo m (line_of_fault c)
   up_to_line m le (FirstValue i h) breaks = breaks
   up_to_line m le (Operand k h) breaks = let same = breaks.0 in omega (arith, same, le)
-  up_to_line m le (BreakIf k end h) breaks =
+  up_to_line m le (BreakIf k next h) breaks =
       let same = breaks.0 in
-      let is : end ≡ suc n + length (inside f s.at s.statement) = breaks.1 in
+      let is : next ≡ suc n + length (inside f s.at s.statement) = breaks.1 in
       (omega (arith, same, is), omega (arith, is, le))
   up_to_line m le (EmittedOperand k x h) breaks = let same = breaks.0 in omega (arith, same, le)
   up_to_line m le (GivenBefore k h) breaks = let same = breaks.0 in omega (arith, same, le)
@@ -148,7 +148,7 @@ module _ (f : Function) (s : Standing) (n : ℕ) where
   own_line : IsFalse (is_loop s.statement) → (c : ScopeFault) → BreaksWith f s n c → line_of_fault c ≡ line.Statement n
   own_line plain (FirstValue i h) breaks = elim breaks [ ]
   own_line plain (Operand k h) breaks = ap line.Statement breaks.0
-  own_line plain (BreakIf k end h) breaks = absurd (false≢true (sym plain ∙ breaks.2))
+  own_line plain (BreakIf k next h) breaks = absurd (false≢true (sym plain ∙ breaks.2))
   own_line plain (EmittedOperand k x h) breaks = ap line.Statement breaks.0
   own_line plain (GivenBefore k h) breaks = ap line.Statement breaks.0
   own_line plain (NeedsNoEmit k h) breaks = ap line.Statement breaks.0
@@ -158,7 +158,7 @@ module _ (f : Function) (s : Standing) (n : ℕ) where
       line_of_fault c ≡ line.BreakIf n (number_after f n s)
   loop_line loops (FirstValue i h) breaks = elim breaks [ ]
   loop_line loops (Operand k h) breaks = absurd (false≢true (sym breaks.1 ∙ loops))
-  loop_line loops (BreakIf k end h) breaks = λ i. line.BreakIf (breaks.0 i) (breaks.1 i)
+  loop_line loops (BreakIf k next h) breaks = λ i. line.BreakIf (breaks.0 i) (breaks.1 i)
   loop_line loops (EmittedOperand k x h) breaks =
       let c = breaks.1 in absurd (gives_nothing f s.at s.statement c.0 (Emitted x) c.1 loops)
   loop_line loops (GivenBefore k h) breaks =
@@ -167,7 +167,7 @@ module _ (f : Function) (s : Standing) (n : ℕ) where
       let c = breaks.1 in absurd (gives_nothing f s.at s.statement c.0 (Emitted h) c.1 loops)
 
 -- ---- a statement is followed by those in its blocks
-split : {X : Type 0} (xs ys : List X) (i : ℕ) (x : X) → slice_get (xs ++ ys) i ≡ Some x →
+pub split : {X : Type 0} (xs ys : List X) (i : ℕ) (x : X) → slice_get (xs ++ ys) i ≡ Some x →
     (slice_get xs i ≡ Some x) ⊎ ((j : ℕ) × (i ≡ length xs + j) × (slice_get ys j ≡ Some x))
 split [] ys i x is = inr (i, omega arith, is)
 split (y ∷ xs) ys zero x is = inl is
@@ -230,7 +230,7 @@ breaks_scope : (f : Function) (s : Standing) (n : ℕ) (e : ScopeFault) → Brea
     BreaksScope f s.at s.statement
 breaks_scope f s n (FirstValue i h) x = elim x [ ]
 breaks_scope f s n (Operand k h) x = let c = x.2 in out_of_scope c.0 h c.1 c.2
-breaks_scope f s n (BreakIf k end h) x = let c = x.3 in out_of_scope c.0 h c.1 c.2
+breaks_scope f s n (BreakIf k next h) x = let c = x.3 in out_of_scope c.0 h c.1 c.2
 breaks_scope f s n (EmittedOperand k y h) x =
     let c = x.1 in out_of_scope c.0 h (binds_operand f s.at s.statement c.0 y h c.1 c.2 c.3) c.4
 breaks_scope f s n (GivenBefore k h) x =
@@ -322,7 +322,8 @@ module _ (f : Function) (e : ScopeFault) where
         subst (λ n. BreaksWith f s n c) same breaks
 
     -- the statement itself breaks a rule,
-    pub itself : (n : ℕ) → n ≡ m → IsFalse (is_loop st) → BreaksWith f here n e → FirstAmong f m (here ∷ inside f at st) e
+    pub itself : (n : ℕ) → n ≡ m → IsFalse (is_loop st) → BreaksWith f here n e →
+        FirstAmong f m (here ∷ inside f at st) e
     itself n num plain breaks =
         let own = subst (λ n. BreaksWith f here n e) num breaks in
         record {
@@ -354,10 +355,10 @@ module _ (f : Function) (e : ScopeFault) where
             let found = x.there in
             let le = nested_inside f at st found.0 found.1 found.2 in
             ap (λ l. is_before l (line_of_fault e)) (loop_line f here m loops c (at_head s c is breaks))
-            ∙ after_loop m (number_after f m here) (line_of_fault e)
+            ∙ after_loop m (suc m + length (inside f at st)) (line_of_fault e)
             (from_less (suc m) (suc m + found.0) (line_of_fault e) (omega arith)
             (from_line f found.1 (suc m + found.0) e found.3))
-            (up_to_line f found.1 (suc m + found.0) (number_after f m here) (omega (arith, le)) e found.3)
+            (up_to_line f found.1 (suc m + found.0) (suc m + length (inside f at st)) (omega (arith, le)) e found.3)
         by (suc i) s c is breaks = x.first i s c is (at_later i s c breaks)
 
     -- or the loop's `break if` after all inside it
@@ -418,7 +419,7 @@ in_the_body f e x =
 pub fault_breaks : (f : Function) (e : ScopeFault) → IsScopeFault f e → HasScopeFault f
 fault_breaks f (FirstValue i h) x = in_first_value i h x.0 x.1
 fault_breaks f (Operand k h) x = in_the_body f (Operand k h) x
-fault_breaks f (BreakIf k end h) x = in_the_body f (BreakIf k end h) x
+fault_breaks f (BreakIf k next h) x = in_the_body f (BreakIf k next h) x
 fault_breaks f (EmittedOperand k y h) x = in_the_body f (EmittedOperand k y h) x
 fault_breaks f (GivenBefore k h) x = in_the_body f (GivenBefore k h) x
 fault_breaks f (NeedsNoEmit k h) x = in_the_body f (NeedsNoEmit k h) x

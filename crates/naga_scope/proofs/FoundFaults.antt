@@ -50,14 +50,14 @@ use Rattle.shader_runs.proofs.ScopeRules.{tracks_after, tracks_turn, tracks_star
 abbrev EmitsWith : Function → Point → Statement → (n : ℕ) → ScopeFault → Type 0
 EmitsWith f at st n (FirstValue i h) = ⊥
 EmitsWith f at st n (Operand k h) = ⊥
-EmitsWith f at st n (BreakIf k end h) = ⊥
+EmitsWith f at st n (BreakIf k next h) = ⊥
 EmitsWith f at st n e = BreaksWith f (record { at = at; statement = st }) n e
 
 emits_breaks : (f : Function) (at : Point) (st : Statement) (n : ℕ) (e : ScopeFault) → EmitsWith f at st n e →
     BreaksWith f (record { at = at; statement = st }) n e
 emits_breaks f at st n (FirstValue i h) breaks = elim breaks [ ]
 emits_breaks f at st n (Operand k h) breaks = elim breaks [ ]
-emits_breaks f at st n (BreakIf k end h) breaks = elim breaks [ ]
+emits_breaks f at st n (BreakIf k next h) breaks = elim breaks [ ]
 emits_breaks f at st n (EmittedOperand k x h) breaks = breaks
 emits_breaks f at st n (GivenBefore k h) breaks = breaks
 emits_breaks f at st n (NeedsNoEmit k h) breaks = breaks
@@ -82,7 +82,7 @@ module _ (f : Function) (at : Point) (first count : ℕ) where
       EmitsWith f at (Emit first (suc count)) n e
   emits_further n (FirstValue i h) b = elim b [ ]
   emits_further n (Operand k h) b = elim b [ ]
-  emits_further n (BreakIf k end h) b = elim b [ ]
+  emits_further n (BreakIf k next h) b = elim b [ ]
   emits_further n (EmittedOperand k x h) b =
       let c = b.1 in
       (b.0, (c.0, gives_further c.0 (Emitted x) c.1, c.2, c.3, c.4))
@@ -108,8 +108,8 @@ module _ (f : Function) (at : Point) (s : Handles) (t : Tracks f at s) (st : Sta
       let x = unless_err (usable f s h) (Operand n h) e is in
       subst (BreaksWith f (record { at = at; statement = st }) n) x.1 (refl, plain, (at, u, out_of h x.0))
 
-  uses_break : IsFalse (is_loop st) → (hs : List ℕ) → ((i h : ℕ) → slice_get hs i ≡ Some h → UsesAt f at st at h) → check_uses f s n hs
-      ≡ Err e → Breaks
+  uses_break : IsFalse (is_loop st) → (hs : List ℕ) →
+      ((i h : ℕ) → slice_get hs i ≡ Some h → UsesAt f at st at h) → check_uses f s n hs ≡ Err e → Breaks
   uses_break plain [] u is = absurd cc
   uses_break plain (h ∷ hs) u is =
       ⊎_elim (use_breaks plain h (u 0 h refl)) (λ p. uses_break plain hs (λ i. u (suc i)) p.1)
@@ -263,9 +263,10 @@ module _ (f : Naming) (e : ScopeFault) where
         let at_end = all_number f f.function k1 x.0 (suc m + length xs) y.0 d there s1 at_continuing y.1 in
         let after : y.0 ≡ suc m + length xs + length ys = exact y.0 (suc m + length xs + length ys) 0 at_end
         (omega (arith, few, both)) in
+        let stands : y.0 ≡ suc m + length (xs ++ ys) = omega (arith, after, both) in
         ended f.function e m at (Loop b d o) refl
         (both_hold f.function xs ys (all_hold f k b at s t body) (all_hold f k1 d there s1 t1 continuing))
-        (ended_breaks s2 t2 y.0 (omega (arith, after, both)) o refl
+        (ended_breaks s2 t2 y.0 stands o refl
         (done_err (check_break f.function s2 n y.0 o) y.0 e y.2)))
         (onward_err last (check_all f k1 x.0 d s1) e x.2))
         (onward_err next (check_all f k n1 b s) e is)
@@ -450,7 +451,7 @@ module _ (f : Function) (ordered : (h : ℕ) → AllBelow h (operands_of (expres
           x.earlier i h (omega (arith, lt)) is.0
           (subst (λ j. IsOutOfScopeAt (before_local f j) entry_point h) same is.1))
       by (Operand k h) is = refl
-      by (BreakIf k end h) is = refl
+      by (BreakIf k next h) is = refl
       by (EmittedOperand k y h) is = refl
       by (GivenBefore k h) is = refl
       by (NeedsNoEmit k h) is = refl
@@ -471,11 +472,11 @@ module _ (f : Function) (ordered : (h : ℕ) → AllBelow h (operands_of (expres
         subst (λ n. BreaksWith f found.1 n (Operand k h))
             (omega arith) breaks,
       )
-      by (BreakIf k end h) breaks = (
+      by (BreakIf k next h) breaks = (
         found.0,
         found.1,
         found.2,
-        subst (λ n. BreaksWith f found.1 n (BreakIf k end h))
+        subst (λ n. BreaksWith f found.1 n (BreakIf k next h))
             (omega arith) breaks,
       )
       by (EmittedOperand k y h) breaks = (
@@ -510,7 +511,7 @@ module _ (f : Function) (ordered : (h : ℕ) → AllBelow h (operands_of (expres
           absurd (values_hold f ordered 0 f.first_values values i h is.0
           (subst (λ j. IsOutOfScopeAt (before_local f j) entry_point h) same is.1))
       before (Operand k h) is = body (Operand k h) is.0 is.1 is.2 is.3
-      before (BreakIf k end h) is = body (BreakIf k end h) is.0 is.1 is.2 is.3
+      before (BreakIf k next h) is = body (BreakIf k next h) is.0 is.1 is.2 is.3
       before (EmittedOperand k y h) is = body (EmittedOperand k y h) is.0 is.1 is.2 is.3
       before (GivenBefore k h) is = body (GivenBefore k h) is.0 is.1 is.2 is.3
       before (NeedsNoEmit k h) is = body (NeedsNoEmit k h) is.0 is.1 is.2 is.3

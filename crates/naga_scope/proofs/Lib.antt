@@ -28,6 +28,7 @@ pub mod Searching
 pub mod FirstLines
 pub mod LineOrder
 pub mod EarliestFound
+pub mod BreakNotes
 pub mod LineWrites
 pub mod BreakLines
 pub mod WrittenLines

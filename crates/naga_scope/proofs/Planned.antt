@@ -11,7 +11,8 @@ use Rattle.naga_info.specs.declared.info.ModuleInfo.{ModuleInfo}
 use Rattle.shader_runs.specs.Program.{expression_of, operands_of}
 use Rattle.shader_runs.specs.Premises.{AllBelow}
 use Rattle.shader_runs.specs.Scope.{Naming}
-use Rattle.shader_runs.specs.ScopeRules.{ScopeHolds}
+use Rattle.naga_scope.specs.ScopeFaults.{standing}
+use Rattle.shader_runs.specs.ScopeRules.{ScopeHolds, entry_point}
 use Rattle.shader_runs.proofs.ScopeRules.{scope_check_is_the_rules}
 use Rattle.module_meaning.specs.FunctionNumbers.{all_functions, all_infos}
 use Rattle.module_meaning.specs.FunctionShapes.{function_shape, function_shapes}
@@ -50,7 +51,9 @@ module _ (m : Module) (info : ModuleInfo) (f : ir_function.Function) (es : List 
       FirstFault (function_shape m info f es) fault
   checked_fault few fault is =
       let count = standing_count m info f es in
-      check_finds unnamed operands_before (omega (arith, few, count)) fault is
+      let shape = function_shape m info f es in
+      let small : length (standing shape entry_point shape.body) < 2 ^ 64 = omega (arith, few, count) in
+      check_finds unnamed operands_before small fault is
 
 -- a function that there is, with what is known of it, has a shape
 pub shape_found : (m : Module) (info : ModuleInfo) (fs : List ir_function.Function)

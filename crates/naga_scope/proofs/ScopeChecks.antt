@@ -61,9 +61,9 @@ module _ (f : Function) (s : Handles) (n : ℕ) where
   use_if_ok None = refl
   use_if_ok (Some h) = use_ok h
 
-  break_ok : (end : ℕ) (o : Option ℕ) → is_ok (check_break f s n end o) ≡ usable_if f s o
-  break_ok end None = refl
-  break_ok end (Some h) = unless_ok (usable f s h) (BreakIf n end h)
+  break_ok : (next : ℕ) (o : Option ℕ) → is_ok (check_break f s n next o) ≡ usable_if f s o
+  break_ok next None = refl
+  break_ok next (Some h) = unless_ok (usable f s h) (BreakIf n next h)
 
   operands_ok : (x : ℕ) (hs : List ℕ) → is_ok (check_operands f s n x hs) ≡ usable_all f s hs
   operands_ok x [] = refl
@@ -178,7 +178,8 @@ pub and_err : {T U : Type 0} (r : Result T ScopeFault) (q : Result U ScopeFault)
 and_err (Ok x) q e is = inr (refl, is)
 and_err (Err x) q e is = inl cc
 
-pub done_err : {T U : Type 0} (r : Result T ScopeFault) (x : U) (e : ScopeFault) → result_and r (Ok x) ≡ Err e → r ≡ Err e
+pub done_err : {T U : Type 0} (r : Result T ScopeFault) (x : U) (e : ScopeFault) →
+    result_and r (Ok x) ≡ Err e → r ≡ Err e
 done_err (Ok y) x e is = absurd cc
 done_err (Err y) x e is = cc
 

@@ -1,15 +1,13 @@
 -- The shape of a body has as many statements as the body.
-use Rattle.std.proofs.Common.{◌≡◌, ℕ, suc, Bool, true, false, List, Option, Some, None, refl, ap, ap₂, sym, ◌∙◌}
+use Rattle.std.proofs.Common.{◌≡◌, ℕ, suc, Bool, true, false, refl, ap, ap₂, sym, ◌∙◌}
 use Rattle.std.proofs.Common.{◌+◌, length, length-append}
 use Rattle.module_meaning.specs.ExpressionOperators.{ExpressionContext, is_atomic_pointer}
 use Rattle.module_meaning.specs.ExpressionContexts.{declared, types_known}
 use Rattle.module_meaning.specs.FunctionShapes.{cases_shape, function_shape, statement_shape, statements_shape}
-use Rattle.module_meaning.specs.OperatorTable.{Operator}
-use Rattle.module_meaning.specs.StatementShapes.{act_operator, asked, simple_shape, store_shape}
+use Rattle.module_meaning.specs.StatementShapes.{simple_shape, store_shape}
 use Rattle.naga_info.specs.declared.info.ExpressionInfo.{ExpressionInfo}
 use Rattle.naga_info.specs.declared.info.ModuleInfo.{ModuleInfo}
-use Rattle.naga_ir.specs.StatementTree.{SimpleStatement, emit, break, continue, return, kill, control_barrier}
-use Rattle.naga_ir.specs.StatementTree.{memory_barrier, store, call, StatementTree, simple, block, branch, switch}
+use Rattle.naga_ir.specs.StatementTree.{SimpleStatement, store, StatementTree, simple, block, branch, switch}
 use Rattle.naga_ir.specs.StatementTree.{loop, BlockTree, no_statements, statement, CaseTrees, no_cases, case}
 use Rattle.naga_ir.specs.declared.module.Function as ir_function
 use Rattle.naga_ir.specs.declared.module.Module.{Module}
@@ -19,25 +17,13 @@ use Rattle.shader_runs.specs.Program.{Function}
 use Rattle.shader_runs.specs.ScopeRules.{Point, after_turn, entry_point, following}
 
 module _ (f : Function) (a : ExpressionContext) where
-  asked_none : (o : Option Operator) (s : SimpleStatement) (at : Point) → length (inside f at (asked o s)) ≡ 0
-  asked_none None s at = refl
-  asked_none (Some operator) s at = refl
-
   store_none : (to_atomic : Bool) (p v : ℕ) (at : Point) → length (inside f at (store_shape to_atomic p v)) ≡ 0
   store_none true p v at = refl
   store_none false p v at = refl
 
   simple_none : (s : SimpleStatement) (at : Point) → length (inside f at (simple_shape a s)) ≡ 0
-  simple_none (emit first last) at = refl
-  simple_none break at = refl
-  simple_none continue at = refl
-  simple_none (return value) at = refl
-  simple_none kill at = refl
-  simple_none (control_barrier flags) at = refl
-  simple_none (memory_barrier flags) at = refl
   simple_none (store p v) at = store_none (is_atomic_pointer a p) p v at
-  simple_none (call function arguments outcome) at = refl
-  simple_none s at = asked_none (act_operator s) s at
+  simple_none _ at = refl
 
   mutual
     statement_count : (st : StatementTree) (at : Point) →

@@ -18,7 +18,8 @@ use Rattle.naga_scope.proofs.BreakLines.{Held, in_block, of_block}
 use Rattle.naga_scope.proofs.LineOrder.{not_before_itself}
 use Rattle.naga_scope.proofs.LineWrites.{In, in_either, in_left, in_one, in_right, itself, of_line, on_line, one_in}
 use Rattle.naga_scope.proofs.Sweeping.{among_one, one_among}
-use Rattle.naga_scope.specs.FirstLines.{block_breaks, function_writes, handles_to, local_writes, statement_writes, writes_at}
+use Rattle.naga_scope.specs.FirstLines.{block_breaks, function_writes, handles_to, local_writes}
+use Rattle.naga_scope.specs.FirstLines.{statement_writes, writes_at}
 use Rattle.naga_scope.specs.InOrder.{break_root, line_roots, own_roots, roots_with, trees_in, trees_inside}
 use Rattle.naga_scope.specs.Lines.{break_at, is_up_to, roots_at}
 use Rattle.naga_scope.specs.Marks.{is_one_of}

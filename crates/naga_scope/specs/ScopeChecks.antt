@@ -2,7 +2,7 @@
 -- by handle, a statement before those in its blocks, and a loop's `break if` after them.
 --
 -- Throughout, f is a function, with its names where a naming is taken, s are the handles in scope, k
--- is how many names have been given, n the number of a statement, end that of the one that would
+-- is how many names have been given, n the number of a statement, next that of the one that would
 -- stand after a loop, h a handle, e an expression, st a statement, and a, b and d are bodies.
 use Rattle.std.specs.Prelude.{ℕ, suc, Bool, true, false, List, [], ◌∷◌, Option, Some, None, Result}
 use Rattle.std.specs.Prelude.{Ok, Err}
@@ -49,9 +49,9 @@ check_use_if f s n None = Ok tt
 check_use_if f s n (Some h) = check_use f s n h
 
 -- of the `break if` of a loop, after which the statement with the second number would stand
-abbrev pub check_break : Function → Handles → (n end : ℕ) → Option ℕ → Checked
-check_break f s n end None = Ok tt
-check_break f s n end (Some h) = unless (usable f s h) (BreakIf n end h)
+abbrev pub check_break : Function → Handles → (n next : ℕ) → Option ℕ → Checked
+check_break f s n next None = Ok tt
+check_break f s n next (Some h) = unless (usable f s h) (BreakIf n next h)
 
 -- ---- what is given
 -- the operands of a handle that an Emit binds

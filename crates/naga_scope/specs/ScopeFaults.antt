@@ -82,8 +82,8 @@ EmitsOther f s h =
 abbrev pub BreaksWith : Function → Standing → (n : ℕ) → ScopeFault → Type 0
 BreaksWith f s n (FirstValue i h) = ⊥
 BreaksWith f s n (Operand k h) = (k ≡ n) × IsFalse (is_loop s.statement) × UsesOutOfScope f s h
-BreaksWith f s n (BreakIf k end h) =
-    (k ≡ n) × (end ≡ number_after f n s) × IsTrue (is_loop s.statement) × UsesOutOfScope f s h
+BreaksWith f s n (BreakIf k next h) =
+    (k ≡ n) × (next ≡ number_after f n s) × IsTrue (is_loop s.statement) × UsesOutOfScope f s h
 BreaksWith f s n (EmittedOperand k x h) = (k ≡ n) × BindsOutOfScope f s x h
 BreaksWith f s n (GivenBefore k h) = (k ≡ n) × GivesAgain f s h
 BreaksWith f s n (NeedsNoEmit k h) = (k ≡ n) × EmitsOther f s h

@@ -15,6 +15,7 @@ use naga_ir::{Block, Expression, Handle, Statement, SwitchCase};
 /// Notes what the `break if`s in a block write, the first statement of which has this number, and
 /// gives the number of the statement that would stand after it.
 #[cycle(breaks)]
+#[tactic(auto, using(naga_ir::proofs::Listed::first_of, naga_ir::proofs::Listed::none_of, crate::proofs::FirstLines::noted_none, crate::proofs::FirstLines::noted_all, crate::proofs::BreakNotes::next_small, crate::proofs::BreakNotes::next_count, crate::proofs::BreakNotes::next_noted, crate::proofs::BreakNotes::next_smaller))]
 pub(crate) fn note_breaks(lines: &mut [Option<Line>], block: &Block, first: usize) -> usize
     requires small { first + length (trees_in block.now) < 2 ^ 64 }
     ensures number { result ≡ first + length (trees_in block.now) }
@@ -29,6 +30,7 @@ pub(crate) fn note_breaks(lines: &mut [Option<Line>], block: &Block, first: usiz
 
 /// The same of those in the statement with this number, its own among them.
 #[cycle(breaks)]
+#[tactic(auto, using(crate::proofs::FirstLines::writes_none))]
 fn note_in(lines: &mut [Option<Line>], statement: &Statement, number: usize) -> usize
     requires small { suc number + length (trees_inside (tree_of statement.now)) < 2 ^ 64 }
     ensures number { result ≡ suc number + length (trees_inside (tree_of statement.now)) }
@@ -49,6 +51,7 @@ fn note_in(lines: &mut [Option<Line>], statement: &Statement, number: usize) -> 
 
 /// The same of two blocks, the second of which stands after the first.
 #[cycle(breaks)]
+#[tactic(auto, using(crate::proofs::BreakNotes::both_count, crate::proofs::BreakNotes::both_noted, crate::proofs::BreakNotes::first_small, crate::proofs::BreakNotes::second_small))]
 fn note_both(lines: &mut [Option<Line>], first: &Block, second: &Block, number: usize) -> usize
     requires small { number + length (trees_in first.now ++ trees_in second.now) < 2 ^ 64 }
     ensures number { result ≡ number + length (trees_in first.now ++ trees_in second.now) }
@@ -61,6 +64,7 @@ fn note_both(lines: &mut [Option<Line>], first: &Block, second: &Block, number: 
 
 /// The same of the loop with this number.
 #[cycle(breaks)]
+#[tactic(auto, using(crate::proofs::FirstLines::writes_then))]
 fn note_loop(
     lines: &mut [Option<Line>],
     body: &Block,
@@ -79,6 +83,7 @@ fn note_loop(
 }
 
 /// Notes what a `break if`, which stands on this line, writes.
+#[tactic(auto, using(crate::proofs::FirstLines::writes_none))]
 fn note_break(lines: &mut [Option<Line>], break_if: Option<Handle<Expression>>, line: &Line)
     ensures { WritesAlso lines.old (writes_at line.now (option_to_list break_if)) lines.new }
 {
@@ -89,6 +94,7 @@ fn note_break(lines: &mut [Option<Line>], break_if: Option<Handle<Expression>>, 
 
 /// The same of cases, the first statement of which has this number.
 #[cycle(breaks)]
+#[tactic(auto, using(naga_ir::proofs::Listed::first_case, crate::proofs::FirstLines::noted_none, crate::proofs::FirstLines::noted_all, crate::proofs::BreakNotes::next_case_small, crate::proofs::BreakNotes::next_case_count, crate::proofs::BreakNotes::next_case_noted, crate::proofs::BreakNotes::next_case_smaller))]
 fn note_cases(lines: &mut [Option<Line>], cases: &[SwitchCase], first: usize) -> usize
     requires small { first + length (case_trees (cases_of cases.now)) < 2 ^ 64 }
     ensures number { result ≡ first + length (case_trees (cases_of cases.now)) }
