@@ -2,8 +2,9 @@
 --
 -- Throughout, h is a handle that is written on a line, n the number of the first of several statements,
 -- j that of one.
-use Rattle.std.proofs.Common.{◌≡◌, ◌⊎◌, inl, inr, ℕ, suc, zero, ◌+◌, true, List, [], ◌∷◌, ◌++◌, Some, refl}
+use Rattle.std.proofs.Common.{◌≡◌, ◌⊎◌, inl, inr, ⊎_elim, ℕ, suc, zero, ◌+◌, true, List, [], ◌∷◌, ◌++◌, Some, refl}
 use Rattle.std.proofs.Common.{sym, ap, arith, length, slice_get, subst}
+use Rattle.std.proofs.lemmas.Bool.{false≢true}
 use Rattle.std.proofs.lemmas.Option.{same_Some}
 use Rattle.std.specs.Option.{option_to_list}
 use Rattle.naga_ir.specs.StatementTree.{StatementTree, simple, block, branch, switch, loop, BlockTree}
@@ -64,70 +65,80 @@ module _ (h : ℕ) (line : Line) where
       inl (subst (λ j. Breaks j st) same (subst (Breaks j) (sym (same_Some st tree at)) own))
   held_next n st sts (suc k, j, tree, is, at, own) = inr (k, j, tree, omega (arith, is), at, own)
 
+  nothing_held : (n : ℕ) → Held n [] → ⊥
+  nothing_held n (k, j, st, is, at, own) = absurd cc
+
+  -- of two blocks, one after the other
+  both_held : (n : ℕ) (a b : BlockTree) → (In (block_breaks n a) (line, h) → Held n (trees_in a)) →
+      (In (block_breaks (n + length (trees_in a)) b) (line, h) → Held (n + length (trees_in a)) (trees_in b)) →
+      In (block_breaks n a ++ block_breaks (n + length (trees_in a)) b) (line, h) →
+      Held n (trees_in a ++ trees_in b)
+  both_held n a b first second is =
+      ⊎_elim
+      (λ is. held_left n (trees_in a) (trees_in b) (first is))
+      (λ is. held_right n (trees_in a) (trees_in b) (second is))
+      (in_either (line, h) (block_breaks n a) (block_breaks (n + length (trees_in a)) b) is)
+
+  held_both : (n : ℕ) (a b : BlockTree) → (Held n (trees_in a) → In (block_breaks n a) (line, h)) →
+      (Held (n + length (trees_in a)) (trees_in b) → In (block_breaks (n + length (trees_in a)) b) (line, h)) →
+      Held n (trees_in a ++ trees_in b) →
+      In (block_breaks n a ++ block_breaks (n + length (trees_in a)) b) (line, h)
+  held_both n a b first second held =
+      let xs = block_breaks n a in
+      let ys = block_breaks (n + length (trees_in a)) b in
+      ⊎_elim
+      (λ held. in_left (line, h) xs ys (first held))
+      (λ held. in_right (line, h) xs ys (second held))
+      (held_either n (trees_in a) (trees_in b) held)
+
   mutual
     of_statement : (n : ℕ) (st : StatementTree) → In (statement_breaks n st) (line, h) →
         Breaks n st ⊎ Held (suc n) (trees_inside st)
     of_statement n (simple st) is = absurd is
     of_statement n (block b) is = inr (of_block (suc n) b is)
-    of_statement n (branch c a b) is = inr (of_both (suc n) a b is)
+    of_statement n (branch c a b) is = inr (both_held (suc n) a b (λ is. of_block (suc n) a is)
+        (λ is. of_block (suc n + length (trees_in a)) b is) is)
     of_statement n (switch s cs) is = inr (of_cases (suc n) cs is)
     of_statement n (loop a b e) is =
-        by (in_either (line, h) (block_breaks (suc n) a ++ block_breaks (suc n + length (trees_in a)) b)
-        (writes_at (BreakIf n (suc n + length (trees_in a ++ trees_in b))) (option_to_list e)) is)
-      where
-        by : In (block_breaks (suc n) a ++ block_breaks (suc n + length (trees_in a)) b) (line, h)
-            ⊎ In (writes_at (BreakIf n (suc n + length (trees_in a ++ trees_in b))) (option_to_list e)) (line, h) →
-            Breaks n (loop a b e) ⊎ Held (suc n) (trees_in a ++ trees_in b)
-        by (inl is) = inr (of_both (suc n) a b is)
-        by (inr is) =
-            let of = of_line h (BreakIf n (suc n + length (trees_in a ++ trees_in b))) line (option_to_list e) is in
-            inl (sym of.0, of.1)
-
-    of_both : (n : ℕ) (a b : BlockTree) → In (block_breaks n a ++ block_breaks (n + length (trees_in a)) b) (line, h) →
-        Held n (trees_in a ++ trees_in b)
-    of_both n a b is = by (in_either (line, h) (block_breaks n a) (block_breaks (n + length (trees_in a)) b) is)
-      where
-        by : In (block_breaks n a) (line, h) ⊎ In (block_breaks (n + length (trees_in a)) b) (line, h) →
-            Held n (trees_in a ++ trees_in b)
-        by (inl is) = held_left n (trees_in a) (trees_in b) (of_block n a is)
-        by (inr is) = held_right n (trees_in a) (trees_in b) (of_block (n + length (trees_in a)) b is)
+        let there = BreakIf n (suc n + length (trees_in a ++ trees_in b)) in
+        ⊎_elim
+        (λ is. inr (both_held (suc n) a b (λ is. of_block (suc n) a is)
+        (λ is. of_block (suc n + length (trees_in a)) b is) is))
+        (λ is. let of = of_line h there line (option_to_list e) is in inl (sym of.0, of.1))
+        (in_either (line, h) (block_breaks (suc n) a ++ block_breaks (suc n + length (trees_in a)) b)
+        (writes_at there (option_to_list e)) is)
 
     pub of_block : (n : ℕ) (b : BlockTree) → In (block_breaks n b) (line, h) → Held n (trees_in b)
     of_block n no_statements is = absurd is
     of_block n (statement st b) is =
-        by (in_either (line, h) (statement_breaks n st) (block_breaks (suc n + length (trees_inside st)) b) is)
-      where
-        inner : Breaks n st ⊎ Held (suc n) (trees_inside st) → Held n (st ∷ (trees_inside st ++ trees_in b))
-        inner (inl own) = held_first n st (trees_inside st ++ trees_in b) own
-        inner (inr held) = held_later n st (trees_inside st ++ trees_in b)
-            (held_left (suc n) (trees_inside st) (trees_in b) held)
-
-        by : In (statement_breaks n st) (line, h) ⊎ In (block_breaks (suc n + length (trees_inside st)) b) (line, h) →
-            Held n (st ∷ (trees_inside st ++ trees_in b))
-        by (inl is) = inner (of_statement n st is)
-        by (inr is) = held_later n st (trees_inside st ++ trees_in b)
-            (held_right (suc n) (trees_inside st) (trees_in b) (of_block (suc n + length (trees_inside st)) b is))
+        let xs = trees_inside st in
+        let ys = trees_in b in
+        ⊎_elim
+        (λ is. ⊎_elim (λ own. held_first n st (xs ++ ys) own)
+        (λ held. held_later n st (xs ++ ys) (held_left (suc n) xs ys held))
+        (of_statement n st is))
+        (λ is. held_later n st (xs ++ ys) (held_right (suc n) xs ys (of_block (suc n + length xs) b is)))
+        (in_either (line, h) (statement_breaks n st) (block_breaks (suc n + length xs) b) is)
 
     of_cases : (n : ℕ) (cs : CaseTrees) → In (case_breaks n cs) (line, h) → Held n (case_trees cs)
     of_cases n no_cases is = absurd is
     of_cases n (case v b falls cs) is =
-        by (in_either (line, h) (block_breaks n b) (case_breaks (n + length (trees_in b)) cs) is)
-      where
-        by : In (block_breaks n b) (line, h) ⊎ In (case_breaks (n + length (trees_in b)) cs) (line, h) →
-            Held n (trees_in b ++ case_trees cs)
-        by (inl is) = held_left n (trees_in b) (case_trees cs) (of_block n b is)
-        by (inr is) = held_right n (trees_in b) (case_trees cs) (of_cases (n + length (trees_in b)) cs is)
+        ⊎_elim
+        (λ is. held_left n (trees_in b) (case_trees cs) (of_block n b is))
+        (λ is. held_right n (trees_in b) (case_trees cs) (of_cases (n + length (trees_in b)) cs is))
+        (in_either (line, h) (block_breaks n b) (case_breaks (n + length (trees_in b)) cs) is)
 
   mutual
     in_statement : (n : ℕ) (st : StatementTree) → Breaks n st ⊎ Held (suc n) (trees_inside st) →
         In (statement_breaks n st) (line, h)
-    in_statement n (simple st) (inl own) = absurd cc
-    in_statement n (simple st) (inr held) = absurd cc
-    in_statement n (block b) (inl own) = absurd cc
+    in_statement n (simple st) (inl own) = absurd (false≢true own.1)
+    in_statement n (simple st) (inr held) = absurd (nothing_held (suc n) held)
+    in_statement n (block b) (inl own) = absurd (false≢true own.1)
     in_statement n (block b) (inr held) = in_block (suc n) b held
-    in_statement n (branch c a b) (inl own) = absurd cc
-    in_statement n (branch c a b) (inr held) = in_both (suc n) a b held
-    in_statement n (switch s cs) (inl own) = absurd cc
+    in_statement n (branch c a b) (inl own) = absurd (false≢true own.1)
+    in_statement n (branch c a b) (inr held) = held_both (suc n) a b (λ held. in_block (suc n) a held)
+        (λ held. in_block (suc n + length (trees_in a)) b held) held
+    in_statement n (switch s cs) (inl own) = absurd (false≢true own.1)
     in_statement n (switch s cs) (inr held) = in_cases (suc n) cs held
     in_statement n (loop a b e) (inl own) =
         let there = BreakIf n (suc n + length (trees_in a ++ trees_in b)) in
@@ -138,43 +149,29 @@ module _ (h : ℕ) (line : Line) where
     in_statement n (loop a b e) (inr held) =
         in_left (line, h) (block_breaks (suc n) a ++ block_breaks (suc n + length (trees_in a)) b)
         (writes_at (BreakIf n (suc n + length (trees_in a ++ trees_in b))) (option_to_list e))
-        (in_both (suc n) a b held)
-
-    in_both : (n : ℕ) (a b : BlockTree) → Held n (trees_in a ++ trees_in b) →
-        In (block_breaks n a ++ block_breaks (n + length (trees_in a)) b) (line, h)
-    in_both n a b held = by (held_either n (trees_in a) (trees_in b) held)
-      where
-        by : Held n (trees_in a) ⊎ Held (n + length (trees_in a)) (trees_in b) →
-            In (block_breaks n a ++ block_breaks (n + length (trees_in a)) b) (line, h)
-        by (inl held) = in_left (line, h) (block_breaks n a) (block_breaks (n + length (trees_in a)) b)
-            (in_block n a held)
-        by (inr held) = in_right (line, h) (block_breaks n a) (block_breaks (n + length (trees_in a)) b)
-            (in_block (n + length (trees_in a)) b held)
+        (held_both (suc n) a b (λ held. in_block (suc n) a held)
+        (λ held. in_block (suc n + length (trees_in a)) b held) held)
 
     pub in_block : (n : ℕ) (b : BlockTree) → Held n (trees_in b) → In (block_breaks n b) (line, h)
-    in_block n no_statements held = absurd cc
-    in_block n (statement st b) held = by (held_next n st (trees_inside st ++ trees_in b) held)
-      where
-        further : Held (suc n) (trees_inside st) ⊎ Held (suc n + length (trees_inside st)) (trees_in b) →
-            In (statement_breaks n st ++ block_breaks (suc n + length (trees_inside st)) b) (line, h)
-        further (inl held) = in_left (line, h) (statement_breaks n st)
-            (block_breaks (suc n + length (trees_inside st)) b) (in_statement n st (inr held))
-        further (inr held) = in_right (line, h) (statement_breaks n st)
-            (block_breaks (suc n + length (trees_inside st)) b) (in_block (suc n + length (trees_inside st)) b held)
-
-        by : Breaks n st ⊎ Held (suc n) (trees_inside st ++ trees_in b) →
-            In (statement_breaks n st ++ block_breaks (suc n + length (trees_inside st)) b) (line, h)
-        by (inl own) = in_left (line, h) (statement_breaks n st)
-            (block_breaks (suc n + length (trees_inside st)) b) (in_statement n st (inl own))
-        by (inr held) = further (held_either (suc n) (trees_inside st) (trees_in b) held)
+    in_block n no_statements held = nothing_held n held
+    in_block n (statement st b) held =
+        let after = suc n + length (trees_inside st) in
+        let xs = statement_breaks n st in
+        let ys = block_breaks after b in
+        ⊎_elim
+        (λ own. in_left (line, h) xs ys (in_statement n st (inl own)))
+        (λ held. ⊎_elim
+        (λ held. in_left (line, h) xs ys (in_statement n st (inr held)))
+        (λ held. in_right (line, h) xs ys (in_block after b held))
+        (held_either (suc n) (trees_inside st) (trees_in b) held))
+        (held_next n st (trees_inside st ++ trees_in b) held)
 
     in_cases : (n : ℕ) (cs : CaseTrees) → Held n (case_trees cs) → In (case_breaks n cs) (line, h)
-    in_cases n no_cases held = absurd cc
-    in_cases n (case v b falls cs) held = by (held_either n (trees_in b) (case_trees cs) held)
-      where
-        by : Held n (trees_in b) ⊎ Held (n + length (trees_in b)) (case_trees cs) →
-            In (block_breaks n b ++ case_breaks (n + length (trees_in b)) cs) (line, h)
-        by (inl held) = in_left (line, h) (block_breaks n b) (case_breaks (n + length (trees_in b)) cs)
-            (in_block n b held)
-        by (inr held) = in_right (line, h) (block_breaks n b) (case_breaks (n + length (trees_in b)) cs)
-            (in_cases (n + length (trees_in b)) cs held)
+    in_cases n no_cases held = nothing_held n held
+    in_cases n (case v b falls cs) held =
+        let xs = block_breaks n b in
+        let ys = case_breaks (n + length (trees_in b)) cs in
+        ⊎_elim
+        (λ held. in_left (line, h) xs ys (in_block n b held))
+        (λ held. in_right (line, h) xs ys (in_cases (n + length (trees_in b)) cs held))
+        (held_either n (trees_in b) (case_trees cs) held)

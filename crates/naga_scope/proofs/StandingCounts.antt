@@ -1,5 +1,5 @@
 -- The shape of a body has as many statements as the body.
-use Rattle.std.proofs.Common.{◌≡◌, ℕ, suc, Bool, true, false, refl, ap, ap₂, sym, ◌∙◌}
+use Rattle.std.proofs.Common.{◌≡◌, ℕ, suc, Bool, true, false, List, refl, ap, ap₂, sym, ◌∙◌}
 use Rattle.std.proofs.Common.{◌+◌, length, length-append}
 use Rattle.module_meaning.specs.ExpressionOperators.{ExpressionContext, is_atomic_pointer}
 use Rattle.module_meaning.specs.ExpressionContexts.{declared, types_known}

@@ -110,7 +110,7 @@ module _ (bound : ℕ → Bool) (f : Function) where
           (ap (λ o. is_one_of (option_to_list (option_and_then (λ l. l.init) o)) h) one.2 ∙ of.1)
       by (inr is) =
           let one = in_one statement_one (line, h) 0 (trees_in f.body) is in
-          let of = of_line h (Statement (0 + one.0)) line (own_roots bound one.1) one.3 in
+          let of = of_line h (Statement (0 + one.0)) line (line_roots bound one.1) one.3 in
           let here : Statement one.0 ≡ line = ap Statement (sym (none_more one.0)) ∙ of.0 in
           subst (λ l. is_one_of (roots_at bound f l) h ≡ true) here
           (ap (λ o. is_one_of (option_map_or (line_roots bound) o []) h) one.2 ∙ of.1)
