@@ -34,7 +34,6 @@ pub enum Declared {
 }
 
 /// Whether a line stands before the other.
-#[tactic(auto, using(crate::proofs::FirstInText::first_to_plan, crate::proofs::FoundFaults::check_finds, crate::proofs::WrittenLines::to_line, crate::proofs::BreakNotes::both_noted))]
 pub(crate) fn is_before(line: Line, other: Line) -> bool
     ensures { result ≡ is_before line other }
 {
