@@ -20,7 +20,7 @@ use Rattle.naga_wgsl_out.specs.Unwritable.{IsFirst, StandsIn}
 use Rattle.naga_wgsl_out.specs.Writing.{AppendsItsText, written_text}
 use Rattle.naga_wgsl_out.specs.declared.unwritable.Refusal.{Refusal}
 use Rattle.module_answers.specs.Wants.{IsAnswerOrWant}
-use Rattle.module_answers.specs.Written.{AnswersWriting, TellsBeside}
+use Rattle.module_answers.specs.WriteOutcomes.{AnswersWriting, TellsBeside}
 
 -- ---- what is told beside an answer
 -- what is found is told beside an error that tells of the module, of which something is the reason

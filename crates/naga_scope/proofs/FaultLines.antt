@@ -1,5 +1,6 @@
 -- The lines on which statements break rules of scope, and the first of several.
-use Rattle.std.proofs.Common.{◌≡◌, ◌⊎◌, inl, inr, ⊎_elim, ℕ, zero, suc, ◌+◌, ◌<◌, ◌≤◌, Bool, true, false}
+use Rattle.std.proofs.Common.{◌≡◌, ◌⊎◌, inl, inr, ⊎_elim, ℕ, zero, suc, ◌+◌, ◌<◌, ◌≤◌, Bool, true}
+use Rattle.std.proofs.Common.{false}
 use Rattle.std.proofs.Common.{List, [], ◌∷◌, ◌++◌, length, Some, refl, sym, subst, ap, ◌∙◌, arith}
 use Rattle.std.proofs.Common.{length-append}
 use Rattle.std.proofs.lemmas.Bool.{false≢true, leb-true, ltb-true}
@@ -9,20 +10,24 @@ use Rattle.naga_scope.specs.Earliest.{line_of_fault}
 use Rattle.naga_scope.specs.Lines.{is_before}
 use Rattle.naga_scope.specs.declared.lines.Line.{Line}
 use Rattle.naga_scope.specs.declared.lines.Line.TheVariants as line
-use Rattle.naga_scope.specs.ScopeFaults.{Standing, inside, standing, case_standing, IsOperandOf, is_loop}
+use Rattle.naga_scope.specs.ScopeFaults.{Standing, inside, standing, case_standing, IsOperandOf}
+use Rattle.naga_scope.specs.ScopeFaults.{is_loop}
 use Rattle.naga_scope.specs.ScopeFaults.{BreaksWith, IsScopeFault, number_after}
 use Rattle.naga_scope.specs.declared.scope_faults.ScopeFault.{ScopeFault}
 use Rattle.naga_scope.specs.declared.scope_faults.ScopeFault.TheVariants.{FirstValue, Operand}
 use Rattle.naga_scope.specs.declared.scope_faults.ScopeFault.TheVariants.{BreakIf, EmittedOperand}
-use Rattle.naga_scope.specs.declared.scope_faults.ScopeFault.TheVariants.{GivenBefore, NeedsNoEmit}
+use Rattle.naga_scope.specs.declared.scope_faults.ScopeFault.TheVariants.{IntroducedBefore}
+use Rattle.naga_scope.specs.declared.scope_faults.ScopeFault.TheVariants.{NeedsNoEmit}
 use Rattle.naga_scope.proofs.HeldScope.{AllHold, OwnHolds, own_breaks_none}
 use Rattle.naga_scope.proofs.LineOrder.{Ends, ends_of, not_before_itself}
-use Rattle.shader_runs.specs.Program.{Statement, Block, If, Switch, Loop, Statements, end, then, Cases}
+use Rattle.shader_runs.specs.Program.{Statement, Block, If, Switch, Loop, Statements, end, then}
+use Rattle.shader_runs.specs.Program.{Cases}
 use Rattle.shader_runs.specs.Program.{no_case, case, Function, binds}
 use Rattle.shader_runs.specs.ScopeRules.{IntroducedHandle, Emitted, Point, entry_point}
 use Rattle.shader_runs.specs.ScopeRules.{following, after_turn, WasIntroduced}
-use Rattle.shader_runs.specs.ScopeFaults.{UsesAt, emitted_operand, GivesAt, emitted, as_result}
-use Rattle.shader_runs.specs.ScopeFaults.{BreaksScope, out_of_scope, given_before, not_emittable}
+use Rattle.shader_runs.specs.ScopeFaults.{UsesAt, emitted_operand, IntroducesAt, emitted, as_result}
+use Rattle.shader_runs.specs.ScopeFaults.{BreaksScope, out_of_scope, introduced_before}
+use Rattle.shader_runs.specs.ScopeFaults.{not_emittable}
 use Rattle.shader_runs.specs.ScopeFaults.{IsCaseBody, this_case, later_case, StandsIn, stands_first}
 use Rattle.shader_runs.specs.ScopeFaults.{later, in_block, in_accept, in_reject, in_case, in_loop}
 use Rattle.shader_runs.specs.ScopeFaults.{in_continuing, HasScopeFault, in_first_value, in_body}
@@ -116,7 +121,7 @@ after_loop m next b from to = never (line.BreakIf m next) b (clash b from to)
 
 -- ---- the line of a fault
 gives_nothing : (f : Function) (at : Point) (st : Statement) (there : Point) (g : IntroducedHandle) →
-    GivesAt f at st there g → IsTrue (is_loop st) → ⊥
+    IntroducesAt f at st there g → IsTrue (is_loop st) → ⊥
 gives_nothing f at st there g (emitted i l) is = absurd cc
 gives_nothing f at st there g as_result is = absurd cc
 
@@ -129,7 +134,7 @@ module _ (f : Function) (s : Standing) (n : ℕ) where
       let is : next ≡ suc n + length (inside f s.at s.statement) = breaks.1 in
       (omega (arith, same), omega (arith, same, is))
   from_line (EmittedOperand k x h) breaks = let same = breaks.0 in omega (arith, same)
-  from_line (GivenBefore k h) breaks = let same = breaks.0 in omega (arith, same)
+  from_line (IntroducedBefore k h) breaks = let same = breaks.0 in omega (arith, same)
   from_line (NeedsNoEmit k h) breaks = let same = breaks.0 in omega (arith, same)
 
   up_to_line : (m : ℕ) → suc n + length (inside f s.at s.statement) ≤ m → (c : ScopeFault) → BreaksWith f s n c →
@@ -141,7 +146,7 @@ module _ (f : Function) (s : Standing) (n : ℕ) where
       let is : next ≡ suc n + length (inside f s.at s.statement) = breaks.1 in
       (omega (arith, same, is), omega (arith, is, le))
   up_to_line m le (EmittedOperand k x h) breaks = let same = breaks.0 in omega (arith, same, le)
-  up_to_line m le (GivenBefore k h) breaks = let same = breaks.0 in omega (arith, same, le)
+  up_to_line m le (IntroducedBefore k h) breaks = let same = breaks.0 in omega (arith, same, le)
   up_to_line m le (NeedsNoEmit k h) breaks = let same = breaks.0 in omega (arith, same, le)
 
   -- of what is no loop it is the statement's,
@@ -150,7 +155,7 @@ module _ (f : Function) (s : Standing) (n : ℕ) where
   own_line plain (Operand k h) breaks = ap line.Statement breaks.0
   own_line plain (BreakIf k next h) breaks = absurd (false≢true (sym plain ∙ breaks.2))
   own_line plain (EmittedOperand k x h) breaks = ap line.Statement breaks.0
-  own_line plain (GivenBefore k h) breaks = ap line.Statement breaks.0
+  own_line plain (IntroducedBefore k h) breaks = ap line.Statement breaks.0
   own_line plain (NeedsNoEmit k h) breaks = ap line.Statement breaks.0
 
   -- and of a loop that of its `break if`
@@ -161,7 +166,7 @@ module _ (f : Function) (s : Standing) (n : ℕ) where
   loop_line loops (BreakIf k next h) breaks = λ i. line.BreakIf (breaks.0 i) (breaks.1 i)
   loop_line loops (EmittedOperand k x h) breaks =
       let c = breaks.1 in absurd (gives_nothing f s.at s.statement c.0 (Emitted x) c.1 loops)
-  loop_line loops (GivenBefore k h) breaks =
+  loop_line loops (IntroducedBefore k h) breaks =
       let c = breaks.1 in absurd (gives_nothing f s.at s.statement c.0 c.1 c.2 loops)
   loop_line loops (NeedsNoEmit k h) breaks =
       let c = breaks.1 in absurd (gives_nothing f s.at s.statement c.0 (Emitted h) c.1 loops)
@@ -222,7 +227,7 @@ mutual
 
 -- ---- the first of several
 binds_operand : (f : Function) (at : Point) (st : Statement) (there : Point) (x h : ℕ) →
-    GivesAt f at st there (Emitted x) →
+    IntroducesAt f at st there (Emitted x) →
     IsTrue (binds f x) → IsOperandOf f x h → UsesAt f at st there h
 binds_operand f at st there x h (emitted i l) bound is = emitted_operand i is.0 l bound is.1
 
@@ -233,8 +238,8 @@ breaks_scope f s n (Operand k h) x = let c = x.2 in out_of_scope c.0 h c.1 c.2
 breaks_scope f s n (BreakIf k next h) x = let c = x.3 in out_of_scope c.0 h c.1 c.2
 breaks_scope f s n (EmittedOperand k y h) x =
     let c = x.1 in out_of_scope c.0 h (binds_operand f s.at s.statement c.0 y h c.1 c.2 c.3) c.4
-breaks_scope f s n (GivenBefore k h) x =
-    let c = x.1 in given_before c.0 c.1 c.2 (subst (WasIntroduced f c.0) (sym c.3) c.4)
+breaks_scope f s n (IntroducedBefore k h) x =
+    let c = x.1 in introduced_before c.0 c.1 c.2 (subst (WasIntroduced f c.0) (sym c.3) c.4)
 breaks_scope f s n (NeedsNoEmit k h) x = let c = x.1 in not_emittable c.0 h c.1 c.2
 
 -- a statement of this list, the first of which has this number, breaks a rule with the fault,
@@ -421,5 +426,5 @@ fault_breaks f (FirstValue i h) x = in_first_value i h x.0 x.1
 fault_breaks f (Operand k h) x = in_the_body f (Operand k h) x
 fault_breaks f (BreakIf k next h) x = in_the_body f (BreakIf k next h) x
 fault_breaks f (EmittedOperand k y h) x = in_the_body f (EmittedOperand k y h) x
-fault_breaks f (GivenBefore k h) x = in_the_body f (GivenBefore k h) x
+fault_breaks f (IntroducedBefore k h) x = in_the_body f (IntroducedBefore k h) x
 fault_breaks f (NeedsNoEmit k h) x = in_the_body f (NeedsNoEmit k h) x

@@ -17,17 +17,22 @@ use Rattle.naga_scope.specs.ScopeChecks.{check_use_if, check_operands, check_bou
 use Rattle.naga_scope.specs.ScopeChecks.{check_emit, check_result, check_statement, check_all}
 use Rattle.naga_scope.specs.ScopeChecks.{check_cases, check_first, check_first_values}
 use Rattle.naga_scope.specs.ScopeChecks.{check_function}
-use Rattle.naga_scope.specs.ScopeFaults.{Standing, inside, standing, case_standing, IsOperandOf, is_loop}
+use Rattle.naga_scope.specs.ScopeFaults.{Standing, inside, standing, case_standing, IsOperandOf}
+use Rattle.naga_scope.specs.ScopeFaults.{is_loop}
 use Rattle.naga_scope.specs.ScopeFaults.{BreaksWith, IsScopeFault}
 use Rattle.naga_scope.specs.declared.scope_faults.ScopeFault.{ScopeFault}
 use Rattle.naga_scope.specs.declared.scope_faults.ScopeFault.TheVariants.{FirstValue, Operand}
 use Rattle.naga_scope.specs.declared.scope_faults.ScopeFault.TheVariants.{BreakIf, EmittedOperand}
-use Rattle.naga_scope.specs.declared.scope_faults.ScopeFault.TheVariants.{GivenBefore, NeedsNoEmit}
-use Rattle.naga_scope.proofs.FaultLines.{Among, FirstAmong, ended, first_left, first_right, inner, inside_loop}
+use Rattle.naga_scope.specs.declared.scope_faults.ScopeFault.TheVariants.{IntroducedBefore}
+use Rattle.naga_scope.specs.declared.scope_faults.ScopeFault.TheVariants.{NeedsNoEmit}
+use Rattle.naga_scope.proofs.FaultLines.{Among, FirstAmong, ended, first_left, first_right, inner}
+use Rattle.naga_scope.proofs.FaultLines.{inside_loop}
 use Rattle.naga_scope.proofs.FaultLines.{itself, nested_all, nested_first, nested_inside, never}
 use Rattle.naga_scope.proofs.HeldScope.{all_hold, both_hold, statement_holds, used}
-use Rattle.naga_scope.proofs.ScopeChecks.{IsNumber, all_number, all_ok, and_err, done_err, emitted_ok}
-use Rattle.naga_scope.proofs.ScopeChecks.{first_ok, first_values_ok, further_is, next_is, onward_err}
+use Rattle.naga_scope.proofs.ScopeChecks.{IsNumber, all_number, all_ok, and_err, done_err}
+use Rattle.naga_scope.proofs.ScopeChecks.{emitted_ok}
+use Rattle.naga_scope.proofs.ScopeChecks.{first_ok, first_values_ok, further_is, next_is}
+use Rattle.naga_scope.proofs.ScopeChecks.{onward_err}
 use Rattle.naga_scope.proofs.ScopeChecks.{statement_number, statement_ok, unless_err, use_ok}
 use Rattle.shader_runs.specs.Program.{Statement, Emit, Store, Block, If, Switch, Loop, Return, Act}
 use Rattle.shader_runs.specs.Program.{Jumps, Statements, end, then, Cases, no_case, case, Function}
@@ -41,7 +46,8 @@ use Rattle.shader_runs.specs.ScopeRules.{following_one, following, after_turn, W
 use Rattle.shader_runs.specs.ScopeRules.{handle_of}
 use Rattle.shader_runs.specs.ScopeFaults.{IsOutOfScopeAt, after_some, UsesAt}
 use Rattle.shader_runs.specs.ScopeFaults.{stored_pointer, stored_value, condition, selector}
-use Rattle.shader_runs.specs.ScopeFaults.{break_if, returned, operand, GivesAt, emitted, as_result}
+use Rattle.shader_runs.specs.ScopeFaults.{break_if, returned, operand, IntroducesAt, emitted}
+use Rattle.shader_runs.specs.ScopeFaults.{as_result}
 use Rattle.shader_runs.proofs.ScopeRules.{Tracks, false_is_not_true, tracks_emitted, may_emit_rule}
 use Rattle.shader_runs.proofs.ScopeRules.{tracks_after, tracks_turn, tracks_start}
 
@@ -59,24 +65,24 @@ emits_breaks f at st n (FirstValue i h) breaks = elim breaks [ ]
 emits_breaks f at st n (Operand k h) breaks = elim breaks [ ]
 emits_breaks f at st n (BreakIf k next h) breaks = elim breaks [ ]
 emits_breaks f at st n (EmittedOperand k x h) breaks = breaks
-emits_breaks f at st n (GivenBefore k h) breaks = breaks
+emits_breaks f at st n (IntroducedBefore k h) breaks = breaks
 emits_breaks f at st n (NeedsNoEmit k h) breaks = breaks
 
 gives_emitted : (f : Function) (at : Point) (first count i j : ℕ) → first + i ≡ j → i < count →
-    GivesAt f at (Emit first count) (after_some f first i at) (Emitted j)
+    IntroducesAt f at (Emit first count) (after_some f first i at) (Emitted j)
 gives_emitted f at first count i j q l =
-    subst (λ j. GivesAt f at (Emit first count) (after_some f first i at) (Emitted j)) q (emitted i l)
+    subst (λ j. IntroducesAt f at (Emit first count) (after_some f first i at) (Emitted j)) q (emitted i l)
 
 -- what the rest of an Emit gives and breaks
 module _ (f : Function) (at : Point) (first count : ℕ) where
-  gives_further : (there : Point) (g : IntroducedHandle) →
-      GivesAt f (following_one f first at) (Emit (suc first) count) there g →
-      GivesAt f at (Emit first (suc count)) there g
-  gives_further there g (emitted i l) =
+  introduces_further : (there : Point) (g : IntroducedHandle) →
+      IntroducesAt f (following_one f first at) (Emit (suc first) count) there g →
+      IntroducesAt f at (Emit first (suc count)) there g
+  introduces_further there g (emitted i l) =
       gives_emitted f at first (suc count) (suc i) (suc first + i) (omega arith) (omega (arith, l))
 
-  gives_first : GivesAt f at (Emit first (suc count)) at (Emitted first)
-  gives_first = gives_emitted f at first (suc count) 0 first (omega arith) (omega arith)
+  introduces_first : IntroducesAt f at (Emit first (suc count)) at (Emitted first)
+  introduces_first = gives_emitted f at first (suc count) 0 first (omega arith) (omega arith)
 
   emits_further : (n : ℕ) (e : ScopeFault) → EmitsWith f (following_one f first at) (Emit (suc first) count) n e →
       EmitsWith f at (Emit first (suc count)) n e
@@ -85,13 +91,13 @@ module _ (f : Function) (at : Point) (first count : ℕ) where
   emits_further n (BreakIf k next h) b = elim b [ ]
   emits_further n (EmittedOperand k x h) b =
       let c = b.1 in
-      (b.0, (c.0, gives_further c.0 (Emitted x) c.1, c.2, c.3, c.4))
-  emits_further n (GivenBefore k h) b =
+      (b.0, (c.0, introduces_further c.0 (Emitted x) c.1, c.2, c.3, c.4))
+  emits_further n (IntroducedBefore k h) b =
       let c = b.1 in
-      (b.0, (c.0, c.1, gives_further c.0 c.1 c.2, c.3, c.4))
+      (b.0, (c.0, c.1, introduces_further c.0 c.1 c.2, c.3, c.4))
   emits_further n (NeedsNoEmit k h) b =
       let c = b.1 in
-      (b.0, (c.0, gives_further c.0 (Emitted h) c.1, c.2))
+      (b.0, (c.0, introduces_further c.0 (Emitted h) c.1, c.2))
 
 module _ (f : Function) (at : Point) (s : Handles) (t : Tracks f at s) (st : Statement) (n : ℕ) (e : ScopeFault) where
   abbrev Breaks : Type 0
@@ -120,16 +126,16 @@ module _ (f : Function) (at : Point) (s : Handles) (t : Tracks f at s) (st : Sta
   use_if_breaks plain None u is = absurd cc
   use_if_breaks plain (Some h) u is = use_breaks plain h (u h refl) is
 
-  result_breaks : (o : Option ℕ) → ((h : ℕ) → o ≡ Some h → GivesAt f at st at (AsResult h)) → check_result n o s
+  result_breaks : (o : Option ℕ) → ((h : ℕ) → o ≡ Some h → IntroducesAt f at st at (AsResult h)) → check_result n o s
       ≡ Err e → Breaks
   result_breaks None g is = absurd cc
   result_breaks (Some h) g is =
-      let x = unless_err (is_new (s h)) (GivenBefore n h) e is in
+      let x = unless_err (is_new (s h)) (IntroducedBefore n h) e is in
       subst (BreaksWith f (record { at = at; statement = st }) n) x.1
       (refl, (at, AsResult h, g h refl, refl, old h x.0))
 
   -- an Emit gives this handle here
-  module _ (x : ℕ) (g : GivesAt f at st at (Emitted x)) where
+  module _ (x : ℕ) (g : IntroducesAt f at st at (Emitted x)) where
     operands_break : IsTrue (binds f x) → (hs : List ℕ) →
         ((i h : ℕ) → slice_get hs i ≡ Some h → IsOperandOf f x h) → check_operands f s n x hs ≡ Err e →
         EmitsWith f at st n e
@@ -152,14 +158,14 @@ module _ (f : Function) (at : Point) (s : Handles) (t : Tracks f at s) (st : Sta
         let emittable = unless (is_emittable (expression_of f x)) (NeedsNoEmit n x) in
         let bound = check_bound (binds f x) (check_operands f s n x (operands_of (expression_of f x))) in
         ⊎_elim
-        (λ is. let y = unless_err (is_new (s x)) (GivenBefore n x) e is in
+        (λ is. let y = unless_err (is_new (s x)) (IntroducedBefore n x) e is in
         subst (EmitsWith f at st n) y.1 (refl, (at, Emitted x, g, refl, old x y.0)))
         (λ p. ⊎_elim
         (λ is. let y = unless_err (is_emittable (expression_of f x)) (NeedsNoEmit n x) e is in
         subst (EmitsWith f at st n) y.1 (refl, (at, g, y.0)))
         (λ q. bound_breaks (binds f x) refl q.1)
         (and_err emittable bound e p.1))
-        (and_err (unless (is_new (s x)) (GivenBefore n x)) (result_and emittable bound) e is)
+        (and_err (unless (is_new (s x)) (IntroducedBefore n x)) (result_and emittable bound) e is)
 
 module _ (f : Naming) (e : ScopeFault) where
   emit_breaks : (k n first count : ℕ) (at : Point) (s : Handles) → Tracks f.function at s →
@@ -169,7 +175,7 @@ module _ (f : Naming) (e : ScopeFault) where
       let k1 = named_after f.function first k in
       let s1 = after_one f k first s in
       ⊎_elim
-      (emitted_breaks f.function at s t (Emit first (suc count)) n e first (gives_first f.function at first count))
+      (emitted_breaks f.function at s t (Emit first (suc count)) n e first (introduces_first f.function at first count))
       (λ p.
       let may = sym (emitted_ok f.function s n first) ∙ p.0 in
       let kind = ((may_emit_rule f.function at s first t).0 may).kind in
@@ -294,7 +300,7 @@ module _ (f : Naming) (e : ScopeFault) where
         itself f.function e m at (Act a xs r) n (exact n m 1 num small) refl
         (⊎_elim (uses_break f.function at s t (Act a xs r) n e refl xs (λ i h at. operand i at))
         (λ q. result_breaks f.function at s t (Act a xs r) n e r
-        (λ h same. subst (λ r. GivesAt f.function at (Act a xs r) at (AsResult h)) (sym same) as_result)
+        (λ h same. subst (λ r. IntroducesAt f.function at (Act a xs r) at (AsResult h)) (sym same) as_result)
         (done_err (check_result n r s) (next_number n) e q.1))
         (and_err (check_uses f.function s n xs) (result_and (check_result n r s) (Ok (next_number n))) e is))
     statement_breaks k n m _ at s t num small is = absurd cc
@@ -453,7 +459,7 @@ module _ (f : Function) (ordered : (h : ℕ) → AllBelow h (operands_of (expres
       by (Operand k h) is = refl
       by (BreakIf k next h) is = refl
       by (EmittedOperand k y h) is = refl
-      by (GivenBefore k h) is = refl
+      by (IntroducedBefore k h) is = refl
       by (NeedsNoEmit k h) is = refl
 
   of_body : IsTrue (first_values_fit f 0 f.first_values) → FirstAmong f 0 (standing f entry_point f.body) e →
@@ -485,11 +491,11 @@ module _ (f : Function) (ordered : (h : ℕ) → AllBelow h (operands_of (expres
         found.2,
         subst (λ n. BreaksWith f found.1 n (EmittedOperand k y h)) (omega arith) breaks,
       )
-      by (GivenBefore k h) breaks = (
+      by (IntroducedBefore k h) breaks = (
         found.0,
         found.1,
         found.2,
-        subst (λ n. BreaksWith f found.1 n (GivenBefore k h))
+        subst (λ n. BreaksWith f found.1 n (IntroducedBefore k h))
             (omega arith) breaks,
       )
       by (NeedsNoEmit k h) breaks = (
@@ -513,7 +519,7 @@ module _ (f : Function) (ordered : (h : ℕ) → AllBelow h (operands_of (expres
       before (Operand k h) is = body (Operand k h) is.0 is.1 is.2 is.3
       before (BreakIf k next h) is = body (BreakIf k next h) is.0 is.1 is.2 is.3
       before (EmittedOperand k y h) is = body (EmittedOperand k y h) is.0 is.1 is.2 is.3
-      before (GivenBefore k h) is = body (GivenBefore k h) is.0 is.1 is.2 is.3
+      before (IntroducedBefore k h) is = body (IntroducedBefore k h) is.0 is.1 is.2 is.3
       before (NeedsNoEmit k h) is = body (NeedsNoEmit k h) is.0 is.1 is.2 is.3
 
 -- where operands stand before their expressions, what the check finds is the first fault

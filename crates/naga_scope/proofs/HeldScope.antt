@@ -1,5 +1,6 @@
 -- Where a check of scope finds nothing in statements, none of them breaks a rule.
-use Rattle.std.proofs.Common.{◌≡◌, ⊎_elim, ℕ, zero, suc, ◌+◌, ◌<◌, List, [], ◌∷◌, ◌++◌, Option, Some, None}
+use Rattle.std.proofs.Common.{◌≡◌, ⊎_elim, ℕ, zero, suc, ◌+◌, ◌<◌, List, [], ◌∷◌, ◌++◌, Option}
+use Rattle.std.proofs.Common.{Some, None}
 use Rattle.std.proofs.Common.{refl, sym, subst, ap, ◌∙◌, arith}
 use Rattle.std.proofs.lemmas.Bool.{and_parts, false≢true}
 use Rattle.std.proofs.lemmas.Option.{same_Some}
@@ -7,17 +8,24 @@ use Rattle.std.specs.Prelude.{IsFalse, IsTrue, slice_get}
 use Rattle.shader_runs.specs.Program.{Statement, Emit, Store, Block, If, Switch, Loop, Return, Act}
 use Rattle.shader_runs.specs.Program.{Jumps, Statements, end, then, Cases, no_case, case, Function}
 use Rattle.shader_runs.specs.Program.{expression_of, operands_of, from, is_emittable}
-use Rattle.shader_runs.specs.Scope.{Handles, Naming, after, after_all, after_one, bound_name, fits, fits_all}
-use Rattle.shader_runs.specs.Scope.{fits_cases, is_new, may_emit, may_emit_all, may_give, named_after, named_by}
+use Rattle.shader_runs.specs.Scope.{Handles, Naming, after, after_all, after_one, bound_name, fits}
+use Rattle.shader_runs.specs.Scope.{fits_all}
+use Rattle.shader_runs.specs.Scope.{fits_cases, is_new, may_emit, may_emit_all, may_give}
+use Rattle.shader_runs.specs.Scope.{named_after, named_by}
 use Rattle.shader_runs.specs.Scope.{named_by_all, usable, usable_all, usable_if}
-use Rattle.shader_runs.specs.ScopeFaults.{BreaksScope, GivesAt, UsesAt, after_some, as_result, break_if}
-use Rattle.shader_runs.specs.ScopeFaults.{condition, emitted, emitted_operand, given_before, not_emittable}
+use Rattle.shader_runs.specs.ScopeFaults.{BreaksScope, IntroducesAt, UsesAt, after_some, as_result}
+use Rattle.shader_runs.specs.ScopeFaults.{break_if}
+use Rattle.shader_runs.specs.ScopeFaults.{condition, emitted, emitted_operand, introduced_before}
+use Rattle.shader_runs.specs.ScopeFaults.{not_emittable}
 use Rattle.shader_runs.specs.ScopeFaults.{operand, out_of_scope, returned, selector, stored_pointer}
 use Rattle.shader_runs.specs.ScopeFaults.{stored_value}
-use Rattle.shader_runs.specs.ScopeRules.{EachInScope, Emitted, InScope, InScopeIf, IntroducedHandle, MayEmit}
-use Rattle.shader_runs.specs.ScopeRules.{MayEmitEach, MayResult, Point, WasIntroduced, after_turn, and_handle}
+use Rattle.shader_runs.specs.ScopeRules.{EachInScope, Emitted, InScope, InScopeIf, IntroducedHandle}
+use Rattle.shader_runs.specs.ScopeRules.{MayEmit}
+use Rattle.shader_runs.specs.ScopeRules.{MayEmitEach, MayResult, Point, WasIntroduced, after_turn}
+use Rattle.shader_runs.specs.ScopeRules.{and_handle}
 use Rattle.shader_runs.specs.ScopeRules.{following, following_one, handle_of, no_handle}
-use Rattle.shader_runs.proofs.ScopeRules.{Tracks, may_emit_rule, tracks_after, tracks_emitted, tracks_turn}
+use Rattle.shader_runs.proofs.ScopeRules.{Tracks, may_emit_rule, tracks_after, tracks_emitted}
+use Rattle.shader_runs.proofs.ScopeRules.{tracks_turn}
 use Rattle.naga_scope.specs.ScopeFaults.{Standing, case_standing, inside, standing}
 
 -- ---- a statement by itself
@@ -64,19 +72,19 @@ own_uses f at st there h returned holds = holds
 own_uses f at st there h (operand {xs = xs} k e) holds = each_at f at.visible xs holds.0 k h e
 
 own_gives : (f : Function) (at : Point) (st : Statement) (there : Point) (g : IntroducedHandle) →
-    GivesAt f at st there g → OwnHolds f at st → ¬ WasIntroduced f there (handle_of g)
+    IntroducesAt f at st there g → OwnHolds f at st → ¬ WasIntroduced f there (handle_of g)
 own_gives f at st there g (emitted {first = first} {count = count} i l) holds =
     (emit_at f first count i at l holds).new
 own_gives f at st there g as_result holds = holds.1
 
 own_emittable : (f : Function) (at : Point) (st : Statement) (there : Point) (h : ℕ) →
-    GivesAt f at st there (Emitted h) → OwnHolds f at st → IsTrue (is_emittable (expression_of f h))
+    IntroducesAt f at st there (Emitted h) → OwnHolds f at st → IsTrue (is_emittable (expression_of f h))
 own_emittable f at st there h (emitted {first = first} {count = count} i l) holds =
     (emit_at f first count i at l holds).kind
 
 pub own_breaks_none : (f : Function) (at : Point) (st : Statement) → OwnHolds f at st → BreaksScope f at st → ⊥
 own_breaks_none f at st holds (out_of_scope there h u out) = out (own_uses f at st there h u holds)
-own_breaks_none f at st holds (given_before there g u w) = own_gives f at st there g u holds w
+own_breaks_none f at st holds (introduced_before there g u w) = own_gives f at st there g u holds w
 own_breaks_none f at st holds (not_emittable there h u e) =
     false≢true (sym e ∙ own_emittable f at st there h u holds)
 

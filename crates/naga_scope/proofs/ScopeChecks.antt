@@ -1,6 +1,7 @@
 -- The check of the rules of scope finds no fault exactly where they hold, and numbers statements in the
 -- order of the text.
-use Rattle.std.proofs.Common.{◌≡◌, ◌⊎◌, inl, inr, ℕ, zero, suc, ◌+◌, ◌%◌, ◌^◌, Bool, true, false, not}
+use Rattle.std.proofs.Common.{◌≡◌, ◌⊎◌, inl, inr, ℕ, zero, suc, ◌+◌, ◌%◌, ◌^◌, Bool, true, false}
+use Rattle.std.proofs.Common.{not}
 use Rattle.std.proofs.Common.{List, [], ◌∷◌, ◌++◌, length, Option, Some, None, ◌&&◌, ◌||◌}
 use Rattle.std.proofs.Common.{refl, sym, subst, ap, ◌∙◌, true≢false, arith, length-append}
 use Rattle.std.proofs.Math.Nat.{mod-add-mod}
@@ -17,7 +18,8 @@ use Rattle.naga_scope.specs.ScopeFaults.{inside, standing, case_standing}
 use Rattle.naga_scope.specs.declared.scope_faults.ScopeFault.{ScopeFault}
 use Rattle.naga_scope.specs.declared.scope_faults.ScopeFault.TheVariants.{FirstValue, Operand}
 use Rattle.naga_scope.specs.declared.scope_faults.ScopeFault.TheVariants.{BreakIf, EmittedOperand}
-use Rattle.naga_scope.specs.declared.scope_faults.ScopeFault.TheVariants.{GivenBefore, NeedsNoEmit}
+use Rattle.naga_scope.specs.declared.scope_faults.ScopeFault.TheVariants.{IntroducedBefore}
+use Rattle.naga_scope.specs.declared.scope_faults.ScopeFault.TheVariants.{NeedsNoEmit}
 use Rattle.shader_runs.specs.Program.{Statement, Emit, Store, Block, If, Switch, Loop, Return, Act}
 use Rattle.shader_runs.specs.Program.{Jumps, Statements, end, then, Cases, no_case, case, Function}
 use Rattle.shader_runs.specs.Program.{expression_of, operands_of, binds, from, is_emittable}
@@ -26,7 +28,7 @@ use Rattle.shader_runs.specs.Scope.{usable, usable_all, usable_if, after_one, af
 use Rattle.shader_runs.specs.Scope.{after_all, named_after, named_by, named_by_all, may_emit}
 use Rattle.shader_runs.specs.Scope.{may_emit_all, may_give, fits, fits_all, fits_cases}
 use Rattle.shader_runs.specs.Scope.{first_values_fit, fits_function}
-use Rattle.shader_runs.specs.ScopeRules.{Point, following, after_turn}
+use Rattle.shader_runs.specs.ScopeRules.{ScopeState, following, after_turn}
 
 -- ---- the check finds no fault where all is in scope
 unless_ok : (b : Bool) (fault : ScopeFault) → is_ok (unless b fault) ≡ b
@@ -81,14 +83,15 @@ module _ (f : Function) (s : Handles) (n : ℕ) where
       let e = expression_of f h in
       let operands = check_operands f s n h (operands_of e) in
       let bound = check_bound (binds f h) operands in
-      and_ok (unless (is_new (s h)) (GivenBefore n h)) (result_and (unless (is_emittable e) (NeedsNoEmit n h)) bound)
-      (unless_ok (is_new (s h)) (GivenBefore n h))
+      and_ok (unless (is_new (s h)) (IntroducedBefore n h))
+      (result_and (unless (is_emittable e) (NeedsNoEmit n h)) bound)
+      (unless_ok (is_new (s h)) (IntroducedBefore n h))
       (and_ok (unless (is_emittable e) (NeedsNoEmit n h)) bound (unless_ok (is_emittable e) (NeedsNoEmit n h))
       (bound_ok (binds f h) operands (operands_ok h (operands_of e))))
 
 result_ok : (n : ℕ) (o : Option ℕ) (s : Handles) → is_ok (check_result n o s) ≡ may_give o s
 result_ok n None s = refl
-result_ok n (Some h) s = unless_ok (is_new (s h)) (GivenBefore n h)
+result_ok n (Some h) s = unless_ok (is_new (s h)) (IntroducedBefore n h)
 
 module _ (f : Naming) where
   emit_ok : (k n : ℕ) (hs : List ℕ) (s : Handles) → is_ok (check_emit f k n hs s) ≡ may_emit_all f k hs s
@@ -236,7 +239,7 @@ module _ (f : Naming) (g : Function) where
       (subst (λ j. IsNumber j (suc m)) (done_ok r (next_number n) j ok) (next_is n m is))
 
   mutual
-    pub statement_number : (k n m j : ℕ) (st : Statement) (at : Point) (s : Handles) → IsNumber n m →
+    pub statement_number : (k n m j : ℕ) (st : Statement) (at : ScopeState) (s : Handles) → IsNumber n m →
         check_statement f k n st s ≡ Ok j → IsNumber j (suc m + length (inside g at st))
     statement_number k n m j (Emit first count) at s is ok =
         done_number (check_emit f k n (from first count) s) n m j is ok
@@ -281,7 +284,7 @@ module _ (f : Naming) (g : Function) where
         (and_of (check_uses f.function s n xs) (result_and (check_result n r s) (Ok (next_number n))) j ok)
     statement_number k n m j _ at s is ok = plain_number n m j is ok
 
-    pub all_number : (k n m j : ℕ) (ss : Statements) (at : Point) (s : Handles) → IsNumber n m →
+    pub all_number : (k n m j : ℕ) (ss : Statements) (at : ScopeState) (s : Handles) → IsNumber n m →
         check_all f k n ss s ≡ Ok j → IsNumber j (m + length (standing g at ss))
     all_number k n m j end at s is ok =
         further_is j m (m + 0) (omega arith) (subst (λ j. IsNumber j m) (same_ok n j ok) is)
@@ -296,7 +299,7 @@ module _ (f : Naming) (g : Function) where
         (let e = length-append xs ys in omega (arith, e))
         (all_number k1 x.0 (suc m + length xs) j ss there s1 (statement_number k n m x.0 st at s is x.1) x.2)
 
-    pub cases_number : (k n m j : ℕ) (cs : Cases) (at : Point) (s : Handles) → IsNumber n m →
+    pub cases_number : (k n m j : ℕ) (cs : Cases) (at : ScopeState) (s : Handles) → IsNumber n m →
         check_cases f k n cs s ≡ Ok j → IsNumber j (m + length (case_standing g at cs))
     cases_number k n m j no_case at s is ok =
         further_is j m (m + 0) (omega arith) (subst (λ j. IsNumber j m) (same_ok n j ok) is)

@@ -3,7 +3,6 @@
 //! module's declarations have no form.
 #![tactic(auto)]
 
-pub mod binding;
 mod breaks;
 mod changes;
 pub mod check;
@@ -14,6 +13,7 @@ mod forms;
 pub mod functions;
 mod in_order;
 mod known_function;
+pub mod lets;
 pub mod lines;
 mod named;
 pub mod plan;
@@ -25,7 +25,6 @@ pub mod statements;
 pub mod tables;
 mod written;
 
-pub use binding::binds;
 pub use continues::split_at_continue;
 pub use declarations::{
     DeclarationPosition, UnsupportedDeclaration, UnsupportedHead, unsupported_declaration,
@@ -33,6 +32,7 @@ pub use declarations::{
 };
 pub use forms::{pointee_scalar, sampling_has_form, whole_known};
 pub use functions::function_of;
+pub use lets::binds;
 pub use lines::{Declared, Line};
 pub use plan::{Plan, PlanError};
 pub use points::{Availability, BoundName, Scope};

@@ -20,7 +20,8 @@ use naga_names::NameKey;
 use naga_names::namer::Namer;
 use naga_scope::{DeclarationPosition, ModuleTables, unsupported_declaration};
 use naga_wgsl_fns::{
-    Construct, FunctionPart, Unplanned, construct_of_names, plan_or_refusal, unsupported_construct,
+    Construct, FunctionRefusalPosition, Unplanned, construct_of_names, plan_or_refusal,
+    unsupported_construct,
 };
 use std::alloc::{AllocError, Global};
 use std::collections::HashMap;
@@ -33,9 +34,9 @@ pub enum RefusalPosition {
     /// In a declaration.
     Declaration(DeclarationPosition),
     /// In the function with this handle.
-    Function(Handle<Function>, FunctionPart),
+    Function(Handle<Function>, FunctionRefusalPosition),
     /// In the entry point with this index.
-    EntryPoint(usize, FunctionPart),
+    EntryPoint(usize, FunctionRefusalPosition),
 }
 
 /// A construct for which a module is refused, and where it stands.
@@ -186,8 +187,8 @@ fn refusal_of(ty: FunctionType, unplanned: Unplanned) -> Result<Option<Refusal>,
     }
 }
 
-/// The place of this part of a function or an entry point.
-fn position_at(ty: FunctionType, part: FunctionPart) -> RefusalPosition
+/// The position of this part of a function or an entry point.
+fn position_at(ty: FunctionType, part: FunctionRefusalPosition) -> RefusalPosition
     ensures { result ≡ position_at ty part }
 {
     match ty {
