@@ -111,6 +111,9 @@ scope_position role (scope.FirstValue local value) =
 scope_position role (scope.Operand statement operand) =
     expression_text operand
     ++ (codes ", " ++ (operand_text role ++ (codes " of statement " ++ decimal statement)))
+scope_position role (scope.BreakIf statement next operand) =
+    expression_text operand
+    ++ (codes ", " ++ (operand_text role ++ (codes " of statement " ++ decimal statement)))
 scope_position role (scope.EmittedOperand statement expression operand) =
     expression_text operand ++ (codes ", " ++ (operand_text role ++ (codes " of "
     ++ (listed (codes "expressions") expression ++ (codes " in statement " ++ decimal statement)))))
@@ -125,6 +128,7 @@ abbrev pub line_position : Line → List ℕ
 line_position line.Signature = []
 line_position (line.Local h) = codes ", first value of " ++ listed (codes "local_variables") h
 line_position (line.Statement n) = codes ", in statement " ++ decimal n
+line_position (line.BreakIf n end) = codes ", in break if of statement " ++ decimal n
 
 -- what declares a type, after the function
 abbrev pub declared_position : Declared → List ℕ

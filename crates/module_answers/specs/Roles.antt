@@ -19,7 +19,8 @@ use Rattle.naga_ir.specs.Operands.{expression_operands, own_operands}
 use Rattle.naga_ir.specs.StatementTree.{StatementTree, simple, call}
 use Rattle.naga_ir.specs.InOrder.{trees_in}
 use Rattle.naga_scope.specs.declared.scope_faults.ScopeFault.{ScopeFault}
-use Rattle.naga_scope.specs.declared.scope_faults.ScopeFault.TheVariants.{Operand, EmittedOperand}
+use Rattle.naga_scope.specs.declared.scope_faults.ScopeFault.TheVariants.{Operand, BreakIf}
+use Rattle.naga_scope.specs.declared.scope_faults.ScopeFault.TheVariants.{EmittedOperand}
 use Rattle.naga_wgsl_fns.specs.declared.plans.FunctionRefusalPosition.{FunctionRefusalPosition}
 use Rattle.naga_wgsl_fns.specs.declared.plans.FunctionRefusalPosition.TheVariants.{Scope}
 use Rattle.naga_wgsl_out.specs.declared.unwritable.RefusalPosition.{RefusalPosition}
@@ -87,6 +88,8 @@ statement_role h s = option_or (argument_role h s) (first_role h (statement_fiel
 -- in the statement that uses it, or in the expression that an Emit binds
 abbrev pub fault_role : Function → ScopeFault → Option Role
 fault_role g (Operand statement operand) =
+    option_and_then (statement_role operand) (slice_get (trees_in g.body) statement)
+fault_role g (BreakIf statement next operand) =
     option_and_then (statement_role operand) (slice_get (trees_in g.body) statement)
 fault_role g (EmittedOperand statement expression operand) =
     option_and_then (expression_role operand) (slice_get g.expressions expression)

@@ -114,7 +114,7 @@ fn line_spot(line: Line) -> Option<Spot> {
     match line {
         Line::Signature => None,
         Line::Local(local) => Some(Spot::Local(local)),
-        Line::Statement(number) => Some(Spot::Statement(number)),
+        Line::Statement(number) | Line::BreakIf { number, .. } => Some(Spot::Statement(number)),
     }
 }
 
@@ -123,6 +123,11 @@ fn fault_spots(fault: ScopeFault) -> (Spot, Spot) {
     match fault {
         ScopeFault::FirstValue { local, value } => (Spot::Expression(value), Spot::Local(local)),
         ScopeFault::Operand { statement, operand }
+        | ScopeFault::BreakIf {
+            statement,
+            operand,
+            ..
+        }
         | ScopeFault::EmittedOperand {
             statement,
             operand,

@@ -66,7 +66,12 @@ fn fault_role(function: &Function, fault: ScopeFault) -> Option<Role<'_>>
     ensures { option_map seen result ≡ fault_role function.now fault }
 {
     match fault {
-        ScopeFault::Operand { statement, operand } => {
+        ScopeFault::Operand { statement, operand }
+        | ScopeFault::BreakIf {
+            statement,
+            operand,
+            ..
+        } => {
             match statement_at(&function.body, statement) {
                 Some(statement) => statement_role(operand, statement),
                 None => None,

@@ -18,6 +18,7 @@ use Rattle.naga_ir.specs.declared.expression.Expression.{Expression}
 use Rattle.naga_ir.specs.declared.module.Function.{Function}
 use Rattle.naga_ir.specs.declared.module.Module.{Module}
 use Rattle.naga_names.specs.Naming.{Names}
+use Rattle.naga_scope.proofs.FaultLines.{fault_breaks}
 use Rattle.naga_scope.proofs.FormedStatements.{found_lacks, none_found, none_unsupported, one_found}
 use Rattle.naga_scope.proofs.LineOrder.{before_then, before_up_to, not_before_itself}
 use Rattle.naga_scope.proofs.Planned.{checked_fault, checked_holds}
@@ -34,11 +35,12 @@ use Rattle.naga_scope.specs.SpelledTypes.{FindsAnnotated, declared_unsupported, 
 use Rattle.naga_scope.specs.UnsupportedStatements.{FindsUnsupported, own_unsupported}
 use Rattle.naga_scope.specs.declared.lines.Declared.{Declared}
 use Rattle.naga_scope.specs.declared.lines.Line.{Line}
-use Rattle.naga_scope.specs.declared.lines.Line.TheVariants.{Signature, Local, Statement}
+use Rattle.naga_scope.specs.declared.lines.Line.TheVariants.{Signature, Local, Statement, BreakIf}
 use Rattle.naga_scope.specs.declared.plan.PlanError.{PlanError}
 use Rattle.naga_scope.specs.declared.plan.PlanError.TheVariants as reason
 use Rattle.naga_scope.specs.declared.scope_faults.ScopeFault.{ScopeFault}
 use Rattle.naga_scope.specs.declared.statements.UnsupportedStatement.{UnsupportedStatement}
+use Rattle.shader_runs.proofs.ScopeFaults.{fault_is_no_rule}
 use Rattle.shader_runs.specs.Program.{binds}
 use Rattle.shader_runs.specs.ScopeRules.{ScopeHolds}
 
@@ -201,43 +203,44 @@ module _ (explicit : Bool) (m : Module) (info : ModuleInfo) (f : Function) (es :
         by false later = kept x y later first one
 
   -- ---- what the check of scope finds
-  module _ (ordered : OperandsStandBefore f.expressions) where
+  module _ (ordered : OperandsStandBefore f.expressions) (few : length (trees_in f.body) < 2 ^ 64) where
     of_scope : (checked : Result ℕ ScopeFault) → checked ≡ checked_scope m info f es →
         FoundOf ScopeRule (scope_lack checked)
-    of_scope (Ok n) is = λ line fault found same. let clash = is ∙ found in absurd cc
-    of_scope (Err fault) is = record {
-      is = refl;
-      of_kind = sym is;
-      refused = checked_fault m info f es ordered fault (sym is);
-      before = λ line before other found same. let one = same_fault fault other (checked_scope m info f es)
-          (sym is) found in
-          absurd (false≢true (sym (not_before_itself (line_of_fault fault))
-          ∙ (ap (λ l. is_before l (line_of_fault fault)) (ap line_of_fault one ∙ same) ∙ before)));
-    }
-      where
-        same_fault : (a b : ScopeFault) (r : Result ℕ ScopeFault) → r ≡ Err a → r ≡ Err b → a ≡ b
-        same_fault a b r first second = let both = sym first ∙ second in cc
+    of_scope (Ok n) is = λ line fault found same.
+        fault_is_no_rule (function_shape m info f es) (fault_breaks (function_shape m info f es) fault found)
+        (checked_holds m info f es ordered (sym is))
+    of_scope (Err fault) is =
+        let first = checked_fault m info f es ordered few fault (sym is) in
+        record {
+          is = refl;
+          of_kind = sym is;
+          refused = first.is;
+          before = λ line before other found same.
+              false≢true (sym (first.first other found) ∙ (ap (λ l. is_before l (line_of_fault fault)) same ∙ before));
+        }
 
   -- ---- what the searches find
   module _ (sts : List StatementTree) (trees : sts ≡ trees_in f.body) where
-    of_statements : length sts < 2 ^ 64 → (found : Option (ℕ × UnsupportedStatement)) → FindsUnsupported sts found →
+    of_statements : (found : Option (ℕ × UnsupportedStatement)) → FindsUnsupported sts found →
         FoundOf StatementForm (option_map (λ it. reason.StatementWithoutForm it.0 it.1) found)
-    of_statements small None each = by
+    of_statements None each = by
       where
         by : (line : Line) → Nothing StatementForm line
         by Signature = tt
         by (Local i) = tt
+        by (BreakIf n end) = tt
         by (Statement n) = λ st at. each n st (ap (λ ss. slice_get ss n) trees ∙ at)
-    of_statements small (Some (n, it)) found = record {
+    of_statements (Some (n, it)) found = record {
       is = refl;
       of_kind = tt;
-      refused = (one_found sts f.body trees n it found, found_lacks sts f.body trees n it found small);
+      refused = (one_found sts f.body trees n it found, found_lacks sts f.body trees n it found);
       before = by;
     }
       where
         by : (line : Line) → is_before line (Statement n) ≡ true → Nothing StatementForm line
         by Signature before = tt
         by (Local i) before = tt
+        by (BreakIf k end) before = tt
         by (Statement k) before = λ st at. found.4 k st (subst (λ i. k < i) found.3 (ltb-true k n before))
             (ap (λ ss. slice_get ss k) trees ∙ at)
 
@@ -335,6 +338,7 @@ module _ (explicit : Bool) (m : Module) (info : ModuleInfo) (f : Function) (es :
         by : (line : Line) → Nothing LetType line
         by Signature = tt
         by (Local i) = tt
+        by (BreakIf n end) = tt
         by (Statement n) = λ st at. each n st (ap (λ ss. slice_get ss n) trees ∙ at)
     of_lets (Some (n, h)) found =
         let there : slice_get (trees_in f.body) n ≡ Some found.1 = ap (slice_get (trees_in f.body)) found.3
@@ -353,6 +357,7 @@ module _ (explicit : Bool) (m : Module) (info : ModuleInfo) (f : Function) (es :
         by : (line : Line) → is_before line (Statement n) ≡ true → Nothing LetType line
         by Signature before = tt
         by (Local i) before = tt
+        by (BreakIf k end) before = tt
         by (Statement k) before = λ st at. found.4 k st (subst (λ i. k < i) found.3 (ltb-true k n before))
             (ap (λ ss. slice_get ss k) trees ∙ at)
 
@@ -364,6 +369,9 @@ module _ (explicit : Bool) (m : Module) (info : ModuleInfo) (f : Function) (es :
         (function_writes bound f sts) expression)
         (declared : Option (Declared × ℕ)) (is_declared : declared ≡ declared_unsupported m f)
         (annotated : Option (ℕ × ℕ)) (finds_annotated : FindsAnnotated explicit m es bound sts annotated) where
+      few : length (trees_in f.body) < 2 ^ 64
+      few = subst (λ ts. length ts < 2 ^ 64) trees small
+
       of_body : FindsEarliest formed f.expressions (function_writes bound f (trees_in f.body)) expression
       of_body = subst (λ ts. FindsEarliest formed f.expressions (function_writes bound f ts) expression) trees
           finds_expression
@@ -374,8 +382,8 @@ module _ (explicit : Bool) (m : Module) (info : ModuleInfo) (f : Function) (es :
           (next DeclaredType 3 refl _ _
           (next ExpressionForm 2 refl _ _
           (next StatementForm 1 refl _ _
-          (next ScopeRule 0 refl None (scope_lack checked) none_below (of_scope ordered checked is_checked))
-          (of_statements small statement finds_statement))
+          (next ScopeRule 0 refl None (scope_lack checked) none_below (of_scope ordered few checked is_checked))
+          (of_statements statement finds_statement))
           (of_expressions expression of_body))
           (of_declared declared is_declared))
           (of_lets annotated finds_annotated)

@@ -1,10 +1,8 @@
 -- The first statement without a form is there where not all have one.
-use Rattle.std.proofs.Common.{◌≡◌, ◌⊎◌, inl, inr, ℕ, zero, suc, ◌+◌, ◌*◌, ◌%◌, ◌<◌, ◌^◌, Bool, true}
+use Rattle.std.proofs.Common.{◌≡◌, ◌⊎◌, inl, inr, ℕ, zero, suc, ◌<◌, Bool, true}
 use Rattle.std.proofs.Common.{false, List, [], ◌∷◌}
-use Rattle.std.proofs.Common.{Option, Some, None, ◌&&◌, ◌||◌, refl, sym, subst, ap, ◌∙◌, arith}
-use Rattle.std.proofs.Common.{length, slice_get}
-use Rattle.std.proofs.lemmas.Nat.{mod-mul-add}
-use Rattle.std.proofs.lemmas.Option.{slice_get_within}
+use Rattle.std.proofs.Common.{Option, Some, None, ◌&&◌, ◌||◌, refl, sym, ap, ◌∙◌, arith}
+use Rattle.std.proofs.Common.{slice_get}
 use Rattle.std.specs.Prelude.{IsTrue, IsFalse, not}
 use Rattle.std.specs.Option.{is_none, is_some, option_or}
 use Rattle.module_meaning.specs.OperatorTable.{collective_word, texel_change_word}
@@ -124,11 +122,6 @@ lacks_form (simple st) it is = is
 lacks_form (switch s cs) it is = case_falls cs it is
 lacks_form _ it is = absurd cc
 
-small_number : (n : ℕ) → n < 2 ^ 64 → n ≡ n % 2 ^ 64
-small_number n lt =
-    let whole : 0 * 2 ^ 64 + n ≡ n = omega arith in
-    sym (ap (λ k. k % 2 ^ 64) (sym whole) ∙ mod-mul-add 0 (2 ^ 64) n lt)
-
 module _ (sts : List StatementTree) (b : BlockTree) (trees : sts ≡ trees_in b) where
   pub none_found : FindsUnsupported sts None → unsupported_statement b ≡ None
   none_found each = ap first_unsupported (sym trees) ∙ all_formed sts each
@@ -137,12 +130,9 @@ module _ (sts : List StatementTree) (b : BlockTree) (trees : sts ≡ trees_in b)
     pub one_found : unsupported_statement b ≡ Some it
     one_found = ap first_unsupported (sym trees) ∙ first_is sts found.0 found.1 it found.2 found.4 found.5
 
-    pub found_lacks : length sts < 2 ^ 64 → IsUnsupportedAt b n it
-    found_lacks small =
-        let within = slice_get_within sts found.0 found.1 found.2 in (
-          found.0,
-          found.1,
-          subst (λ ts. slice_get ts found.0 ≡ Some found.1) trees found.2,
-          found.3 ∙ small_number found.0 (omega (arith, within, small)),
-          lacks_form found.1 it found.5,
-        )
+    pub found_lacks : IsUnsupportedAt b n it
+    found_lacks = (
+      found.1,
+      ap (slice_get (trees_in b)) found.3 ∙ (ap (λ ts. slice_get ts found.0) (sym trees) ∙ found.2),
+      lacks_form found.1 it found.5,
+    )

@@ -1,4 +1,7 @@
 pub mod ScopeChecks
+pub mod HeldScope
+pub mod FaultLines
+pub mod FoundFaults
 pub mod ShapeKinds
 pub mod Constants
 pub mod Emitting
@@ -12,6 +15,7 @@ pub mod Offsets
 pub mod FilledTables
 pub mod FirstMisplaced
 pub mod FirstValues
+pub mod StandingCounts
 pub mod Planned
 pub mod KeptPoints
 pub mod Results
@@ -24,5 +28,8 @@ pub mod Searching
 pub mod FirstLines
 pub mod LineOrder
 pub mod EarliestFound
+pub mod BreakNotes
+pub mod LineWrites
+pub mod BreakLines
 pub mod WrittenLines
 pub mod FirstInText

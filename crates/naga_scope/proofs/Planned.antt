@@ -1,6 +1,6 @@
 -- What a plan of a function says of its module.
 use Rattle.std.proofs.Common.{◌≡◌, ℕ, Bool, zero, suc, List, [], ◌∷◌, None, Some, ap, subst, sym}
-use Rattle.std.proofs.Common.{◌∙◌}
+use Rattle.std.proofs.Common.{◌<◌, ◌^◌, ◌∙◌, arith, length}
 use Rattle.std.proofs.lemmas.Option.{same_Some}
 use Rattle.std.specs.Prelude.{Err, IfErr, IfOk, Ok, Result, slice_get}
 use Rattle.std.specs.Result.{is_ok}
@@ -11,7 +11,8 @@ use Rattle.naga_info.specs.declared.info.ModuleInfo.{ModuleInfo}
 use Rattle.shader_runs.specs.Program.{expression_of, operands_of}
 use Rattle.shader_runs.specs.Premises.{AllBelow}
 use Rattle.shader_runs.specs.Scope.{Naming}
-use Rattle.shader_runs.specs.ScopeRules.{ScopeHolds}
+use Rattle.naga_scope.specs.ScopeFaults.{standing}
+use Rattle.shader_runs.specs.ScopeRules.{ScopeHolds, entry_point}
 use Rattle.shader_runs.proofs.ScopeRules.{scope_check_is_the_rules}
 use Rattle.module_meaning.specs.FunctionNumbers.{all_functions, all_infos}
 use Rattle.module_meaning.specs.FunctionShapes.{function_shape, function_shapes}
@@ -22,9 +23,11 @@ use Rattle.naga_form.proofs.operators.Ordered.{shape_ordered}
 use Rattle.naga_form.proofs.statements.WellFormed.{any_shape}
 use Rattle.naga_scope.specs.Plans.{IsPlan, IsPlanOf, Planned}
 use Rattle.naga_scope.specs.ScopeChecks.{check_function}
-use Rattle.naga_scope.specs.ScopeFaults.{IsScopeFault}
 use Rattle.naga_scope.specs.declared.scope_faults.ScopeFault.{ScopeFault}
-use Rattle.naga_scope.proofs.ScopeChecks.{check_finds, function_ok}
+use Rattle.naga_scope.proofs.FoundFaults.{FirstFault, check_finds}
+use Rattle.naga_scope.proofs.ScopeChecks.{function_ok}
+use Rattle.naga_scope.proofs.StandingCounts.{standing_count}
+use Rattle.naga_ir.specs.InOrder.{trees_in}
 use Rattle.module_meaning.specs.Written.{OfFunctionAt}
 
 module _ (m : Module) (info : ModuleInfo) (f : ir_function.Function) (es : List ExpressionInfo)
@@ -43,10 +46,14 @@ module _ (m : Module) (info : ModuleInfo) (f : ir_function.Function) (es : List 
   checked_holds is =
       (scope_check_is_the_rules unnamed operands_before).0 (sym (function_ok unnamed) ∙ ap is_ok is)
 
-  -- and what it finds is a fault
-  pub checked_fault : (fault : ScopeFault) → check_function unnamed ≡ Err fault →
-      IsScopeFault (function_shape m info f es) fault
-  checked_fault fault is = check_finds unnamed operands_before fault is
+  -- and what it finds is a fault, and none stands on a line before
+  pub checked_fault : length (trees_in f.body) < 2 ^ 64 → (fault : ScopeFault) → check_function unnamed ≡ Err fault →
+      FirstFault (function_shape m info f es) fault
+  checked_fault few fault is =
+      let count = standing_count m info f es in
+      let shape = function_shape m info f es in
+      let small : length (standing shape entry_point shape.body) < 2 ^ 64 = omega (arith, few, count) in
+      check_finds unnamed operands_before small fault is
 
 -- a function that there is, with what is known of it, has a shape
 pub shape_found : (m : Module) (info : ModuleInfo) (fs : List ir_function.Function)

@@ -12,7 +12,7 @@ use Rattle.naga_scope.specs.declared.plan.PlanError.TheVariants.{TypeWithoutForm
 use Rattle.naga_scope.specs.declared.plan.PlanError.TheVariants.{StatementWithoutForm}
 use Rattle.naga_scope.specs.declared.scope_faults.ScopeFault.{ScopeFault}
 use Rattle.naga_scope.specs.declared.scope_faults.ScopeFault.TheVariants.{FirstValue, Operand}
-use Rattle.naga_scope.specs.declared.scope_faults.ScopeFault.TheVariants.{EmittedOperand}
+use Rattle.naga_scope.specs.declared.scope_faults.ScopeFault.TheVariants.{BreakIf, EmittedOperand}
 use Rattle.naga_scope.specs.declared.scope_faults.ScopeFault.TheVariants.{IntroducedBefore}
 use Rattle.naga_scope.specs.declared.scope_faults.ScopeFault.TheVariants.{NeedsNoEmit}
 use Rattle.naga_scope.specs.declared.statements.UnsupportedStatement.{UnsupportedStatement}
@@ -21,6 +21,7 @@ use Rattle.naga_scope.specs.declared.statements.UnsupportedStatement.{Unsupporte
 abbrev pub line_of_fault : ScopeFault → Line
 line_of_fault (FirstValue i h) = line.Local i
 line_of_fault (Operand n h) = line.Statement n
+line_of_fault (BreakIf n end h) = line.BreakIf n end
 line_of_fault (EmittedOperand n x h) = line.Statement n
 line_of_fault (IntroducedBefore n h) = line.Statement n
 line_of_fault (NeedsNoEmit n h) = line.Statement n

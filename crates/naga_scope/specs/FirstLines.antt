@@ -3,20 +3,23 @@
 --
 -- Throughout, a write is a line with the handle that it writes, last is the last line that is looked
 -- at, h is a handle, and e an expression.
-use Rattle.std.specs.Prelude.{◌≡◌, ◌⊎◌, ◌≤◌, ℕ, Bool, true, false, List, ◌++◌, map, slice_get}
+use Rattle.std.specs.Prelude.{◌≡◌, ◌⊎◌, ◌≤◌, ℕ, suc, ◌+◌, Bool, true, false, List, [], ◌++◌, map}
+use Rattle.std.specs.Prelude.{length, slice_get}
 use Rattle.std.specs.Prelude.{Option, Some, None, IsFalse, IsSomeAnd, IsTrue, if◌then◌else◌, get_or}
 use Rattle.std.specs.Borrow.{Bor}
 use Rattle.std.specs.List.{enumerate_from, filter, flat_map}
 use Rattle.std.specs.Option.{option_to_list}
 use Rattle.module_meaning.specs.Written.{IsWritten}
-use Rattle.naga_ir.specs.StatementTree.{StatementTree}
+use Rattle.naga_ir.specs.StatementTree.{StatementTree, simple, block, branch, switch, loop, BlockTree}
+use Rattle.naga_ir.specs.StatementTree.{no_statements, statement, CaseTrees, no_cases, case}
 use Rattle.naga_ir.specs.declared.expression.Expression.{Expression}
 use Rattle.naga_ir.specs.declared.module.Function.{Function}
-use Rattle.naga_scope.specs.InOrder.{own_roots}
+use Rattle.naga_ir.specs.InOrder.{trees_in, trees_inside}
+use Rattle.naga_scope.specs.InOrder.{line_roots}
 use Rattle.naga_scope.specs.Lines.{is_before, is_up_to}
 use Rattle.naga_scope.specs.Marks.{MarksAlso, MarksJust}
 use Rattle.naga_scope.specs.declared.lines.Line.{Line}
-use Rattle.naga_scope.specs.declared.lines.Line.TheVariants.{Local, Statement}
+use Rattle.naga_scope.specs.declared.lines.Line.TheVariants.{Local, Statement, BreakIf}
 
 -- ---- what lines write
 -- a line that writes these handles
@@ -35,11 +38,35 @@ local_writes f =
 
 abbrev pub statement_writes : (binds : ℕ → Bool) → List StatementTree → List (Line × ℕ)
 statement_writes binds sts =
-    flat_map (λ p. writes_at (Statement p.0) (own_roots binds p.1)) (enumerate_from 0 sts)
+    flat_map (λ p. writes_at (Statement p.0) (line_roots binds p.1)) (enumerate_from 0 sts)
+
+-- what the `break if`s of the loops in a statement with this number write, itself among them, of those
+-- of a block and of those of cases, the first of which have this number
+abbrev mutual
+  pub statement_breaks : (n : ℕ) → StatementTree → List (Line × ℕ)
+  statement_breaks n (simple st) = []
+  statement_breaks n (block b) = block_breaks (suc n) b
+  statement_breaks n (branch condition accept reject) =
+      block_breaks (suc n) accept ++ block_breaks (suc n + length (trees_in accept)) reject
+  statement_breaks n (switch selector cs) = case_breaks (suc n) cs
+  statement_breaks n (loop body continuing break_if) =
+      (block_breaks (suc n) body ++ block_breaks (suc n + length (trees_in body)) continuing)
+      ++ writes_at (BreakIf n (suc n + length (trees_in body ++ trees_in continuing)))
+      (option_to_list break_if)
+
+  pub block_breaks : (n : ℕ) → BlockTree → List (Line × ℕ)
+  block_breaks n no_statements = []
+  block_breaks n (statement st b) =
+      statement_breaks n st ++ block_breaks (suc n + length (trees_inside st)) b
+
+  pub case_breaks : (n : ℕ) → CaseTrees → List (Line × ℕ)
+  case_breaks n no_cases = []
+  case_breaks n (case value body falls cs) =
+      block_breaks n body ++ case_breaks (n + length (trees_in body)) cs
 
 -- what a function with these statements writes
 abbrev pub function_writes : (binds : ℕ → Bool) → Function → List StatementTree → List (Line × ℕ)
-function_writes binds f sts = local_writes f ++ statement_writes binds sts
+function_writes binds f sts = (local_writes f ++ statement_writes binds sts) ++ block_breaks 0 f.body
 
 -- ---- the table
 -- the first of a line that is known and another

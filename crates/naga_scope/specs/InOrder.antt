@@ -8,7 +8,7 @@ use Rattle.std.specs.Option.{option_to_list}
 use Rattle.module_meaning.specs.ExpressionLabels.{labels_of_each}
 use Rattle.module_meaning.specs.Written.{simple_lets, simple_roots}
 use Rattle.naga_ir.specs.Operands.{own_operands}
-use Rattle.naga_ir.specs.StatementTree.{emit, StatementTree, simple}
+use Rattle.naga_ir.specs.StatementTree.{emit, loop, StatementTree, simple}
 use Rattle.naga_ir.specs.declared.module.Function.{Function}
 use Rattle.naga_scope.specs.Changes.{simple_changes}
 use Rattle.shader_runs.specs.Program.{from}
@@ -27,6 +27,16 @@ own_lets binds st = []
 abbrev pub own_roots : (binds : ℕ → Bool) → StatementTree → List ℕ
 own_roots binds (simple st) = simple_roots binds st
 own_roots binds st = own_operands st
+
+-- what its `break if` writes,
+abbrev pub break_root : StatementTree → List ℕ
+break_root (loop body continuing break_if) = option_to_list break_if
+break_root st = []
+
+-- and what it writes without it
+abbrev pub line_roots : (binds : ℕ → Bool) → StatementTree → List ℕ
+line_roots binds (loop body continuing break_if) = []
+line_roots binds st = own_roots binds st
 
 -- how many changes of scope it makes
 abbrev pub own_changes : StatementTree → ℕ

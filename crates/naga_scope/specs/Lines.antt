@@ -1,9 +1,11 @@
--- The lines of a function's text: its signature, its locals and its statements, in this order. A
--- loop's `break if` belongs to the loop's own line. And what stands on each of them.
+-- The lines of a function's text: its signature, its locals and its statements, in this order, each
+-- loop's `break if` after all that stands in the loop. And what stands on each of them.
 --
 -- Throughout, f is a function, h is the handle of an expression, i of a local, n the number of a
--- statement, ty the handle of a type, and bound says of each expression whether a `let` binds it.
-use Rattle.std.specs.Prelude.{ℕ, Bool, true, false, List, [], nat_lt, not, Option, slice_get}
+-- statement, end that of the one that would stand after a loop, ty the handle of a type, and bound
+-- says of each expression whether a `let` binds it.
+use Rattle.std.specs.Prelude.{ℕ, Bool, true, false, List, [], nat_eq, nat_le, nat_lt, not, Option}
+use Rattle.std.specs.Prelude.{slice_get, suc, ◌+◌, ◌&&◌, ◌||◌, length, if◌then◌else◌}
 use Rattle.std.specs.Option.{option_and_then, option_map, option_map_or, option_to_list}
 use Rattle.module_meaning.specs.FunctionShapes.{function_shape}
 use Rattle.module_meaning.specs.Written.{IsWritten}
@@ -11,38 +13,53 @@ use Rattle.naga_info.specs.declared.info.ExpressionInfo.{ExpressionInfo}
 use Rattle.naga_info.specs.declared.info.ModuleInfo.{ModuleInfo}
 use Rattle.naga_ir.specs.declared.module.Function.{Function}
 use Rattle.naga_ir.specs.declared.module.Module.{Module}
-use Rattle.naga_ir.specs.InOrder.{trees_in}
-use Rattle.naga_scope.specs.InOrder.{own_lets, own_roots}
+use Rattle.naga_ir.specs.StatementTree.{StatementTree}
+use Rattle.naga_ir.specs.InOrder.{trees_in, trees_inside}
+use Rattle.naga_scope.specs.InOrder.{break_root, line_roots, own_lets}
 use Rattle.naga_scope.specs.declared.lines.Declared.{Declared}
 use Rattle.naga_scope.specs.declared.lines.Declared.TheVariants as declared
 use Rattle.naga_scope.specs.declared.lines.Line.{Line}
-use Rattle.naga_scope.specs.declared.lines.Line.TheVariants.{Signature, Local, Statement}
+use Rattle.naga_scope.specs.declared.lines.Line.TheVariants.{Signature, Local, Statement, BreakIf}
 use Rattle.shader_runs.specs.Program.{binds}
 
 -- ---- their order
--- the first line stands before the second
+-- The first line stands before the second. Of two `break if`s at one place that of the inner loop,
+-- which has the higher number, does.
 abbrev pub is_before : Line → Line → Bool
 is_before Signature Signature = false
 is_before Signature line = true
 is_before (Local i) Signature = false
 is_before (Local i) (Local j) = nat_lt i j
-is_before (Local i) (Statement n) = true
+is_before (Local i) line = true
 is_before (Statement n) (Statement k) = nat_lt n k
+is_before (Statement n) (BreakIf k end) = nat_lt n end
 is_before (Statement n) line = false
+is_before (BreakIf n end) (Statement k) = nat_le end k
+is_before (BreakIf n end) (BreakIf k stop) = nat_lt end stop || (nat_eq end stop && nat_lt k n)
+is_before (BreakIf n end) line = false
 
 -- the second line stands before the first, or is the same
 abbrev pub is_up_to : Line → Line → Bool
 is_up_to last line = not (is_before last line)
 
 -- ---- what stands on them
--- the handles that are written on a line by the line itself: a local's first value, and what a
--- statement writes, those in its blocks left out
+-- where the statement after this one, which has this number, would stand
+abbrev pub number_after : (n : ℕ) → StatementTree → ℕ
+number_after n st = suc n + length (trees_inside st)
+
+-- what the `break if` of the statement with this number writes, if it stands there
+abbrev pub break_at : (n end : ℕ) → StatementTree → List ℕ
+break_at n end st = if nat_eq (number_after n st) end then break_root st else []
+
+-- The handles that are written on a line by the line itself: a local's first value, and what a
+-- statement writes, its `break if` and those in its blocks left out, or its `break if`.
 abbrev pub roots_at : (bound : ℕ → Bool) → Function → Line → List ℕ
 roots_at bound f Signature = []
 roots_at bound f (Local i) =
     option_to_list (option_and_then (λ l. l.init) (slice_get f.local_variables i))
 roots_at bound f (Statement n) =
-    option_map_or (own_roots bound) (slice_get (trees_in f.body) n) []
+    option_map_or (line_roots bound) (slice_get (trees_in f.body) n) []
+roots_at bound f (BreakIf n end) = option_map_or (break_at n end) (slice_get (trees_in f.body) n) []
 
 -- the handles that the `let`s of this statement name, those in its blocks left out
 abbrev pub lets_at : (bound : ℕ → Bool) → Function → (n : ℕ) → List ℕ

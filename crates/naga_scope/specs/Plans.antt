@@ -132,7 +132,8 @@ abbrev pub ComesBefore : Line → Kind → Line → Kind → Type 0
 ComesBefore first kind second other =
     IsTrue (is_before first second) ⊎ ((first ≡ second) × (kind_rank kind < kind_rank other))
 
--- what the check of scope finds in a function
+-- What the check of scope finds in a function: that no fault stands on an earlier line is said below,
+-- and of several on one line it finds the one that it asks first.
 abbrev pub checked_scope : Module → ModuleInfo → ir.Function → List ExpressionInfo →
     Result ℕ ScopeFault
 checked_scope m info f es =
@@ -142,7 +143,8 @@ checked_scope m info f es =
 abbrev pub NothingAt : (explicit : Bool) → Module → ModuleInfo → ir.Function →
     List ExpressionInfo → Kind → Line → Type 0
 NothingAt explicit m info f es ScopeRule line =
-    (fault : ScopeFault) → checked_scope m info f es ≡ Err fault → line_of_fault fault ≡ line → ⊥
+    (fault : ScopeFault) → IsScopeFault (function_shape m info f es) fault →
+    line_of_fault fault ≡ line → ⊥
 NothingAt explicit m info f es StatementForm (Statement n) =
     (st : StatementTree) → slice_get (trees_in f.body) n ≡ Some st → own_unsupported st ≡ None
 NothingAt explicit m info f es ExpressionForm line =
@@ -154,11 +156,12 @@ NothingAt explicit m info f es DeclaredType line =
 NothingAt explicit m info f es LetType (Statement n) =
     (st : StatementTree) → slice_get (trees_in f.body) n ≡ Some st →
     own_annotated explicit m es (binds (function_shape m info f es)) st ≡ None
-NothingAt explicit m info f es kind line = ⊤
+NothingAt explicit m info f es StatementForm line = ⊤
+NothingAt explicit m info f es LetType line = ⊤
 
--- It is the first of its kind on its line: the fault that the check finds, the written expression
--- without a form with the lowest handle, the first declared type without a form, or the first `let`
--- of the statement that tells one.
+-- It is the first of its kind on its line: of faults that stand there the one that the check finds, the
+-- written expression without a form with the lowest handle, the first declared type without a form,
+-- or the first `let` of the statement that tells one. A statement lacks a form in one way.
 abbrev pub IsFirstOfKind : (explicit : Bool) → Module → ModuleInfo → ir.Function →
     List ExpressionInfo → PlanError → Type 0
 IsFirstOfKind explicit m info f es (OutOfScope fault) = checked_scope m info f es ≡ Err fault
@@ -170,7 +173,9 @@ IsFirstOfKind explicit m info f es (TypeWithoutForm at ty) =
 IsFirstOfKind explicit m info f es (LetWithoutForm n h) =
     (st : StatementTree) → slice_get (trees_in f.body) n ≡ Some st →
     own_annotated explicit m es (binds (function_shape m info f es)) st ≡ Some h
-IsFirstOfKind explicit m info f es error = ⊤
+IsFirstOfKind explicit m info f es (StatementWithoutForm n it) = ⊤
+IsFirstOfKind explicit m info f es (Unnamed error) = ⊤
+IsFirstOfKind explicit m info f es (Memory error) = ⊤
 
 -- It is the first of its kind on its line, and nothing is refused on a line before, nor on its own
 -- line for a kind that is told before.

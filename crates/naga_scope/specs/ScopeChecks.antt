@@ -2,15 +2,15 @@
 -- by handle, a statement before those in its blocks, and a loop's `break if` after them.
 --
 -- Throughout, f is a function, with its names where a naming is taken, s are the handles in scope, k
--- is how many names have been given, n the number of a statement, h a handle, e an expression, st a
--- statement, and a, b and d are bodies.
+-- is how many names have been given, n the number of a statement, next that of the one that would
+-- stand after a loop, h a handle, e an expression, st a statement, and a, b and d are bodies.
 use Rattle.std.specs.Prelude.{ℕ, suc, Bool, true, false, List, [], ◌∷◌, Option, Some, None, Result}
 use Rattle.std.specs.Prelude.{Ok, Err}
 use Rattle.std.specs.Hash.DefaultHasher.{wrapping_add}
 use Rattle.std.specs.Result.{result_and}
 use Rattle.naga_scope.specs.declared.scope_faults.ScopeFault.{ScopeFault}
 use Rattle.naga_scope.specs.declared.scope_faults.ScopeFault.TheVariants.{FirstValue, Operand}
-use Rattle.naga_scope.specs.declared.scope_faults.ScopeFault.TheVariants.{EmittedOperand}
+use Rattle.naga_scope.specs.declared.scope_faults.ScopeFault.TheVariants.{BreakIf, EmittedOperand}
 use Rattle.naga_scope.specs.declared.scope_faults.ScopeFault.TheVariants.{IntroducedBefore}
 use Rattle.naga_scope.specs.declared.scope_faults.ScopeFault.TheVariants.{NeedsNoEmit}
 use Rattle.shader_runs.specs.Program.{Statement, Emit, Store, Block, If, Switch, Loop, Return, Act}
@@ -49,6 +49,11 @@ check_uses f s n (h ∷ hs) = result_and (check_use f s n h) (check_uses f s n h
 abbrev pub check_use_if : Function → Handles → (n : ℕ) → Option ℕ → Checked
 check_use_if f s n None = Ok tt
 check_use_if f s n (Some h) = check_use f s n h
+
+-- of the `break if` of a loop, after which the statement with the second number would stand
+abbrev pub check_break : Function → Handles → (n next : ℕ) → Option ℕ → Checked
+check_break f s n next None = Ok tt
+check_break f s n next (Some h) = unless (usable f s h) (BreakIf n next h)
 
 -- ---- what is given
 -- the operands of a handle that an Emit binds
@@ -97,8 +102,9 @@ abbrev mutual
   check_statement f k n (Loop b d e) s =
       let s1 = after_all f k b s in
       let k1 = named_by_all f.function b k in
-      let ended = check_use_if f.function (after_all f k1 d s1) n e in
-      onward (λ n. onward (λ n. result_and ended (Ok n)) (check_all f k1 n d s1))
+      let s2 = after_all f k1 d s1 in
+      onward (λ i. onward (λ j. result_and (check_break f.function s2 n j e) (Ok j))
+      (check_all f k1 i d s1))
       (check_all f k (next_number n) b s)
   check_statement f k n (Jumps (Return v)) s =
       result_and (check_use_if f.function s n v) (Ok (next_number n))

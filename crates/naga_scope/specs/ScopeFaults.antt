@@ -4,11 +4,11 @@
 -- Throughout, f is a function, at the point where a statement or a list stands, st is a statement,
 -- ss, a, b and d are lists of statements, cs are cases, h is a handle, i the index of a local or of
 -- an operand, and n the number of a statement.
-use Rattle.std.specs.Prelude.{◌≡◌, ℕ, ◌^◌, ◌%◌, List, [], ◌∷◌, ◌++◌, Some, IsFalse, IsTrue}
-use Rattle.std.specs.Prelude.{slice_get}
+use Rattle.std.specs.Prelude.{◌≡◌, ℕ, suc, ◌+◌, Bool, true, false, List, [], ◌∷◌, ◌++◌, Some}
+use Rattle.std.specs.Prelude.{IsFalse, IsTrue, length, slice_get}
 use Rattle.naga_scope.specs.declared.scope_faults.ScopeFault.{ScopeFault}
 use Rattle.naga_scope.specs.declared.scope_faults.ScopeFault.TheVariants.{FirstValue, Operand}
-use Rattle.naga_scope.specs.declared.scope_faults.ScopeFault.TheVariants.{EmittedOperand}
+use Rattle.naga_scope.specs.declared.scope_faults.ScopeFault.TheVariants.{BreakIf, EmittedOperand}
 use Rattle.naga_scope.specs.declared.scope_faults.ScopeFault.TheVariants.{IntroducedBefore}
 use Rattle.naga_scope.specs.declared.scope_faults.ScopeFault.TheVariants.{NeedsNoEmit}
 use Rattle.shader_runs.specs.Program.{Statement, Block, If, Switch, Loop, Statements, end, then}
@@ -44,6 +44,15 @@ abbrev mutual
   case_standing f at no_case = []
   case_standing f at (case l b falls cs) = standing f at b ++ case_standing f at cs
 
+-- where the statement after this one, which has this number, would stand
+abbrev pub number_after : Function → (n : ℕ) → Standing → ℕ
+number_after f n s = suc n + length (inside f s.at s.statement)
+
+-- it is a loop: what it uses, its `break if` does
+abbrev pub is_loop : Statement → Bool
+is_loop (Loop b d e) = true
+is_loop st = false
+
 -- the handle is an operand of the expression with the first handle
 abbrev pub IsOperandOf : Function → ℕ → ℕ → Type 0
 IsOperandOf f x h = (i : ℕ) × (slice_get (operands_of (expression_of f x)) i ≡ Some h)
@@ -74,16 +83,18 @@ EmitsOther f s h =
 -- the statement with this number breaks a rule with this fault
 abbrev pub BreaksWith : Function → Standing → (n : ℕ) → ScopeFault → Type 0
 BreaksWith f s n (FirstValue i h) = ⊥
-BreaksWith f s n (Operand k h) = (k ≡ n) × UsesOutOfScope f s h
+BreaksWith f s n (Operand k h) = (k ≡ n) × IsFalse (is_loop s.statement) × UsesOutOfScope f s h
+BreaksWith f s n (BreakIf k next h) =
+    (k ≡ n) × (next ≡ number_after f n s) × IsTrue (is_loop s.statement) × UsesOutOfScope f s h
 BreaksWith f s n (EmittedOperand k x h) = (k ≡ n) × BindsOutOfScope f s x h
 BreaksWith f s n (IntroducedBefore k h) = (k ≡ n) × IntroducesAgain f s h
 BreaksWith f s n (NeedsNoEmit k h) = (k ≡ n) × EmitsOther f s h
 
 -- The function breaks a rule with this fault: the first value of a local is out of scope where the
--- local is declared, or a statement of the body, by its number modulo 2^64, breaks one.
+-- local is declared, or a statement of the body, by its number, breaks one.
 abbrev pub IsScopeFault : Function → ScopeFault → Type 0
 IsScopeFault f (FirstValue i h) =
     (slice_get f.first_values i ≡ Some (Some h)) × IsOutOfScopeAt (before_local f i) start_state h
 IsScopeFault f fault =
     (n : ℕ) × (s : Standing) × (slice_get (standing f start_state f.body) n ≡ Some s)
-    × BreaksWith f s (n % 2 ^ 64) fault
+    × BreaksWith f s n fault

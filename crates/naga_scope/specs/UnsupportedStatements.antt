@@ -2,7 +2,7 @@
 --
 -- Throughout, st is a statement, b is the rest of a block, cs are the further cases, n is the number
 -- of a statement, and it is what of one has no form.
-use Rattle.std.specs.Prelude.{◌≡◌, ℕ, ◌^◌, ◌%◌, ◌⊎◌, Bool, true, false, List, [], ◌∷◌, Option}
+use Rattle.std.specs.Prelude.{◌≡◌, ℕ, ◌⊎◌, Bool, true, false, List, [], ◌∷◌, Option}
 use Rattle.std.specs.Prelude.{Some, None, slice_get}
 use Rattle.std.specs.Option.{is_some, option_or}
 use Rattle.module_meaning.specs.OperatorTable.{texel_change_word, collective_word}
@@ -82,8 +82,7 @@ LacksForm (simple st) it = simple_unsupported st ≡ Some it
 LacksForm (switch selector cs) it = SomeCaseFalls cs it
 LacksForm st it = ⊥
 
--- the statement of the body with this number, modulo 2^64, has no form by itself
+-- the statement of the body with this number has no form by itself
 abbrev pub IsUnsupportedAt : BlockTree → (n : ℕ) → (it : UnsupportedStatement) → Type 0
 IsUnsupportedAt b n it =
-    (i : ℕ) × (st : StatementTree) × (slice_get (trees_in b) i ≡ Some st) × (n ≡ i % 2 ^ 64)
-    × LacksForm st it
+    (st : StatementTree) × (slice_get (trees_in b) n ≡ Some st) × LacksForm st it

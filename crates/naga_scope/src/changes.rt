@@ -1,6 +1,6 @@
 //! How many changes of scope statements make.
 
-ghost use Rattle.std.specs.Prelude.{◌≡◌, IfSome, length, sum_by};
+ghost use Rattle.std.specs.Prelude.{◌≡◌, ◌^◌, ◌≤◌, IfSome, None, length, sum_by};
 ghost use Rattle.std.specs.Option.{option_to_list};
 ghost use Rattle.naga_ir.specs.Operands.{own_result};
 ghost use Rattle.naga_ir.specs.StatementViews.{tree_of};
@@ -11,7 +11,8 @@ use naga_ir::Statement;
 
 /// So many all of them make, each by itself. None where a `usize` doesn't hold the number.
 pub(crate) fn count_changes(statements: &[&Statement]) -> Option<usize>
-    ensures { IfSome result (λ count. count ≡ sum_by own_changes (trees_of statements.now)) }
+    ensures some { IfSome result (λ count. count ≡ sum_by own_changes (trees_of statements.now)) }
+    ensures none { result ≡ None → 2 ^ 64 ≤ sum_by own_changes (trees_of statements.now) }
 {
     let mut count: usize = 0;
     for statement in statements {

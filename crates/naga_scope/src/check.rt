@@ -24,10 +24,11 @@ ghost use Rattle.naga_scope.specs.KnownFunctions.{IsPointOf, cases_in, expressio
 ghost use Rattle.naga_scope.specs.KnownFunctions.{naming_of, shape_of, statement_in, statements_in};
 ghost use Rattle.naga_scope.specs.Log.{Counted, Extends, HasRoom, Reverts, Same};
 ghost use Rattle.naga_scope.specs.Results.{CaseResultsFit, ResultsFit, StatementResultsFit};
-ghost use Rattle.naga_scope.specs.ScopeChecks.{check_all, check_cases, check_emit, check_emitted};
+ghost use Rattle.naga_scope.specs.ScopeChecks.{check_all, check_break, check_cases, check_emit};
+ghost use Rattle.naga_scope.specs.ScopeChecks.{check_emitted};
 ghost use Rattle.naga_scope.specs.ScopeChecks.{check_first, check_first_values, check_function};
 ghost use Rattle.naga_scope.specs.ScopeChecks.{check_operands, check_result, check_statement};
-ghost use Rattle.naga_scope.specs.ScopeChecks.{check_use, check_use_if, check_uses};
+ghost use Rattle.naga_scope.specs.ScopeChecks.{check_use, check_uses};
 ghost use Rattle.naga_scope.specs.Walks.{after_each};
 
 use crate::continues::split_at_continue;
@@ -166,17 +167,29 @@ fn check_uses(
     Ok(())
 }
 
-/// The same of what a `break if` asks, if there is one.
+/// The same of what the `break if` of the loop asks, if there is one. The statement with the number
+/// `next` would stand after the loop.
 fn check_break(
     scope: &Scope,
     known: &KnownFunction<'_>,
     number: usize,
+    next: usize,
     break_if: Option<Handle<Expression>>,
 ) -> Result<(), ScopeFault>
-    ensures { result ≡ check_use_if (shape_of known.now) (handles_at scope.now) number break_if }
+    ensures { result ≡ check_break (shape_of known.now) (handles_at scope.now) number next break_if }
 {
     match break_if {
-        Some(handle) => check_use(scope, known, number, handle),
+        Some(handle) => {
+            if is_usable(scope, known, handle) {
+                Ok(())
+            } else {
+                Err(ScopeFault::BreakIf {
+                    statement: number,
+                    next,
+                    operand: handle,
+                })
+            }
+        }
         None => Ok(()),
     }
 }
@@ -601,7 +614,7 @@ fn check_turn(
 {
     let first = check_body(scope, known, number.wrapping_add(1), body)?;
     let next = check_body(scope, known, first, continuing)?;
-    check_break(scope, known, number, break_if)?;
+    check_break(scope, known, number, next, break_if)?;
     Ok(next)
 }
 

@@ -22,6 +22,14 @@ fn line_of_fault(fault: &ScopeFault) -> Line
         | ScopeFault::EmittedOperand { statement, .. }
         | ScopeFault::IntroducedBefore { statement, .. }
         | ScopeFault::NeedsNoEmit { statement, .. } => Line::Statement(*statement),
+        ScopeFault::BreakIf {
+            statement,
+            next,
+            ..
+        } => Line::BreakIf {
+            number: *statement,
+            next: *next,
+        },
     }
 }
 

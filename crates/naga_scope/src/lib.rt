@@ -3,6 +3,7 @@
 //! module's declarations have no form.
 #![tactic(auto)]
 
+mod breaks;
 mod changes;
 pub mod check;
 pub mod continues;

@@ -43,7 +43,7 @@ use std::marker::Model;
 /// Why there is no plan of a function.
 #[derive(Debug, Drop, PartialEq, Eq)]
 pub enum PlanError {
-    /// The rules of scope don't hold in the function: this is the first fault.
+    /// The rules of scope don't hold in the function, by this fault.
     OutOfScope(ScopeFault),
     /// The statement with this number is the first without a form, where those in blocks are
     /// counted too, each after the one that holds the block, from 0. A case is told by its `switch`.

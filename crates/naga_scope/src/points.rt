@@ -265,7 +265,11 @@ fn stands_usable(
 impl Scope {
     /// Where the expressions stand at the start of the function: operators over constants alone are
     /// in scope everywhere, and all others are absent. It has room for as many changes.
-    pub fn start(alloc: Global, function: &Function, changes: usize) -> Result<Scope, AllocError>
+    pub(crate) fn start(
+        alloc: Global,
+        function: &Function,
+        changes: usize,
+    ) -> Result<Scope, AllocError>
         requires ordered { OperandsStandBefore function.now.expressions }
         ensures start { (named : ℕ → List ℕ) (m : Module) (known : ModuleInfo)
             (es : List ExpressionInfo) → IfOk result (λ s.

@@ -3,8 +3,7 @@
 use naga_ir::{Expression, Handle, LocalVariable};
 
 /// Which rule of scope a function breaks, and where. A statement is told by its number in the order
-/// of the text: those in blocks are counted too, each after the one that holds the block, from 0
-/// (modulo 2^64).
+/// of the text: those in blocks are counted too, each after the one that holds the block, from 0.
 #[derive(Clone, Copy, Debug, PartialEq, Eq)]
 pub enum ScopeFault {
     /// The first value of this local is out of scope where the local is declared.
@@ -12,9 +11,16 @@ pub enum ScopeFault {
         local: Handle<LocalVariable>,
         value: Handle<Expression>,
     },
-    /// The statement uses this expression, which is out of scope there.
+    /// The statement uses this expression, which is out of scope there. It is not by its `break if`.
     Operand {
         statement: usize,
+        operand: Handle<Expression>,
+    },
+    /// The `break if` of this loop, after which the statement with the number `next` would stand, uses
+    /// this expression, which is out of scope there.
+    BreakIf {
+        statement: usize,
+        next: usize,
         operand: Handle<Expression>,
     },
     /// The statement is an `Emit` that binds the expression, of which this operand is out of scope

@@ -1,7 +1,7 @@
 //! Which expressions of a function are written, on which lines, and which of these has no form.
 
 ghost use Rattle.std.specs.Prelude.{IfOk, None, false, get_or, replicate};
-ghost use Rattle.std.specs.Prelude.{[], ◌∷◌, ◌≡◌, ◌-◌, ℕ, List, if◌then◌else◌, length};
+ghost use Rattle.std.specs.Prelude.{[], ◌∷◌, ◌≡◌, ◌-◌, ◌<◌, ◌^◌, ℕ, List, if◌then◌else◌, length};
 ghost use Rattle.std.specs.List.{filter, list_all};
 ghost use Rattle.std.specs.Option.{option_to_list};
 ghost use Rattle.naga_ir.specs.Operands.{expression_operands, own_operands};
@@ -17,8 +17,8 @@ ghost use Rattle.naga_scope.specs.Forms.{AreKnownIn};
 ghost use Rattle.naga_scope.specs.FirstLines.{FindsEarliest, WritesAlso, WritesJust};
 ghost use Rattle.naga_scope.specs.FirstLines.{first_line, found_with, function_writes};
 ghost use Rattle.naga_scope.specs.FirstLines.{local_writes, statement_writes, writes_at};
-ghost use Rattle.naga_ir.specs.InOrder.{trees_of};
-ghost use Rattle.naga_scope.specs.InOrder.{own_roots};
+ghost use Rattle.naga_ir.specs.InOrder.{trees_in, trees_of};
+ghost use Rattle.naga_scope.specs.InOrder.{line_roots};
 ghost use Rattle.naga_scope.specs.KnownFunctions.{bound_in, expressions_of, has_form_in};
 ghost use Rattle.naga_scope.specs.Marks.{MarksAlso, MarksConstants};
 ghost use Rattle.naga_scope.specs.Marks.{is_marked};
@@ -26,6 +26,7 @@ ghost use Rattle.naga_scope.specs.Tables.{AreTablesOf};
 ghost use Rattle.naga_scope.specs.declared.lines.Line.{Line};
 ghost use Rattle.shader_runs.specs.Program.{from};
 
+use crate::breaks::note_breaks;
 use crate::forms::has_own_form;
 use crate::known_function::KnownFunction;
 use crate::lines::{Line, is_before};
@@ -165,7 +166,7 @@ fn line_at(lines: &[Option<Line>], index: usize) -> Option<Line>
 }
 
 /// Notes that this line writes the expression with this handle, if there is one.
-fn note(lines: &mut [Option<Line>], handle: Handle<Expression>, line: &Line)
+pub(crate) fn note(lines: &mut [Option<Line>], handle: Handle<Expression>, line: &Line)
     ensures { WritesAlso lines.old ((line.now, handle) ∷ []) lines.new }
 {
     let index = handle.index();
@@ -204,7 +205,7 @@ fn note_own(lines: &mut [Option<Line>], statement: &Statement, line: &Line)
     }
 }
 
-/// Notes what a statement, which stands on this line, writes by itself.
+/// Notes what a statement, which stands on this line, writes by itself, its `break if` left out.
 fn note_statement(
     lines: &mut [Option<Line>],
     known: &KnownFunction<'_>,
@@ -212,15 +213,16 @@ fn note_statement(
     line: &Line,
 )
     ensures { WritesAlso lines.old
-        (writes_at line.now (own_roots (bound_in known.now) (tree_of statement.now))) lines.new }
+        (writes_at line.now (line_roots (bound_in known.now) (tree_of statement.now))) lines.new }
 {
     match statement {
         Statement::Emit(range) => note_emitted(lines, known, *range, line),
+        Statement::Loop { .. } => {}
         _ => note_own(lines, statement, line),
     }
 }
 
-/// Notes what these statements write by themselves.
+/// Notes what these statements write by themselves, their `break if`s left out.
 fn note_statements(lines: &mut [Option<Line>], known: &KnownFunction<'_>, statements: &[&Statement])
     ensures { WritesAlso lines.old
         (statement_writes (bound_in known.now) (trees_of statements.now)) lines.new }
@@ -344,12 +346,14 @@ fn without_form(
     requires tables { AreTablesOf known.now.shader.now known.now.tables.now }
     requires named { HasNamesOf known.now.shader.now (names_in names.now) }
     requires types { AreKnownIn known.now.shader.now.types known.now.info.now }
+    requires small { length (trees_in known.now.function.now.body) < 2 ^ 64 }
     ensures { FindsEarliest (has_form_in known.now) (expressions_of known.now)
         (function_writes (bound_in known.now) known.now.function.now (trees_of statements.now))
         result }
 {
     note_first_values(lines, known.function);
     note_statements(lines, known, statements);
+    note_breaks(lines, &known.function.body, 0);
     sweep(
         lines,
         constants,
@@ -374,6 +378,7 @@ pub(crate) fn written_without_form(
     requires tables { AreTablesOf known.now.shader.now known.now.tables.now }
     requires named { HasNamesOf known.now.shader.now (names_in names.now) }
     requires types { AreKnownIn known.now.shader.now.types known.now.info.now }
+    requires small { length (trees_in known.now.function.now.body) < 2 ^ 64 }
     ensures { IfOk result (FindsEarliest (has_form_in known.now) (expressions_of known.now)
         (function_writes (bound_in known.now) known.now.function.now (trees_of statements.now))) }
 {

@@ -51,7 +51,7 @@ use Rattle.module_meaning.specs.Names.{labels_named_in, wgsl_names}
 use Rattle.naga_scope.specs.ExpressionNames.{HasOtherUses, IsRefusalOfLabels}
 use Rattle.module_meaning.specs.Premises.{function_shape_at}
 use Rattle.naga_scope.specs.Plans.{HasScopeFaultIn, IsPlanOf, IsRefusalToPlanOf, Planned}
-use Rattle.naga_scope.proofs.ScopeChecks.{fault_breaks}
+use Rattle.naga_scope.proofs.FaultLines.{fault_breaks}
 use Rattle.naga_scope.specs.declared.scope_faults.ScopeFault.{ScopeFault}
 use Rattle.naga_scope.specs.declared.plan.PlanError.{PlanError}
 use Rattle.naga_scope.specs.declared.plan.PlanError.TheVariants.{LetWithoutForm, OutOfScope}

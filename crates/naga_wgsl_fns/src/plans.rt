@@ -39,7 +39,7 @@ use std::collections::HashMap;
 
 /// A part of a function, or of an entry point, for which it is refused. A statement is told by its
 /// number in the order of the text: those in blocks are counted too, each after the one that holds
-/// the block, from 0 (modulo 2^64).
+/// the block, from 0.
 #[derive(Clone, Copy, Debug, PartialEq, Eq)]
 pub enum FunctionRefusalPosition {
     /// The labels that front ends gave in it.

@@ -60,7 +60,8 @@ def written_of(f):
 
 
 def first_lines(f):
-    """The first line that writes each of these: a local, `(0, NUMBER)`, or a statement, `(1, NUMBER)`."""
+    """The first line that writes each of these, in the order of lines: a local, `(0, NUMBER)`, a statement,
+    `(1, NUMBER, 1)`, or the `break if` of a loop, `(1, NUMBER AFTER THE LOOP, 0, -NUMBER)`."""
     uses, lines = uses_of(f), {}
 
     def write(handles, line):
@@ -70,8 +71,9 @@ def first_lines(f):
     for number, (_, _, init) in enumerate(f.locals):
         write([init] * (init is not None), (0, number))
     for number, s in enumerate(statements_in(f.body)):
-        write([h for h in emitted_by(s) if binds(f, h, uses)], (1, number))
-        write(s.operands, (1, number))
+        write([h for h in emitted_by(s) if binds(f, h, uses)], (1, number, 1))
+        inside = sum(len(list(statements_in(block))) for block in s.blocks) if s.kind == "loop" else 0
+        write(s.operands, (1, number + 1 + inside, 0, -number) if s.kind == "loop" else (1, number, 1))
     for h in reversed(range(len(f.expressions))):
         if h in lines:
             write(f.expressions[h].operands, lines[h])

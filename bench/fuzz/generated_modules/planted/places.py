@@ -77,8 +77,13 @@ def first_line(f, e):
 
 
 def expression_on_line(f, e):
-    is_statement, number = first_line(f, e)
-    line = f"in statement {number}" if is_statement else f"first value of local_variables[{number}]"
+    is_statement, number, *further = first_line(f, e)
+    if not is_statement:
+        line = f"first value of local_variables[{number}]"
+    elif further == [1]:
+        line = f"in statement {number}"
+    else:
+        line = f"in break if of statement {-further[1]}"
     return f"{expression(f, e)}, {line}"
 
 

@@ -10,11 +10,13 @@ pub returns : goal.returns
 returns c =
     let k = c.args.known.now in
     let writes = function_writes (bound_in k) k.function.now (trees_of c.args.statements.now) in
-    let all = writes_then c.note_first_values.ensures c.note_statements.ensures in
-    c.sweep.ensures writes (just_noted c.args.lines.now c.note_statements.new.lines writes
+    let all = writes_then (writes_then c.note_first_values.ensures c.note_statements.ensures)
+    c.note_breaks.ensures.noted in
+    c.sweep.ensures writes (just_noted c.args.lines.now c.note_breaks.new.lines writes
     (length (expressions_of k)) c.requires.lines all)
 
 pub sweep-requires-clause-size : goal.sweep-requires-clause-size
 sweep-requires-clause-size c =
-    let all = writes_then c.note_first_values.ensures c.note_statements.ensures in
+    let all = writes_then (writes_then c.note_first_values.ensures c.note_statements.ensures)
+    c.note_breaks.ensures.noted in
     size_kept all ∙ (ap length c.requires.lines ∙ length-replicate (length (expressions_of c.args.known.now)) None)

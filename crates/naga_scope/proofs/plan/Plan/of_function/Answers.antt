@@ -66,7 +66,7 @@ pub check_function-checked-requires : goal.check_function-checked-requires
 check_function-checked-requires c =
     let k = c.args.known.now in
     let changes = all_changes k _ (ap trees_of c.as_slice-statements.ensures.value ∙ c.in_ok-found.ensures)
-    c.in-Some.changes c.in-Some.ensures in
+    c.in-Some.changes c.in-Some.ensures.some in
     let start = c.in_ok-scope.ensures.start (λ number. []) k.shader.now k.module_info.now k.info.now in
     record {
       at = record {
@@ -129,7 +129,7 @@ returns-clause-ok c =
     (sym c.first_lack-first.ensures ∙ c.in_default-first.is) in
     let kept = c.check_function-checked.ensures.kept in
     let at_first =
-    subst (HasRoom c.in_ok-scope.scope) (all_changes k sts trees c.in-Some.changes c.in-Some.ensures)
+    subst (HasRoom c.in_ok-scope.scope) (all_changes k sts trees c.in-Some.changes c.in-Some.ensures.some)
     c.in_ok-scope.ensures.room in
     record {
       in_scope = nothing.0;
