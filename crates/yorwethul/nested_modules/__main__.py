@@ -32,14 +32,16 @@ WRITTEN = ""
 WAYS = [WRITTEN, "--check", "--layout", "--explain", "--lines"]
 # Of these kinds the gate asks for each way a million deep.
 LONG = ["negations", "array types"]
+# So many blocks nest as deep as JSON may, in the 127 lists and objects in one another that it may have.
+DEEPEST_BLOCKS = 61
 TOO_LONG = "refused: text too long\n"
 
 
 def run(program, text, stack, *words):
     """The status with which the program ends in so much stack, its output and its error output."""
-    def limited():
-        resource.setrlimit(resource.RLIMIT_STACK, (stack, stack))
-    done = subprocess.run([program, *filter(None, words)], input=text.encode(), capture_output=True, preexec_fn=limited)
+    # what is begun from here has this limit too; all that run at once are asked with the same
+    resource.setrlimit(resource.RLIMIT_STACK, (stack, resource.getrlimit(resource.RLIMIT_STACK)[1]))
+    done = subprocess.run([program, *filter(None, words)], input=text.encode(), capture_output=True)
     return done.returncode, done.stdout.decode(), done.stderr.decode()
 
 
@@ -85,11 +87,12 @@ def is_right(kind, depth, way, limit, told):
 
 
 def is_right_of_blocks(depth, status, out, err):
-    """Whether this is what is to be answered of blocks that deep: some sixty nest as deep as JSON may."""
-    if depth < 60:
+    """Whether this is what is to be answered of blocks that deep."""
+    if depth <= DEEPEST_BLOCKS:
         return is_written(WRITTEN, status, out, err)
-    at = blocks(depth).index("[", blocks(60).index('{"Block"'))
-    return (status, out) == (2, "") and err.startswith("standard input: no JSON at line 1, column ")
+    begin = '{"Block":['
+    column = blocks(1).index(begin) + DEEPEST_BLOCKS * len(begin) + 2
+    return (status, out, err) == (2, "", f"standard input: no JSON at line 1, column {column}\n")
 
 
 def short(told):
@@ -111,7 +114,7 @@ def faults(program, words, limit, is_short=False):
         line = "refused: nested too deep: operands\n" if is_deep else TOO_LONG
         if not (is_written(WRITTEN, *told) if depth == 10 else is_refused(WRITTEN, line, *told)):
             yield f"doubled {depth} times: {short(told)}"
-    for depth in (10, 30, 100, 1_000, MILLION):
+    for depth in (10, DEEPEST_BLOCKS, DEEPEST_BLOCKS + 1, 100, 1_000, MILLION):
         told = run(program, blocks(depth), 8 * MEGABYTE, *words)
         if not is_right_of_blocks(depth, *told):
             yield f"blocks, {depth} deep: {short(told)}"
