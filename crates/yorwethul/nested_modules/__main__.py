@@ -11,7 +11,8 @@
         and in 2 MB.
 
 With the last words `--nesting N` the program is asked with them: one that was compiled without a proof takes more of the
-stack for a level, and is to be asked with 1,000.
+stack for a level, and is to be asked with 1,000. It takes a hundred times as long too, so that the gate asks it for none that
+are deeper than 10,000.
 """
 
 import json
@@ -50,9 +51,17 @@ def asked(limit, is_short):
     for depth in sorted({*DEPTHS, limit, limit + 1}):
         for kind in KINDS:
             for way in WAYS:
-                is_long = depth == MILLION and kind in LONG
-                if not is_short or way == WRITTEN or depth in (limit, limit + 1) or is_long:
+                if not is_short or is_asked_in_short(limit, kind, depth, way):
                     yield kind, depth, way
+
+
+def is_asked_in_short(limit, kind, depth, way):
+    if limit < STANDARD and depth > 10_000:
+        return False
+    # their texts are long, and are made for each way but two
+    is_long_text = "compositions" in kind and depth == limit and way in ("--explain", "--lines")
+    is_at_limit = depth in (limit, limit + 1) and not is_long_text
+    return way == WRITTEN or is_at_limit or depth == MILLION and kind in LONG
 
 
 def is_written(way, status, out, err):
@@ -114,7 +123,7 @@ def faults(program, words, limit, is_short=False):
         line = "refused: nested too deep: operands\n" if is_deep else TOO_LONG
         if not (is_written(WRITTEN, *told) if depth == 10 else is_refused(WRITTEN, line, *told)):
             yield f"doubled {depth} times: {short(told)}"
-    for depth in (10, DEEPEST_BLOCKS, DEEPEST_BLOCKS + 1, 100, 1_000, MILLION):
+    for depth in (10, DEEPEST_BLOCKS, DEEPEST_BLOCKS + 1, 100, 1_000, 100_000 if is_short else MILLION):
         told = run(program, blocks(depth), 8 * MEGABYTE, *words)
         if not is_right_of_blocks(depth, *told):
             yield f"blocks, {depth} deep: {short(told)}"
