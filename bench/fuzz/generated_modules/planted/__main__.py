@@ -50,7 +50,7 @@ class Sample:
 
     def __init__(self, construct, source, planted, lines, texts):
         self.construct, self.source, self.lines, self.texts = construct, source, lines, texts
-        self.wanted = [planted.wanted() if planted.stands(*style) else None for style in STYLES]
+        self.wanted = [planted.wanted(style[1]) if planted.stands(*style) else None for style in STYLES]
 
     def differs(self, answers):
         """The first style whose answer is another than is wanted, with both."""

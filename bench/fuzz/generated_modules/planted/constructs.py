@@ -13,7 +13,7 @@ from modules import (
 from numerals import numeral_of
 from operators import LITERALS, wanted_scalar
 from places import (
-    Head, always, at_expression, at_first_value, at_item, at_let, at_needless, at_operand,
+    Head, LetFirst, always, at_expression, at_first_value, at_item, at_let, at_needless, at_operand,
     at_operand_of_emitted, at_second, at_statement, at_struct, at_type, at_value)
 from planting import FLOAT, INT, TRUTH, Planter
 from refusals import (
@@ -377,7 +377,9 @@ def type_of_loaded_matrix(p):
     what = [8, p.r.choice([8, 16]), p.r.choice("ABC"), p.chance(0.5)]
     ty = ("cooperative", *what[:2], F32, what[2])
     h = p.put("cooperative load", ty, what, [base, p.leaf()])
-    return written(p, only(unsupported_scalar(scalar)), h, base)
+    name = only(unsupported_scalar(scalar))
+    # where `let`s tell types, that of the pointer tells one without a form in front of the load
+    return LetFirst(written(p, name, h, base), at_let(name, p.f, p.at(base)))
 
 
 @in_function

@@ -23,8 +23,8 @@ class Planted:
     def __init__(self, name, f, part, stands=always):
         self.name, self.f, self.part, self.stands = name, f, part, stands
 
-    def wanted(self):
-        """What an answer has beside the text."""
+    def wanted(self, explicit):
+        """What an answer has beside the text, where `let`s tell types or not."""
         if self.f is None:
             return {"refused": self.name, "place": "module" + self.part()}
         told = {"refused": self.name, "place": self.place_of_function() + self.part()}
@@ -37,6 +37,17 @@ class Planted:
         # the head of an entry point is its own, and not of its function
         entry_point = f"module.entry_points[{number - count}]"
         return entry_point if isinstance(self, Head) else entry_point + ".function"
+
+
+class LetFirst(Planted):
+    """What stands where `let`s tell no types, and where they do a `let` in front of it."""
+
+    def __init__(self, plain, let):
+        super().__init__(plain.name, plain.f, plain.part, plain.stands)
+        self.let = let
+
+    def wanted(self, explicit):
+        return self.let.wanted(explicit) if explicit else super().wanted(explicit)
 
 
 class Head(Planted):
