@@ -1,6 +1,6 @@
 -- The rules of scope in the functions of a module, one by one and in all.
 use Rattle.std.proofs.Common.{◌≡◌, ◌<◌, ◌^◌, ℕ, Bool, true, zero, suc, List, [], ◌∷◌}
-use Rattle.std.proofs.Common.{Some, arith, inl, inr, length, nat_le, subst}
+use Rattle.std.proofs.Common.{Some, arith, inl, inr, length, nat_le}
 use Rattle.std.proofs.Common.{◌∙◌, sym}
 use Rattle.std.proofs.lemmas.Bool.{false≢true}
 use Rattle.std.specs.Prelude.{IfSome, IsTrue, slice_get}
@@ -201,7 +201,7 @@ at_each (f ∷ fs) (suc i) each = at_each fs i each.1
 module _ (explicit : Bool) (m : Module) (info : ModuleInfo) (nothing : NothingIsRefused explicit m info)
   where
     -- each function can be written
-    each_writable : (i : ℕ) → IsWritableAt explicit m info (labels_before m i) i
+    pub each_writable : (i : ℕ) → IsWritableAt explicit m info (labels_before m i) i
     each_writable i = record {
       in_scope =
           let own = function_shapes m info (all_functions m) (all_infos info) in
