@@ -377,9 +377,10 @@ def type_of_loaded_matrix(p):
     what = [8, p.r.choice([8, 16]), p.r.choice("ABC"), p.chance(0.5)]
     ty = ("cooperative", *what[:2], F32, what[2])
     h = p.put("cooperative load", ty, what, [base, p.leaf()])
-    name = only(unsupported_scalar(scalar))
-    # where `let`s tell types, that of the pointer tells one without a form in front of the load
-    return LetFirst(written(p, name, h, base), at_let(name, p.f, p.at(base)))
+    # where `let`s tell types, that of the pointer tells one without a form
+    return written(
+        p, only(unsupported_scalar(scalar)), h, base,
+        told=lambda name, f, e, stands: LetFirst(name, f, e, p.at(base)))
 
 
 @in_function

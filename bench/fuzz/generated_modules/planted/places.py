@@ -40,14 +40,17 @@ class Planted:
 
 
 class LetFirst(Planted):
-    """What stands where `let`s tell no types, and where they do a `let` in front of it."""
+    """An expression that is written, and a `let`: where `let`s tell types and this one stands on a
+    line in front, it is the first."""
 
-    def __init__(self, plain, let):
-        super().__init__(plain.name, plain.f, plain.part, plain.stands)
-        self.let = let
+    def __init__(self, name, f, e, bound):
+        super().__init__(name, f, lambda: expression_on_line(f, e))
+        self.e, self.bound = e, bound
 
     def wanted(self, explicit):
-        return self.let.wanted(explicit) if explicit else super().wanted(explicit)
+        line = (1, index_of(statements_in(self.f.body), let_of(self.f, self.bound)))
+        is_first = explicit and line < tuple(first_line(self.f, self.e)[:2])
+        return at_let(self.name, self.f, self.bound).wanted(explicit) if is_first else super().wanted(explicit)
 
 
 class Head(Planted):
@@ -112,12 +115,16 @@ def at_value(name, f, e, stands=always):
     return Planted(name, f, part, stands)
 
 
+def let_of(f, e):
+    """The statement that has its `let`."""
+    h = index_of(f.expressions, e)
+    return next(s for s in statements_in(f.body) if s.result == h or h in emitted_by(s))
+
+
 def at_let(name, f, e):
     """A type that a `let` tells, where `let`s tell types."""
     def part():
-        h = index_of(f.expressions, e)
-        s = next(s for s in statements_in(f.body) if s.result == h or h in emitted_by(s))
-        return f"{expression(f, e)}, the type of its let in {statement(f, s)}"
+        return f"{expression(f, e)}, the type of its let in {statement(f, let_of(f, e))}"
     return Planted(name, f, part, lambda is_plain, explicit: explicit)
 
 
