@@ -24,7 +24,7 @@ pub fn fault_line(
 {
     let position = JsonPosition(unaccepted.item);
     let fault = fault_text(alloc, module, info, unaccepted)?;
-    format!(in alloc; "{place}: {fault}")
+    format!(in alloc; "{position}: {fault}")
 }
 
 /// The same without the place.

@@ -21,7 +21,7 @@ use Rattle.naga_names.specs.Label.{without_last_separators, or_unnamed, kept_off
 use Rattle.ucd_category.proofs.Computing.{ucd_category}
 use Rattle.naga_names.proofs.Label.{character_spelling-mark, character_spelling-plain}
 use Rattle.naga_names.proofs.Label.{character_spelling-foreign, spelling-body, hexadecimal_glyph}
-use Rattle.naga_names.proofs.Label.{all_zeros, all_digits_onto}
+use Rattle.naga_names.proofs.Label.{all_zeros, all_digits_onto, body}
 
 -- ---- characters of identifiers alone
 abbrev only : List ℕ → Type 0
