@@ -6,11 +6,10 @@ use Rattle.std.proofs.lemmas.Bool.{false≢true, ltb-false, ltb-true}
 use Rattle.std.proofs.lemmas.Option.{slice_get_within}
 use Rattle.std.specs.List.{IsAmong}
 use Rattle.std.specs.Option.{option_map_or, option_or}
-use Rattle.std.specs.Prelude.{Err, IsFalse, IsSomeAnd}
+use Rattle.std.specs.Result.{result_err}
+use Rattle.std.specs.Prelude.{Err, IsFalse, IsSomeAnd, Result}
 use Rattle.module_meaning.specs.ExpressionForms.{expression_has_form}
 use Rattle.module_meaning.specs.FunctionShapes.{function_shape}
-use Rattle.module_meaning.specs.Names.{labels_before}
-use Rattle.module_meaning.specs.Undeclared.{is_spellable}
 use Rattle.module_meaning.specs.Written.{WrittenHaveForms}
 use Rattle.naga_info.specs.declared.info.ExpressionInfo.{ExpressionInfo}
 use Rattle.naga_info.specs.declared.info.ModuleInfo.{ModuleInfo}
@@ -26,17 +25,18 @@ use Rattle.naga_scope.specs.Earliest.{line_of}
 use Rattle.naga_scope.specs.InOrder.{own_lets, trees_in}
 use Rattle.naga_scope.specs.Lines.{IsWrittenAt, is_before, lets_at}
 use Rattle.naga_scope.specs.Plans.{ComesBefore, IsFirstInText, IsFirstOfKind, IsFirstToPlan, NothingAt, kind_of}
-use Rattle.naga_scope.specs.Plans.{kind_rank}
-use Rattle.naga_scope.specs.SpelledTypes.{own_annotated}
+use Rattle.naga_scope.specs.Plans.{checked_scope, kind_rank}
+use Rattle.naga_scope.specs.SpelledTypes.{declared_unsupported, own_annotated}
 use Rattle.naga_scope.specs.UnsupportedStatements.{IsUnsupportedAt, LacksForm, SomeCaseFalls}
 use Rattle.naga_scope.specs.UnsupportedStatements.{falls_unsupported, own_unsupported, unsupported_case}
-use Rattle.naga_scope.specs.declared.lines.Declared.{Declared}
 use Rattle.naga_scope.specs.declared.lines.Line.{Line}
+use Rattle.naga_scope.specs.declared.lines.Line.TheVariants as lines
 use Rattle.naga_scope.specs.declared.plan.PlanError.{PlanError}
 use Rattle.naga_scope.specs.declared.plan.PlanError.TheVariants as reason
-use Rattle.naga_scope.specs.declared.scope_faults.ScopeFault.{ScopeFault}
 use Rattle.naga_scope.specs.declared.statements.UnsupportedStatement.{UnsupportedStatement}
-use Rattle.naga_wgsl_fns.specs.Refusals.{ExpressionNamesAreFullIn}
+use Rattle.naga_wgsl_fns.specs.Carried.{CarriesOfExpression}
+use Rattle.naga_wgsl_fns.specs.Constructs.{Tells}
+use Rattle.naga_wgsl_fns.specs.Refusals.{NamesExpression}
 use Rattle.naga_wgsl_fns.specs.Unplanned.{part_of}
 use Rattle.naga_wgsl_fns.specs.declared.plans.FunctionPart.{FunctionPart}
 use Rattle.naga_wgsl_fns.specs.declared.plans.FunctionPart.TheVariants as part
@@ -58,11 +58,24 @@ lowest h k no_less no_more = by (nat_lt h k) (nat_lt k h) refl refl
         let other = ltb-false k h more in
         omega (arith, one, other)
 
+-- ---- what is found twice
+same_some : {X : Type 0} (x y : X) (o : Option X) → o ≡ Some x → o ≡ Some y → x ≡ y
+same_some x y o one other =
+    let both : Some x ≡ Some y = sym one ∙ other in
+    cc
+
+same_error : {X E : Type 0} (e g : E) (r : Result X E) → r ≡ Err e → r ≡ Err g → e ≡ g
+same_error e g r one other = same_some e g (result_err r) (ap result_err one) (ap result_err other)
+
+same_number : (n k : ℕ) → lines.Statement n ≡ lines.Statement k → n ≡ k
+same_number n k same = cc
+
 -- ---- statements
 -- a case that falls through is found
 some_case : (cs : CaseTrees) (it : UnsupportedStatement) → SomeCaseFalls cs it → unsupported_case cs ≡ None → ⊥
 some_case no_cases it falls none = falls
-some_case (case value body falls cs) it (inl here) none = by (falls_unsupported falls (has_no_statements body)) here none
+some_case (case value body falls cs) it (inl here) none =
+    by (falls_unsupported falls (has_no_statements body)) here none
   where
     by : (o : Option UnsupportedStatement) → o ≡ Some it →
         option_or o (unsupported_case cs) ≡ None → ⊥
@@ -82,6 +95,12 @@ lacks_found st it lacks none = lacks
 
 module _ (explicit : Bool) (m : Module) (info : ModuleInfo) (number : ℕ) (f : Function)
     (known : List ExpressionInfo) where
+  -- an expression that has no form, and is told by this construct
+  abbrev pub Unformed : Construct → Expression → Type 0
+  Unformed it e =
+      IsFalse (expression_has_form m known f.expressions e)
+      × Tells it (NamesExpression m known f.expressions e) × CarriesOfExpression m known e it
+
   -- ---- what stands there keeps the function from being written
   pub part_refuses : (at : FunctionPart) (it : Construct) → StandsAtPart explicit m info number f known at it →
       ScopeHolds (function_shape m info f known) → WrittenHaveForms explicit m info f known →
@@ -94,7 +113,7 @@ module _ (explicit : Bool) (m : Module) (info : ModuleInfo) (number : ℕ) (f : 
   part_refuses (part.Expression line h) it (written, lacks) scope formed labelled =
       by (slice_get f.expressions h) refl lacks
     where
-      by : (o : Option Expression) → slice_get f.expressions h ≡ o → IsSomeAnd o _ → ⊥
+      by : (o : Option Expression) → slice_get f.expressions h ≡ o → IsSomeAnd o (Unformed it) → ⊥
       by None there lacks = lacks
       by (Some e) there lacks =
           false≢true (sym lacks.0 ∙ formed.expressions h e there
@@ -139,7 +158,7 @@ module _ (explicit : Bool) (m : Module) (info : ModuleInfo) (number : ℕ) (f : 
     something_at (reason.WithoutForm line h) it (written, lacks) first other nothing =
         by (slice_get f.expressions h) refl lacks
       where
-        by : (o : Option Expression) → slice_get f.expressions h ≡ o → IsSomeAnd o _ → ⊥
+        by : (o : Option Expression) → slice_get f.expressions h ≡ o → IsSomeAnd o (Unformed it) → ⊥
         by None there lacks = lacks
         by (Some e) there lacks = false≢true (sym lacks.0 ∙ nothing h e there written)
     something_at (reason.TypeWithoutForm at ty) it (declared, (spelled, lacks, told, carries)) first other nothing =
@@ -154,21 +173,21 @@ module _ (explicit : Bool) (m : Module) (info : ModuleInfo) (number : ℕ) (f : 
 
     -- ---- of two that are the first neither comes before the other
     -- an error that is not of labels tells of the text
-    abbrev IsOfText : PlanError → Type 0
+    abbrev pub IsOfText : PlanError → Type 0
     IsOfText error = part_of error ≡ part.Labels → ⊥
 
-    abbrev Stands : PlanError → Construct → Type 0
+    abbrev pub Stands : PlanError → Construct → Type 0
     Stands error it = StandsAtPart explicit m info number f known (part_of error) it
 
-    abbrev IsFirstHere : PlanError → Type 0
+    abbrev pub IsFirstHere : PlanError → Type 0
     IsFirstHere error = IsFirstToPlan (LabelsGetNamesIn m number) explicit m info f known error
 
     of_labels : (error : PlanError) → (part_of error ≡ part.Labels) ⊎ IsOfText error
-    of_labels (reason.OutOfScope fault) = inr (λ same. absurd cc)
-    of_labels (reason.StatementWithoutForm n it) = inr (λ same. absurd cc)
-    of_labels (reason.WithoutForm line h) = inr (λ same. absurd cc)
-    of_labels (reason.TypeWithoutForm at ty) = inr (λ same. absurd cc)
-    of_labels (reason.LetWithoutForm n h) = inr (λ same. absurd cc)
+    of_labels (reason.OutOfScope fault) = inr (λ (same : part.Scope fault ≡ part.Labels). absurd cc)
+    of_labels (reason.StatementWithoutForm n it) = inr (λ (same : part.Statement n ≡ part.Labels). absurd cc)
+    of_labels (reason.WithoutForm line h) = inr (λ (same : part.Expression line h ≡ part.Labels). absurd cc)
+    of_labels (reason.TypeWithoutForm at ty) = inr (λ (same : part.Type_ at ty ≡ part.Labels). absurd cc)
+    of_labels (reason.LetWithoutForm n h) = inr (λ (same : part.Let n h ≡ part.Labels). absurd cc)
     of_labels (reason.Unnamed e) = inl refl
     of_labels (reason.Memory e) = inl refl
 
@@ -193,7 +212,7 @@ module _ (explicit : Bool) (m : Module) (info : ModuleInfo) (number : ℕ) (f : 
         IsFirstOfKind explicit m info f known (reason.WithoutForm there x) → line ≡ there → h < x → ⊥
     not_lower line there h x it (written, lacks) first same less = by (slice_get f.expressions h) refl lacks
       where
-        by : (o : Option Expression) → slice_get f.expressions h ≡ o → IsSomeAnd o _ → ⊥
+        by : (o : Option Expression) → slice_get f.expressions h ≡ o → IsSomeAnd o (Unformed it) → ⊥
         by None is lacks = lacks
         by (Some e) is lacks =
             false≢true (sym lacks.0 ∙ first h e less is
@@ -204,91 +223,87 @@ module _ (explicit : Bool) (m : Module) (info : ModuleInfo) (number : ℕ) (f : 
         IsFirstOfKind explicit m info f known (reason.LetWithoutForm k x) → n ≡ k → h ≡ x
     same_let n k h x it (among, lacks) first second same =
         let there = let_there n h among in
-        let both : Some h ≡ Some x =
-        sym (first there.0 there.1) ∙ second there.0 (ap (slice_get (trees_in f.body)) (sym same) ∙ there.1) in
-        cc
+        same_some h x (own_annotated explicit m known (binds (function_shape m info f known)) there.0)
+        (first there.0 there.1) (second there.0 (ap (slice_get (trees_in f.body)) (sym same) ∙ there.1))
 
     -- neither is of a kind that comes before the other's
-    abbrev NotBelow : PlanError → PlanError → Type 0
+    abbrev pub NotBelow : PlanError → PlanError → Type 0
     NotBelow one other = kind_rank (kind_of one) < kind_rank (kind_of other) → ⊥
 
     same_part : (one other : PlanError) (it that : Construct) → Stands one it → Stands other that →
         IsFirstOfKind explicit m info f known one → IsFirstOfKind explicit m info f known other →
         line_of one ≡ line_of other → IsOfText one → IsOfText other → NotBelow one other → NotBelow other one →
         part_of one ≡ part_of other
-    same_part (reason.OutOfScope fault) (reason.OutOfScope broken) it that stands stood first second line of_one of_other
-        no_less no_more =
-        let both : Err fault ≡ Err broken = sym first ∙ second in
-        let same : fault ≡ broken = cc in
-        ap part.Scope same
-    same_part (reason.OutOfScope fault) (reason.StatementWithoutForm k b) it that stands stood first second line of_one of_other
-        no_less no_more = absurd (no_less (omega arith))
-    same_part (reason.OutOfScope fault) (reason.WithoutForm there x) it that stands stood first second line of_one of_other
-        no_less no_more = absurd (no_less (omega arith))
-    same_part (reason.OutOfScope fault) (reason.TypeWithoutForm by sort) it that stands stood first second line of_one of_other
-        no_less no_more = absurd (no_less (omega arith))
-    same_part (reason.OutOfScope fault) (reason.LetWithoutForm k x) it that stands stood first second line of_one of_other
-        no_less no_more = absurd (no_less (omega arith))
-    same_part (reason.StatementWithoutForm n a) (reason.OutOfScope broken) it that stands stood first second line of_one of_other
-        no_less no_more = absurd (no_more (omega arith))
-    same_part (reason.StatementWithoutForm n a) (reason.StatementWithoutForm k b) it that stands stood first second line of_one of_other
-        no_less no_more =
-        let same : n ≡ k = cc in
-        ap part.Statement same
-    same_part (reason.StatementWithoutForm n a) (reason.WithoutForm there x) it that stands stood first second line of_one of_other
-        no_less no_more = absurd (no_less (omega arith))
-    same_part (reason.StatementWithoutForm n a) (reason.TypeWithoutForm by sort) it that stands stood first second line of_one of_other
-        no_less no_more = absurd (no_less (omega arith))
-    same_part (reason.StatementWithoutForm n a) (reason.LetWithoutForm k x) it that stands stood first second line of_one of_other
-        no_less no_more = absurd (no_less (omega arith))
-    same_part (reason.WithoutForm at h) (reason.OutOfScope broken) it that stands stood first second line of_one of_other
-        no_less no_more = absurd (no_more (omega arith))
-    same_part (reason.WithoutForm at h) (reason.StatementWithoutForm k b) it that stands stood first second line of_one of_other
-        no_less no_more = absurd (no_more (omega arith))
-    same_part (reason.WithoutForm at h) (reason.WithoutForm there x) it that stands stood first second line of_one of_other
-        no_less no_more =
+    same_part (reason.OutOfScope fault) (reason.OutOfScope broken) it that s t first second line o p less more =
+        ap part.Scope (same_error fault broken (checked_scope m info f known) first second)
+    same_part (reason.OutOfScope fault) (reason.StatementWithoutForm k b) it that s t first second line o p less more =
+        absurd (less (omega arith))
+    same_part (reason.OutOfScope fault) (reason.WithoutForm there x) it that s t first second line o p less more =
+        absurd (less (omega arith))
+    same_part (reason.OutOfScope fault) (reason.TypeWithoutForm by sort) it that s t first second line o p less more =
+        absurd (less (omega arith))
+    same_part (reason.OutOfScope fault) (reason.LetWithoutForm k x) it that s t first second line o p less more =
+        absurd (less (omega arith))
+    same_part (reason.StatementWithoutForm n a) (reason.OutOfScope broken) it that s t first second line o p less more =
+        absurd (more (omega arith))
+    same_part (reason.StatementWithoutForm n a) (reason.StatementWithoutForm k b)
+        it that s t first second line o p less more =
+        ap part.Statement (same_number n k line)
+    same_part (reason.StatementWithoutForm n a) (reason.WithoutForm there x)
+        it that s t first second line o p less more =
+        absurd (less (omega arith))
+    same_part (reason.StatementWithoutForm n a) (reason.TypeWithoutForm by sort)
+        it that s t first second line o p less more =
+        absurd (less (omega arith))
+    same_part (reason.StatementWithoutForm n a) (reason.LetWithoutForm k x)
+        it that s t first second line o p less more =
+        absurd (less (omega arith))
+    same_part (reason.WithoutForm at h) (reason.OutOfScope broken) it that s t first second line o p less more =
+        absurd (more (omega arith))
+    same_part (reason.WithoutForm at h) (reason.StatementWithoutForm k b) it that s t first second line o p less more =
+        absurd (more (omega arith))
+    same_part (reason.WithoutForm at h) (reason.WithoutForm there x) it that s t first second line o p less more =
         let same =
-        lowest h x (not_lower at there h x it stands second line)
-        (not_lower there at x h that stood first (sym line)) in
+        lowest h x (not_lower at there h x it s second line)
+        (not_lower there at x h that t first (sym line)) in
         λ i. part.Expression (line i) (same i)
-    same_part (reason.WithoutForm at h) (reason.TypeWithoutForm by sort) it that stands stood first second line of_one of_other
-        no_less no_more = absurd (no_less (omega arith))
-    same_part (reason.WithoutForm at h) (reason.LetWithoutForm k x) it that stands stood first second line of_one of_other
-        no_less no_more = absurd (no_less (omega arith))
-    same_part (reason.TypeWithoutForm at ty) (reason.OutOfScope broken) it that stands stood first second line of_one of_other
-        no_less no_more = absurd (no_more (omega arith))
-    same_part (reason.TypeWithoutForm at ty) (reason.StatementWithoutForm k b) it that stands stood first second line of_one of_other
-        no_less no_more = absurd (no_more (omega arith))
-    same_part (reason.TypeWithoutForm at ty) (reason.WithoutForm there x) it that stands stood first second line of_one of_other
-        no_less no_more = absurd (no_more (omega arith))
-    same_part (reason.TypeWithoutForm at ty) (reason.TypeWithoutForm by sort) it that stands stood first second line of_one of_other
-        no_less no_more =
-        let both : Some (at, ty) ≡ Some (by, sort) = sym first ∙ second in
-        let same : (at, ty) ≡ (by, sort) = cc in
-        ap (λ p. part.Type_ p.0 p.1) same
-    same_part (reason.TypeWithoutForm at ty) (reason.LetWithoutForm k x) it that stands stood first second line of_one of_other
-        no_less no_more = absurd (no_less (omega arith))
-    same_part (reason.LetWithoutForm n h) (reason.OutOfScope broken) it that stands stood first second line of_one of_other
-        no_less no_more = absurd (no_more (omega arith))
-    same_part (reason.LetWithoutForm n h) (reason.StatementWithoutForm k b) it that stands stood first second line of_one of_other
-        no_less no_more = absurd (no_more (omega arith))
-    same_part (reason.LetWithoutForm n h) (reason.WithoutForm there x) it that stands stood first second line of_one of_other
-        no_less no_more = absurd (no_more (omega arith))
-    same_part (reason.LetWithoutForm n h) (reason.TypeWithoutForm by sort) it that stands stood first second line of_one of_other
-        no_less no_more = absurd (no_more (omega arith))
-    same_part (reason.LetWithoutForm n h) (reason.LetWithoutForm k x) it that stands stood first second line of_one of_other
-        no_less no_more =
-        let same : n ≡ k = cc in
-        let handle = same_let n k h x it stands first second same in
+    same_part (reason.WithoutForm at h) (reason.TypeWithoutForm by sort) it that s t first second line o p less more =
+        absurd (less (omega arith))
+    same_part (reason.WithoutForm at h) (reason.LetWithoutForm k x) it that s t first second line o p less more =
+        absurd (less (omega arith))
+    same_part (reason.TypeWithoutForm at ty) (reason.OutOfScope broken) it that s t first second line o p less more =
+        absurd (more (omega arith))
+    same_part (reason.TypeWithoutForm at ty) (reason.StatementWithoutForm k b)
+        it that s t first second line o p less more =
+        absurd (more (omega arith))
+    same_part (reason.TypeWithoutForm at ty) (reason.WithoutForm there x) it that s t first second line o p less more =
+        absurd (more (omega arith))
+    same_part (reason.TypeWithoutForm at ty) (reason.TypeWithoutForm by sort)
+        it that s t first second line o p less more =
+        ap (λ p. part.Type_ p.0 p.1) (same_some (at, ty) (by, sort) (declared_unsupported m f) first second)
+    same_part (reason.TypeWithoutForm at ty) (reason.LetWithoutForm k x) it that s t first second line o p less more =
+        absurd (less (omega arith))
+    same_part (reason.LetWithoutForm n h) (reason.OutOfScope broken) it that s t first second line o p less more =
+        absurd (more (omega arith))
+    same_part (reason.LetWithoutForm n h) (reason.StatementWithoutForm k b)
+        it that s t first second line o p less more =
+        absurd (more (omega arith))
+    same_part (reason.LetWithoutForm n h) (reason.WithoutForm there x) it that s t first second line o p less more =
+        absurd (more (omega arith))
+    same_part (reason.LetWithoutForm n h) (reason.TypeWithoutForm by sort) it that s t first second line o p less more =
+        absurd (more (omega arith))
+    same_part (reason.LetWithoutForm n h) (reason.LetWithoutForm k x) it that s t first second line o p less more =
+        let same = same_number n k line in
+        let handle = same_let n k h x it s first second same in
         λ i. part.Let (same i) (handle i)
-    same_part (reason.Unnamed e) other it that stands stood first second line of_one of_other no_less no_more =
-        absurd (of_one refl)
-    same_part (reason.Memory e) other it that stands stood first second line of_one of_other no_less no_more =
-        absurd (of_one refl)
-    same_part one (reason.Unnamed e) it that stands stood first second line of_one of_other no_less no_more =
-        absurd (of_other refl)
-    same_part one (reason.Memory e) it that stands stood first second line of_one of_other no_less no_more =
-        absurd (of_other refl)
+    same_part (reason.Unnamed e) other it that s t first second line o p less more =
+        absurd (o refl)
+    same_part (reason.Memory e) other it that s t first second line o p less more =
+        absurd (o refl)
+    same_part one (reason.Unnamed e) it that s t first second line o p less more =
+        absurd (p refl)
+    same_part one (reason.Memory e) it that s t first second line o p less more =
+        absurd (p refl)
 
     -- ---- so there is one part
     pub one_part : (one other : PlanError) (it that : Construct) → Stands one it → Stands other that →

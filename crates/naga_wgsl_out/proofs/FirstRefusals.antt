@@ -1,13 +1,11 @@
 -- What is a refusal isn't nothing, and the first stands at one place.
 use Rattle.std.proofs.Common.{◌≡◌, ◌<◌, ◌+◌, ℕ, Bool, true, false, List, Option, Some, None}
-use Rattle.std.proofs.Common.{ap, arith, inl, inr, length, nat_lt, refl, slice_get, subst, sym, ◌∙◌}
-use Rattle.std.proofs.lemmas.Bool.{false≢true, ltb-false, ltb-true}
-use Rattle.std.proofs.lemmas.Option.{slice_get_within}
+use Rattle.std.proofs.Common.{ap, arith, inl, inr, length, refl, slice_get, subst, sym, ◌∙◌}
+use Rattle.std.proofs.lemmas.Bool.{false≢true}
 use Rattle.std.specs.Option.{option_and_then}
-use Rattle.std.specs.Prelude.{IfSome, IsFalse, if◌then◌else◌}
-use Rattle.module_meaning.proofs.FunctionNumbers.{entry_point_among, function_among}
-use Rattle.module_meaning.specs.DeclarationForms.{DeclarationsHaveForms, IsPassed}
-use Rattle.module_meaning.specs.DeclarationForms.{binding_has_form, stage_has_form}
+use Rattle.std.specs.Prelude.{IfSome, if◌then◌else◌}
+use Rattle.module_meaning.proofs.FunctionNumbers.{function_among}
+use Rattle.module_meaning.specs.DeclarationForms.{DeclarationsHaveForms}
 use Rattle.module_meaning.specs.DeclarationForms.IsDeclaredType.{OfConstant as ConstantType}
 use Rattle.module_meaning.specs.DeclarationForms.IsDeclaredType.{OfMember as MemberType}
 use Rattle.module_meaning.specs.DeclarationForms.IsDeclaredType.{OfOverride as OverrideType}
@@ -18,12 +16,10 @@ use Rattle.module_meaning.specs.DeclarationForms.IsInitialiser.{OfVariable as Va
 use Rattle.module_meaning.specs.DeclarationForms.IsMemberBinding.{OfMember as MemberBinding}
 use Rattle.module_meaning.specs.DeclarationForms.IsPassed.{OfArgument, OfResult}
 use Rattle.module_meaning.specs.FunctionNumbers.{all_functions, all_infos}
-use Rattle.module_meaning.specs.FunctionShapes.{function_shape}
 use Rattle.module_meaning.specs.Layouts.{concerned_members, concerned_of}
 use Rattle.module_meaning.specs.Layouts.{module_rule}
 use Rattle.module_meaning.specs.ExpressionForms.{global_is_written}
 use Rattle.module_meaning.specs.Undeclared.{is_spellable}
-use Rattle.naga_info.specs.declared.info.ExpressionInfo.{ExpressionInfo}
 use Rattle.naga_info.specs.declared.info.ModuleInfo.{ModuleInfo}
 use Rattle.naga_info.specs.declared.info.TypeResolution.TheVariants.{Handle}
 use Rattle.naga_ir.specs.declared.binding.Binding.TheVariants as binding
@@ -188,7 +184,8 @@ module _ (m : Module) where
       };
       offsets = λ ks concerned fault stands.
           has.offsets h fault (record { members = ks; concerned = is_concerned ∙ concerned; stands = stands });
-      strides = λ ks concerned i s there. kept ks concerned i s there (arrays_are_kept (module_rule m) m.types s.ty) refl;
+      strides = λ ks concerned i s there.
+          kept ks concerned i s there (arrays_are_kept (module_rule m) m.types s.ty) refl;
     }
       where
         is_concerned : concerned_members m h ≡ concerned_among m (members_of t.inner)
@@ -262,90 +259,108 @@ module _ (m : Module) where
   pub one_declaration : (at other : DeclarationPosition) (it that : UnsupportedDeclaration) →
       IsUnsupportedIn m at it → IsUnsupportedIn m other that → HaveFormsBefore m at → HaveFormsBefore m other →
       at ≡ other
-  one_declaration (declared.Struct h) (declared.Struct k) it that (t, there, lacks) (u, where_, lack) first second =
+  one_declaration (declared.Struct h) (declared.Struct k) it that (t, there, lacks) (u, found, lack) first second =
       ap declared.Struct (lowest h k
       (λ less. type_lacks h t it lacks (second h t less there))
-      (λ less. type_lacks k u that lack (first k u less where_)))
-  one_declaration (declared.Struct h) (declared.Constant k) it that (t, there, lacks) (d, where_, lack) first second =
+      (λ less. type_lacks k u that lack (first k u less found)))
+  one_declaration (declared.Struct h) (declared.Constant k) it that (t, there, lacks) (d, found, lack) first second =
       absurd (type_lacks h t it lacks (second.0 h t there))
-  one_declaration (declared.Struct h) (declared.Override k) it that (t, there, lacks) (p, where_, lack) first second =
+  one_declaration (declared.Struct h) (declared.Override k) it that (t, there, lacks) (p, found, lack) first second =
       absurd (type_lacks h t it lacks (second.0 h t there))
-  one_declaration (declared.Struct h) (declared.GlobalVariable k) it that (t, there, lacks) (v, where_, lack) first second =
+  one_declaration (declared.Struct h) (declared.GlobalVariable k) it that (t, there, lacks)
+      (v, found, lack) first second =
       absurd (type_lacks h t it lacks (second.0 h t there))
-  one_declaration (declared.Struct h) (declared.Function k) it that (t, there, lacks) (q, where_, lack) first second =
+  one_declaration (declared.Struct h) (declared.Function k) it that (t, there, lacks) (q, found, lack) first second =
       absurd (type_lacks h t it lacks (second.0 h t there))
-  one_declaration (declared.Struct h) (declared.EntryPoint k) it that (t, there, lacks) (n, where_, lack) first second =
+  one_declaration (declared.Struct h) (declared.EntryPoint k) it that (t, there, lacks) (n, found, lack) first second =
       absurd (type_lacks h t it lacks (second.0 h t there))
-  one_declaration (declared.Constant h) (declared.Struct k) it that (c, there, lacks) (u, where_, lack) first second =
-      absurd (type_lacks k u that lack (first.0 k u where_))
-  one_declaration (declared.Constant h) (declared.Constant k) it that (c, there, lacks) (d, where_, lack) first second =
+  one_declaration (declared.Constant h) (declared.Struct k) it that (c, there, lacks) (u, found, lack) first second =
+      absurd (type_lacks k u that lack (first.0 k u found))
+  one_declaration (declared.Constant h) (declared.Constant k) it that (c, there, lacks) (d, found, lack) first second =
       ap declared.Constant (lowest h k
       (λ less. constant_lacks c it lacks (second.1 h c less there))
-      (λ less. constant_lacks d that lack (first.1 k d less where_)))
-  one_declaration (declared.Constant h) (declared.Override k) it that (c, there, lacks) (p, where_, lack) first second =
+      (λ less. constant_lacks d that lack (first.1 k d less found)))
+  one_declaration (declared.Constant h) (declared.Override k) it that (c, there, lacks) (p, found, lack) first second =
       absurd (constant_lacks c it lacks (second.1 h c there))
-  one_declaration (declared.Constant h) (declared.GlobalVariable k) it that (c, there, lacks) (v, where_, lack) first second =
+  one_declaration (declared.Constant h) (declared.GlobalVariable k) it that (c, there, lacks)
+      (v, found, lack) first second =
       absurd (constant_lacks c it lacks (second.1 h c there))
-  one_declaration (declared.Constant h) (declared.Function k) it that (c, there, lacks) (q, where_, lack) first second =
+  one_declaration (declared.Constant h) (declared.Function k) it that (c, there, lacks) (q, found, lack) first second =
       absurd (constant_lacks c it lacks (second.1 h c there))
-  one_declaration (declared.Constant h) (declared.EntryPoint k) it that (c, there, lacks) (n, where_, lack) first second =
+  one_declaration (declared.Constant h) (declared.EntryPoint k) it that (c, there, lacks)
+      (n, found, lack) first second =
       absurd (constant_lacks c it lacks (second.1 h c there))
-  one_declaration (declared.Override h) (declared.Struct k) it that (o, there, lacks) (u, where_, lack) first second =
-      absurd (type_lacks k u that lack (first.0 k u where_))
-  one_declaration (declared.Override h) (declared.Constant k) it that (o, there, lacks) (d, where_, lack) first second =
-      absurd (constant_lacks d that lack (first.1 k d where_))
-  one_declaration (declared.Override h) (declared.Override k) it that (o, there, lacks) (p, where_, lack) first second =
+  one_declaration (declared.Override h) (declared.Struct k) it that (o, there, lacks) (u, found, lack) first second =
+      absurd (type_lacks k u that lack (first.0 k u found))
+  one_declaration (declared.Override h) (declared.Constant k) it that (o, there, lacks) (d, found, lack) first second =
+      absurd (constant_lacks d that lack (first.1 k d found))
+  one_declaration (declared.Override h) (declared.Override k) it that (o, there, lacks) (p, found, lack) first second =
       ap declared.Override (lowest h k
       (λ less. value_lacks o.ty o.init it lacks (second.2 h o less there))
-      (λ less. value_lacks p.ty p.init that lack (first.2 k p less where_)))
-  one_declaration (declared.Override h) (declared.GlobalVariable k) it that (o, there, lacks) (v, where_, lack) first second =
+      (λ less. value_lacks p.ty p.init that lack (first.2 k p less found)))
+  one_declaration (declared.Override h) (declared.GlobalVariable k) it that (o, there, lacks)
+      (v, found, lack) first second =
       absurd (value_lacks o.ty o.init it lacks (second.2 h o there))
-  one_declaration (declared.Override h) (declared.Function k) it that (o, there, lacks) (q, where_, lack) first second =
+  one_declaration (declared.Override h) (declared.Function k) it that (o, there, lacks) (q, found, lack) first second =
       absurd (value_lacks o.ty o.init it lacks (second.2 h o there))
-  one_declaration (declared.Override h) (declared.EntryPoint k) it that (o, there, lacks) (n, where_, lack) first second =
+  one_declaration (declared.Override h) (declared.EntryPoint k) it that (o, there, lacks)
+      (n, found, lack) first second =
       absurd (value_lacks o.ty o.init it lacks (second.2 h o there))
-  one_declaration (declared.GlobalVariable h) (declared.Struct k) it that (g, there, lacks) (u, where_, lack) first second =
-      absurd (type_lacks k u that lack (first.0 k u where_))
-  one_declaration (declared.GlobalVariable h) (declared.Constant k) it that (g, there, lacks) (d, where_, lack) first second =
-      absurd (constant_lacks d that lack (first.1 k d where_))
-  one_declaration (declared.GlobalVariable h) (declared.Override k) it that (g, there, lacks) (p, where_, lack) first second =
-      absurd (value_lacks p.ty p.init that lack (first.2 k p where_))
-  one_declaration (declared.GlobalVariable h) (declared.GlobalVariable k) it that (g, there, lacks) (v, where_, lack) first second =
+  one_declaration (declared.GlobalVariable h) (declared.Struct k) it that (g, there, lacks)
+      (u, found, lack) first second =
+      absurd (type_lacks k u that lack (first.0 k u found))
+  one_declaration (declared.GlobalVariable h) (declared.Constant k) it that (g, there, lacks)
+      (d, found, lack) first second =
+      absurd (constant_lacks d that lack (first.1 k d found))
+  one_declaration (declared.GlobalVariable h) (declared.Override k) it that (g, there, lacks)
+      (p, found, lack) first second =
+      absurd (value_lacks p.ty p.init that lack (first.2 k p found))
+  one_declaration (declared.GlobalVariable h) (declared.GlobalVariable k) it that (g, there, lacks)
+      (v, found, lack) first second =
       ap declared.GlobalVariable (lowest h k
       (λ less. value_lacks g.ty g.init it lacks (second.3 h g less there))
-      (λ less. value_lacks v.ty v.init that lack (first.3 k v less where_)))
-  one_declaration (declared.GlobalVariable h) (declared.Function k) it that (g, there, lacks) (q, where_, lack) first second =
+      (λ less. value_lacks v.ty v.init that lack (first.3 k v less found)))
+  one_declaration (declared.GlobalVariable h) (declared.Function k) it that (g, there, lacks)
+      (q, found, lack) first second =
       absurd (value_lacks g.ty g.init it lacks (second.3 h g there))
-  one_declaration (declared.GlobalVariable h) (declared.EntryPoint k) it that (g, there, lacks) (n, where_, lack) first second =
+  one_declaration (declared.GlobalVariable h) (declared.EntryPoint k) it that (g, there, lacks)
+      (n, found, lack) first second =
       absurd (value_lacks g.ty g.init it lacks (second.3 h g there))
-  one_declaration (declared.Function h) (declared.Struct k) it that (f, there, lacks) (u, where_, lack) first second =
-      absurd (type_lacks k u that lack (first.0 k u where_))
-  one_declaration (declared.Function h) (declared.Constant k) it that (f, there, lacks) (d, where_, lack) first second =
-      absurd (constant_lacks d that lack (first.1 k d where_))
-  one_declaration (declared.Function h) (declared.Override k) it that (f, there, lacks) (p, where_, lack) first second =
-      absurd (value_lacks p.ty p.init that lack (first.2 k p where_))
-  one_declaration (declared.Function h) (declared.GlobalVariable k) it that (f, there, lacks) (v, where_, lack) first second =
-      absurd (value_lacks v.ty v.init that lack (first.3 k v where_))
-  one_declaration (declared.Function h) (declared.Function k) it that (f, there, lacks) (q, where_, lack) first second =
+  one_declaration (declared.Function h) (declared.Struct k) it that (f, there, lacks) (u, found, lack) first second =
+      absurd (type_lacks k u that lack (first.0 k u found))
+  one_declaration (declared.Function h) (declared.Constant k) it that (f, there, lacks) (d, found, lack) first second =
+      absurd (constant_lacks d that lack (first.1 k d found))
+  one_declaration (declared.Function h) (declared.Override k) it that (f, there, lacks) (p, found, lack) first second =
+      absurd (value_lacks p.ty p.init that lack (first.2 k p found))
+  one_declaration (declared.Function h) (declared.GlobalVariable k) it that (f, there, lacks)
+      (v, found, lack) first second =
+      absurd (value_lacks v.ty v.init that lack (first.3 k v found))
+  one_declaration (declared.Function h) (declared.Function k) it that (f, there, lacks) (q, found, lack) first second =
       ap declared.Function (lowest h k
       (λ less. function_lacks f it lacks (second.4 h f less there))
-      (λ less. function_lacks q that lack (first.4 k q less where_)))
-  one_declaration (declared.Function h) (declared.EntryPoint k) it that (f, there, lacks) (n, where_, lack) first second =
+      (λ less. function_lacks q that lack (first.4 k q less found)))
+  one_declaration (declared.Function h) (declared.EntryPoint k) it that (f, there, lacks)
+      (n, found, lack) first second =
       absurd (function_lacks f it lacks (second.4 h f there))
-  one_declaration (declared.EntryPoint h) (declared.Struct k) it that (e, there, lacks) (u, where_, lack) first second =
-      absurd (type_lacks k u that lack (first.0 k u where_))
-  one_declaration (declared.EntryPoint h) (declared.Constant k) it that (e, there, lacks) (d, where_, lack) first second =
-      absurd (constant_lacks d that lack (first.1 k d where_))
-  one_declaration (declared.EntryPoint h) (declared.Override k) it that (e, there, lacks) (p, where_, lack) first second =
-      absurd (value_lacks p.ty p.init that lack (first.2 k p where_))
-  one_declaration (declared.EntryPoint h) (declared.GlobalVariable k) it that (e, there, lacks) (v, where_, lack) first second =
-      absurd (value_lacks v.ty v.init that lack (first.3 k v where_))
-  one_declaration (declared.EntryPoint h) (declared.Function k) it that (e, there, lacks) (q, where_, lack) first second =
-      absurd (function_lacks q that lack (first.4 k q where_))
-  one_declaration (declared.EntryPoint h) (declared.EntryPoint k) it that (e, there, lacks) (n, where_, lack) first second =
+  one_declaration (declared.EntryPoint h) (declared.Struct k) it that (e, there, lacks) (u, found, lack) first second =
+      absurd (type_lacks k u that lack (first.0 k u found))
+  one_declaration (declared.EntryPoint h) (declared.Constant k) it that (e, there, lacks)
+      (d, found, lack) first second =
+      absurd (constant_lacks d that lack (first.1 k d found))
+  one_declaration (declared.EntryPoint h) (declared.Override k) it that (e, there, lacks)
+      (p, found, lack) first second =
+      absurd (value_lacks p.ty p.init that lack (first.2 k p found))
+  one_declaration (declared.EntryPoint h) (declared.GlobalVariable k) it that (e, there, lacks)
+      (v, found, lack) first second =
+      absurd (value_lacks v.ty v.init that lack (first.3 k v found))
+  one_declaration (declared.EntryPoint h) (declared.Function k) it that (e, there, lacks)
+      (q, found, lack) first second =
+      absurd (function_lacks q that lack (first.4 k q found))
+  one_declaration (declared.EntryPoint h) (declared.EntryPoint k) it that (e, there, lacks)
+      (n, found, lack) first second =
       ap declared.EntryPoint (lowest h k
       (λ less. point_lacks e it lacks (second.5 h e less there))
-      (λ less. point_lacks n that lack (first.5 k n less where_)))
+      (λ less. point_lacks n that lack (first.5 k n less found)))
 
 -- ---- labels
 labels_refuse : (m : Module) (it : Construct) → StandsInLabels m it → (ItemsAreFull m → ⊥) →

@@ -1,8 +1,8 @@
--- What holds of all that a module can be refused for: what is told is a refusal, and the first stands
--- in one place.
+-- What holds of all that a module can be refused for: what is told is a refusal, and the first
+-- stands in one place.
 --
--- Throughout, m is the module, info what is known of it, explicit says whether `let`s tell types, and
--- one and other are refusals.
+-- Throughout, m is the module, info what is known of it, explicit says whether `let`s tell types,
+-- and one and other are refusals.
 use Rattle.std.specs.Prelude.{◌≡◌, ◌≤◌, ◌^◌, ℕ, Bool, Some, length, slice_get}
 use Rattle.module_meaning.specs.FunctionNumbers.{all_functions}
 use Rattle.naga_info.specs.declared.info.ModuleInfo.{ModuleInfo}
@@ -26,8 +26,9 @@ RefusalsRefuse =
     (explicit : Bool) (m : Module) (info : ModuleInfo) (one : Refusal) →
     StandsIn explicit m info one → NothingIsRefused explicit m info → ⊥
 
--- All that stands in a module and is the first stands at one place, so that two calls, or a call and
--- the writer, can't tell two of them. Which of two constructs is told at one place it does not say.
+-- All that stands in a module and is the first stands at one place, so that two calls, or a call
+-- and the writer, can't tell of two places. That it is one construct it does not say: among the
+-- labels of items a full namer and a key out of range may stand.
 abbrev pub FirstRefusalsAreAtOnePlace : Type 0
 FirstRefusalsAreAtOnePlace =
     (explicit : Bool) (m : Module) (info : ModuleInfo) (one other : Refusal) → AreNumbered m →
