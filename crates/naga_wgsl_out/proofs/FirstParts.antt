@@ -81,11 +81,13 @@ some_case (case value body falls cs) it (inl here) none =
         option_or o (unsupported_case cs) ≡ None → ⊥
     by None here none = absurd cc
     by (Some other) here none = absurd cc
-some_case (case value body falls cs) it (inr rest) none = by (falls_unsupported falls (has_no_statements body)) none
+some_case (case value body falls cs) it (inr rest) none =
+    by (falls_unsupported falls (has_no_statements body)) none (some_case cs it rest)
   where
-    by : (o : Option UnsupportedStatement) → option_or o (unsupported_case cs) ≡ None → ⊥
-    by None none = some_case cs it rest none
-    by (Some other) none = absurd cc
+    by : (o : Option UnsupportedStatement) → option_or o (unsupported_case cs) ≡ None →
+        (unsupported_case cs ≡ None → ⊥) → ⊥
+    by None none further = further none
+    by (Some other) none further = absurd cc
 
 -- a statement without a form is found
 lacks_found : (st : StatementTree) (it : UnsupportedStatement) → LacksForm st it → own_unsupported st ≡ None → ⊥
