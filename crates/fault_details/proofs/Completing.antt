@@ -47,7 +47,8 @@ use Rattle.module_meaning.specs.acceptance.ExpressionTypes.{has_its_type, if_any
 use Rattle.module_meaning.specs.acceptance.ExpressionTypes.{is_expected, local_type}
 use Rattle.module_meaning.specs.acceptance.ExpressionTypes.{logical_type, only, vector_of}
 use Rattle.module_meaning.specs.acceptance.ExpressionTypes.{expected_type}
-use Rattle.module_meaning.specs.acceptance.OperandDemands.{is_components, is_integer, operand_is}
+use Rattle.module_meaning.specs.acceptance.OperandDemands.{is_scalar_or_vector, is_integer}
+use Rattle.module_meaning.specs.acceptance.OperandDemands.{operand_is}
 use Rattle.module_meaning.specs.acceptance.OperandDemands.{is_swizzled, operands_fit}
 use Rattle.module_meaning.specs.acceptance.InfoSizes.{all_known, all_paired, entry_point_size_fits}
 use Rattle.module_meaning.specs.acceptance.InfoSizes.{function_size_fits, sizes_fit, type_is_fit}
@@ -88,8 +89,8 @@ use Rattle.naga_acceptance.specs.declared.faults.Fault.{Fault}
 use Rattle.naga_acceptance.specs.declared.faults.Fault.TheVariants as fault
 use Rattle.naga_acceptance.specs.declared.faults.FunctionPosition.{FunctionPosition}
 use Rattle.naga_acceptance.specs.declared.faults.FunctionPosition.TheVariants as part
-use Rattle.naga_acceptance.specs.declared.faults.Item.{Item}
-use Rattle.naga_acceptance.specs.declared.faults.Item.TheVariants as item
+use Rattle.naga_acceptance.specs.declared.faults.FaultPosition.{FaultPosition}
+use Rattle.naga_acceptance.specs.declared.faults.FaultPosition.TheVariants as item
 use Rattle.naga_acceptance.proofs.Finding.{unfit_item}
 use Rattle.naga_acceptance.proofs.Walking.{block_range}
 use Rattle.module_meaning.specs.TypeParts.{component_scalar, has_computed_parts, is_part_number}
@@ -147,7 +148,7 @@ binary_given binary.LogicalAnd left = logical_given left
 binary_given binary.LogicalOr left = logical_given left
 binary_given _ left = refl
 
-components_same : (it : TypeInner) → is_components it ≡ is_some (component_scalar it)
+components_same : (it : TypeInner) → is_scalar_or_vector it ≡ is_some (component_scalar it)
 components_same (inner.Scalar s) = refl
 components_same (inner.Vector n s) = refl
 components_same _ = refl
@@ -188,7 +189,7 @@ module _ (m : Module) (f : Option Function) (known : List TypeResolution) (argum
       absurd (true≢false (sym (ap is_nothing nothing) ∙ any_given _))
   typeless_told own (expression.Splat n value) nothing below named =
       class_told m.types known class.Components value (first_there value [] below)
-      (none_is is_components component_scalar components_same (known_inner m.types known value)
+      (none_is is_scalar_or_vector component_scalar components_same (known_inner m.types known value)
       (map_none (vector_of n) _ (only_none _ nothing)))
   typeless_told own (expression.Swizzle n vector pattern) nothing below named =
       class_told m.types known class.Vector vector (first_there vector [] below)
@@ -629,7 +630,7 @@ module _ (m : Module) (info : ModuleInfo) (ranges : IsTrue (module_ranges_fit m 
       let b = and_parts entry_points globals a.1 in
       (a.0, b.0, b.1)
 
-  abbrev Told : Fault → Item → Type 0
+  abbrev Told : Fault → FaultPosition → Type 0
   Told kind at = IsSome (item_reason m info kind at)
 
   -- of the module itself and of its types there is no such fault
@@ -801,7 +802,7 @@ module _ (m : Module) (info : ModuleInfo) (ranges : IsTrue (module_ranges_fit m 
           (and_parts group own (and_parts ray (group && own)
           (and_parts task (ray && (group && own)) (and_parts mesh (task && (ray && (group && own))) fits).1).1).1).1
 
-  item_told : (at : Item) (kind : Fault) → IsOfTypes kind → ItemFails m info at kind → Told kind at
+  item_told : (at : FaultPosition) (kind : Fault) → IsOfTypes kind → ItemFails m info at kind → Told kind at
   item_told item.Module kind of fails = absurd (no_module kind of fails)
   item_told (item.Type h) kind of fails = absurd (no_type h kind of fails)
   item_told (item.Constant h) kind of fails = constant_told h kind of fails
@@ -811,7 +812,7 @@ module _ (m : Module) (info : ModuleInfo) (ranges : IsTrue (module_ranges_fit m 
   item_told (item.Function h place) kind of fails = function_at_told h place kind of fails
   item_told (item.EntryPoint h place) kind of fails = entry_point_told h place kind of fails
 
-  by_kind : (at : Item) (kind : Fault) → IsOfTypes kind → FaultIs m info at kind → Told kind at
+  by_kind : (at : FaultPosition) (kind : Fault) → IsOfTypes kind → FaultIs m info at kind → Told kind at
   by_kind at fault.OtherType of fails = item_told at fault.OtherType of fails
   by_kind at fault.OperandTypes of fails = item_told at fault.OperandTypes of fails
   by_kind at fault.InitialiserType of fails = item_told at fault.InitialiserType of fails

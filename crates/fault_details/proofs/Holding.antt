@@ -37,8 +37,8 @@ use Rattle.naga_acceptance.specs.Faults.{known_of}
 use Rattle.naga_acceptance.specs.TextOrder.{PlacedStatement, text_order}
 use Rattle.naga_acceptance.specs.declared.faults.Fault.{Fault}
 use Rattle.naga_acceptance.specs.declared.faults.Fault.TheVariants as fault
-use Rattle.naga_acceptance.specs.declared.faults.Item.{Item}
-use Rattle.naga_acceptance.specs.declared.faults.Item.TheVariants as item
+use Rattle.naga_acceptance.specs.declared.faults.FaultPosition.{FaultPosition}
+use Rattle.naga_acceptance.specs.declared.faults.FaultPosition.TheVariants as item
 use Rattle.naga_acceptance.specs.declared.faults.FunctionPosition.{FunctionPosition}
 use Rattle.naga_acceptance.specs.declared.faults.FunctionPosition.TheVariants as part
 use Rattle.module_meaning.specs.AlikeTypes.{are_alike}
@@ -484,7 +484,7 @@ module _ (m : Module) where
   made_holds fault.TypeLength h it = length_holds (length m.overrides) it
   made_holds _ h it = tt
 
-  item_holds : (info : ModuleInfo) (kind : Fault) (at : Item) → Holds (item_reason m info kind at)
+  item_holds : (info : ModuleInfo) (kind : Fault) (at : FaultPosition) → Holds (item_reason m info kind at)
   item_holds info kind item.Module = module_holds info kind
   item_holds info kind (item.Type h) = then_holds (IsReason m) (made_reason m kind h) (made_holds kind h) _
   item_holds info kind (item.Constant h) =

@@ -30,7 +30,7 @@ use Rattle.module_meaning.specs.acceptance.StatementsFit.{is_selection, is_store
 use Rattle.module_meaning.specs.acceptance.StatementsFit.{case_values_are_of}
 use Rattle.module_meaning.specs.acceptance.StatementsFit.{case_values_differ, case_values_fit}
 use Rattle.module_meaning.specs.acceptance.StatementsFit.{last_falls_through, selection_fits}
-use Rattle.module_meaning.specs.acceptance.StatementsFit.{selects, value_has_type}
+use Rattle.module_meaning.specs.acceptance.StatementsFit.{is_selector_type, value_has_type}
 use Rattle.module_meaning.specs.TypeParts.{known_inner, known_pointee, pointee_type}
 use Rattle.fault_details.specs.Reasons.{Reason, OtherClass, OtherType, Unexpected, class_reason}
 use Rattle.fault_details.specs.Reasons.{is_in_class, case_value_reason, case_value_type_reason}
@@ -166,7 +166,8 @@ module _ (types : List Type_) (known : List TypeResolution) where
   label_type_told s (switch_value.U32 number) fails = some_unless _ _ fails
   label_type_told s switch_value.Default fails = absurd (true≢false fails)
 
-  label_types_told : (s : Scalar) (cs : CaseTrees) → case_values_are_of s cs ≡ false → IsSome (case_value_types_reason s cs)
+  label_types_told : (s : Scalar) (cs : CaseTrees) → case_values_are_of s cs ≡ false →
+      IsSome (case_value_types_reason s cs)
   label_types_told s no_cases fails = absurd (true≢false fails)
   label_types_told s (case v b falls cs) fails =
       ⊎_elim
@@ -184,7 +185,8 @@ module _ (types : List Type_) (known : List TypeResolution) where
       let default = need_unless (has_case_value switch_value.Default cs) need.Default in
       let end = need_unless (not (last_falls_through false cs)) need.End in
       ⊎_elim
-      (λ a. some_first (case_value_types_reason s cs) (option_or differ (option_or default end)) (label_types_told s cs a))
+      (λ a. some_first (case_value_types_reason s cs) (option_or differ (option_or default end))
+          (label_types_told s cs a))
       (λ others. some_second (case_value_types_reason s cs) (option_or differ (option_or default end)) (⊎_elim
       (λ b. some_first differ (option_or default end) (need_told _ _ b))
       (λ last. some_second differ (option_or default end) (⊎_elim
@@ -210,14 +212,14 @@ module _ (types : List Type_) (known : List TypeResolution) where
           (ap (λ o. option_map_or (is_in_class types class.Selector) o false) e ∙ other))
 
       scalar : (s : Scalar) → known_inner types known selector ≡ Some (inner.Scalar s) →
-          (selects s && case_values_fit s cs) ≡ false → IsSome (switch_reason types known selector cs)
+          (is_selector_type s && case_values_fit s cs) ≡ false → IsSome (switch_reason types known selector cs)
       scalar s e fails =
           ⊎_elim
           (λ other. first (Some (inner.Scalar s)) e other)
           (λ labels. some_second (class_reason types known class.Selector selector) _
           (some_then (case_value_reason cs) (known_inner types known selector) (inner.Scalar s) e
           (labels_told s cs labels)))
-          (and_cases (selects s) (case_values_fit s cs) fails)
+          (and_cases (is_selector_type s) (case_values_fit s cs) fails)
 
       one : (it : TypeInner) → known_inner types known selector ≡ Some it → selection_fits cs it ≡ false →
           IsSome (switch_reason types known selector cs)

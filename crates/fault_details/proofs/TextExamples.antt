@@ -2,7 +2,7 @@
 use Rattle.std.proofs.Common.{◌≡◌, codes, refl}
 use Rattle.std.specs.Fmt.{digits}
 use Rattle.fault_details.specs.Texts.{many_text, wanted_text}
-use Rattle.fault_details.specs.declared.expected.Expected.TheVariants as wanted
+use Rattle.fault_details.specs.declared.mismatch.Mismatch.TheVariants as wanted
 use Rattle.fault_details.specs.declared.words.Counted.TheVariants as counted
 use Rattle.fault_details.specs.declared.words.ListName.TheVariants as list
 use Rattle.fault_details.specs.declared.words.Need.TheVariants as need

@@ -4,7 +4,7 @@
 -- value that is not there or not wanted, and of what a statement needs, nothing is said. And that
 -- each reason is one.
 --
--- Throughout, m is a module, info what is known of it, and u a place with a kind of fault.
+-- Throughout, m is a module, info what is known of it, and u a position with a kind of fault.
 use Rattle.std.specs.Prelude.{◌≡◌, ⊤, ◌≢◌, ◌≤◌, false}
 use Rattle.std.specs.Option.{IfSome, option_map_or}
 use Rattle.naga_ir.specs.declared.module.Module.{Module}

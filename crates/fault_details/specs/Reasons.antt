@@ -1,6 +1,6 @@
 -- What was wanted where a module is not accepted, and what stands there: by the clause of
--- acceptance that a fault is of, and the item at its place. A kind of fault of which no more can be
--- told than its name has no reason.
+-- acceptance that a fault is of, and the item at its position. A kind of fault of which no more can
+-- be told than its name has no reason.
 --
 -- Throughout, m is a module, info what is known of it, f a function, p an entry point, e an
 -- expression, s a statement, it a type by itself, r a type that is known or wanted, known are the
@@ -50,8 +50,8 @@ use Rattle.naga_acceptance.specs.Faults.{known_of}
 use Rattle.naga_acceptance.specs.TextOrder.{PlacedStatement, text_order}
 use Rattle.naga_acceptance.specs.declared.faults.Fault.{Fault}
 use Rattle.naga_acceptance.specs.declared.faults.Fault.TheVariants as fault
-use Rattle.naga_acceptance.specs.declared.faults.Item.{Item}
-use Rattle.naga_acceptance.specs.declared.faults.Item.TheVariants as item
+use Rattle.naga_acceptance.specs.declared.faults.FaultPosition.{FaultPosition}
+use Rattle.naga_acceptance.specs.declared.faults.FaultPosition.TheVariants as item
 use Rattle.naga_acceptance.specs.declared.faults.FunctionPosition.{FunctionPosition}
 use Rattle.naga_acceptance.specs.declared.faults.FunctionPosition.TheVariants as part
 use Rattle.naga_acceptance.specs.declared.faults.Unaccepted.{Unaccepted}
@@ -59,7 +59,8 @@ use Rattle.module_meaning.specs.AlikeTypes.{are_alike}
 use Rattle.module_meaning.specs.acceptance.ExpressionTypes.{ExpectedType, LikeThis, Anything}
 use Rattle.module_meaning.specs.acceptance.ExpressionTypes.{Nothing}
 use Rattle.module_meaning.specs.acceptance.ExpressionTypes.{is_bool, expected_type}
-use Rattle.module_meaning.specs.acceptance.OperandDemands.{is_components, is_integer, is_pointer}
+use Rattle.module_meaning.specs.acceptance.OperandDemands.{is_scalar_or_vector, is_integer}
+use Rattle.module_meaning.specs.acceptance.OperandDemands.{is_pointer}
 use Rattle.module_meaning.specs.acceptance.OperandDemands.{points_to_components}
 use Rattle.module_meaning.specs.acceptance.StatementsFit.{components_pointer, has_case_value}
 use Rattle.module_meaning.specs.acceptance.StatementsFit.{is_atomic_result}
@@ -69,7 +70,7 @@ use Rattle.module_meaning.specs.acceptance.StatementsFit.{is_subgroup_result}
 use Rattle.module_meaning.specs.acceptance.StatementsFit.{is_signed, is_uniform_load_result}
 use Rattle.module_meaning.specs.acceptance.StatementsFit.{is_unsigned}
 use Rattle.module_meaning.specs.acceptance.StatementsFit.{case_values_differ, last_falls_through}
-use Rattle.module_meaning.specs.acceptance.StatementsFit.{selects}
+use Rattle.module_meaning.specs.acceptance.StatementsFit.{is_selector_type}
 use Rattle.module_meaning.specs.TypeIdentity.{component_count}
 use Rattle.module_meaning.specs.TypeParts.{has_computed_parts, inner_at, known_inner}
 use Rattle.module_meaning.specs.TypeParts.{known_pointee, part_count, points_to_atomic}
@@ -83,7 +84,7 @@ use Rattle.fault_details.specs.declared.words.Need.TheVariants as need
 use Rattle.fault_details.specs.declared.words.TypeClass.{TypeClass}
 use Rattle.fault_details.specs.declared.words.TypeClass.TheVariants as class
 
--- why a module is not accepted at a place
+-- why a module is not accepted at a position
 pub data Reason : Type 0 where
   -- a value of one type is wanted, and one of another stands there
   OtherType : (wanted got : TypeResolution) → Reason
@@ -217,9 +218,9 @@ statement_name_reason m callees expressions s =
 abbrev pub is_in_class : List Type_ → TypeClass → TypeInner → Bool
 is_in_class types class.Bool it = is_bool it
 is_in_class types class.Integer it = is_integer it
-is_in_class types class.Selector (inner.Scalar s) = selects s
+is_in_class types class.Selector (inner.Scalar s) = is_selector_type s
 is_in_class types class.Selector it = false
-is_in_class types class.Components it = is_components it
+is_in_class types class.Components it = is_scalar_or_vector it
 is_in_class types class.Vector it = is_some (vector_scalar it)
 is_in_class types class.Composite it = has_computed_parts types it
 is_in_class types class.Pointer it = is_pointer types it
@@ -575,7 +576,7 @@ global_reason m info kind ty init =
     declared_reason m.types list.GlobalExpressions (length m.global_expressions)
     info.const_expression_types.items kind ty init
 
-abbrev pub item_reason : Module → ModuleInfo → Fault → Item → Option Reason
+abbrev pub item_reason : Module → ModuleInfo → Fault → FaultPosition → Option Reason
 item_reason m info kind item.Module = module_reason m info kind
 item_reason m info kind (item.Type h) =
     option_and_then (made_reason m kind h) (inner_at m.types h)
@@ -595,6 +596,6 @@ item_reason m info kind (item.EntryPoint h place) =
     option_and_then (λ p. entry_point_reason m p (known_of info.entry_points.items h) kind place)
     (slice_get m.entry_points.items h)
 
--- why the module is not accepted at a place, for a fault of a kind
+-- why the module is not accepted at a position, for a fault of a kind
 abbrev pub fault_reason : Module → ModuleInfo → Unaccepted → Option Reason
 fault_reason m info u = item_reason m info u.fault u.item

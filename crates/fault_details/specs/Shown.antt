@@ -9,7 +9,7 @@ use Rattle.fault_details.specs.Reasons.{Reason as Told, OtherType, OtherClass, N
 use Rattle.fault_details.specs.Reasons.{Absent, Later, OtherNumber, PastParts, LacksLetter, Needs}
 use Rattle.fault_details.specs.declared.reasons.Reason.{Reason}
 use Rattle.fault_details.specs.declared.reasons.Reason.TheVariants as code
-use Rattle.fault_details.specs.declared.walk.Placed.{Placed}
+use Rattle.fault_details.specs.declared.walk.StatementAt.{StatementAt}
 
 -- a reason, with its types themselves
 abbrev pub shown : Reason → Told
@@ -27,11 +27,11 @@ shown (code.LacksLetter letter got) = LacksLetter letter got.now
 shown (code.Needs need) = Needs need
 
 -- a statement where it stands
-abbrev pub placed : Placed → PlacedStatement
+abbrev pub placed : StatementAt → PlacedStatement
 placed p = record { breaks = p.breaks; continues = p.continues; tree = tree_of p.statement.now }
 
 -- where a search stands: at a statement, or so many before it
-abbrev pub reached : Result ℕ Placed → Result ℕ PlacedStatement
+abbrev pub reached : Result ℕ StatementAt → Result ℕ PlacedStatement
 reached (Ok left) = Ok left
 reached (Err p) = Err (placed p)
 

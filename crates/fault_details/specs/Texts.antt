@@ -4,8 +4,8 @@
 use Rattle.std.specs.Prelude.{ℕ, List, [], ◌++◌, ◌==◌, codes, decimal, if◌then◌else◌, string_bytes}
 use Rattle.naga_ir.specs.declared.expression.SwizzleComponent.{SwizzleComponent}
 use Rattle.naga_ir.specs.declared.expression.SwizzleComponent.TheVariants as component
-use Rattle.fault_details.specs.declared.expected.Expected.{Expected}
-use Rattle.fault_details.specs.declared.expected.Expected.TheVariants as wanted
+use Rattle.fault_details.specs.declared.mismatch.Mismatch.{Mismatch}
+use Rattle.fault_details.specs.declared.mismatch.Mismatch.TheVariants as wanted
 use Rattle.fault_details.specs.declared.words.Counted.{Counted}
 use Rattle.fault_details.specs.declared.words.Counted.TheVariants as counted
 use Rattle.fault_details.specs.declared.words.ListName.{ListName}
@@ -78,7 +78,7 @@ abbrev pub count_text : (n : ℕ) → List ℕ
 count_text n = (if n == 1 then codes "is" else codes "are") ++ codes " " ++ decimal n
 
 -- what was wanted and what stands there: `wanted vec4<f32>, got f32`
-abbrev pub wanted_text : Expected → List ℕ
+abbrev pub wanted_text : Mismatch → List ℕ
 wanted_text (wanted.Type ty got) =
     codes "wanted " ++ string_bytes ty ++ codes ", got " ++ string_bytes got
 wanted_text (wanted.Class any got) =

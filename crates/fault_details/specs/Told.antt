@@ -18,14 +18,14 @@ use Rattle.fault_details.specs.Reasons.{Reason, OtherType, OtherClass, NoValue, 
 use Rattle.fault_details.specs.Reasons.{Later, OtherNumber, PastParts, LacksLetter, Needs}
 use Rattle.fault_details.specs.Texts.{item_text}
 use Rattle.fault_details.specs.declared.words.ListName.TheVariants as list
-use Rattle.fault_details.specs.declared.expected.Expected.{Expected}
-use Rattle.fault_details.specs.declared.expected.Expected.TheVariants as told
+use Rattle.fault_details.specs.declared.mismatch.Mismatch.{Mismatch}
+use Rattle.fault_details.specs.declared.mismatch.Mismatch.TheVariants as told
 
--- a type by its place in the module
+-- a type by its position in the module
 abbrev pub place_text : (h : ℕ) → List ℕ
 place_text h = item_text list.Types h
 
--- a type without a spelling: one of the module by its place, another not at all
+-- a type without a spelling: one of the module by its position, another not at all
 abbrev pub unspelled_text : TypeResolution → List ℕ
 unspelled_text (Handle h) = place_text h
 unspelled_text (Value it) = codes "a type that names what is not there"
@@ -64,25 +64,25 @@ named_type (inner.Array base length stride) = Some base
 named_type (inner.BindingArray base length) = Some base
 named_type _ = None
 
--- a type with the place of the one that it names: `ptr<function, S> of types[5]`
+-- a type with the position of the one that it names: `ptr<function, S> of types[5]`
 abbrev pub with_place : (alone : List ℕ) → (named : Option ℕ) → List ℕ
 with_place alone None = alone
 with_place alone (Some h) = alone ++ (codes " of " ++ place_text h)
 
--- A type of the module is told by its place, and another one as ever, with the place of the type
--- that it names.
+-- A type of the module is told by its position, and another one as ever, with the position of the
+-- type that it names.
 abbrev pub IsPlaced : Module → TypeResolution → (text : List ℕ) → Type 0
 IsPlaced m (Handle h) text = text ≡ place_text h
 IsPlaced m (Value it) text =
     (alone : List ℕ) × IsTold m (Value it) alone × (text ≡ with_place alone (named_type it))
 
--- Two types are told by their places; where these are told alike too, as one type and another.
+-- Two types are told by their positions; where these are told alike too, as one type and another.
 abbrev pub PlacesBoth : Module → (wanted got : TypeResolution) → (text other : List ℕ) → Type 0
 PlacesBoth m wanted got text other =
     (IsPlaced m wanted text × IsPlaced m got other × (text ≢ other))
     ⊎ (IsPlaced m wanted text × IsPlaced m got text × (other ≡ codes "another " ++ text))
 
--- Two types are told by texts that differ, or by their places where one text would tell both.
+-- Two types are told by texts that differ, or by their positions where one text would tell both.
 abbrev pub TellsBoth : Module → (wanted got : TypeResolution) → (text other : List ℕ) → Type 0
 TellsBoth m wanted got text other =
     (IsTold m wanted text × IsTold m got other × (text ≢ other))
@@ -95,7 +95,7 @@ TypesAreToldApart = (m : Module) (wanted got : TypeResolution) (text other : Lis
     TellsBoth m wanted got text other → text ≢ other
 
 -- the reason is told, with its types and its numbers
-abbrev pub Tells : Module → Reason → Expected → Type 0
+abbrev pub Tells : Module → Reason → Mismatch → Type 0
 Tells m (OtherType wanted got) (told.Type wanted_text got_text) =
     TellsBoth m wanted got (string_bytes wanted_text) (string_bytes got_text)
 Tells m (OtherClass class got) (told.Class told_class text) =
@@ -112,7 +112,7 @@ Tells m (Needs need) w = w ≡ told.Need need
 Tells m _ w = ⊥
 
 -- so is a reason that there is, and nothing where there is none
-abbrev pub TellsOf : Module → Option Reason → Option Expected → Type 0
+abbrev pub TellsOf : Module → Option Reason → Option Mismatch → Type 0
 TellsOf m None None = ⊤
 TellsOf m None (Some w) = ⊥
 TellsOf m (Some why) None = ⊥

@@ -1,7 +1,7 @@
 -- Which faults have a reason: each that says that a type is wrong, or that a statement does not get
 -- what it wants.
 --
--- Throughout, m is a module, info what is known of it, u a place with a kind of fault, f a
+-- Throughout, m is a module, info what is known of it, u a position with a kind of fault, f a
 -- function, p an entry point, and h is a handle.
 use Rattle.std.specs.Prelude.{◌≡◌, ◌≤◌, ◌^◌, ℕ, length, slice_get, Some, IsSome, IsTrue}
 use Rattle.naga_ir.specs.declared.module.EntryPoint.{EntryPoint}

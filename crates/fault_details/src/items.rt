@@ -25,7 +25,7 @@ use crate::walk::statement_at;
 use crate::words::{Counted, ListName};
 use module_meaning::type_parts::inner_at;
 use naga_acceptance::parts::{InferredType, Known, known_type};
-use naga_acceptance::{Fault, FunctionPosition, Item, Unaccepted};
+use naga_acceptance::{Fault, FaultPosition, FunctionPosition, Unaccepted};
 use naga_info::{FunctionInfo, ModuleInfo};
 use naga_ir::{
     Constant, EntryPoint, Expression, Function, GlobalVariable, Handle, LocalVariable, Module,
@@ -87,7 +87,7 @@ fn constant_reason<'a>(
     handle: Handle<Constant>,
 ) -> Option<Reason<'a>>
     ensures { option_map shown result
-        ≡ item_reason «module».now info.now fault (Item.Constant handle) }
+        ≡ item_reason «module».now info.now fault (FaultPosition.Constant handle) }
 {
     if handle.index() < module.constants.len() {
         let constant = &module.constants[handle];
@@ -104,7 +104,7 @@ fn override_reason<'a>(
     handle: Handle<Override>,
 ) -> Option<Reason<'a>>
     ensures { option_map shown result
-        ≡ item_reason «module».now info.now fault (Item.Override handle) }
+        ≡ item_reason «module».now info.now fault (FaultPosition.Override handle) }
 {
     if handle.index() < module.overrides.len() {
         let item = &module.overrides[handle];
@@ -121,7 +121,7 @@ fn variable_reason<'a>(
     handle: Handle<GlobalVariable>,
 ) -> Option<Reason<'a>>
     ensures { option_map shown result
-        ≡ item_reason «module».now info.now fault (Item.GlobalVariable handle) }
+        ≡ item_reason «module».now info.now fault (FaultPosition.GlobalVariable handle) }
 {
     if handle.index() < module.global_variables.len() {
         let variable = &module.global_variables[handle];
@@ -166,7 +166,7 @@ fn global_expression_reason<'a>(
     handle: Handle<Expression>,
 ) -> Option<Reason<'a>>
     ensures { option_map shown result
-        ≡ item_reason «module».now info.now fault (Item.GlobalExpression handle) }
+        ≡ item_reason «module».now info.now fault (FaultPosition.GlobalExpression handle) }
 {
     let expressions = &module.global_expressions;
     if handle.index() < expressions.len() {
@@ -349,7 +349,7 @@ fn function_reason_at<'a>(
     position: FunctionPosition,
 ) -> Option<Reason<'a>>
     ensures { option_map shown result
-        ≡ item_reason «module».now info.now fault (Item.Function handle position) }
+        ≡ item_reason «module».now info.now fault (FaultPosition.Function handle position) }
 {
     let index = handle.index();
     if index < module.functions.len() {
@@ -375,7 +375,7 @@ fn entry_point_reason_at<'a>(
     position: FunctionPosition,
 ) -> Option<Reason<'a>>
     ensures { option_map shown result
-        ≡ item_reason «module».now info.now fault (Item.EntryPoint index position) }
+        ≡ item_reason «module».now info.now fault (FaultPosition.EntryPoint index position) }
 {
     match module.entry_points.get(index) {
         Some(entry_point) => {
@@ -454,28 +454,30 @@ fn item_reason<'a>(
     module: &'a Module,
     info: &'a ModuleInfo,
     fault: Fault,
-    item: Item,
+    item: FaultPosition,
 ) -> Option<Reason<'a>>
     ensures { option_map shown result ≡ item_reason «module».now info.now fault item }
 {
     match item {
-        Item::Module => module_reason(module, info, fault),
-        Item::Type(handle) => type_reason_at(module, fault, handle),
-        Item::Constant(handle) => constant_reason(module, info, fault, handle),
-        Item::Override(handle) => override_reason(module, info, fault, handle),
-        Item::GlobalVariable(handle) => variable_reason(module, info, fault, handle),
-        Item::GlobalExpression(handle) => global_expression_reason(module, info, fault, handle),
-        Item::Function(handle, position) => function_reason_at(
+        FaultPosition::Module => module_reason(module, info, fault),
+        FaultPosition::Type(handle) => type_reason_at(module, fault, handle),
+        FaultPosition::Constant(handle) => constant_reason(module, info, fault, handle),
+        FaultPosition::Override(handle) => override_reason(module, info, fault, handle),
+        FaultPosition::GlobalVariable(handle) => variable_reason(module, info, fault, handle),
+        FaultPosition::GlobalExpression(handle) => global_expression_reason(
+            module, info, fault, handle,
+        ),
+        FaultPosition::Function(handle, position) => function_reason_at(
             module, info, fault, handle, position,
         ),
-        Item::EntryPoint(index, position) => {
+        FaultPosition::EntryPoint(index, position) => {
             entry_point_reason_at(module, info, fault, index, position)
         }
     }
 }
 
-/// Why the module is not accepted at a place, for a fault of a kind: none where no more can be told
-/// than the kind, and where the fault is none of this module.
+/// Why the module is not accepted at a position, for a fault of a kind: none where no more can be
+/// told than the kind, and where the fault is none of this module.
 pub(crate) fn fault_reason<'a>(
     module: &'a Module,
     info: &'a ModuleInfo,

@@ -1,13 +1,13 @@
-//! What was wanted where a module is not accepted, and what stands there.
+//! Explains a fault: the type, item or number that was expected, and the one that was found.
 //!
 //! Whether a module is accepted, and where not, takes no memory to say, and tells a kind of fault
-//! alone. [`explain`] goes to that place once more and tells the rest, with types as they are
+//! alone. [`explain`] goes to that position once more and tells the rest, with types as they are
 //! spelled.
 #![tactic(auto)]
 
-mod expected;
 mod items;
 pub mod laws;
+mod mismatch;
 mod names;
 mod order;
 mod reasons;
@@ -17,6 +17,6 @@ mod types;
 mod walk;
 mod words;
 
-pub use expected::Expected;
+pub use mismatch::Mismatch;
 pub use spelled::explain;
 pub use words::{Counted, ListName, Need, TypeClass};

@@ -1,4 +1,4 @@
-//! Why a module is not accepted at a place, without memory.
+//! Why a module is not accepted at a position, without memory.
 
 ghost use Rattle.std.specs.Prelude.{◌≡◌};
 ghost use Rattle.std.specs.Option.{option_map};
@@ -10,7 +10,7 @@ use naga_acceptance::parts::InferredType;
 use naga_info::TypeResolution;
 use naga_ir::{Scalar, SwizzleComponent};
 
-/// What was wanted at a place, and what stands there.
+/// What was wanted at a position, and what stands there.
 #[derive(Debug, Clone, Copy)]
 pub(crate) enum Reason<'a> {
     /// A value of one type is wanted, and one of another stands there.

@@ -1,4 +1,4 @@
-//! What was wanted, with types as they are spelled.
+//! Makes the explanation of a fault, with types spelled.
 
 ghost use Rattle.std.specs.Prelude.{◌≡◌, IfNone, IfOk, IsTrue, Some, codes, string_bytes};
 ghost use Rattle.std.specs.Option.{IfSome};
@@ -15,8 +15,8 @@ ghost use Rattle.fault_details.specs.Told.{HasNoOrder, IsOfModule, IsPlaced, IsT
 ghost use Rattle.fault_details.specs.Told.{Tells, TellsBoth, TellsOf, named_type, unspelled_text};
 ghost use Rattle.fault_details.specs.Told.{with_place};
 
-use crate::expected::Expected;
 use crate::items::fault_reason;
+use crate::mismatch::Mismatch;
 use crate::order::{fits, is_in_order};
 use crate::reasons::Reason;
 use crate::words::{ListName, Numbered, TypeClass};
@@ -35,7 +35,7 @@ pub(crate) struct TwoTypes {
     got: String,
 }
 
-/// A type of the module by its place.
+/// A type of the module by its position.
 fn unspelled(alloc: Global, ty: &TypeResolution) -> Result<String, AllocError>
     ensures { IfOk result (λ t. string_bytes t ≡ unspelled_text ty.now) }
 {
@@ -83,7 +83,7 @@ fn has_braces(ty: &TypeResolution, spelled: &str) -> bool
     }
 }
 
-/// A type as it is told: as it is spelled, on one line, or by its place.
+/// A type as it is told: as it is spelled, on one line, or by its position.
 fn told(alloc: Global, module: &Module, ty: &TypeResolution) -> Result<String, AllocError>
     ensures { IfOk result (λ t. IsTold «module».now ty.now (string_bytes t)) }
 {
@@ -111,7 +111,7 @@ fn named_type(inner: &TypeInner) -> Option<Handle<Type_>>
     }
 }
 
-/// A type with the place of the one that it names.
+/// A type with the position of the one that it names.
 fn with_place(
     alloc: Global,
     alone: String,
@@ -128,8 +128,8 @@ fn with_place(
     }
 }
 
-/// A type by its place, if it is one of the module, or else as it is told, with the place of the
-/// type that it names.
+/// A type by its position, if it is one of the module, or else as it is told, with the position of
+/// the type that it names.
 fn placed(alloc: Global, module: &Module, ty: &TypeResolution) -> Result<String, AllocError>
     ensures { IfOk result (λ t. IsPlaced «module».now ty.now (string_bytes t)) }
 {
@@ -142,7 +142,7 @@ fn placed(alloc: Global, module: &Module, ty: &TypeResolution) -> Result<String,
     }
 }
 
-/// Two types by their places, or as one type and another where these are told alike.
+/// Two types by their positions, or as one type and another where these are told alike.
 fn placed_types(
     alloc: Global,
     module: &Module,
@@ -167,7 +167,7 @@ fn placed_types(
     })
 }
 
-/// Two types, each as it is told, or by their places where both are told alike.
+/// Two types, each as it is told, or by their positions where both are told alike.
 fn told_types(
     alloc: Global,
     module: &Module,
@@ -227,12 +227,12 @@ fn other_type(
     module: &Module,
     wanted: InferredType,
     got: &TypeResolution,
-) -> Result<Expected, AllocError>
+) -> Result<Mismatch, AllocError>
     ensures { IfOk result (Tells «module».now (OtherType (inferred wanted) got.now)) }
 {
     let wanted = resolution_of(wanted);
     let TwoTypes { wanted, got } = told_types(alloc, module, &wanted, got)?;
-    Ok(Expected::Type { wanted, got })
+    Ok(Mismatch::Type { wanted, got })
 }
 
 /// Two scalars.
@@ -241,7 +241,7 @@ fn other_scalar(
     module: &Module,
     wanted: Scalar,
     got: Scalar,
-) -> Result<Expected, AllocError>
+) -> Result<Mismatch, AllocError>
     ensures { IfOk result (Tells «module».now (OtherType (Value (TypeInner.Scalar wanted))
         (Value (TypeInner.Scalar got)))) }
 {
@@ -250,20 +250,20 @@ fn other_scalar(
 }
 
 /// A type of which there is no value.
-fn no_value(alloc: Global, module: &Module, wanted: InferredType) -> Result<Expected, AllocError>
+fn no_value(alloc: Global, module: &Module, wanted: InferredType) -> Result<Mismatch, AllocError>
     ensures { IfOk result (Tells «module».now (NoValue (inferred wanted))) }
 {
     let wanted = resolution_of(wanted);
-    Ok(Expected::Value {
+    Ok(Mismatch::Value {
         wanted: told(alloc, module, &wanted)?,
     })
 }
 
 /// A type where none is wanted.
-fn unexpected(alloc: Global, module: &Module, got: &TypeResolution) -> Result<Expected, AllocError>
+fn unexpected(alloc: Global, module: &Module, got: &TypeResolution) -> Result<Mismatch, AllocError>
     ensures { IfOk result (Tells «module».now (Unexpected got.now)) }
 {
-    Ok(Expected::Nothing {
+    Ok(Mismatch::Nothing {
         got: told(alloc, module, got)?,
     })
 }
@@ -274,10 +274,10 @@ fn other_class(
     module: &Module,
     class: TypeClass,
     got: &TypeResolution,
-) -> Result<Expected, AllocError>
+) -> Result<Mismatch, AllocError>
     ensures { IfOk result (Tells «module».now (OtherClass class got.now)) }
 {
-    Ok(Expected::Class {
+    Ok(Mismatch::Class {
         class,
         got: told(alloc, module, got)?,
     })
@@ -289,17 +289,17 @@ fn lacking(
     module: &Module,
     letter: SwizzleComponent,
     got: &TypeResolution,
-) -> Result<Expected, AllocError>
+) -> Result<Mismatch, AllocError>
     ensures { IfOk result (Tells «module».now (LacksLetter letter got.now)) }
 {
-    Ok(Expected::Letter {
+    Ok(Mismatch::Letter {
         letter,
         got: told(alloc, module, got)?,
     })
 }
 
 /// A reason, as it is told.
-fn told_reason(alloc: Global, module: &Module, reason: &Reason<'_>) -> Result<Expected, AllocError>
+fn told_reason(alloc: Global, module: &Module, reason: &Reason<'_>) -> Result<Mismatch, AllocError>
     ensures { IfOk result (Tells «module».now (shown reason.now)) }
 {
     match reason {
@@ -308,7 +308,7 @@ fn told_reason(alloc: Global, module: &Module, reason: &Reason<'_>) -> Result<Ex
         Reason::OtherClass { class, got } => other_class(alloc, module, *class, *got),
         Reason::NoValue { wanted } => no_value(alloc, module, *wanted),
         Reason::Unexpected { got } => unexpected(alloc, module, *got),
-        Reason::Absent { list, index, count } => Ok(Expected::Item {
+        Reason::Absent { list, index, count } => Ok(Mismatch::Item {
             list: *list,
             index: *index,
             count: *count,
@@ -317,39 +317,39 @@ fn told_reason(alloc: Global, module: &Module, reason: &Reason<'_>) -> Result<Ex
             list,
             index,
             before,
-        } => Ok(Expected::EarlierItem {
+        } => Ok(Mismatch::EarlierItem {
             list: *list,
             index: *index,
             before: *before,
         }),
-        Reason::OtherNumber { of, wanted, got } => Ok(Expected::Number {
+        Reason::OtherNumber { of, wanted, got } => Ok(Mismatch::Number {
             of: *of,
             wanted: *wanted,
             got: *got,
         }),
-        Reason::PastParts { count, got } => Ok(Expected::Part {
+        Reason::PastParts { count, got } => Ok(Mismatch::Part {
             count: *count,
             got: *got,
         }),
         Reason::LacksLetter { letter, got } => lacking(alloc, module, *letter, *got),
-        Reason::Needs { need } => Ok(Expected::Need(*need)),
+        Reason::Needs { need } => Ok(Mismatch::Need(*need)),
     }
 }
 
-/// What was wanted at a place where the module is not accepted, and what stands there, by the fault
-/// that [`unaccepted`](naga_acceptance::unaccepted) gives; none where no more can be told than the
-/// kind of the fault.
+/// What was wanted at a position where the module is not accepted, and what stands there, by the
+/// fault that [`unaccepted`](naga_acceptance::unaccepted) gives; none where no more can be told
+/// than the kind of the fault.
 ///
 /// - Of a type: the one that is wanted, or the class of those of which any is, and the one that is
 ///   known.
 /// - Of what is named and is not there: its list, its number, and how many items the list has; of
-///   what is there, but not before what names it, the place of that.
+///   what is there, but not before what names it, the position of that.
 /// - Of a swizzle: the first letter for which its vector has no component, and the vector's type.
 /// - Of a number, as of the arguments of a call: the one that is wanted, and the one that is there.
 /// - Of a statement that stands where it may not, or a switch whose labels do not fit: what it
 ///   needs.
 ///
-/// It looks at the place alone, and goes through the types once. An error is want of memory; the
+/// It looks at the position alone, and goes through the types once. An error is want of memory; the
 /// fault stands as it was.
 ///
 /// ```text
@@ -365,7 +365,7 @@ pub fn explain(
     module: &Module,
     info: &ModuleInfo,
     fault: Unaccepted,
-) -> Result<Option<Expected>, AllocError>
+) -> Result<Option<Mismatch>, AllocError>
     ensures { IfOk result (TellsOf «module».now (fault_reason «module».now info.now fault)) }
 {
     match fault_reason(module, info, fault) {

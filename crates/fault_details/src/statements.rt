@@ -17,7 +17,7 @@ ghost use Rattle.fault_details.specs.Shown.{placed, shown};
 use crate::names::statement_name_reason;
 use crate::reasons::{Reason, need_unless, number_reason};
 use crate::types::{class_reason, type_reason};
-use crate::walk::Placed;
+use crate::walk::StatementAt;
 use crate::words::{Counted, Need, TypeClass};
 use naga_acceptance::Fault;
 use naga_acceptance::expression_types::pointee_at;
@@ -371,7 +371,7 @@ pub(crate) fn statement_reason<'a>(
     function: &Function,
     known: Known<'a>,
     fault: Fault,
-    place: Placed<'_>,
+    place: StatementAt<'_>,
 ) -> Option<Reason<'a>>
     ensures { option_map shown result ≡ statement_reason «module».now callees function.now
         (known_types known.entry) fault (placed place.entry) }

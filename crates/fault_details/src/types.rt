@@ -1,4 +1,4 @@
-//! Types that are not those that are wanted.
+//! Which type a fault of types expected, and which it found.
 
 ghost use Rattle.std.specs.Prelude.{◌≡◌, [], false, take};
 ghost use Rattle.std.specs.Option.{option_and_then, option_copied, option_map, option_map_or};
@@ -18,13 +18,13 @@ use crate::reasons::Reason;
 use crate::words::TypeClass;
 use module_meaning::type_parts::inner_of;
 use naga_acceptance::alike::is_like;
-use naga_acceptance::demands::{is_components, is_integer, is_pointer, points_to_components};
-use naga_acceptance::expression_types::{Expected, expected_type, is_bool};
+use naga_acceptance::demands::{is_integer, is_pointer, is_scalar_or_vector, points_to_components};
+use naga_acceptance::expression_types::{AllowedType, expected_type, is_bool};
 use naga_acceptance::parts::{
     InferredType, Known, component_count, has_computed_parts, known_inner, known_type, part_count,
     vector_scalar,
 };
-use naga_acceptance::statements::{points_to_atomic, selects};
+use naga_acceptance::statements::{is_selector_type, points_to_atomic};
 use naga_info::TypeResolution;
 use naga_ir::{
     Expression, Function, Handle, Module, SwizzleComponent, Type_, TypeInner, UniqueArena,
@@ -35,7 +35,7 @@ fn is_selector(inner: &TypeInner) -> bool
     ensures { result ≡ is_in_class [] TypeClass.Selector inner.now }
 {
     match inner {
-        TypeInner::Scalar(scalar) => selects(*scalar),
+        TypeInner::Scalar(scalar) => is_selector_type(*scalar),
         _ => false,
     }
 }
@@ -48,7 +48,7 @@ fn is_in_class(types: &UniqueArena<Type_>, class: TypeClass, inner: &TypeInner) 
         TypeClass::Bool => is_bool(inner),
         TypeClass::Integer => is_integer(inner),
         TypeClass::Selector => is_selector(inner),
-        TypeClass::Components => is_components(inner),
+        TypeClass::Components => is_scalar_or_vector(inner),
         TypeClass::Vector => vector_scalar(inner).is_some(),
         TypeClass::Composite => has_computed_parts(types, inner),
         TypeClass::Pointer => is_pointer(types, inner),
@@ -151,15 +151,15 @@ fn expected_reason<'a>(
     known: Known<'a>,
     own: &'a TypeResolution,
     expression: &Expression,
-    demand: Expected,
+    demand: AllowedType,
 ) -> Option<Reason<'a>>
     ensures { option_map shown result ≡ expected_reason types.now (known_types known.entry) own.now
         expression.now (wanted demand) }
 {
     match demand {
-        Expected::LikeThis(wanted) => unlike(types, wanted, own),
-        Expected::Anything => None,
-        Expected::Nothing => typeless_reason(types, known, own, expression),
+        AllowedType::LikeThis(wanted) => unlike(types, wanted, own),
+        AllowedType::Anything => None,
+        AllowedType::Nothing => typeless_reason(types, known, own, expression),
     }
 }
 

@@ -11,7 +11,7 @@ use naga_ir::{Block, Statement, SwitchCase};
 
 /// A statement where it stands.
 #[derive(Debug, Clone, Copy)]
-pub(crate) struct Placed<'a> {
+pub(crate) struct StatementAt<'a> {
     /// Whether it may leave the nearest loop or switch by `Break`.
     pub breaks: bool,
     /// Whether it may go on with the nearest loop's `continuing`.
@@ -29,13 +29,13 @@ fn pass_statement<'a>(
     continues: bool,
     statement: &'a Statement,
     count: usize,
-) -> Result<usize, Placed<'a>>
+) -> Result<usize, StatementAt<'a>>
     ensures { reached result ≡ passed count
         (record { breaks = breaks; continues = continues; tree = tree_of statement.now }
         ∷ statements_inside breaks continues (tree_of statement.now)) }
 {
     if count == 0 {
-        return Err(Placed {
+        return Err(StatementAt {
             breaks,
             continues,
             statement,
@@ -69,7 +69,7 @@ fn pass_block<'a>(
     continues: bool,
     block: &'a Block,
     count: usize,
-) -> Result<usize, Placed<'a>>
+) -> Result<usize, StatementAt<'a>>
     ensures { reached result ≡ passed count (statements_in breaks continues block.now) }
 {
     let mut number = count;
@@ -87,7 +87,7 @@ fn pass_cases<'a>(
     continues: bool,
     cases: &'a [SwitchCase],
     count: usize,
-) -> Result<usize, Placed<'a>>
+) -> Result<usize, StatementAt<'a>>
     ensures { reached result ≡ passed count (case_statements true continues (cases_of cases.now)) }
 {
     let mut number = count;
@@ -102,7 +102,7 @@ fn pass_cases<'a>(
 
 /// The statement with this number in the order of the text, from 0, those in blocks counted too, if
 /// there are so many.
-pub(crate) fn statement_at(body: &Block, number: usize) -> Option<Placed<'_>>
+pub(crate) fn statement_at(body: &Block, number: usize) -> Option<StatementAt<'_>>
     ensures { option_map placed result ≡ slice_get (text_order body.now) number }
 {
     match pass_block(false, false, body, number) {

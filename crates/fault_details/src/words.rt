@@ -17,11 +17,11 @@ pub enum ListName {
     GlobalVariables,
     GlobalExpressions,
     Functions,
-    /// The expressions of the function at the place.
+    /// The expressions of the function at the position.
     Expressions,
-    /// The arguments of the function at the place.
+    /// The arguments of the function at the position.
     Arguments,
-    /// The variables of the function at the place.
+    /// The variables of the function at the position.
     LocalVariables,
 }
 
@@ -68,7 +68,7 @@ impl fmt::Display for There {
     }
 }
 
-/// What there are as many of as are wanted, or not.
+/// What is counted in a fault about a wrong number of things.
 #[derive(Debug, Clone, Copy, PartialEq, Eq)]
 pub enum Counted {
     /// Values that a call passes.
@@ -111,7 +111,7 @@ impl fmt::Display for Many {
     }
 }
 
-/// Types of which any is wanted.
+/// A class of types, any of which will do.
 #[derive(Debug, Clone, Copy, PartialEq, Eq)]
 pub enum TypeClass {
     /// `bool`

@@ -13,12 +13,12 @@ use Rattle.naga_wgsl_out.specs.declared.unwritable.Refusal.{Refusal}
 use Rattle.naga_wgsl_out.proofs.Bounded.{whole_is_longer}
 use Rattle.naga_wgsl_out.proofs.Faithful.{leaves_beginning}
 use Rattle.module_answers.specs.Within.{IsTooLong, IsUnwritten, TellsDepth}
-use Rattle.module_answers.specs.Written.{AnswersWriting}
-use Rattle.module_answers.specs.declared.within.Unwritten.{Unwritten}
-use Rattle.module_answers.specs.declared.within.Unwritten.TheVariants as unwritten
+use Rattle.module_answers.specs.WriteOutcomes.{AnswersWriting}
+use Rattle.module_answers.specs.declared.within.NoOutcome.{NoOutcome}
+use Rattle.module_answers.specs.declared.within.NoOutcome.TheVariants as unwritten
 
 -- one that is nested too deep is as it was, and so is what is known of it
-pub depth_unwritten : (flags : WriterFlags) (limits : Limits) (m : Module) (info : ModuleInfo) (reason : Unwritten) →
+pub depth_unwritten : (flags : WriterFlags) (limits : Limits) (m : Module) (info : ModuleInfo) (reason : NoOutcome) →
     TellsDepth limits.nesting m reason → IsUnwritten flags limits m m info info reason
 depth_unwritten flags limits m info (unwritten.TooDeep nested) tells = (tells, refl, refl)
 depth_unwritten flags limits m info (unwritten.NotAccepted fault) tells = absurd tells
@@ -27,7 +27,7 @@ depth_unwritten flags limits m info (unwritten.Memory error) tells = (refl, refl
 
 -- so it is with the answer of a call that ends with this reason
 pub as_unwritten : {T : Type 0} (flags : WriterFlags) (limits : Limits) (m : Module) (info : ModuleInfo)
-    (r : Result T Unwritten) (reason : Unwritten) →
+    (r : Result T NoOutcome) (reason : NoOutcome) →
     IsErrAnd r (λ e. e ≡ reason) → TellsDepth limits.nesting m reason → IfErr r (IsUnwritten flags limits m m info info)
 as_unwritten flags limits m info (Ok x) reason reported tells = tt
 as_unwritten flags limits m info (Err e) reason reported tells =

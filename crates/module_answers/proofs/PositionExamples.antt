@@ -3,23 +3,25 @@ use Rattle.std.proofs.Common.{◌≡◌, codes, refl, None, Some}
 use Rattle.std.specs.Fmt.{digits}
 use Rattle.module_answers.specs.Positions.{json_position, json_refusal, json_refusal_position}
 use Rattle.naga_acceptance.specs.declared.faults.FunctionPosition.TheVariants as position
-use Rattle.naga_acceptance.specs.declared.faults.Item.TheVariants as item
+use Rattle.naga_acceptance.specs.declared.faults.FaultPosition.TheVariants as item
 use Rattle.naga_scope.specs.declared.declarations.DeclarationPosition.TheVariants as declaration
 use Rattle.naga_scope.specs.declared.lines.Line.TheVariants as line
 use Rattle.naga_scope.specs.declared.scope_faults.ScopeFault.TheVariants as scope
 use Rattle.naga_wgsl_fns.specs.declared.refusals.construct.Construct.TheVariants as construct
-use Rattle.naga_wgsl_fns.specs.declared.plans.FunctionPart.TheVariants as part
+use Rattle.naga_wgsl_fns.specs.declared.plans.FunctionRefusalPosition.TheVariants as part
 use Rattle.naga_wgsl_out.specs.declared.unwritable.RefusalPosition.TheVariants as refused
 
 an_expression : json_position (item.Function 3 (position.Expression 41)) ≡ codes "module.functions[3].expressions[41]"
 unfolding digits
 an_expression = refl
 
-a_statement : json_position (item.EntryPoint 0 (position.Statement 3)) ≡ codes "module.entry_points[0].function, statement 3"
+a_statement : json_position (item.EntryPoint 0 (position.Statement 3))
+    ≡ codes "module.entry_points[0].function, statement 3"
 unfolding digits
 a_statement = refl
 
-out_of_scope : json_refusal_position (Some (codes "value", None)) (refused.Function 0 (part.Scope (scope.Operand 12 41)))
+out_of_scope : json_refusal_position (Some (codes "value", None))
+    (refused.Function 0 (part.Scope (scope.Operand 12 41)))
     ≡ codes "module.functions[0].expressions[41], operand value of statement 12"
 unfolding digits
 out_of_scope = refl

@@ -1,6 +1,7 @@
 -- What is so of the writer's answer is so of want of memory in its place.
 use Rattle.std.proofs.Common.{◌≡◌, ℕ, List, inl, inr, subst, sym}
-use Rattle.std.specs.Prelude.{Err, IfErr, IfSome, IsErrAnd, MatchOption, None, Ok, OnOk, Option, Result}
+use Rattle.std.specs.Prelude.{Err, IfErr, IfSome, IsErrAnd, MatchOption, None, Ok, OnOk, Option}
+use Rattle.std.specs.Prelude.{Result}
 use Rattle.std.specs.Prelude.{Bool, Some, alloc_error}
 use Rattle.naga_back.specs.Flags.{annotates_types}
 use Rattle.naga_back.specs.declared.flags.WriterFlags.{WriterFlags}
@@ -21,7 +22,7 @@ use Rattle.naga_wgsl_out.specs.Unwritable.{IsFirst, StandsAt, StandsIn, TellsFir
 use Rattle.naga_wgsl_out.specs.Writing.{AppendsItsText, written_text}
 use Rattle.naga_wgsl_out.specs.declared.unwritable.Refusal.{Refusal}
 use Rattle.module_answers.specs.Wants.{IsAnswerOrWant}
-use Rattle.module_answers.specs.Written.{AnswersWriting, TellsBeside}
+use Rattle.module_answers.specs.WriteOutcomes.{AnswersWriting, TellsBeside}
 
 -- ---- what is told beside an answer
 -- what is found is told beside an error that tells of the module, of which something is the reason

@@ -1,7 +1,7 @@
--- The labels of functions and entry points, by places at which a module is refused.
+-- The labels of functions and entry points, by positions at which a module is refused.
 --
 -- Throughout, m is a module, h the handle of a function, i the index of an entry point, and at is a
--- place.
+-- position.
 use Rattle.std.specs.Prelude.{ℕ, List, None, Option, slice_get, string_bytes}
 use Rattle.std.specs.Option.{option_and_then, option_map}
 use Rattle.naga_ir.specs.declared.module.Module.{Module}
@@ -17,7 +17,7 @@ function_label m h = option_and_then (λ f. option_map string_bytes f.name) (sli
 abbrev pub entry_point_label : Module → (i : ℕ) → Option (List ℕ)
 entry_point_label m i = option_map (λ p. string_bytes p.name) (slice_get m.entry_points.items i)
 
--- the label of the one that this place is in; other declarations have none
+-- the label of the one that this position is in; other declarations have none
 abbrev pub declaration_label : Module → (at : DeclarationPosition) → Option (List ℕ)
 declaration_label m (declaration.Function h) = function_label m h
 declaration_label m (declaration.EntryPoint i) = entry_point_label m i

@@ -1,5 +1,5 @@
 pub mod Wants
-pub mod Written
+pub mod WriteOutcomes
 pub mod Faults
 pub mod Roles
 pub mod Positions

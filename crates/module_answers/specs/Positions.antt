@@ -1,5 +1,5 @@
--- How places in a module are told to one who holds it as JSON: by the path in the JSON that has it
--- as the member `module`, as `module.functions[3].expressions[41]`. A statement is told by its
+-- How positions in a module are told to one who holds it as JSON: by the path in the JSON that has
+-- it as the member `module`, as `module.functions[3].expressions[41]`. A statement is told by its
 -- number, after its function: `module.functions[3], statement 12`.
 --
 -- Throughout, h is a handle or an index, n the number of a statement, and role what an operand that
@@ -9,8 +9,8 @@ use Rattle.std.specs.Fmt.{◌++?◌}
 use Rattle.module_answers.specs.Roles.{Role}
 use Rattle.naga_acceptance.specs.declared.faults.FunctionPosition.{FunctionPosition}
 use Rattle.naga_acceptance.specs.declared.faults.FunctionPosition.TheVariants as position
-use Rattle.naga_acceptance.specs.declared.faults.Item.{Item}
-use Rattle.naga_acceptance.specs.declared.faults.Item.TheVariants as item
+use Rattle.naga_acceptance.specs.declared.faults.FaultPosition.{FaultPosition}
+use Rattle.naga_acceptance.specs.declared.faults.FaultPosition.TheVariants as item
 use Rattle.naga_scope.specs.declared.declarations.DeclarationPosition.{DeclarationPosition}
 use Rattle.naga_scope.specs.declared.declarations.DeclarationPosition.TheVariants as declaration
 use Rattle.naga_scope.specs.declared.lines.Declared.{Declared}
@@ -21,8 +21,8 @@ use Rattle.naga_scope.specs.declared.scope_faults.ScopeFault.{ScopeFault}
 use Rattle.naga_scope.specs.declared.scope_faults.ScopeFault.TheVariants as scope
 use Rattle.naga_wgsl_fns.specs.Constructs.{construct_text}
 use Rattle.naga_wgsl_fns.specs.declared.refusals.construct.Construct.{Construct}
-use Rattle.naga_wgsl_fns.specs.declared.plans.FunctionPart.{FunctionPart}
-use Rattle.naga_wgsl_fns.specs.declared.plans.FunctionPart.TheVariants as part
+use Rattle.naga_wgsl_fns.specs.declared.plans.FunctionRefusalPosition.{FunctionRefusalPosition}
+use Rattle.naga_wgsl_fns.specs.declared.plans.FunctionRefusalPosition.TheVariants as part
 use Rattle.naga_wgsl_out.specs.declared.unwritable.RefusalPosition.{RefusalPosition}
 use Rattle.naga_wgsl_out.specs.declared.unwritable.RefusalPosition.TheVariants as refused
 
@@ -59,7 +59,7 @@ part_position (position.Expression h) = expression_text h
 part_position (position.Statement n) = statement_text n
 
 -- an item, after the module; nothing of the module itself
-abbrev pub item_in_module : Item → List ℕ
+abbrev pub item_in_module : FaultPosition → List ℕ
 item_in_module item.Module = []
 item_in_module (item.Type h) = listed (codes ".types") h
 item_in_module (item.Constant h) = listed (codes ".constants") h
@@ -70,7 +70,7 @@ item_in_module (item.Function h at) = function_text h ++ part_position at
 item_in_module (item.EntryPoint h at) = entry_function_text h ++ part_position at
 
 -- an item
-abbrev pub json_position : Item → List ℕ
+abbrev pub json_position : FaultPosition → List ℕ
 json_position at = codes "module" ++ item_in_module at
 
 -- ---- where it is refused
@@ -96,7 +96,7 @@ scope_position role (scope.Operand statement operand) =
 scope_position role (scope.EmittedOperand statement expression operand) =
     expression_text operand ++ (codes ", " ++ (operand_text role ++ (codes " of "
     ++ (listed (codes "expressions") expression ++ (codes " in statement " ++ decimal statement)))))
-scope_position role (scope.GivenBefore statement expression) =
+scope_position role (scope.IntroducedBefore statement expression) =
     expression_text expression ++ (codes ", given again by statement " ++ decimal statement)
 scope_position role (scope.NeedsNoEmit statement expression) =
     expression_text expression
@@ -115,7 +115,7 @@ declared_position declared.Result = codes ".result"
 declared_position (declared.Local h) = listed (codes ".local_variables") h
 
 -- a part of a function, after the function
-abbrev pub refused_part : (role : Option Role) → FunctionPart → List ℕ
+abbrev pub refused_part : (role : Option Role) → FunctionRefusalPosition → List ℕ
 refused_part role part.Labels = codes ".named_expressions"
 refused_part role (part.Scope fault) = scope_position role fault
 refused_part role (part.Statement n) = statement_text n
@@ -143,8 +143,8 @@ refused_in_module role (refused.EntryPoint h at) = entry_function_text h ++ refu
 abbrev pub json_refusal_position : (role : Option Role) → RefusalPosition → List ℕ
 json_refusal_position role at = codes "module" ++ refused_in_module role at
 
--- a refusal, by its construct and its place: `float literal: module.constants[0]`. Nothing is said
--- of a construct of whose text nothing is known
+-- a refusal, by its construct and its position: `float literal: module.constants[0]`. Nothing is
+-- said of a construct of whose text nothing is known
 abbrev pub json_refusal : Construct → (role : Option Role) → RefusalPosition → Option (List ℕ)
 json_refusal construct role at =
     construct_text construct ++? Some (codes ": " ++ json_refusal_position role at)

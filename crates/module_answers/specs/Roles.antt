@@ -20,8 +20,8 @@ use Rattle.naga_ir.specs.StatementTree.{StatementTree, simple, call}
 use Rattle.naga_listing.specs.Named.{trees_in}
 use Rattle.naga_scope.specs.declared.scope_faults.ScopeFault.{ScopeFault}
 use Rattle.naga_scope.specs.declared.scope_faults.ScopeFault.TheVariants.{Operand, EmittedOperand}
-use Rattle.naga_wgsl_fns.specs.declared.plans.FunctionPart.{FunctionPart}
-use Rattle.naga_wgsl_fns.specs.declared.plans.FunctionPart.TheVariants.{Scope}
+use Rattle.naga_wgsl_fns.specs.declared.plans.FunctionRefusalPosition.{FunctionRefusalPosition}
+use Rattle.naga_wgsl_fns.specs.declared.plans.FunctionRefusalPosition.TheVariants.{Scope}
 use Rattle.naga_wgsl_out.specs.declared.unwritable.RefusalPosition.{RefusalPosition}
 use Rattle.naga_wgsl_out.specs.declared.unwritable.RefusalPosition.TheVariants as refused
 
@@ -92,11 +92,11 @@ fault_role g (EmittedOperand statement expression operand) =
     option_and_then (expression_role operand) (slice_get g.expressions expression)
 fault_role g fault = None
 
-abbrev pub part_role : FunctionPart → Function → Option Role
+abbrev pub part_role : FunctionRefusalPosition → Function → Option Role
 part_role (Scope fault) g = fault_role g fault
 part_role part g = None
 
--- the role of the operand that is out of scope at this place
+-- the role of the operand that is out of scope at this position
 abbrev pub role_in : Module → RefusalPosition → Option Role
 role_in m (refused.Function h part) = option_and_then (part_role part) (slice_get m.functions h)
 role_in m (refused.EntryPoint i part) =

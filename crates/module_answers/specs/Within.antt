@@ -3,9 +3,9 @@
 -- Throughout, given is the module before the call and m after it, old is what is known of it before
 -- the call and new after it, and levels is how deep it may be nested.
 use Rattle.std.specs.Prelude.{◌≡◌, ◌<◌, ⊤, ℕ, IsTrue, List, [], None, Option, Result, Some, length}
-use Rattle.module_answers.specs.Written.{AnswersWriting}
-use Rattle.module_answers.specs.declared.within.Unwritten.{Unwritten}
-use Rattle.module_answers.specs.declared.within.Unwritten.TheVariants as unwritten
+use Rattle.module_answers.specs.WriteOutcomes.{AnswersWriting}
+use Rattle.module_answers.specs.declared.within.NoOutcome.{NoOutcome}
+use Rattle.module_answers.specs.declared.within.NoOutcome.TheVariants as unwritten
 use Rattle.module_limits.specs.Nesting.{nested_past}
 use Rattle.module_limits.specs.declared.limits.Limits.{Limits}
 use Rattle.module_meaning.specs.acceptance.Accepted.{is_accepted}
@@ -19,7 +19,7 @@ use Rattle.naga_wgsl_out.specs.Writing.{written_text}
 use Rattle.naga_wgsl_out.specs.declared.unwritable.Refusal.{Refusal}
 
 -- what of it is nested deeper, unless memory was wanting for the question
-abbrev pub TellsDepth : (levels : ℕ) → Module → Unwritten → Type 0
+abbrev pub TellsDepth : (levels : ℕ) → Module → NoOutcome → Type 0
 TellsDepth levels m (unwritten.TooDeep nested) = nested_past levels m ≡ Some nested
 TellsDepth levels m (unwritten.NotAccepted fault) = ⊥
 TellsDepth levels m unwritten.TooLong = ⊥
@@ -42,7 +42,7 @@ pub record IsTooLong (flags : WriterFlags) (limits : Limits) (given m : Module)
   pub longer : limits.text < length (written_text m new flags)
 
 abbrev pub IsUnwritten : WriterFlags → Limits → (given m : Module) → (old new : ModuleInfo) →
-    Unwritten → Type 0
+    NoOutcome → Type 0
 IsUnwritten flags limits given m old new (unwritten.TooDeep nested) =
     (nested_past limits.nesting given ≡ Some nested) × (m ≡ given) × (new ≡ old)
 IsUnwritten flags limits given m old new (unwritten.NotAccepted fault) =

@@ -9,8 +9,8 @@ use naga_wgsl_out::info::{Unaccepted, explain};
 use naga_wgsl_out::ir::Module;
 use std::alloc::{AllocError, Global};
 
-/// A fault of the module as one line: its place in the JSON, its kind, and what was wanted there, if
-/// more can be told than the kind.
+/// A fault of the module as one line: its position in the JSON, its kind, and what was wanted
+/// there, if more can be told than the kind.
 ///
 /// `module.functions[0].expressions[3]: the known type is another: wanted vec4<f32>, got f32`
 pub fn fault_line(
@@ -27,7 +27,7 @@ pub fn fault_line(
     format!(in alloc; "{position}: {fault}")
 }
 
-/// The same without the place.
+/// The fault as a line, without its position.
 pub fn fault_text(
     alloc: Global,
     module: &Module,

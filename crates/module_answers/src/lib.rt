@@ -1,5 +1,5 @@
-//! What is told of a module by those that read it from JSON: its text, a fault or a refusal with its
-//! place, and where the members of its structs stand. Programs and libraries can share it.
+//! Answers about a module that was read from JSON: its text, a fault or a refusal with its
+//! position, and where the members of its structs stand. Programs and libraries can share it.
 #![tactic(auto)]
 
 mod faults;
@@ -15,5 +15,5 @@ pub use layouts::layout_table;
 pub use listed_positions::{listed_position, refused_position};
 pub use positions::{JsonPosition, JsonRefusal, JsonRefusalPosition, label_at};
 pub use roles::{Role, operands_have_roles, role_at};
-pub use within::{Unwritten, check_nesting, write_told_within, write_within};
-pub use writing::{Written, flags_for, write, write_told};
+pub use within::{NoOutcome, check_nesting, write_told_within, write_within};
+pub use writing::{WriteOutcome, flags_for, write, write_told};

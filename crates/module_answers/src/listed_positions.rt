@@ -1,34 +1,35 @@
-//! Where a module is not accepted or refused, as a place of a listing.
+//! Where a module is not accepted or refused, as a position of a listing.
 
 use naga_listing::{Listed, ListingPosition, Spot};
-use naga_wgsl_out::info::{FunctionPosition, Item};
+use naga_wgsl_out::info::{FaultPosition, FunctionPosition};
 use naga_wgsl_out::wgsl::{
-    DeclarationPosition, Declared, FunctionPart, Line, RefusalPosition, ScopeFault,
+    DeclarationPosition, Declared, FunctionRefusalPosition, Line, RefusalPosition, ScopeFault,
 };
 
-/// The place of an item in a listing of what it is in.
-pub fn listed_position(item: Item) -> ListingPosition {
+/// The position of an item in a listing of what it is in.
+pub fn listed_position(item: FaultPosition) -> ListingPosition {
     match item {
-        Item::Module => declared(Spot::Whole),
-        Item::Type(handle) => declared(Spot::Type_(handle)),
-        Item::Constant(handle) => declared(Spot::Constant(handle)),
-        Item::Override(handle) => declared(Spot::Override(handle)),
-        Item::GlobalVariable(handle) => declared(Spot::GlobalVariable(handle)),
-        Item::GlobalExpression(handle) => declared(Spot::GlobalExpression(handle)),
-        Item::Function(handle, part) => ListingPosition::of(
+        FaultPosition::Module => declared(Spot::Whole),
+        FaultPosition::Type(handle) => declared(Spot::Type_(handle)),
+        FaultPosition::Constant(handle) => declared(Spot::Constant(handle)),
+        FaultPosition::Override(handle) => declared(Spot::Override(handle)),
+        FaultPosition::GlobalVariable(handle) => declared(Spot::GlobalVariable(handle)),
+        FaultPosition::GlobalExpression(handle) => declared(Spot::GlobalExpression(handle)),
+        FaultPosition::Function(handle, part) => ListingPosition::of(
             Listed::Function(handle),
             part_spot(part),
         ),
-        Item::EntryPoint(index, part) => ListingPosition::of(
+        FaultPosition::EntryPoint(index, part) => ListingPosition::of(
             Listed::EntryPoint(index),
             part_spot(part),
         ),
     }
 }
 
-/// The place of a construct for which a module is refused in a listing of what it is in: of what is
-/// out of scope the expression, with the statement that uses or gives it beside; of an expression
-/// without a form, or whose `let` tells a type without one, the expression with its line beside.
+/// The position of a construct for which a module is refused in a listing of what it is in: of what
+/// is out of scope the expression, with the statement that uses or gives it beside; of an
+/// expression without a form, or whose `let` tells a type without one, the expression with its line
+/// beside.
 pub fn refused_position(position: RefusalPosition) -> ListingPosition {
     match position {
         RefusalPosition::Labels => declared(Spot::Whole),
@@ -68,11 +69,14 @@ fn declaration_position(position: DeclarationPosition) -> ListingPosition {
     }
 }
 
-fn refused_in(listed: Listed, part: FunctionPart) -> ListingPosition {
+fn refused_in(listed: Listed, part: FunctionRefusalPosition) -> ListingPosition {
     match part {
-        FunctionPart::Labels => ListingPosition::of(listed, Spot::Whole),
-        FunctionPart::Type_(declared, _) => ListingPosition::of(listed, declared_spot(declared)),
-        FunctionPart::Scope(fault) => {
+        FunctionRefusalPosition::Labels => ListingPosition::of(listed, Spot::Whole),
+        FunctionRefusalPosition::Type_(declared, _) => ListingPosition::of(
+            listed,
+            declared_spot(declared),
+        ),
+        FunctionRefusalPosition::Scope(fault) => {
             let (spot, beside) = fault_spots(fault);
             ListingPosition {
                 listed,
@@ -80,13 +84,16 @@ fn refused_in(listed: Listed, part: FunctionPart) -> ListingPosition {
                 beside: Some(beside),
             }
         }
-        FunctionPart::Statement(number) => ListingPosition::of(listed, Spot::Statement(number)),
-        FunctionPart::Expression(line, handle) => ListingPosition {
+        FunctionRefusalPosition::Statement(number) => ListingPosition::of(
+            listed,
+            Spot::Statement(number),
+        ),
+        FunctionRefusalPosition::Expression(line, handle) => ListingPosition {
             listed,
             spot: Spot::Expression(handle),
             beside: line_spot(line),
         },
-        FunctionPart::Let(number, handle) => ListingPosition {
+        FunctionRefusalPosition::Let(number, handle) => ListingPosition {
             listed,
             spot: Spot::Expression(handle),
             beside: Some(Spot::Statement(number)),
@@ -121,7 +128,7 @@ fn fault_spots(fault: ScopeFault) -> (Spot, Spot) {
             operand,
             ..
         } => (Spot::Expression(operand), Spot::Statement(statement)),
-        ScopeFault::GivenBefore {
+        ScopeFault::IntroducedBefore {
             statement,
             expression,
         }

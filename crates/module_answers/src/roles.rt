@@ -12,7 +12,7 @@ ghost use Rattle.naga_ir.specs.StatementViews.{tree_of};
 
 use naga_listing::{MOST_FIELDS, entry_point_at, item_at, statement_at};
 use naga_wgsl_out::ir::{Expression, Function, Handle, Module, SampleLevel, Statement};
-use naga_wgsl_out::wgsl::{FunctionPart, RefusalPosition, ScopeFault};
+use naga_wgsl_out::wgsl::{FunctionRefusalPosition, RefusalPosition, ScopeFault};
 use std::fmt;
 
 /// The role of an operand: the field that holds it, by naga's name, and where that is a list, the
@@ -39,19 +39,20 @@ pub fn operands_have_roles()
     ensures { OperandsHaveRoles }
 {}
 
-/// The role of the operand that is out of scope at this place of the module: in the statement that
-/// uses it, or in the expression that an `Emit` binds. There is none where something else is wrong.
+/// The role of the operand that is out of scope at this position of the module: in the statement
+/// that uses it, or in the expression that an `Emit` binds. There is none where something else is
+/// wrong.
 pub fn role_at<'a>(module: &'a Module, at: &RefusalPosition) -> Option<Role<'a>>
     ensures { option_map seen result ≡ role_in «module».now at.now }
 {
     match *at {
-        RefusalPosition::Function(handle, FunctionPart::Scope(fault)) => {
+        RefusalPosition::Function(handle, FunctionRefusalPosition::Scope(fault)) => {
             match item_at(&module.functions, handle) {
                 Some(function) => fault_role(function, fault),
                 None => None,
             }
         }
-        RefusalPosition::EntryPoint(index, FunctionPart::Scope(fault)) => {
+        RefusalPosition::EntryPoint(index, FunctionRefusalPosition::Scope(fault)) => {
             match entry_point_at(module, index) {
                 Some(entry_point) => fault_role(&entry_point.function, fault),
                 None => None,

@@ -4,13 +4,13 @@ ghost use Rattle.std.specs.Prelude.{◌≡◌, ◌<◌, ◌≤◌, ℕ, [], IfEr
 ghost use Rattle.std.specs.Prelude.{None, OnOk, length};
 ghost use Rattle.std.specs.Prelude.{string_bytes};
 ghost use Rattle.module_answers.specs.Within.{IsUnwritten, TellsDepth};
-ghost use Rattle.module_answers.specs.Written.{AnswersWriting};
+ghost use Rattle.module_answers.specs.WriteOutcomes.{AnswersWriting};
 ghost use Rattle.module_limits.specs.Nesting.{nested_past};
 ghost use Rattle.module_meaning.specs.acceptance.Accepted.{is_accepted};
 ghost use Rattle.naga_wgsl_out.specs.Checked.{IsCounted};
 ghost use Rattle.told_floats.specs.Told.{IsToldModule};
 
-use crate::writing::{Written, write, write_told};
+use crate::writing::{WriteOutcome, write, write_told};
 use naga_info::ModuleInfo;
 use naga_wgsl_out::info::Unaccepted;
 use naga_wgsl_out::ir::Module;
@@ -21,11 +21,11 @@ use thiserror::Error as DisplayedError;
 
 /// Why the writer was not asked for a module, or was stopped at it.
 #[derive(Debug, Drop, DisplayedError)]
-pub enum Unwritten {
+pub enum NoOutcome {
     /// This of the module is nested deeper than the limit.
     #[error("{0}")]
     TooDeep(Nested),
-    /// The module is not accepted, at this place, for a fault of this kind.
+    /// The module is not accepted, at this position, for a fault of this kind.
     #[error("not accepted: {0}")]
     NotAccepted(Unaccepted),
     /// What was written of the module has more bytes than the limit: its text, or of a module that is
@@ -45,7 +45,7 @@ pub fn write_within(
     info: &mut ModuleInfo,
     flags: WriterFlags,
     limits: Limits,
-) -> Result<Written<String>, Unwritten>
+) -> Result<WriteOutcome<String>, NoOutcome>
     ensures nested { IfOk result (λ _. nested_past limits.nesting «module».now ≡ None) }
     ensures accepted { IfOk result (λ _. IsTrue (is_accepted «module».now info.old)) }
     ensures counted { IfOk result (λ _. IsCounted «module».now info.old info.new) }
@@ -60,9 +60,9 @@ pub fn write_within(
     match write(alloc, module, info, flags, empty) {
         Ok(written) => match kept(written, limits.text) {
             Some(whole) => Ok(whole),
-            None => Err(Unwritten::TooLong),
+            None => Err(NoOutcome::TooLong),
         },
-        Err(fault) => Err(Unwritten::NotAccepted(fault)),
+        Err(fault) => Err(NoOutcome::NotAccepted(fault)),
     }
 }
 
@@ -74,7 +74,7 @@ pub fn write_told_within(
     info: &mut ModuleInfo,
     flags: WriterFlags,
     limits: Limits,
-) -> Result<Written<String>, Unwritten>
+) -> Result<WriteOutcome<String>, NoOutcome>
     ensures nested { IfOk result (λ _. nested_past limits.nesting «module».old ≡ None) }
     ensures accepted { IfOk result (λ _. IsTrue (is_accepted «module».old info.old)) }
     ensures told { IfOk result (λ _. IsToldModule «module».old «module».new) }
@@ -84,7 +84,7 @@ pub fn write_told_within(
     ensures within { IfOk result (λ w. length (string_bytes w.sink) ≤ limits.text) }
     ensures unwritten { IfErr result (IsUnwritten flags limits «module».old «module».new info.old
         info.new) }
-    ensures too_long { IfErr result (λ e. e ≡ Unwritten.TooLong →
+    ensures too_long { IfErr result (λ e. e ≡ NoOutcome.TooLong →
         IsToldModule «module».old «module».new) }
 {
     let empty = BoundedText::new(alloc, limits.text);
@@ -92,33 +92,33 @@ pub fn write_told_within(
     match write_told(alloc, module, info, flags, empty) {
         Ok(written) => match kept(written, limits.text) {
             Some(whole) => Ok(whole),
-            None => Err(Unwritten::TooLong),
+            None => Err(NoOutcome::TooLong),
         },
-        Err(fault) => Err(Unwritten::NotAccepted(fault)),
+        Err(fault) => Err(NoOutcome::NotAccepted(fault)),
     }
 }
 
 /// Says what of the module is nested too deep, if anything is.
-pub fn check_nesting(alloc: Global, module: &Module, levels: usize) -> Result<(), Unwritten>
+pub fn check_nesting(alloc: Global, module: &Module, levels: usize) -> Result<(), NoOutcome>
     ensures flat { OnOk result (nested_past levels «module».now ≡ None) }
     ensures deep { IfErr result (TellsDepth levels «module».now) }
 {
     match nested_past(alloc, module, levels) {
         Ok(None) => Ok(()),
-        Ok(Some(nested)) => Err(Unwritten::TooDeep(nested)),
-        Err(error) => Err(Unwritten::Memory(error)),
+        Ok(Some(nested)) => Err(NoOutcome::TooDeep(nested)),
+        Err(error) => Err(NoOutcome::Memory(error)),
     }
 }
 
 /// What was written, if its text has no more than so many bytes.
-fn kept(written: Written<BoundedText>, bound: usize) -> Option<Written<String>>
+fn kept(written: WriteOutcome<BoundedText>, bound: usize) -> Option<WriteOutcome<String>>
     ensures answer { IfSome result (λ w. w.answer ≡ written.answer) }
     ensures refusal { IfSome result (λ w. w.refusal ≡ written.refusal) }
     ensures text { IfSome result (λ w. string_bytes w.sink ≡ written.sink.text) }
     ensures within { IfSome result (λ w. length (string_bytes w.sink) ≤ bound) }
     ensures too_long { IfNone result (bound < length written.sink.text) }
 {
-    let Written {
+    let WriteOutcome {
         answer,
         refusal,
         sink,
@@ -127,7 +127,7 @@ fn kept(written: Written<BoundedText>, bound: usize) -> Option<Written<String>>
         return None;
     }
     let sink = sink.finish();
-    Some(Written {
+    Some(WriteOutcome {
         answer,
         refusal,
         sink,

@@ -11,8 +11,8 @@ use Rattle.naga_info.specs.declared.info.TypeResolution.{TypeResolution}
 use Rattle.naga_info.specs.declared.info.TypeResolution.TheVariants.{Handle, Value}
 use Rattle.naga_words.specs.Spelling.{is_struct}
 use Rattle.module_meaning.specs.AlikeTypes.{is_spelled}
-use Rattle.module_meaning.specs.ExpressionForms.{expression_has_form, expression_is_written}
-use Rattle.module_meaning.specs.Sampling.{own_offset_is_written}
+use Rattle.module_meaning.specs.ExpressionForms.{expression_has_form, expression_has_own_form}
+use Rattle.module_meaning.specs.Sampling.{own_offset_has_form}
 use Rattle.module_meaning.specs.Types.{called_spelling, spelled_resolution, type_names}
 use Rattle.module_meaning.specs.LackingScalars.{over}
 use Rattle.module_meaning.specs.Undeclared.{is_spellable, is_undeclared, is_undeclared_struct}
@@ -23,9 +23,9 @@ use Rattle.naga_ir.specs.declared.expression.Expression.{Expression}
 -- what has a form is written, and so is its offset
 pub has_form_parts : (m : Module) (known : List ExpressionInfo) (es : List Expression)
     (e : Expression) → expression_has_form m known es e ≡ true →
-    (expression_is_written m known e ≡ true) × (own_offset_is_written es e ≡ true)
+    (expression_has_own_form m known e ≡ true) × (own_offset_has_form es e ≡ true)
 has_form_parts m known es e has =
-    and_parts (expression_is_written m known e) (own_offset_is_written es e) has
+    and_parts (expression_has_own_form m known e) (own_offset_has_form es e) has
 
 -- ---- types that a text can spell
 -- such a type has a form, and names no struct that no text declares

@@ -3,7 +3,7 @@ mod StatementExamples
 pub mod AgreementExamples
 pub mod AlikeExamples
 pub mod AlikeTypes
-pub mod BindingCounts
+pub mod LetCounts
 mod EnableExamples
 pub mod ExpressionShapes
 mod DeclaredItemExamples

@@ -16,7 +16,7 @@ use Rattle.shader_runs.specs.World.{Event}
 use Rattle.shader_runs.specs.Form.{form}
 use Rattle.shader_runs.specs.Outcome.{Done}
 use Rattle.shader_runs.specs.Program.{Statement, Emit, from}
-use Rattle.shader_runs.specs.ProgramRun.{Call, KeptValues, run}
+use Rattle.shader_runs.specs.ProgramRun.{Call, EmittedValues, run}
 use Rattle.shader_runs.specs.Scope.{Handles, Naming, after, fits, named_by}
 use Rattle.shader_runs.specs.Text.{Lines}
 
@@ -69,7 +69,7 @@ module _ (first end : ℕ) (le : end ≤ first) where
     none_emitted : st ≡ Emit first 0
     none_emitted = ap (Emit first) none
 
-    runs_as_nothing : (c : Call) (n : ℕ) (kept : KeptValues) (t : List Event) → run c n st kept t ≡ Done kept t
+    runs_as_nothing : (c : Call) (n : ℕ) (kept : EmittedValues) (t : List Event) → run c n st kept t ≡ Done kept t
     runs_as_nothing c n kept t = ap (λ s. run c n s kept t) none_emitted
 
     is_not_refused : (f : Naming) (k : ℕ) (s : Handles) → fits f k st s ≡ true

@@ -28,7 +28,7 @@ use Rattle.naga_names.specs.Reset.{members_of}
 use Rattle.module_meaning.specs.FunctionNumbers.{all_functions}
 use Rattle.module_meaning.specs.Layouts.{HasOtherStride, IsMisplaced}
 use Rattle.module_meaning.specs.Undeclared.{is_declared, is_spellable}
-use Rattle.module_meaning.specs.ExpressionForms.{global_is_written}
+use Rattle.module_meaning.specs.ExpressionForms.{global_has_form}
 use Rattle.wgsl_layout.specs.declared.members.Misplaced.{Misplaced}
 use Rattle.wgsl_words.specs.Words.{builtin_word}
 
@@ -107,7 +107,7 @@ VariablesHaveForms m =
 abbrev pub ConstantsHaveForms : Module → Type 0
 ConstantsHaveForms m =
     (i : ℕ) (c : Constant) → slice_get m.constants i ≡ Some c → IsTrue (is_some c.name) →
-    IsTrue (global_is_written m c.init)
+    IsTrue (global_has_form m c.init)
 
 -- The items that a function may name have forms, as far as runs hang on them: the types of
 -- variables, and the initialisers of constants with names. The initialisers of overrides and of
@@ -119,16 +119,16 @@ pub record ItemsHaveForms (m : Module) : Type 0 where
 -- The initialisers of overrides and of variables have forms. No run hangs on these.
 pub record OtherInitialisersHaveForms (m : Module) : Type 0 where
   pub overrides : (i : ℕ) (o : Override) (handle : ℕ) → slice_get m.overrides i ≡ Some o →
-      o.init ≡ Some handle → IsTrue (global_is_written m handle)
+      o.init ≡ Some handle → IsTrue (global_has_form m handle)
   pub variables : (i : ℕ) (v : GlobalVariable) (handle : ℕ) →
       slice_get m.global_variables i ≡ Some v → v.init ≡ Some handle →
-      IsTrue (global_is_written m handle)
+      IsTrue (global_has_form m handle)
 
 -- All that the module declares has a form, and no fault stands against a struct that is concerned:
 -- a member that can't be left where it is, or an array of another stride than WGSL gives it.
 pub record DeclarationsHaveForms (m : Module) : Type 0 where
   pub types : (ty : ℕ) → IsDeclaredType m ty → IsTrue (is_spellable m (Handle ty))
-  pub initialisers : (handle : ℕ) → IsInitialiser m handle → IsTrue (global_is_written m handle)
+  pub initialisers : (handle : ℕ) → IsInitialiser m handle → IsTrue (global_has_form m handle)
   pub members : (b : Binding) → IsMemberBinding m b → IsTrue (binding_has_form b)
   pub heads : (number : ℕ) → HeadHasForm m number
   pub offsets : (h : ℕ) (fault : Misplaced) → IsMisplaced m h fault → ⊥

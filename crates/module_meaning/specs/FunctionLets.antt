@@ -17,7 +17,7 @@ use Rattle.module_meaning.specs.FunctionNumbers.{all_functions, all_infos}
 use Rattle.module_meaning.specs.FunctionShapes.{function_shapes}
 use Rattle.module_meaning.specs.Namings.{namings_from, namings_under}
 use Rattle.text_meaning.specs.Abstraction.{functions_of, program_read, statements_read}
-use Rattle.text_meaning.specs.Bindings.{statements_annotations}
+use Rattle.text_meaning.specs.LetTypes.{statements_annotations}
 
 -- the types of the handles that each function binds, where types are to be told
 abbrev pub module_annotations :

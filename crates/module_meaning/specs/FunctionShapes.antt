@@ -15,7 +15,7 @@ use Rattle.naga_ir.specs.declared.module.Function as ir_function
 use Rattle.naga_ir.specs.declared.module.Module as ir_module
 use Rattle.naga_info.specs.declared.info.ExpressionInfo.{ExpressionInfo}
 use Rattle.naga_info.specs.declared.info.ModuleInfo.{ModuleInfo}
-use Rattle.module_meaning.specs.BindingCounts.{are_bound_by_uses}
+use Rattle.module_meaning.specs.LetCounts.{are_bound_by_uses}
 use Rattle.module_meaning.specs.ExpressionOperators.{ExpressionContext}
 use Rattle.module_meaning.specs.ExpressionShapes.{Declared, shape_of}
 use Rattle.module_meaning.specs.Shapes.{case_value_shape, named_from}

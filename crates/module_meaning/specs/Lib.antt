@@ -1,4 +1,4 @@
-pub mod BindingCounts
+pub mod LetCounts
 pub mod AlikeTypes
 pub mod FunctionLets
 pub mod Conversions

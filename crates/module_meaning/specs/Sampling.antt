@@ -14,21 +14,21 @@ use Rattle.module_meaning.specs.WrittenOut.{is_written_out}
 
 -- A gather is at level zero, told or not, and is not clamped. What is clamped is at level zero, and
 -- compares nothing.
-abbrev pub sampling_is_written : (gather : Option SwizzleComponent) → SampleLevel →
+abbrev pub sampling_has_form : (gather : Option SwizzleComponent) → SampleLevel →
     (compares clamped : Bool) → Bool
-sampling_is_written None level compares clamped =
+sampling_has_form None level compares clamped =
     is_some (sample_word (level_of level) compares clamped)
-sampling_is_written (Some component) level compares clamped =
+sampling_has_form (Some component) level compares clamped =
     is_some (gather_word None (level_of level) compares clamped)
 
 -- the offset of a sampling, if there is one, may be written out
-abbrev pub offset_is_written : List Expression → (offset : Option ℕ) → Bool
-offset_is_written es offset = option_map_or (is_written_out es) offset true
+abbrev pub offset_has_form : List Expression → (offset : Option ℕ) → Bool
+offset_has_form es offset = option_map_or (is_written_out es) offset true
 
 -- so may that of an expression
-abbrev pub own_offset_is_written : List Expression → Expression → Bool
-own_offset_is_written es
+abbrev pub own_offset_has_form : List Expression → Expression → Bool
+own_offset_has_form es
     (expression.ImageSample
     image sampler gather coordinate array_index offset level depth_ref clamp) =
-    offset_is_written es offset
-own_offset_is_written es e = true
+    offset_has_form es offset
+own_offset_has_form es e = true

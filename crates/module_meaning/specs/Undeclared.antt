@@ -100,8 +100,8 @@ member_is_written m h members index =
     stands_in member_words (name_in (module_names m) (key.StructMember h index)))
 
 -- the part with this number of the type at a handle is no member of a struct, or is written
-abbrev pub part_is_written_at : Module → (index h : ℕ) → Bool
-part_is_written_at m index h =
+abbrev pub part_has_form_at : Module → (index h : ℕ) → Bool
+part_has_form_at m index h =
     option_map_or
     (λ t. not (is_struct t.inner) || member_is_written m h (members_of t.inner) index)
     (slice_get m.types h) true

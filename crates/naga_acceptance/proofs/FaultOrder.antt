@@ -2,7 +2,8 @@
 --
 -- Throughout, m is a module, info what is known of it, f a function, p an entry point or a pair, e
 -- an expression, h a handle, and kind a kind of fault.
-use Rattle.std.proofs.Common.{◌≡◌, ◌==◌, ℕ, Bool, true, false, List, [], ◌∷◌, length, sym, subst, zip}
+use Rattle.std.proofs.Common.{◌≡◌, ◌==◌, ℕ, Bool, true, false, List, [], ◌∷◌, length, sym, subst}
+use Rattle.std.proofs.Common.{zip}
 use Rattle.std.proofs.Common.{Option, Some, None, true≢false}
 use Rattle.std.specs.Prelude.{IsTrue}
 use Rattle.std.specs.List.{enumerate_from}
@@ -22,7 +23,8 @@ use Rattle.naga_acceptance.specs.FirstFaults.{Named, Wanted, Disagreeing}
 use Rattle.naga_acceptance.specs.FirstFaults.{at, at_entry_point, at_expression, at_function}
 use Rattle.naga_acceptance.specs.FirstFaults.{declarations_range_fault, entry_point_range_fault}
 use Rattle.naga_acceptance.specs.FirstFaults.{entry_point_sizes_fault, entry_points_range_fault}
-use Rattle.naga_acceptance.specs.FirstFaults.{expression_range_fault, first_known_fault, first_unknown}
+use Rattle.naga_acceptance.specs.FirstFaults.{expression_range_fault, first_known_fault}
+use Rattle.naga_acceptance.specs.FirstFaults.{first_unknown}
 use Rattle.naga_acceptance.specs.FirstFaults.{function_range_fault, function_sizes_fault}
 use Rattle.naga_acceptance.specs.FirstFaults.{functions_range_fault, global_expression_range_fault}
 use Rattle.naga_acceptance.specs.FirstFaults.{info_fault, items_range_fault, known_fault}
@@ -32,7 +34,7 @@ use Rattle.naga_acceptance.specs.Searching.{first_faulty, first_unfit, or_furthe
 use Rattle.naga_acceptance.specs.TextOrder.{is_in_range, numbered, text_order}
 use Rattle.naga_acceptance.specs.declared.faults.Fault.{Fault}
 use Rattle.naga_acceptance.specs.declared.faults.Fault.TheVariants as fault
-use Rattle.naga_acceptance.specs.declared.faults.Item.TheVariants as item
+use Rattle.naga_acceptance.specs.declared.faults.FaultPosition.TheVariants as item
 use Rattle.naga_acceptance.specs.declared.faults.FunctionPosition.{FunctionPosition}
 use Rattle.naga_acceptance.specs.declared.faults.FunctionPosition.TheVariants as part
 use Rattle.naga_acceptance.specs.declared.faults.Unaccepted.{Unaccepted}

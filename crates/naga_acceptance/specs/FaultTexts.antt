@@ -5,8 +5,8 @@
 use Rattle.std.specs.Prelude.{ℕ, List, [], ◌++◌, codes, decimal}
 use Rattle.naga_acceptance.specs.declared.faults.Fault.{Fault}
 use Rattle.naga_acceptance.specs.declared.faults.Fault.TheVariants as fault
-use Rattle.naga_acceptance.specs.declared.faults.Item.{Item}
-use Rattle.naga_acceptance.specs.declared.faults.Item.TheVariants as item
+use Rattle.naga_acceptance.specs.declared.faults.FaultPosition.{FaultPosition}
+use Rattle.naga_acceptance.specs.declared.faults.FaultPosition.TheVariants as item
 use Rattle.naga_acceptance.specs.declared.faults.FunctionPosition.{FunctionPosition}
 use Rattle.naga_acceptance.specs.declared.faults.FunctionPosition.TheVariants as part
 use Rattle.naga_acceptance.specs.declared.faults.Unaccepted.{Unaccepted}
@@ -39,7 +39,7 @@ part_text (part.Expression h) = codes ", expression " ++ decimal h
 part_text (part.Statement n) = codes ", statement " ++ decimal n
 
 -- an item by its kind and its number, as `type 5`, with the part of a function
-abbrev pub item_text : Item → List ℕ
+abbrev pub item_text : FaultPosition → List ℕ
 item_text item.Module = codes "module"
 item_text (item.Type h) = codes "type " ++ decimal h
 item_text (item.Constant h) = codes "constant " ++ decimal h

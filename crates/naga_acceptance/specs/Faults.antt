@@ -23,8 +23,8 @@ use Rattle.naga_acceptance.specs.TextOrder.{PlacedStatement, is_in_range, is_sou
 use Rattle.naga_acceptance.specs.Uses.{earlier_uses}
 use Rattle.naga_acceptance.specs.declared.faults.Fault.{Fault}
 use Rattle.naga_acceptance.specs.declared.faults.Fault.TheVariants as fault
-use Rattle.naga_acceptance.specs.declared.faults.Item.{Item}
-use Rattle.naga_acceptance.specs.declared.faults.Item.TheVariants as item
+use Rattle.naga_acceptance.specs.declared.faults.FaultPosition.{FaultPosition}
+use Rattle.naga_acceptance.specs.declared.faults.FaultPosition.TheVariants as item
 use Rattle.naga_acceptance.specs.declared.faults.FunctionPosition.{FunctionPosition}
 use Rattle.naga_acceptance.specs.declared.faults.FunctionPosition.TheVariants as part
 use Rattle.naga_acceptance.specs.declared.faults.Unaccepted.{Unaccepted}
@@ -146,7 +146,7 @@ EntryPositionFails m p known part fault =
 -- ---- operators
 
 -- which group of expressions an expression is in, and its number there
-abbrev pub site_of : Module → Item → Option (ℕ × ℕ)
+abbrev pub site_of : Module → FaultPosition → Option (ℕ × ℕ)
 site_of m (item.Function h (part.Expression e)) = Some (h, e)
 site_of m (item.EntryPoint h (part.Expression e)) = Some (length m.functions + h, e)
 site_of m (item.GlobalExpression e) =
@@ -164,7 +164,7 @@ abbrev pub DisagreesAt : Module → ModuleInfo → Option (ℕ × ℕ) → Type 
 DisagreesAt m info None = ⊥
 DisagreesAt m info (Some site) = Disagrees m info site.0 site.1
 
-abbrev pub OperatorFails : Module → ModuleInfo → Item → Type 0
+abbrev pub OperatorFails : Module → ModuleInfo → FaultPosition → Type 0
 OperatorFails m info at = DisagreesAt m info (site_of m at)
 
 -- ---- all items
@@ -231,7 +231,7 @@ EntryPointFails m info h part fault =
     × EntryPositionFails m p (known_of info.entry_points.items h) part fault
 
 -- an item fails, of a fault that is no disagreement of operators
-abbrev pub ItemFails : Module → ModuleInfo → Item → Fault → Type 0
+abbrev pub ItemFails : Module → ModuleInfo → FaultPosition → Fault → Type 0
 ItemFails m info item.Module fault = ModuleFails m info fault
 ItemFails m info (item.Type h) fault = TypeFails m h fault
 ItemFails m info (item.Constant h) fault = ConstantFails m info h fault
@@ -241,7 +241,7 @@ ItemFails m info (item.GlobalExpression h) fault = GlobalExpressionFails m info 
 ItemFails m info (item.Function h part) fault = FunctionFails m info h part fault
 ItemFails m info (item.EntryPoint h part) fault = EntryPointFails m info h part fault
 
-abbrev pub FaultIs : Module → ModuleInfo → Item → Fault → Type 0
+abbrev pub FaultIs : Module → ModuleInfo → FaultPosition → Fault → Type 0
 FaultIs m info at fault.Disagreement = OperatorFails m info at
 FaultIs m info at fault = ItemFails m info at fault
 

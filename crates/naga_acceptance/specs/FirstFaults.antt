@@ -29,8 +29,8 @@ use Rattle.naga_acceptance.specs.Searching.{first_faulty, first_unfit, unless}
 use Rattle.naga_acceptance.specs.TextOrder.{is_in_range, is_sound, numbered, text_order}
 use Rattle.naga_acceptance.specs.declared.faults.Fault.{Fault}
 use Rattle.naga_acceptance.specs.declared.faults.Fault.TheVariants as fault
-use Rattle.naga_acceptance.specs.declared.faults.Item.{Item}
-use Rattle.naga_acceptance.specs.declared.faults.Item.TheVariants as item
+use Rattle.naga_acceptance.specs.declared.faults.FaultPosition.{FaultPosition}
+use Rattle.naga_acceptance.specs.declared.faults.FaultPosition.TheVariants as item
 use Rattle.naga_acceptance.specs.declared.faults.FunctionPosition.{FunctionPosition}
 use Rattle.naga_acceptance.specs.declared.faults.FunctionPosition.TheVariants as part
 use Rattle.naga_acceptance.specs.declared.faults.Unaccepted.{Unaccepted}
@@ -51,7 +51,7 @@ use Rattle.module_meaning.specs.acceptance.Ranges.{resolution_fits, signature_fi
 use Rattle.module_meaning.specs.acceptance.Ranges.{special_types_fit}
 use Rattle.module_meaning.specs.acceptance.Soundness.{module_is_sound}
 
-abbrev pub at : Item → Fault → Unaccepted
+abbrev pub at : FaultPosition → Fault → Unaccepted
 at position kind = record { item = position; fault = kind }
 
 -- a fault of a part of the function, or of the entry point, with this handle

@@ -7,8 +7,8 @@ use Rattle.naga_acceptance.specs.declared.parts.InferredType.{InferredType}
 use Rattle.naga_acceptance.specs.declared.parts.InferredType.TheVariants as inferred_type
 use Rattle.naga_acceptance.specs.declared.parts.Known.{Known}
 use Rattle.naga_acceptance.specs.declared.parts.Known.TheVariants as source
-use Rattle.naga_acceptance.specs.declared.expression_types.Expected.{Expected}
-use Rattle.naga_acceptance.specs.declared.expression_types.Expected.TheVariants as code
+use Rattle.naga_acceptance.specs.declared.expression_types.AllowedType.{AllowedType}
+use Rattle.naga_acceptance.specs.declared.expression_types.AllowedType.TheVariants as code
 use Rattle.module_meaning.specs.acceptance.ExpressionTypes.{ExpectedType, LikeThis, Anything}
 use Rattle.module_meaning.specs.acceptance.ExpressionTypes.{Nothing}
 
@@ -22,7 +22,7 @@ inferred (inferred_type.Pointer base space) = Value (inner.Pointer base space)
 inferred (inferred_type.ValuePointer size s space) = Value (inner.ValuePointer size s space)
 
 -- what an expression's type may be
-abbrev pub wanted : Expected → ExpectedType
+abbrev pub wanted : AllowedType → ExpectedType
 wanted (code.LikeThis one) = LikeThis (inferred one)
 wanted code.Anything = Anything
 wanted code.Nothing = Nothing

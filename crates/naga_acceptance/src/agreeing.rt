@@ -26,7 +26,7 @@ ghost use Rattle.module_meaning.specs.acceptance.AgreeingOperators.{module_opera
 ghost use Rattle.module_meaning.specs.acceptance.AgreeingOperators.{uses_of};
 ghost use Rattle.module_meaning.specs.acceptance.Operations.{all_agree};
 
-use crate::faults::{Fault, FunctionPosition, Item, Unaccepted, at};
+use crate::faults::{Fault, FaultPosition, FunctionPosition, Unaccepted, at};
 use crate::parts::Known;
 use crate::uses::{Use, expression_use, has_same_answer, hash_of, is_same_operator};
 use naga_info::{FunctionInfo, ModuleInfo};
@@ -508,7 +508,7 @@ fn disagreement(module: &Module, info: &ModuleInfo) -> Option<UsePosition>
 }
 
 /// Where an expression stands that is in the group of this number, with this number there.
-fn use_item(module: &Module, number: u128, index: usize) -> Item
+fn use_item(module: &Module, number: u128, index: usize) -> FaultPosition
     requires { number ≤ length «module».now.functions + length «module».now.entry_points.items }
     ensures { site_of «module».now result ≡ Some (number, index) }
 {
@@ -516,13 +516,16 @@ fn use_item(module: &Module, number: u128, index: usize) -> Item
     let expression = ItemIndex::from_index(index);
     if number < functions {
         let handle = ItemIndex::from_index(number as usize);
-        return Item::Function(handle, FunctionPosition::Expression(expression));
+        return FaultPosition::Function(handle, FunctionPosition::Expression(expression));
     }
     let further = number - functions;
     if further < module.entry_points.len() as u128 {
-        return Item::EntryPoint(further as usize, FunctionPosition::Expression(expression));
+        return FaultPosition::EntryPoint(
+            further as usize,
+            FunctionPosition::Expression(expression),
+        );
     }
-    Item::GlobalExpression(expression)
+    FaultPosition::GlobalExpression(expression)
 }
 
 /// Where the first use of an operator stands that does not agree with all that stand before it

@@ -3,7 +3,7 @@
 ghost use Rattle.std.specs.Prelude.{◌≡◌, ◌&&◌};
 ghost use Rattle.std.specs.Option.{is_some, option_map_or};
 ghost use Rattle.naga_acceptance.specs.KnownTypes.{known_types};
-ghost use Rattle.module_meaning.specs.acceptance.OperandDemands.{is_components, is_integer};
+ghost use Rattle.module_meaning.specs.acceptance.OperandDemands.{is_scalar_or_vector, is_integer};
 ghost use Rattle.module_meaning.specs.acceptance.OperandDemands.{is_pointer, is_swizzled};
 ghost use Rattle.module_meaning.specs.acceptance.OperandDemands.{letters_fit};
 ghost use Rattle.module_meaning.specs.acceptance.OperandDemands.{operand_is, operands_fit};
@@ -36,8 +36,8 @@ pub fn is_pointer(types: &UniqueArena<Type_>, inner: &TypeInner) -> bool
 }
 
 /// Whether a type is a scalar or a vector.
-pub fn is_components(inner: &TypeInner) -> bool
-    ensures { result ≡ is_components inner.now }
+pub fn is_scalar_or_vector(inner: &TypeInner) -> bool
+    ensures { result ≡ is_scalar_or_vector inner.now }
 {
     matches!(inner, TypeInner::Scalar(_) | TypeInner::Vector { .. })
 }
@@ -48,7 +48,7 @@ pub fn points_to_components(types: &UniqueArena<Type_>, inner: &TypeInner) -> bo
 {
     match inner {
         TypeInner::Pointer { base, .. } => match inner_at(types, *base) {
-            Some(pointee) => is_components(pointee),
+            Some(pointee) => is_scalar_or_vector(pointee),
             None => false,
         },
         TypeInner::ValuePointer { .. } => true,
@@ -120,7 +120,7 @@ pub fn operands_fit(types: &UniqueArena<Type_>, known: Known<'_>, expression: &E
             None => false,
         },
         Expression::Splat { value, .. } => match known_inner(types, known, *value) {
-            Some(value) => is_components(value),
+            Some(value) => is_scalar_or_vector(value),
             None => false,
         },
         Expression::Swizzle {

@@ -27,7 +27,7 @@ use naga_ir::{
 
 /// What an expression's type may be.
 #[derive(Debug, Clone, Copy, PartialEq, Eq)]
-pub enum Expected {
+pub enum AllowedType {
     /// One like this.
     LikeThis(InferredType),
     /// Any.
@@ -36,21 +36,21 @@ pub enum Expected {
     Nothing,
 }
 
-fn only(ty: Option<InferredType>) -> Expected
+fn only(ty: Option<InferredType>) -> AllowedType
     ensures { wanted result ≡ only (option_map inferred ty) }
 {
     match ty {
-        Some(ty) => Expected::LikeThis(ty),
-        None => Expected::Nothing,
+        Some(ty) => AllowedType::LikeThis(ty),
+        None => AllowedType::Nothing,
     }
 }
 
-fn if_any(ty: Option<InferredType>) -> Expected
+fn if_any(ty: Option<InferredType>) -> AllowedType
     ensures { wanted result ≡ if_any (option_map inferred ty) }
 {
     match ty {
-        Some(ty) => Expected::LikeThis(ty),
-        None => Expected::Anything,
+        Some(ty) => AllowedType::LikeThis(ty),
+        None => AllowedType::Anything,
     }
 }
 
@@ -171,21 +171,21 @@ pub fn is_bool(inner: &TypeInner) -> bool
     }
 }
 
-fn logical_type(left: Option<&TypeInner>) -> Expected
+fn logical_type(left: Option<&TypeInner>) -> AllowedType
     ensures { wanted result ≡ logical_type (option_copied left.entry) }
 {
     match left {
-        Some(left) if is_bool(left) => Expected::LikeThis(InferredType::Scalar(Scalar::BOOL)),
-        _ => Expected::Anything,
+        Some(left) if is_bool(left) => AllowedType::LikeThis(InferredType::Scalar(Scalar::BOOL)),
+        _ => AllowedType::Anything,
     }
 }
 
-fn binary_type(op: BinaryOperator, left: Option<&TypeInner>) -> Expected
+fn binary_type(op: BinaryOperator, left: Option<&TypeInner>) -> AllowedType
     ensures { wanted result ≡ binary_type op (option_copied left.entry) }
 {
     match op {
         BinaryOperator::LogicalAnd | BinaryOperator::LogicalOr => logical_type(left),
-        _ => Expected::Anything,
+        _ => AllowedType::Anything,
     }
 }
 
@@ -241,14 +241,14 @@ pub fn expected_type(
     function: Option<&Function>,
     known: Known<'_>,
     expression: &Expression,
-) -> Expected
+) -> AllowedType
     ensures { wanted result ≡ expected_type «module».now (option_copied function.entry)
         (known_types known.entry) expression.now }
 {
     let types = &module.types;
     match expression {
         Expression::Literal(literal) => {
-            Expected::LikeThis(InferredType::Scalar(literal.scalar()))
+            AllowedType::LikeThis(InferredType::Scalar(literal.scalar()))
         }
         Expression::Constant(handle) => only(constant_type(module, *handle)),
         Expression::Override(handle) => only(override_type(module, *handle)),
@@ -257,7 +257,7 @@ pub fn expected_type(
         | Expression::AtomicResult { ty, .. }
         | Expression::WorkGroupUniformLoadResult { ty }
         | Expression::SubgroupOperationResult { ty } => {
-            Expected::LikeThis(InferredType::Handle(*ty))
+            AllowedType::LikeThis(InferredType::Handle(*ty))
         }
         Expression::Access { base, .. } => only(part_at(types, known, *base, None)),
         Expression::AccessIndex { base, index } => {
@@ -277,18 +277,18 @@ pub fn expected_type(
             binary_type(*op, known_inner(types, known, *left))
         }
         Expression::CallResult(handle) => only(result_type(module, *handle)),
-        _ => Expected::Anything,
+        _ => AllowedType::Anything,
     }
 }
 
 /// Whether a type is what is wanted.
-fn is_expected(types: &UniqueArena<Type_>, demand: Expected, own: &TypeResolution) -> bool
+fn is_expected(types: &UniqueArena<Type_>, demand: AllowedType, own: &TypeResolution) -> bool
     ensures { result ≡ is_expected types.now (wanted demand) own.now }
 {
     match demand {
-        Expected::LikeThis(ty) => is_like(types, own, &ty),
-        Expected::Anything => true,
-        Expected::Nothing => false,
+        AllowedType::LikeThis(ty) => is_like(types, own, &ty),
+        AllowedType::Anything => true,
+        AllowedType::Nothing => false,
     }
 }
 

@@ -13,13 +13,13 @@ use std::fmt;
 /// A place at which a module is not accepted, and the kind of fault.
 #[derive(Debug, Clone, Copy, PartialEq, Eq)]
 pub struct Unaccepted {
-    pub item: Item,
+    pub item: FaultPosition,
     pub fault: Fault,
 }
 
 /// An item of a module, or the module itself with what is known of it.
 #[derive(Debug, Clone, Copy, PartialEq, Eq)]
-pub enum Item {
+pub enum FaultPosition {
     Module,
     Type(Handle<Type_>),
     Constant(Handle<Constant>),
@@ -87,7 +87,7 @@ pub enum Fault {
     Disagreement,
 }
 
-pub(crate) fn at(item: Item, fault: Fault) -> Unaccepted
+pub(crate) fn at(item: FaultPosition, fault: Fault) -> Unaccepted
     ensures { result ≡ at item fault }
 {
     Unaccepted { item, fault }
@@ -97,14 +97,14 @@ pub(crate) fn at(item: Item, fault: Fault) -> Unaccepted
 pub(crate) fn at_function(handle: Handle<Function>, found: (FunctionPosition, Fault)) -> Unaccepted
     ensures { result ≡ at_function handle found }
 {
-    at(Item::Function(handle, found.0), found.1)
+    at(FaultPosition::Function(handle, found.0), found.1)
 }
 
 /// A fault of a part of the entry point with this index.
 pub(crate) fn at_entry_point(index: usize, found: (FunctionPosition, Fault)) -> Unaccepted
     ensures { result ≡ at_entry_point index found }
 {
-    at(Item::EntryPoint(index, found.0), found.1)
+    at(FaultPosition::EntryPoint(index, found.0), found.1)
 }
 
 /// A fault of an expression of a function.
@@ -122,19 +122,32 @@ impl fmt::Display for Unaccepted {
     }
 }
 
-impl fmt::Display for Item {
+impl fmt::Display for FaultPosition {
     ghost output = { λ position. Some (item_text position) };
 
     fn fmt<W: fmt::Write>(&self, f: &mut fmt::Formatter<W>) -> fmt::Result {
         match self {
-            Item::Module => f.write_str("module"),
-            Item::Type(handle) => write!(f, "type {}", handle.index()),
-            Item::Constant(handle) => write!(f, "constant {}", handle.index()),
-            Item::Override(handle) => write!(f, "override {}", handle.index()),
-            Item::GlobalVariable(handle) => write!(f, "global variable {}", handle.index()),
-            Item::GlobalExpression(handle) => write!(f, "global expression {}", handle.index()),
-            Item::Function(handle, part) => write!(f, "function {}{}", handle.index(), part),
-            Item::EntryPoint(index, part) => write!(f, "entry point {}{}", index, part),
+            FaultPosition::Module => f.write_str("module"),
+            FaultPosition::Type(handle) => write!(f, "type {}", handle.index()),
+            FaultPosition::Constant(handle) => write!(f, "constant {}", handle.index()),
+            FaultPosition::Override(handle) => write!(f, "override {}", handle.index()),
+            FaultPosition::GlobalVariable(handle) => write!(
+                f,
+                "global variable {}",
+                handle.index()
+            ),
+            FaultPosition::GlobalExpression(handle) => write!(
+                f,
+                "global expression {}",
+                handle.index()
+            ),
+            FaultPosition::Function(handle, part) => write!(
+                f,
+                "function {}{}",
+                handle.index(),
+                part
+            ),
+            FaultPosition::EntryPoint(index, part) => write!(f, "entry point {}{}", index, part),
         }
     }
 }

@@ -10,7 +10,7 @@ ghost use Rattle.module_meaning.specs.acceptance.Initialisers.{initialiser_fits}
 ghost use Rattle.module_meaning.specs.acceptance.Initialisers.{local_is_sound};
 ghost use Rattle.module_meaning.specs.acceptance.Initialisers.{override_is_sound};
 
-use crate::faults::{Fault, Item, Unaccepted, at};
+use crate::faults::{Fault, FaultPosition, Unaccepted, at};
 use crate::parts::{InferredType, Known};
 use crate::statements::value_has_type;
 use naga_ir::{
@@ -149,13 +149,16 @@ pub(crate) fn initialisers_fault(module: &Module, known: Known<'_>) -> Option<Un
 {
     let types = &module.types;
     if let Some(handle) = first_unsound_constant(types, known, &module.constants) {
-        return Some(at(Item::Constant(handle), Fault::InitialiserType));
+        return Some(at(FaultPosition::Constant(handle), Fault::InitialiserType));
     }
     if let Some(handle) = first_unsound_override(types, known, &module.overrides) {
-        return Some(at(Item::Override(handle), Fault::InitialiserType));
+        return Some(at(FaultPosition::Override(handle), Fault::InitialiserType));
     }
     match first_unsound_global(types, known, &module.global_variables) {
-        Some(handle) => Some(at(Item::GlobalVariable(handle), Fault::InitialiserType)),
+        Some(handle) => Some(at(
+            FaultPosition::GlobalVariable(handle),
+            Fault::InitialiserType,
+        )),
         None => None,
     }
 }

@@ -25,4 +25,4 @@ mod walk;
 
 pub use acceptance::{accepts, unaccepted};
 pub use counts::count;
-pub use faults::{Fault, FunctionPosition, Item, Unaccepted};
+pub use faults::{Fault, FaultPosition, FunctionPosition, Unaccepted};

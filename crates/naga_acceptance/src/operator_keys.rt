@@ -1,4 +1,4 @@
-//! What tells operators: those that WGSL spells alike are told by the same.
+//! Keys of operators, equal exactly where WGSL spells the operators alike.
 
 ghost use Rattle.std.specs.Prelude.{◌≡◌, ◌<◌, List, Some};
 ghost use Rattle.std.specs.Option.{option_copied, option_map};

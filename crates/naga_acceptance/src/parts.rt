@@ -1,4 +1,4 @@
-//! What types are made of, and the types of parts, without memory.
+//! What types are made of, and the types of parts. It allocates nothing.
 
 ghost use Rattle.std.specs.Prelude.{◌≡◌, slice_get};
 ghost use Rattle.std.specs.Option.{is_some, option_copied, option_map};

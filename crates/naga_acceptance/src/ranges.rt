@@ -1,5 +1,5 @@
-//! Whether all that a module and what is known of it name is there, and stands where it may be
-//! named, and numbers are of their types.
+//! Whether every item that a module or its info names exists and comes early enough, and numbers
+//! fit their types.
 
 ghost use Rattle.std.specs.Prelude.{◌≡◌, length, nat_lt};
 ghost use Rattle.std.specs.List.{enumerate_from, list_all};
@@ -28,7 +28,8 @@ pub(crate) mod statements;
 pub(crate) mod types;
 
 use crate::faults::{
-    Fault, FunctionPosition, Item, Unaccepted, at, at_entry_point, at_expression, at_function,
+    Fault, FaultPosition, FunctionPosition, Unaccepted, at, at_entry_point, at_expression,
+    at_function,
 };
 use crate::ranges::expressions::{
     first_expression_out_of_range, first_global_expression_out_of_range,
@@ -152,16 +153,16 @@ fn items_range_fault(module: &Module) -> Option<Unaccepted>
     let types = module.types.len();
     let expressions = module.global_expressions.len();
     if let Some(handle) = first_constant_out_of_range(types, expressions, &module.constants) {
-        return Some(at(Item::Constant(handle), Fault::Names));
+        return Some(at(FaultPosition::Constant(handle), Fault::Names));
     }
     if let Some(handle) = first_override_out_of_range(types, expressions, &module.overrides) {
-        return Some(at(Item::Override(handle), Fault::Names));
+        return Some(at(FaultPosition::Override(handle), Fault::Names));
     }
     if let Some(handle) = first_global_out_of_range(types, expressions, &module.global_variables) {
-        return Some(at(Item::GlobalVariable(handle), Fault::Names));
+        return Some(at(FaultPosition::GlobalVariable(handle), Fault::Names));
     }
     match first_global_expression_out_of_range(module) {
-        Some((handle, fault)) => Some(at(Item::GlobalExpression(handle), fault)),
+        Some((handle, fault)) => Some(at(FaultPosition::GlobalExpression(handle), fault)),
         None => None,
     }
 }
@@ -176,7 +177,7 @@ fn declarations_range_fault(module: &Module) -> Option<Unaccepted>
         return types;
     }
     if !special_types_fit(module.types.len(), &module.special_types) {
-        return Some(at(Item::Module, Fault::SpecialTypes));
+        return Some(at(FaultPosition::Module, Fault::SpecialTypes));
     }
     items_range_fault(module)
 }
@@ -409,7 +410,7 @@ fn info_fault(module: &Module, info: &ModuleInfo) -> Option<Unaccepted>
     }
     let globals = info.const_expression_types.as_slice();
     match first_unknown_global(overrides, types, globals) {
-        Some(handle) => Some(at(Item::GlobalExpression(handle), Fault::KnownType)),
+        Some(handle) => Some(at(FaultPosition::GlobalExpression(handle), Fault::KnownType)),
         None => None,
     }
 }
@@ -424,7 +425,7 @@ pub(crate) fn ranges_fault(module: &Module, info: &ModuleInfo) -> Option<Unaccep
         return sizes;
     }
     if let Some(handle) = first_handle_pointer(&module.types) {
-        return Some(at(Item::Type(handle), Fault::TypeForm));
+        return Some(at(FaultPosition::Type(handle), Fault::TypeForm));
     }
     let named = module_range_fault(module);
     if named.is_some() {

@@ -1,4 +1,4 @@
-//! Whether what stands in a module gets what it wants.
+//! Whether expressions, initialisers and statements have the types that they need.
 
 ghost use Rattle.std.specs.Prelude.{◌≡◌, map};
 ghost use Rattle.std.specs.Option.{option_copied};
@@ -14,7 +14,8 @@ ghost use Rattle.module_meaning.specs.acceptance.Soundness.{module_is_sound};
 use crate::demands::operands_fit;
 use crate::expression_types::has_its_type;
 use crate::faults::{
-    Fault, FunctionPosition, Item, Unaccepted, at, at_entry_point, at_expression, at_function,
+    Fault, FaultPosition, FunctionPosition, Unaccepted, at, at_entry_point, at_expression,
+    at_function,
 };
 use crate::initialisers::{first_unsound_local, initialisers_fault};
 use crate::parts::Known;
@@ -92,7 +93,7 @@ fn functions_sound_fault(
     ensures { result ≡ functions_sound_fault «module».now functions.now infos.now }
 {
     if functions.len() != infos.len() {
-        return Some(at(Item::Module, Fault::InfoSize));
+        return Some(at(FaultPosition::Module, Fault::InfoSize));
     }
     for (index, info) in infos.iter().enumerate() {
         let handle = ItemIndex::from_index(index);
@@ -111,7 +112,7 @@ fn entry_points_sound_fault(
     ensures { result ≡ entry_points_sound_fault «module».now entry_points.now infos.now }
 {
     if entry_points.len() != infos.len() {
-        return Some(at(Item::Module, Fault::InfoSize));
+        return Some(at(FaultPosition::Module, Fault::InfoSize));
     }
     for (index, info) in infos.iter().enumerate() {
         if let Some(found) = function_sound_fault(module, &entry_points[index].function, info) {
@@ -129,7 +130,7 @@ fn declarations_sound_fault(module: &Module, types: &[TypeResolution]) -> Option
     let known = Known::Global(types);
     let expressions = &module.global_expressions;
     if let Some((handle, fault)) = expressions_sound_fault(module, None, known, expressions) {
-        return Some(at(Item::GlobalExpression(handle), fault));
+        return Some(at(FaultPosition::GlobalExpression(handle), fault));
     }
     initialisers_fault(module, known)
 }

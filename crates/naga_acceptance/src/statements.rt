@@ -1,4 +1,4 @@
-//! Whether the statements of a function get what they want.
+//! Whether the operands of a function's statements have the types that these need.
 
 ghost use Rattle.std.specs.Prelude.{None, ◌≡◌, slice_get, false, true};
 ghost use Rattle.std.specs.Option.{option_map};
@@ -25,7 +25,7 @@ ghost use Rattle.module_meaning.specs.acceptance.StatementsFit.{case_values_diff
 ghost use Rattle.module_meaning.specs.acceptance.StatementsFit.{case_values_fit};
 ghost use Rattle.naga_acceptance.specs.CaseValues.{is_before, is_after, case_values_ascend};
 ghost use Rattle.module_meaning.specs.acceptance.StatementsFit.{last_falls_through};
-ghost use Rattle.module_meaning.specs.acceptance.StatementsFit.{selection_fits, selects};
+ghost use Rattle.module_meaning.specs.acceptance.StatementsFit.{selection_fits, is_selector_type};
 ghost use Rattle.module_meaning.specs.acceptance.StatementsFit.{value_has_type};
 ghost use Rattle.module_meaning.specs.TypeParts.{is_atomic, points_to_atomic};
 
@@ -129,8 +129,8 @@ pub(crate) fn is_condition(
 }
 
 /// Whether a scalar is `i32` or `u32`.
-pub fn selects(scalar: Scalar) -> bool
-    ensures { result ≡ selects scalar }
+pub fn is_selector_type(scalar: Scalar) -> bool
+    ensures { result ≡ is_selector_type scalar }
 {
     match scalar.kind {
         ScalarKind::Sint | ScalarKind::Uint => scalar.width == 4,
@@ -279,7 +279,7 @@ fn selection_fits(cases: &[SwitchCase], inner: &TypeInner) -> bool
     ensures { result ≡ selection_fits (cases_of cases.now) inner.now }
 {
     match inner {
-        TypeInner::Scalar(scalar) => selects(*scalar) && case_values_fit(*scalar, cases),
+        TypeInner::Scalar(scalar) => is_selector_type(*scalar) && case_values_fit(*scalar, cases),
         _ => false,
     }
 }

@@ -1,4 +1,4 @@
-//! Numbers that are mixed into one, the same for types and operators that are told by the same.
+//! Hashes of types and operators, the same for those with the same key.
 
 ghost use Rattle.std.specs.Prelude.{◌≡◌, [], true, unwrap_or};
 ghost use Rattle.std.specs.Option.{is_some};

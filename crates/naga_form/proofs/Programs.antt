@@ -5,7 +5,7 @@ use Rattle.module_meaning.specs.DeclarationForms.{DeclarationsHaveForms}
 use Rattle.module_meaning.specs.acceptance.ExpressionTypes.{have_their_types}
 use Rattle.module_meaning.specs.acceptance.Numbers.{binding_fits_32_bits}
 use Rattle.module_meaning.specs.acceptance.OperandDemands.{are_operands_fit}
-use Rattle.module_meaning.specs.ExpressionForms.{constant_is_written}
+use Rattle.module_meaning.specs.ExpressionForms.{constant_has_form}
 use Rattle.module_meaning.specs.acceptance.Ranges.{function_in_range, local_in_range, is_below}
 use Rattle.module_meaning.proofs.Lists.{list_all_at}
 use Rattle.module_meaning.proofs.ExpressionForms.{spelled_of_spellable}
@@ -94,7 +94,7 @@ module _ (m : Module) (info : ModuleInfo) (g : ℕ) (f : ir_function.Function)
     (spelled : (r : TypeResolution) → IsSpelledIn (annotates_types flags) m info f es r → is_spellable m r ≡ true)
     (few : length f.expressions ≤ 2 ^ 64) (named : ℕ → List ℕ) (identifiers : (k : ℕ) →
     k < length (expression_labels f) → IsIdentifier (named k)) (constants : (c : ℕ) →
-    constant_is_written m c ≡ true → IsExpression (written_constant_form m (type_names m) c)) where
+    constant_has_form m c ≡ true → IsExpression (written_constant_form m (type_names m) c)) where
   abbrev own : Naming
   own = function_naming (module_names m) named m info g f es
 

@@ -39,7 +39,7 @@ use Rattle.module_meaning.specs.AlikeTypes.{are_alike}
 use Rattle.module_meaning.specs.FunctionLets.{BindsAt, BindsUnder}
 use Rattle.module_meaning.specs.DeclarationForms.{DeclarationsHaveForms, IsInitialiser}
 use Rattle.module_meaning.specs.DeclarationForms.{ItemsHaveForms}
-use Rattle.module_meaning.specs.ExpressionForms.{global_is_written}
+use Rattle.module_meaning.specs.ExpressionForms.{global_has_form}
 use Rattle.module_meaning.specs.Faithful.{HasInterfaceOf, RunsAs, RunsAt}
 use Rattle.module_meaning.specs.FunctionNumbers.{callee_count, function_type}
 use Rattle.module_meaning.specs.Written.{AllWrittenHaveForms, WrittenHaveForms}
@@ -140,7 +140,7 @@ InitialisersHaveValues =
     let shape = module_shape m info in
     (settings : Settings) → SettingsFit shape settings →
     (meaning : Meaning) → IsTyped shape meaning →
-    (handle : ℕ) → IsInitialiser m handle → IsTrue (global_is_written m handle) →
+    (handle : ℕ) → IsInitialiser m handle → IsTrue (global_has_form m handle) →
     (v : Value) × (global_expression_value m info settings meaning handle ≡ Some v)
 
 -- There is a value of any of the module's own expressions that has a form. What is written of it
@@ -150,7 +150,7 @@ abbrev pub GlobalsHaveTheirValues : Type 0
 GlobalsHaveTheirValues =
     (m : Module) (info : ModuleInfo) (flags : WriterFlags) (named : LabelNames) →
     IsTrue (is_accepted m info) →
-    (handle : ℕ) → IsTrue (global_is_written m handle) →
+    (handle : ℕ) → IsTrue (global_has_form m handle) →
     HasValueOf m info handle (program_under named m info flags)
     (global_form m (type_names m) handle)
 

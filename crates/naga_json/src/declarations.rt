@@ -1,6 +1,6 @@
 //! Functions, and what modules declare.
 
-use crate::error::{Expected, Problem, ReadError};
+use crate::error::{JsonKind, Problem, ReadError};
 use crate::let_be;
 use crate::shape::{
     FromJson, expect_members, expect_members_beside, expect_null, fill, in_item, in_member,
@@ -232,7 +232,7 @@ fn named_expression(alloc: Global, key: &str, label: &Value) -> Result<NamedExpr
 /// The index that a member's name is.
 fn index_in(alloc: Global, key: &str) -> Result<usize, ReadError> {
     if !is_numeral(key) {
-        return Err(mistyped(alloc, Expected::WholeNumber));
+        return Err(mistyped(alloc, JsonKind::WholeNumber));
     }
     match key.parse::<usize>() {
         Ok(index) => Ok(index),

@@ -6,7 +6,7 @@ use std::fmt;
 
 /// What a JSON value should be.
 #[derive(Clone, Copy, Debug, PartialEq, Eq)]
-pub enum Expected {
+pub enum JsonKind {
     /// A number.
     Number,
     /// A whole number, told without a point or an exponent: `1.0` is none.
@@ -27,18 +27,18 @@ pub enum Expected {
     Null,
 }
 
-impl fmt::Display for Expected {
+impl fmt::Display for JsonKind {
     fn fmt<W: fmt::Write>(&self, f: &mut fmt::Formatter<W>) -> fmt::Result {
         match self {
-            Expected::Number => f.write_str("number"),
-            Expected::WholeNumber => f.write_str("whole number"),
-            Expected::Text => f.write_str("text"),
-            Expected::List => f.write_str("list"),
-            Expected::Object => f.write_str("object"),
-            Expected::TruthValue => f.write_str("truth value"),
-            Expected::Variant => f.write_str("name and no object with one member"),
-            Expected::Resolution => f.write_str("number and no object with one member"),
-            Expected::Null => f.write_str("null"),
+            JsonKind::Number => f.write_str("number"),
+            JsonKind::WholeNumber => f.write_str("whole number"),
+            JsonKind::Text => f.write_str("text"),
+            JsonKind::List => f.write_str("list"),
+            JsonKind::Object => f.write_str("object"),
+            JsonKind::TruthValue => f.write_str("truth value"),
+            JsonKind::Variant => f.write_str("name and no object with one member"),
+            JsonKind::Resolution => f.write_str("number and no object with one member"),
+            JsonKind::Null => f.write_str("null"),
         }
     }
 }
@@ -49,7 +49,7 @@ pub enum Problem {
     /// It is absent.
     Missing,
     /// It is something else than is wanted.
-    Mistyped(Expected),
+    Mistyped(JsonKind),
     /// It is a number that the wanted type does not have. No number is cut.
     OutOfRange,
     /// It is a list of another length than this.

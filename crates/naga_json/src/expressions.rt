@@ -1,6 +1,6 @@
 //! Expressions, and literals.
 
-use crate::error::{Expected, Problem, ReadError};
+use crate::error::{JsonKind, Problem, ReadError};
 use crate::shape::{
     FromJson, Variants, expect_members, is_object, item_of, items_of, member, mistyped,
     read_variant, unit, word,
@@ -675,7 +675,7 @@ fn double_bits(alloc: Global, value: &Value) -> Result<u64, ReadError> {
     }
     match value.as_f64() {
         Some(number) if number.is_finite() => Ok(number.to_bits()),
-        _ => Err(mistyped(alloc, Expected::Number)),
+        _ => Err(mistyped(alloc, JsonKind::Number)),
     }
 }
 
@@ -686,7 +686,7 @@ fn single_bits(alloc: Global, value: &Value) -> Result<u32, ReadError> {
     }
     match value.as_f64() {
         Some(number) => bits_within(alloc, nearest_single(number)),
-        None => Err(mistyped(alloc, Expected::Number)),
+        None => Err(mistyped(alloc, JsonKind::Number)),
     }
 }
 

@@ -1,6 +1,6 @@
 //! What is known of modules.
 
-use crate::error::{Expected, ReadError};
+use crate::error::{JsonKind, ReadError};
 use crate::shape::{FromJson, Variants, expect_known, fill, member, mistyped, read_variant};
 use json::Value;
 use naga_info::{ExpressionInfo, FunctionInfo, ModuleInfo, TypeResolution};
@@ -26,7 +26,7 @@ impl FromJson for TypeResolution {
         match value {
             Value::Number(_) => Ok(TypeResolution::Handle(ItemIndex::from_json(alloc, value)?)),
             Value::Object(_) => read_variant(alloc, value),
-            _ => Err(mistyped(alloc, Expected::Resolution)),
+            _ => Err(mistyped(alloc, JsonKind::Resolution)),
         }
     }
 }

@@ -47,6 +47,6 @@ mod statements;
 mod text;
 mod types;
 
-pub use error::{Expected, Problem, ReadError};
+pub use error::{JsonKind, Problem, ReadError};
 pub use modules::{Known, info_of, known_of, module_of, read_info, read_known, read_module};
 pub use text::{parse, parse_bytes};

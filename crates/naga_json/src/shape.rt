@@ -1,7 +1,7 @@
 //! The shapes of JSON that values of Rust's types have: numbers, lists, objects, and enums whose
 //! variant is a text or the only member of an object.
 
-use crate::error::{Expected, Problem, ReadError, told_name};
+use crate::error::{JsonKind, Problem, ReadError, told_name};
 use json::Value;
 use naga_ir::{Arena, Item, ItemIndex};
 use std::alloc::Global;
@@ -30,7 +30,7 @@ pub(crate) trait Variants: Sized + Drop {
 }
 
 /// The error of a value that is something else than is wanted.
-pub(crate) fn mistyped(alloc: Global, wanted: Expected) -> ReadError {
+pub(crate) fn mistyped(alloc: Global, wanted: JsonKind) -> ReadError {
     ReadError::at(alloc, Problem::Mistyped(wanted))
 }
 
@@ -68,7 +68,7 @@ pub(crate) fn member<T: FromJson>(
     name: &str,
 ) -> Result<T, ReadError> {
     if !is_object(value) {
-        return Err(mistyped(alloc, Expected::Object));
+        return Err(mistyped(alloc, JsonKind::Object));
     }
     let read = match value.get(name) {
         Some(found) => T::from_json(alloc, found),
@@ -98,7 +98,7 @@ pub(crate) fn fill<T: FromJson>(
     slot: &mut T,
 ) -> Result<(), ReadError> {
     if !is_object(value) {
-        return Err(mistyped(alloc, Expected::Object));
+        return Err(mistyped(alloc, JsonKind::Object));
     }
     if let Some(found) = value.get(name) {
         *slot = in_member(alloc, name, T::from_json(alloc, found))?;
@@ -184,7 +184,7 @@ pub(crate) fn members_of<'v, 'a>(
 ) -> Result<&'v Vec<Member<'a>>, ReadError> {
     match value {
         Value::Object(members) => Ok(members),
-        _ => Err(mistyped(alloc, Expected::Object)),
+        _ => Err(mistyped(alloc, JsonKind::Object)),
     }
 }
 
@@ -233,7 +233,7 @@ pub(crate) fn read_variant<T: Variants + 'static>(
 ) -> Result<T, ReadError> {
     let null = Value::Null;
     let Some(found) = named_variant(value, &null) else {
-        return Err(mistyped(alloc, Expected::Variant));
+        return Err(mistyped(alloc, JsonKind::Variant));
     };
     let which = meaning(alloc, found.name, T::names())?;
     in_member(
@@ -248,7 +248,7 @@ pub(crate) fn unit<T: Drop>(alloc: Global, content: &Value, variant: T) -> Resul
     if content.is_null() {
         Ok(variant)
     } else {
-        Err(mistyped(alloc, Expected::Null))
+        Err(mistyped(alloc, JsonKind::Null))
     }
 }
 
@@ -260,7 +260,7 @@ pub(crate) fn word<T: Copy + Drop>(
 ) -> Result<T, ReadError> {
     let null = Value::Null;
     let Some(found) = named_variant(value, &null) else {
-        return Err(mistyped(alloc, Expected::Variant));
+        return Err(mistyped(alloc, JsonKind::Variant));
     };
     let which = meaning(alloc, found.name, words)?;
     in_member(alloc, found.name, unit(alloc, found.content, which))
@@ -304,10 +304,10 @@ const BEYOND_WHOLE_NUMBERS: f64 = 9223372036854775808.0;
 fn no_such_number(alloc: Global, value: &Value) -> ReadError {
     match value.as_f64() {
         Some(number) if is_fraction(value) && number.abs() < BEYOND_WHOLE_NUMBERS => {
-            mistyped(alloc, Expected::WholeNumber)
+            mistyped(alloc, JsonKind::WholeNumber)
         }
         Some(_) => ReadError::at(alloc, Problem::OutOfRange),
-        None => mistyped(alloc, Expected::Number),
+        None => mistyped(alloc, JsonKind::Number),
     }
 }
 
@@ -328,7 +328,7 @@ impl FromJson for bool {
     fn from_json(alloc: Global, value: &Value) -> Result<bool, ReadError> {
         match value.as_bool() {
             Some(truth) => Ok(truth),
-            None => Err(mistyped(alloc, Expected::TruthValue)),
+            None => Err(mistyped(alloc, JsonKind::TruthValue)),
         }
     }
 
@@ -413,7 +413,7 @@ impl FromJson for String {
     fn from_json(alloc: Global, value: &Value) -> Result<String, ReadError> {
         match value.as_str() {
             Some(text) => Ok(String::from_str(alloc, text)?),
-            None => Err(mistyped(alloc, Expected::Text)),
+            None => Err(mistyped(alloc, JsonKind::Text)),
         }
     }
 }
@@ -473,7 +473,7 @@ pub(crate) fn items_of<'v, 'a>(
 ) -> Result<&'v Vec<Value<'a>>, ReadError> {
     match value {
         Value::Array(items) => Ok(items),
-        _ => Err(mistyped(alloc, Expected::List)),
+        _ => Err(mistyped(alloc, JsonKind::List)),
     }
 }
 

@@ -1,6 +1,6 @@
 //! Statements, whose blocks nest.
 
-use crate::error::{Expected, Problem, ReadError};
+use crate::error::{JsonKind, Problem, ReadError};
 use crate::let_be;
 use crate::shape::{
     FromJson, Variants, expect_members, expect_members_beside, in_item, in_member, items_of,
@@ -376,7 +376,7 @@ fn block(alloc: Global, value: &Value, levels: u32) -> Result<Block, ReadError> 
 fn statement(alloc: Global, value: &Value, levels: u32) -> Result<Statement, ReadError> {
     let null = Value::Null;
     let Some(found) = named_variant(&*value, &null) else {
-        return Err(mistyped(alloc, Expected::Variant));
+        return Err(mistyped(alloc, JsonKind::Variant));
     };
     let name = meaning(alloc, found.name, STATEMENT_NAMES)?;
     in_member(

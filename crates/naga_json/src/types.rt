@@ -1,6 +1,6 @@
 //! Types, and the sets of flags.
 
-use crate::error::{Expected, Problem, ReadError};
+use crate::error::{JsonKind, Problem, ReadError};
 use crate::shape::{
     FromJson, Variants, expect_members, in_item, item_of, items_of, member, mistyped, read_variant,
     unit, unknown, word,

@@ -9,8 +9,8 @@ use Rattle.naga_ir.specs.StatementTree.{StatementTree, BlockTree, no_statements,
 use Rattle.naga_ir.specs.StatementTree.{CaseTrees, case, has_no_statements}
 use Rattle.naga_ir.specs.declared.statement.SwitchValue.{SwitchValue}
 use Rattle.naga_listing.specs.declared.positions.Line.{Line}
-use Rattle.naga_listing.specs.declared.positions.Row.{Row}
-use Rattle.naga_listing.specs.declared.positions.Row.TheVariants as row
+use Rattle.naga_listing.specs.declared.positions.LineKind.{LineKind}
+use Rattle.naga_listing.specs.declared.positions.LineKind.TheVariants as row
 use Rattle.naga_listing.specs.declared.positions.Spot.{Spot}
 use Rattle.naga_listing.specs.declared.positions.Title.{Title}
 use Rattle.naga_listing.specs.declared.positions.Title.TheVariants as title
@@ -62,7 +62,7 @@ first_then l before middle now more first later =
     later ∙ ap (λ ls. ls ++ more) first ∙ append_assoc before (l ∷ []) more
 
 -- the line that tells which block it is, and those of its statements
-pub headed : (level one two n : ℕ) (r : Row) (b : BlockTree) (before middle now : List Line)
+pub headed : (level one two n : ℕ) (r : LineKind) (b : BlockTree) (before middle now : List Line)
     → one ≡ wrapping_add level 1 → two ≡ wrapping_add level 2
     → middle ≡ before ++ (record { level = one; row = r } ∷ [])
     → now ≡ middle ++ block_lines two n b → now ≡ before ++ headed_lines r level n b
@@ -74,12 +74,12 @@ headed level one two n r b before middle now is_one is_two first more =
     ∙ ap (λ k. before ++ (line (wrapping_add level 1) r ∷ block_lines k n b)) is_two
 
 -- a block without statements has no lines, and else it is headed
-pub another : (r : Row) (level n : ℕ) (b : BlockTree) → has_no_statements b ≡ false
+pub another : (r : LineKind) (level n : ℕ) (b : BlockTree) → has_no_statements b ≡ false
     → another_lines r level n b ≡ headed_lines r level n b
 another r level n no_statements h = absurd (cc)
 another r level n (statement s b) h = refl
 
-pub no_other : (r : Row) (level n : ℕ) (b : BlockTree) (before : List Line)
+pub no_other : (r : LineKind) (level n : ℕ) (b : BlockTree) (before : List Line)
     → has_no_statements b ≡ true → before ≡ before ++ another_lines r level n b
 no_other r level n no_statements before h = sym (append-nil before)
 no_other r level n (statement s b) before h = absurd (cc)

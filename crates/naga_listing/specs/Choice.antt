@@ -11,8 +11,8 @@ use Rattle.naga_ir.specs.declared.module.Module.{Module}
 use Rattle.naga_listing.specs.contracts.positions.SpotPartialEq.TheImpl.{eq-value}
 use Rattle.naga_listing.specs.declared.positions.Line.{Line}
 use Rattle.naga_listing.specs.declared.positions.ListingPosition.{ListingPosition}
-use Rattle.naga_listing.specs.declared.positions.Row.{Row}
-use Rattle.naga_listing.specs.declared.positions.Row.TheVariants as row
+use Rattle.naga_listing.specs.declared.positions.LineKind.{LineKind}
+use Rattle.naga_listing.specs.declared.positions.LineKind.TheVariants as row
 use Rattle.naga_listing.specs.declared.positions.Spot.{Spot}
 use Rattle.naga_listing.specs.Lines.{all_lines, line}
 use Rattle.naga_listing.specs.Named.{named_spots}
@@ -22,18 +22,18 @@ abbrev pub same_spot : Spot → Spot → Bool
 same_spot = eq-value.it
 
 -- Is the row about this?
-abbrev pub is_about : Spot → Row → Bool
+abbrev pub is_about : Spot → LineKind → Bool
 is_about s (row.Item t) = same_spot t s
 is_about s _ = false
 
-abbrev pub is_named : (spots : List Spot) → Row → Bool
+abbrev pub is_named : (spots : List Spot) → LineKind → Bool
 is_named spots r = list_any (λ s. is_about s r) spots
 
-abbrev pub is_title : Row → Bool
+abbrev pub is_title : LineKind → Bool
 is_title (row.Title t) = true
 is_title _ = false
 
-abbrev pub is_gap : Row → Bool
+abbrev pub is_gap : LineKind → Bool
 is_gap row.Gap = true
 is_gap _ = false
 
@@ -102,7 +102,7 @@ marked_line s lines = unwrap_or (position (λ l. is_about s l.row) lines) 0
 abbrev pub shown_lines : Spot → (spots : List Spot) → List Line → List Line
 shown_lines s spots lines = (kept_from (marked_line s lines) spots 0 lines).lines
 
--- The lines of a place: those near its own, which is marked, those that enclose it, and those that
--- it names. In the place of others stands a gap.
+-- The lines of a position: those near its own, which is marked, those that enclose it, and those
+-- that it names. In the position of others stands a gap.
 abbrev pub position_lines : Module → ListingPosition → List Line
 position_lines m p = shown_lines p.spot (named_spots m p) (all_lines m p.listed)

@@ -13,14 +13,14 @@ use Rattle.naga_ir.specs.StatementTree.{case}
 use Rattle.naga_listing.specs.declared.positions.Line.{Line}
 use Rattle.naga_listing.specs.declared.positions.Listed.{Listed}
 use Rattle.naga_listing.specs.declared.positions.Listed.TheVariants as listed
-use Rattle.naga_listing.specs.declared.positions.Row.{Row}
-use Rattle.naga_listing.specs.declared.positions.Row.TheVariants as row
+use Rattle.naga_listing.specs.declared.positions.LineKind.{LineKind}
+use Rattle.naga_listing.specs.declared.positions.LineKind.TheVariants as row
 use Rattle.naga_listing.specs.declared.positions.Spot.{Spot}
 use Rattle.naga_listing.specs.declared.positions.Spot.TheVariants as spot
 use Rattle.naga_listing.specs.declared.positions.Title.{Title}
 use Rattle.naga_listing.specs.declared.positions.Title.TheVariants as title
 
-abbrev pub line : (level : ℕ) → Row → Line
+abbrev pub line : (level : ℕ) → LineKind → Line
 line level r = record { level = level; row = r }
 
 -- ---- items by their lists
@@ -88,7 +88,7 @@ abbrev mutual
       ++ block_lines level (after_inside (wrapping_add number 1) s) b)
 
   -- another block of the statement at this level, if it has statements, after a line that tells which
-  pub another_lines : Row → (level number : ℕ) → BlockTree → List Line
+  pub another_lines : LineKind → (level number : ℕ) → BlockTree → List Line
   another_lines r level number no_statements = []
   another_lines r level number (statement s b) =
       line (wrapping_add level 1) r
@@ -111,13 +111,13 @@ statement_lines level number s =
     line level (row.Item (spot.Statement number)) ∷ inside_lines level (wrapping_add number 1) s
 
 -- the lines of two blocks of the statement at this level
-abbrev pub two_lines : Row → (level number : ℕ) → (first second : BlockTree) → List Line
+abbrev pub two_lines : LineKind → (level number : ℕ) → (first second : BlockTree) → List Line
 two_lines r level number first second =
     block_lines (wrapping_add level 2) number first
     ++ another_lines r level (after_block number first) second
 
 -- a block of the statement at this level, after a line that tells which
-abbrev pub headed_lines : Row → (level number : ℕ) → BlockTree → List Line
+abbrev pub headed_lines : LineKind → (level number : ℕ) → BlockTree → List Line
 headed_lines r level number b =
     line (wrapping_add level 1) r ∷ block_lines (wrapping_add level 2) number b
 

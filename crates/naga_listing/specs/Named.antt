@@ -129,6 +129,6 @@ listed_spots m (listed.Function handle) s =
 listed_spots m (listed.EntryPoint index) s =
     option_map_or (λ e. part_spots e.function s) (slice_get m.entry_points.items index) []
 
--- what a place names, and what is to be seen beside it
+-- what a position names, and what is to be seen beside it
 abbrev pub named_spots : Module → ListingPosition → List Spot
 named_spots m p = listed_spots m p.listed p.spot ++ option_to_list p.beside

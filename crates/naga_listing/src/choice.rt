@@ -9,7 +9,7 @@ ghost use Rattle.naga_listing.specs.Choice.{with_marked};
 
 use crate::lines::all_lines;
 use crate::named::named_spots;
-use crate::positions::{Line, ListingPosition, Row, Spot};
+use crate::positions::{Line, LineKind, ListingPosition, Spot};
 use naga_ir::Module;
 use std::alloc::{AllocError, Global};
 use std::marker::Model;
@@ -17,15 +17,15 @@ use std::marker::Model;
 /// So many lines before the marked one and after it are shown.
 const RADIUS: usize = 5;
 
-/// The lines of a place, some forty at most: the first of what is listed, those near the place's
-/// own line, those of statements around it, those that it names, and the titles of their lists. A
-/// mark follows its own line, and a gap stands in the place of lines that are left out.
+/// The lines of a position, some forty at most: the first of what is listed, those near the
+/// position's own line, those of statements around it, those that it names, and the titles of their
+/// lists. A mark follows its own line, and a gap stands in the place of lines that are left out.
 ///
-/// Where the module has no such place, the first line is marked.
+/// Where the module has no such position, the first line is marked.
 ///
 /// ```text
-/// let place = ListingPosition::of(Listed::Function(double), Spot::Expression(sum));
-/// let lines = listing(alloc, &module, &place)?;
+/// let position = ListingPosition::of(Listed::Function(double), Spot::Expression(sum));
+/// let lines = listing(alloc, &module, &position)?;
 /// ```
 pub fn listing(
     alloc: Global,
@@ -79,31 +79,31 @@ fn kept_lines(
     Ok(kept)
 }
 
-fn is_about(spot: &Spot, row: &Row) -> bool
+fn is_about(spot: &Spot, row: &LineKind) -> bool
     ensures { result ≡ is_about spot.now row.now }
 {
     match row {
-        Row::Item(item) => *item == *spot,
+        LineKind::Item(item) => *item == *spot,
         _ => false,
     }
 }
 
-fn is_named(spots: &[Spot], row: &Row) -> bool
+fn is_named(spots: &[Spot], row: &LineKind) -> bool
     ensures { result ≡ is_named spots.now row.now }
 {
     spots.iter().any(|spot| is_about(spot, row))
 }
 
-fn is_title(row: &Row) -> bool
+fn is_title(row: &LineKind) -> bool
     ensures { result ≡ is_title row.now }
 {
-    matches!(row, Row::Title(_))
+    matches!(row, LineKind::Title(_))
 }
 
-fn is_gap(row: &Row) -> bool
+fn is_gap(row: &LineKind) -> bool
     ensures { result ≡ is_gap row.now }
 {
-    matches!(row, Row::Gap)
+    matches!(row, LineKind::Gap)
 }
 
 fn begins_with_gap(lines: &[Line]) -> bool
@@ -116,7 +116,7 @@ fn begins_with_gap(lines: &[Line]) -> bool
 }
 
 /// Whether a line of the list is shown that begins with this row, by whether one is after it.
-fn opens(row: &Row, shown: bool, opened: bool) -> bool
+fn opens(row: &LineKind, shown: bool, opened: bool) -> bool
     ensures { result ≡ (if is_title row.now then false else (shown || opened)) }
 {
     if is_title(row) {
@@ -165,7 +165,7 @@ impl Kept {
     }
 
     /// Puts a line before those that were kept.
-    fn put(&mut self, level: usize, head: Row) -> Result<(), AllocError>
+    fn put(&mut self, level: usize, head: LineKind) -> Result<(), AllocError>
         ensures { OnOk result (self.new ≡ record self.old {
           lines = record { level = level; row = head } ∷ self.old.lines;
         }) }
@@ -182,7 +182,7 @@ impl Kept {
         if begins_with_gap(&self.lines) {
             Ok(())
         } else {
-            self.put(0, Row::Gap)
+            self.put(0, LineKind::Gap)
         }
     }
 
@@ -204,7 +204,7 @@ impl Kept {
         ensures { OnOk result (self.new ≡ with_marked line.now self.old) }
     {
         let level = line.level;
-        self.put(level, Row::Mark)?;
+        self.put(level, LineKind::Mark)?;
         self.put(level, line.row)?;
         self.level = level;
         self.opened = true;

@@ -1,9 +1,9 @@
-//! A picture of a place in a module: the lines of a numbered listing around what is wrong there.
+//! Lists the lines around a position in a module, numbered, with what is wrong there.
 //!
 //! [`listing`] chooses the lines, and [`explain`] writes them as a text, with a message under the
-//! line of the place. Whether the module is accepted does not matter: what it names and has not is
-//! told by its number. Items are found by [`item_at`] and [`entry_point_at`], and statements by their
-//! numbers by [`statement_at`].
+//! line of the position. Whether the module is accepted does not matter: what it names and has not
+//! is told by its number. Items are found by [`item_at`] and [`entry_point_at`], and statements by
+//! their numbers by [`statement_at`].
 #![tactic(auto)]
 
 mod choice;
@@ -26,5 +26,5 @@ pub use lookup::{entry_point_at, item_at};
 pub use numbers::statement_at;
 pub use one_line::on_one_line;
 pub use operands::MOST_FIELDS;
-pub use positions::{Line, Listed, ListingPosition, Row, Spot, Title};
+pub use positions::{Line, LineKind, Listed, ListingPosition, Spot, Title};
 pub use text::explain;

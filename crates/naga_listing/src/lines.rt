@@ -11,7 +11,7 @@ ghost use Rattle.naga_listing.specs.Lines.{statement_lines};
 ghost use Rattle.naga_listing.specs.Lines.{two_lines};
 
 use crate::lookup::{entry_point_at, item_at};
-use crate::positions::{Line, Listed, Row, Spot, Title};
+use crate::positions::{Line, LineKind, Listed, Spot, Title};
 use naga_ir::{Block, Function, ItemIndex, Module, Statement, SwitchCase};
 use std::alloc::{AllocError, Global};
 
@@ -24,7 +24,7 @@ pub(crate) fn all_lines(
     ensures { IfOk result (λ lines. lines.items ≡ all_lines «module».now listed.now) }
 {
     let mut lines = Vec::new(alloc);
-    push_row(&mut lines, 0, Row::Item(Spot::Whole))?;
+    push_row(&mut lines, 0, LineKind::Item(Spot::Whole))?;
     add_parts(&mut lines, module, listed)?;
     Ok(lines)
 }
@@ -78,7 +78,7 @@ fn add_section(lines: &mut Vec<Line>, title: Title, count: usize) -> Result<(), 
     if count == 0 {
         return Ok(());
     }
-    push_row(lines, 1, Row::Title(title))?;
+    push_row(lines, 1, LineKind::Title(title))?;
     add_items(lines, title, count)
 }
 
@@ -86,7 +86,7 @@ fn add_items(lines: &mut Vec<Line>, title: Title, count: usize) -> Result<(), Al
     ensures { IfOk result (λ _. lines.new.items ≡ lines.old.items ++ items_below title count) }
 {
     for index in 0..count {
-        push_row(lines, 2, Row::Item(spot_in(title, index)))?;
+        push_row(lines, 2, LineKind::Item(spot_in(title, index)))?;
     }
     Ok(())
 }
@@ -114,12 +114,12 @@ fn add_body(lines: &mut Vec<Line>, body: &Block) -> Result<(), AllocError>
     if body.is_empty() {
         return Ok(());
     }
-    push_row(lines, 1, Row::Title(Title::Statements))?;
+    push_row(lines, 1, LineKind::Title(Title::Statements))?;
     add_block(lines, body, 2, 0)?;
     Ok(())
 }
 
-fn push_row(lines: &mut Vec<Line>, level: usize, head: Row) -> Result<(), AllocError>
+fn push_row(lines: &mut Vec<Line>, level: usize, head: LineKind) -> Result<(), AllocError>
     ensures { IfOk result (λ _. lines.new.items
         ≡ lines.old.items ++ record { level = level; row = head } ∷ []) }
 {
@@ -141,7 +141,7 @@ fn add_statement(
         ≡ lines.old.items ++ statement_lines level number (tree_of statement.now)) }
     ensures next { IfOk result (λ next. next ≡ after_statement number (tree_of statement.now)) }
 {
-    push_row(lines, level, Row::Item(Spot::Statement(number)))?;
+    push_row(lines, level, LineKind::Item(Spot::Statement(number)))?;
     add_inside(lines, statement, level, number.wrapping_add(1))
 }
 
@@ -161,14 +161,14 @@ fn add_inside(
     match statement {
         Statement::Block(block) => add_block(lines, block, level.wrapping_add(2), first),
         Statement::If { accept, reject, .. } => {
-            add_two(lines, accept, Row::Else, reject, level, first)
+            add_two(lines, accept, LineKind::Else, reject, level, first)
         }
         Statement::Switch { cases, .. } => add_cases(lines, cases, level, first),
         Statement::Loop {
             body,
             continuing,
             ..
-        } => add_two(lines, body, Row::Continuing, continuing, level, first),
+        } => add_two(lines, body, LineKind::Continuing, continuing, level, first),
         _ => Ok(first),
     }
 }
@@ -179,7 +179,7 @@ fn add_inside(
 fn add_two(
     lines: &mut Vec<Line>,
     accept: &Block,
-    head: Row,
+    head: LineKind,
     reject: &Block,
     level: usize,
     first: usize,
@@ -220,7 +220,7 @@ fn add_block(
 #[tactic(auto, using(crate::proofs::AddedLines::headed))]
 fn add_headed(
     lines: &mut Vec<Line>,
-    head: Row,
+    head: LineKind,
     block: &Block,
     level: usize,
     first: usize,
@@ -238,7 +238,7 @@ fn add_headed(
 #[tactic(auto, using(crate::proofs::AddedLines::another, crate::proofs::AddedLines::no_other, crate::proofs::AddedLines::number_stays))]
 fn add_another(
     lines: &mut Vec<Line>,
-    head: Row,
+    head: LineKind,
     block: &Block,
     level: usize,
     first: usize,
@@ -267,7 +267,7 @@ fn add_cases(
 {
     let mut number = first;
     for case in cases {
-        let head = Row::Case(case.value, case.fall_through);
+        let head = LineKind::Case(case.value, case.fall_through);
         let next = add_headed(lines, head, &case.body, level, number)?;
         number = next;
     }

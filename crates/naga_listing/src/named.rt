@@ -1,4 +1,4 @@
-//! What a line names, so that its lines are shown too.
+//! The items that a line names, whose own lines are shown too.
 
 ghost use Rattle.std.specs.Prelude.{◌≡◌, ◌∷◌, IfOk, map, take};
 ghost use Rattle.std.specs.Option.{option_to_list};
@@ -21,7 +21,7 @@ use std::alloc::{AllocError, Global};
 /// At most so many operands are shown.
 const MOST_NAMED: usize = 6;
 
-/// What a place names, and what is to be seen beside it.
+/// What a position names, and what is to be seen beside it.
 pub(crate) fn named_spots(
     alloc: Global,
     module: &Module,

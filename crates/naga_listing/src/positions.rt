@@ -1,4 +1,4 @@
-//! Places in a module, and the lines of a listing.
+//! Positions in a module, and the lines of a listing.
 
 ghost use Rattle.std.specs.Prelude.{◌≡◌, None};
 
@@ -7,7 +7,7 @@ use naga_ir::{
     Type_,
 };
 
-/// What is listed.
+/// Which part of a module is listed.
 #[derive(Clone, Copy, Debug, PartialEq, Eq)]
 pub enum Listed {
     /// The module's types, constants, overrides, variables and own expressions.
@@ -37,7 +37,7 @@ pub enum Spot {
     Statement(usize),
 }
 
-/// A place in a module.
+/// A position in a module.
 #[derive(Clone, Copy, Debug, PartialEq, Eq)]
 pub struct ListingPosition {
     /// What it is in.
@@ -49,7 +49,7 @@ pub struct ListingPosition {
 }
 
 impl ListingPosition {
-    /// The place of this, with nothing beside it.
+    /// The position of this, with nothing beside it.
     pub fn of(listed: Listed, spot: Spot) -> Self
         ensures { result ≡ record { listed = listed; spot = spot; beside = None } }
     {
@@ -61,7 +61,7 @@ impl ListingPosition {
     }
 }
 
-/// A list of a listing.
+/// The title of one list of a listing.
 #[derive(Clone, Copy, Debug, PartialEq, Eq)]
 pub enum Title {
     Types,
@@ -76,7 +76,7 @@ pub enum Title {
 
 /// What a line shows.
 #[derive(Clone, Copy, Debug, PartialEq, Eq)]
-pub enum Row {
+pub enum LineKind {
     /// That lines are left out.
     Gap,
     /// What is wrong with the line before it.
@@ -100,5 +100,5 @@ pub struct Line {
     /// first line stands at 0, titles at 1, and items from 2 on, two deeper with each block.
     pub level: usize,
     /// What it shows.
-    pub row: Row,
+    pub row: LineKind,
 }

@@ -2,19 +2,19 @@
 
 use crate::choice::listing;
 use crate::items::Lister;
-use crate::positions::{Line, ListingPosition, Row, Spot, Title};
+use crate::positions::{Line, LineKind, ListingPosition, Spot, Title};
 use crate::statement_words::push_case;
 use naga_info::ModuleInfo;
 use naga_ir::Module;
 use std::alloc::{AllocError, Global};
 
-/// The lines of a place as a text, each with its end: items with their numbers, their operands by
-/// name and handle, and their types as WGSL spells them, where they are known; statements under
-/// those that hold them; and the message under the place's own line.
+/// The lines of a position as a text, each with its end: items with their numbers, their operands
+/// by name and handle, and their types as WGSL spells them, where they are known; statements under
+/// those that hold them; and the message under the position's own line.
 ///
 /// ```text
-/// let place = ListingPosition::of(Listed::Function(double), Spot::Expression(sum));
-/// let text = explain(alloc, &module, &info, &place, "an operand is no number")?;
+/// let position = ListingPosition::of(Listed::Function(double), Spot::Expression(sum));
+/// let text = explain(alloc, &module, &info, &position, "an operand is no number")?;
 /// // function 0 "double"("x": i32) -> i32
 /// //   expressions
 /// //      0  FunctionArgument 0 "x"                                      i32
@@ -51,9 +51,9 @@ fn push_line(
 ) -> Result<(), AllocError> {
     let level = line.level;
     match &line.row {
-        Row::Gap => out.push_str("    .."),
-        Row::Title(title) => out.push_str(title_words(*title)),
-        Row::Item(spot) => push_item(lister, level, spot, out),
+        LineKind::Gap => out.push_str("    .."),
+        LineKind::Title(title) => out.push_str(title_words(*title)),
+        LineKind::Item(spot) => push_item(lister, level, spot, out),
         row => {
             push_margin(level, out)?;
             push_bars(level, out)?;
@@ -75,15 +75,15 @@ fn push_item(
 }
 
 /// Appends what a line says that has no number.
-fn push_words(row: &Row, message: &str, out: &mut String) -> Result<(), AllocError> {
+fn push_words(row: &LineKind, message: &str, out: &mut String) -> Result<(), AllocError> {
     match row {
-        Row::Mark => {
+        LineKind::Mark => {
             out.push_str("^ ")?;
             out.push_str(message)
         }
-        Row::Else => out.push_str("else"),
-        Row::Case(value, fall_through) => push_case(*value, *fall_through, out),
-        Row::Continuing => out.push_str("continuing"),
+        LineKind::Else => out.push_str("else"),
+        LineKind::Case(value, fall_through) => push_case(*value, *fall_through, out),
+        LineKind::Continuing => out.push_str("continuing"),
         _ => Ok(()),
     }
 }

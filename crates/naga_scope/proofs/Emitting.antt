@@ -39,7 +39,8 @@ use Rattle.naga_scope.specs.Availabilities.{emitted_availability, is_emittable_k
 use Rattle.naga_scope.specs.Availabilities.{next_name, operands_at}
 use Rattle.naga_scope.specs.ScopeChecks.{Checked, check_bound, check_emitted, check_operands}
 use Rattle.naga_scope.specs.ScopeChecks.{unless}
-use Rattle.naga_scope.specs.declared.scope_faults.ScopeFault.TheVariants.{GivenBefore, NeedsNoEmit}
+use Rattle.naga_scope.specs.declared.scope_faults.ScopeFault.TheVariants.{IntroducedBefore}
+use Rattle.naga_scope.specs.declared.scope_faults.ScopeFault.TheVariants.{NeedsNoEmit}
 use Rattle.naga_scope.proofs.Offsets.{checked_operands}
 use Rattle.naga_scope.proofs.ShapeKinds.{emittable_at}
 use Rattle.naga_scope.specs.Availabilities.{KeepsStart}
@@ -116,15 +117,16 @@ module _ (m : Module) (info : ModuleInfo) (f : ir_function.Function) (es : List 
     emittable b = result_and (unless b (NeedsNoEmit n h)) (check_bound (binds of h) operands)
 
     -- it isn't, where it isn't new
-    pub stopped_old : is_new (s h) ≡ false → Err (GivenBefore n h) ≡ check_emitted of s n h
+    pub stopped_old : is_new (s h) ≡ false → Err (IntroducedBefore n h) ≡ check_emitted of s n h
     stopped_old old =
-        sym (ap (λ b. result_and (unless b (GivenBefore n h)) (emittable (is_emittable (expression_of of h)))) old)
+        sym (ap (λ b. result_and (unless b (IntroducedBefore n h)) (emittable (is_emittable (expression_of of h)))) old)
 
     -- nor where it is none that is emitted
     pub stopped_kind : is_new (s h) ≡ true → is_emittable_kind (kind_at f.expressions h) ≡ false →
         Err (NeedsNoEmit n h) ≡ check_emitted of s n h
     stopped_kind new kind =
-        λ i. result_and (unless (sym new i) (GivenBefore n h)) (emittable (sym (emittable_at m info f es h ∙ kind) i))
+        λ i. result_and (unless (sym new i) (IntroducedBefore n h))
+            (emittable (sym (emittable_at m info f es h ∙ kind) i))
 
     -- else it is where no name binds it, or its operands are in scope
     pub checked_by : OperandsStandBefore f.expressions → KeepsStart of s → (b : Bool) (own : Checked) →
@@ -132,7 +134,7 @@ module _ (m : Module) (info : ModuleInfo) (f : ir_function.Function) (es : List 
         own ≡ check_operands of s n h (operands_at f.expressions h) → check_bound b own ≡ check_emitted of s n h
     checked_by ordered held b own new kind bound is =
         let all = is ∙ sym (checked_operands m info f es ordered s n h held h) in
-        λ i. result_and (unless (sym new i) (GivenBefore n h))
+        λ i. result_and (unless (sym new i) (IntroducedBefore n h))
         (result_and (unless (sym (emittable_at m info f es h ∙ kind) i) (NeedsNoEmit n h))
         (check_bound (bound i) (all i)))
 

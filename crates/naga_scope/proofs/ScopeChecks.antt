@@ -20,7 +20,8 @@ use Rattle.naga_scope.specs.ScopeFaults.{BreaksWith, IsScopeFault}
 use Rattle.naga_scope.specs.declared.scope_faults.ScopeFault.{ScopeFault}
 use Rattle.naga_scope.specs.declared.scope_faults.ScopeFault.TheVariants.{FirstValue, Operand}
 use Rattle.naga_scope.specs.declared.scope_faults.ScopeFault.TheVariants.{EmittedOperand}
-use Rattle.naga_scope.specs.declared.scope_faults.ScopeFault.TheVariants.{GivenBefore, NeedsNoEmit}
+use Rattle.naga_scope.specs.declared.scope_faults.ScopeFault.TheVariants.{IntroducedBefore}
+use Rattle.naga_scope.specs.declared.scope_faults.ScopeFault.TheVariants.{NeedsNoEmit}
 use Rattle.shader_runs.specs.Program.{Statement, Emit, Store, Block, If, Switch, Loop, Return, Act}
 use Rattle.shader_runs.specs.Program.{Jumps, Statements, end, then, Cases, no_case, case, Function}
 use Rattle.shader_runs.specs.Program.{expression_of, operands_of, binds, from, is_emittable}
@@ -30,13 +31,16 @@ use Rattle.shader_runs.specs.Scope.{after_all, named_after, named_by, named_by_a
 use Rattle.shader_runs.specs.Scope.{may_emit_all, may_give, fits, fits_all, fits_cases}
 use Rattle.shader_runs.specs.Scope.{first_values_fit, fits_function}
 use Rattle.shader_runs.specs.Premises.{AllBelow}
-use Rattle.shader_runs.specs.ScopeRules.{IntroducedHandle, Emitted, AsResult, Point, entry_point}
+use Rattle.shader_runs.specs.ScopeRules.{IntroducedHandle, Emitted, AsResult, ScopeState}
+use Rattle.shader_runs.specs.ScopeRules.{start_state}
 use Rattle.shader_runs.specs.ScopeRules.{following_one, following, after_turn, WasIntroduced}
 use Rattle.shader_runs.specs.ScopeRules.{handle_of}
 use Rattle.shader_runs.specs.ScopeFaults.{IsOutOfScopeAt, after_some, UsesAt, emitted_operand}
 use Rattle.shader_runs.specs.ScopeFaults.{stored_pointer, stored_value, condition, selector}
-use Rattle.shader_runs.specs.ScopeFaults.{break_if, returned, operand, GivesAt, emitted, as_result}
-use Rattle.shader_runs.specs.ScopeFaults.{BreaksScope, out_of_scope, given_before, not_emittable}
+use Rattle.shader_runs.specs.ScopeFaults.{break_if, returned, operand, IntroducesAt, emitted}
+use Rattle.shader_runs.specs.ScopeFaults.{as_result}
+use Rattle.shader_runs.specs.ScopeFaults.{BreaksScope, out_of_scope, introduced_before}
+use Rattle.shader_runs.specs.ScopeFaults.{not_emittable}
 use Rattle.shader_runs.specs.ScopeFaults.{IsCaseBody, this_case, later_case, StandsIn, stands_first}
 use Rattle.shader_runs.specs.ScopeFaults.{later, in_block, in_accept, in_reject, in_case, in_loop}
 use Rattle.shader_runs.specs.ScopeFaults.{in_continuing, HasScopeFault, in_first_value, in_body}
@@ -92,14 +96,15 @@ module _ (f : Function) (s : Handles) (n : ℕ) where
       let e = expression_of f h in
       let operands = check_operands f s n h (operands_of e) in
       let bound = check_bound (binds f h) operands in
-      and_ok (unless (is_new (s h)) (GivenBefore n h)) (result_and (unless (is_emittable e) (NeedsNoEmit n h)) bound)
-      (unless_ok (is_new (s h)) (GivenBefore n h))
+      and_ok (unless (is_new (s h)) (IntroducedBefore n h))
+          (result_and (unless (is_emittable e) (NeedsNoEmit n h)) bound)
+      (unless_ok (is_new (s h)) (IntroducedBefore n h))
       (and_ok (unless (is_emittable e) (NeedsNoEmit n h)) bound (unless_ok (is_emittable e) (NeedsNoEmit n h))
       (bound_ok (binds f h) operands (operands_ok h (operands_of e))))
 
 result_ok : (n : ℕ) (o : Option ℕ) (s : Handles) → is_ok (check_result n o s) ≡ may_give o s
 result_ok n None s = refl
-result_ok n (Some h) s = unless_ok (is_new (s h)) (GivenBefore n h)
+result_ok n (Some h) s = unless_ok (is_new (s h)) (IntroducedBefore n h)
 
 module _ (f : Naming) where
   emit_ok : (k n : ℕ) (hs : List ℕ) (s : Handles) → is_ok (check_emit f k n hs s) ≡ may_emit_all f k hs s
@@ -246,7 +251,7 @@ module _ (f : Naming) (g : Function) where
       (subst (λ j. IsNumber j (suc m)) (done_ok r (next_number n) j ok) (next_is n m is))
 
   mutual
-    statement_number : (k n m j : ℕ) (st : Statement) (at : Point) (s : Handles) → IsNumber n m →
+    statement_number : (k n m j : ℕ) (st : Statement) (at : ScopeState) (s : Handles) → IsNumber n m →
         check_statement f k n st s ≡ Ok j → IsNumber j (suc m + length (inside g at st))
     statement_number k n m j (Emit first count) at s is ok =
         done_number (check_emit f k n (from first count) s) n m j is ok
@@ -290,7 +295,7 @@ module _ (f : Naming) (g : Function) where
         (and_of (check_uses f.function s n xs) (result_and (check_result n r s) (Ok (next_number n))) j ok)
     statement_number k n m j _ at s is ok = plain_number n m j is ok
 
-    all_number : (k n m j : ℕ) (ss : Statements) (at : Point) (s : Handles) → IsNumber n m →
+    all_number : (k n m j : ℕ) (ss : Statements) (at : ScopeState) (s : Handles) → IsNumber n m →
         check_all f k n ss s ≡ Ok j → IsNumber j (m + length (standing g at ss))
     all_number k n m j end at s is ok =
         further_is j m (m + 0) (omega arith) (subst (λ j. IsNumber j m) (same_ok n j ok) is)
@@ -305,7 +310,7 @@ module _ (f : Naming) (g : Function) where
         (let e = length-append xs ys in omega (arith, e))
         (all_number k1 x.0 (suc m + length xs) j ss there s1 (statement_number k n m x.0 st at s is x.1) x.2)
 
-    cases_number : (k n m j : ℕ) (cs : Cases) (at : Point) (s : Handles) → IsNumber n m →
+    cases_number : (k n m j : ℕ) (cs : Cases) (at : ScopeState) (s : Handles) → IsNumber n m →
         check_cases f k n cs s ≡ Ok j → IsNumber j (m + length (case_standing g at cs))
     cases_number k n m j no_case at s is ok =
         further_is j m (m + 0) (omega arith) (subst (λ j. IsNumber j m) (same_ok n j ok) is)
@@ -336,12 +341,12 @@ module _ (f : Function) (e : ScopeFault) where
       (suc x.0, x.1, x.2, subst (λ j. BreaksWith f x.1 (j % 2 ^ 64) e) same x.3)
 
   -- the statement itself breaks a rule, or one inside it
-  itself : (m n : ℕ) (at : Point) (st : Statement) → IsNumber n m →
+  itself : (m n : ℕ) (at : ScopeState) (st : Statement) → IsNumber n m →
       BreaksWith f (record { at = at; statement = st }) n e →
       Among f m (record { at = at; statement = st } ∷ inside f at st) e
   itself m n at st = among_here m n (record { at = at; statement = st }) (inside f at st)
 
-  inner : (m : ℕ) (at : Point) (st : Statement) → Among f (suc m) (inside f at st) e →
+  inner : (m : ℕ) (at : ScopeState) (st : Statement) → Among f (suc m) (inside f at st) e →
       Among f m (record { at = at; statement = st } ∷ inside f at st) e
   inner m at st = among_later m (record { at = at; statement = st }) (inside f at st)
 
@@ -360,34 +365,34 @@ module _ (f : Function) (e : ScopeFault) where
       (among_right (suc m) xs ys (subst (λ j. Among f j ys e) (omega arith) x))
 
 -- what an Emit breaks a rule with, from some handle on
-abbrev EmitsWith : Function → Point → Statement → (n : ℕ) → ScopeFault → Type 0
+abbrev EmitsWith : Function → ScopeState → Statement → (n : ℕ) → ScopeFault → Type 0
 EmitsWith f at st n (FirstValue i h) = ⊥
 EmitsWith f at st n (Operand k h) = ⊥
 EmitsWith f at st n e = BreaksWith f (record { at = at; statement = st }) n e
 
-emits_breaks : (f : Function) (at : Point) (st : Statement) (n : ℕ) (e : ScopeFault) → EmitsWith f at st n e →
+emits_breaks : (f : Function) (at : ScopeState) (st : Statement) (n : ℕ) (e : ScopeFault) → EmitsWith f at st n e →
     BreaksWith f (record { at = at; statement = st }) n e
 emits_breaks f at st n (FirstValue i h) breaks = elim breaks [ ]
 emits_breaks f at st n (Operand k h) breaks = elim breaks [ ]
 emits_breaks f at st n (EmittedOperand k x h) breaks = breaks
-emits_breaks f at st n (GivenBefore k h) breaks = breaks
+emits_breaks f at st n (IntroducedBefore k h) breaks = breaks
 emits_breaks f at st n (NeedsNoEmit k h) breaks = breaks
 
-gives_emitted : (f : Function) (at : Point) (first count i j : ℕ) → first + i ≡ j → i < count →
-    GivesAt f at (Emit first count) (after_some f first i at) (Emitted j)
+gives_emitted : (f : Function) (at : ScopeState) (first count i j : ℕ) → first + i ≡ j → i < count →
+    IntroducesAt f at (Emit first count) (after_some f first i at) (Emitted j)
 gives_emitted f at first count i j q l =
-    subst (λ j. GivesAt f at (Emit first count) (after_some f first i at) (Emitted j)) q (emitted i l)
+    subst (λ j. IntroducesAt f at (Emit first count) (after_some f first i at) (Emitted j)) q (emitted i l)
 
 -- what the rest of an Emit gives and breaks
-module _ (f : Function) (at : Point) (first count : ℕ) where
-  gives_further : (there : Point) (g : IntroducedHandle) →
-      GivesAt f (following_one f first at) (Emit (suc first) count) there g →
-      GivesAt f at (Emit first (suc count)) there g
-  gives_further there g (emitted i l) =
+module _ (f : Function) (at : ScopeState) (first count : ℕ) where
+  introduces_further : (there : ScopeState) (g : IntroducedHandle) →
+      IntroducesAt f (following_one f first at) (Emit (suc first) count) there g →
+      IntroducesAt f at (Emit first (suc count)) there g
+  introduces_further there g (emitted i l) =
       gives_emitted f at first (suc count) (suc i) (suc first + i) (omega arith) (omega (arith, l))
 
-  gives_first : GivesAt f at (Emit first (suc count)) at (Emitted first)
-  gives_first = gives_emitted f at first (suc count) 0 first (omega arith) (omega arith)
+  introduces_first : IntroducesAt f at (Emit first (suc count)) at (Emitted first)
+  introduces_first = gives_emitted f at first (suc count) 0 first (omega arith) (omega arith)
 
   emits_further : (n : ℕ) (e : ScopeFault) → EmitsWith f (following_one f first at) (Emit (suc first) count) n e →
       EmitsWith f at (Emit first (suc count)) n e
@@ -395,15 +400,16 @@ module _ (f : Function) (at : Point) (first count : ℕ) where
   emits_further n (Operand k h) b = elim b [ ]
   emits_further n (EmittedOperand k x h) b =
       let c = b.1 in
-      (b.0, (c.0, gives_further c.0 (Emitted x) c.1, c.2, c.3, c.4))
-  emits_further n (GivenBefore k h) b =
+      (b.0, (c.0, introduces_further c.0 (Emitted x) c.1, c.2, c.3, c.4))
+  emits_further n (IntroducedBefore k h) b =
       let c = b.1 in
-      (b.0, (c.0, c.1, gives_further c.0 c.1 c.2, c.3, c.4))
+      (b.0, (c.0, c.1, introduces_further c.0 c.1 c.2, c.3, c.4))
   emits_further n (NeedsNoEmit k h) b =
       let c = b.1 in
-      (b.0, (c.0, gives_further c.0 (Emitted h) c.1, c.2))
+      (b.0, (c.0, introduces_further c.0 (Emitted h) c.1, c.2))
 
-module _ (f : Function) (at : Point) (s : Handles) (t : Tracks f at s) (st : Statement) (n : ℕ) (e : ScopeFault) where
+module _ (f : Function) (at : ScopeState) (s : Handles) (t : Tracks f at s) (st : Statement) (n : ℕ)
+    (e : ScopeFault) where
   abbrev Breaks : Type 0
   Breaks = BreaksWith f (record { at = at; statement = st }) n e
 
@@ -429,16 +435,16 @@ module _ (f : Function) (at : Point) (s : Handles) (t : Tracks f at s) (st : Sta
   use_if_breaks None u is = absurd cc
   use_if_breaks (Some h) u is = use_breaks h (u h refl) is
 
-  result_breaks : (o : Option ℕ) → ((h : ℕ) → o ≡ Some h → GivesAt f at st at (AsResult h)) → check_result n o s
+  result_breaks : (o : Option ℕ) → ((h : ℕ) → o ≡ Some h → IntroducesAt f at st at (AsResult h)) → check_result n o s
       ≡ Err e → Breaks
   result_breaks None g is = absurd cc
   result_breaks (Some h) g is =
-      let x = unless_err (is_new (s h)) (GivenBefore n h) e is in
+      let x = unless_err (is_new (s h)) (IntroducedBefore n h) e is in
       subst (BreaksWith f (record { at = at; statement = st }) n) x.1
       (refl, (at, AsResult h, g h refl, refl, old h x.0))
 
   -- an Emit gives this handle here
-  module _ (x : ℕ) (g : GivesAt f at st at (Emitted x)) where
+  module _ (x : ℕ) (g : IntroducesAt f at st at (Emitted x)) where
     operands_break : IsTrue (binds f x) → (hs : List ℕ) →
         ((i h : ℕ) → slice_get hs i ≡ Some h → IsOperandOf f x h) → check_operands f s n x hs ≡ Err e →
         EmitsWith f at st n e
@@ -461,24 +467,24 @@ module _ (f : Function) (at : Point) (s : Handles) (t : Tracks f at s) (st : Sta
         let emittable = unless (is_emittable (expression_of f x)) (NeedsNoEmit n x) in
         let bound = check_bound (binds f x) (check_operands f s n x (operands_of (expression_of f x))) in
         ⊎_elim
-        (λ is. let y = unless_err (is_new (s x)) (GivenBefore n x) e is in
+        (λ is. let y = unless_err (is_new (s x)) (IntroducedBefore n x) e is in
         subst (EmitsWith f at st n) y.1 (refl, (at, Emitted x, g, refl, old x y.0)))
         (λ p. ⊎_elim
         (λ is. let y = unless_err (is_emittable (expression_of f x)) (NeedsNoEmit n x) e is in
         subst (EmitsWith f at st n) y.1 (refl, (at, g, y.0)))
         (λ q. bound_breaks (binds f x) refl q.1)
         (and_err emittable bound e p.1))
-        (and_err (unless (is_new (s x)) (GivenBefore n x)) (result_and emittable bound) e is)
+        (and_err (unless (is_new (s x)) (IntroducedBefore n x)) (result_and emittable bound) e is)
 
 module _ (f : Naming) (e : ScopeFault) where
-  emit_breaks : (k n first count : ℕ) (at : Point) (s : Handles) → Tracks f.function at s →
+  emit_breaks : (k n first count : ℕ) (at : ScopeState) (s : Handles) → Tracks f.function at s →
       check_emit f k n (from first count) s ≡ Err e → EmitsWith f.function at (Emit first count) n e
   emit_breaks k n first zero at s t is = absurd cc
   emit_breaks k n first (suc count) at s t is =
       let k1 = named_after f.function first k in
       let s1 = after_one f k first s in
       ⊎_elim
-      (emitted_breaks f.function at s t (Emit first (suc count)) n e first (gives_first f.function at first count))
+      (emitted_breaks f.function at s t (Emit first (suc count)) n e first (introduces_first f.function at first count))
       (λ p.
       let may = sym (emitted_ok f.function s n first) ∙ p.0 in
       let kind = ((may_emit_rule f.function at s first t).0 may).kind in
@@ -488,7 +494,8 @@ module _ (f : Naming) (e : ScopeFault) where
       (and_err (check_emitted f.function s n first) (check_emit f k1 n (from (suc first) count) s1) e is)
 
   mutual
-    statement_breaks : (k n m : ℕ) (st : Statement) (at : Point) (s : Handles) → Tracks f.function at s → IsNumber n m →
+    statement_breaks : (k n m : ℕ) (st : Statement) (at : ScopeState) (s : Handles) → Tracks f.function at s →
+        IsNumber n m →
         check_statement f k n st s ≡ Err e →
         Among f.function m (record { at = at; statement = st } ∷ inside f.function at st) e
     statement_breaks k n m (Emit first count) at s t num is =
@@ -575,12 +582,12 @@ module _ (f : Naming) (e : ScopeFault) where
         itself f.function e m n at (Act a xs r) num
         (⊎_elim (uses_break f.function at s t (Act a xs r) n e xs (λ i h at. operand i at))
         (λ q. result_breaks f.function at s t (Act a xs r) n e r
-        (λ h same. subst (λ r. GivesAt f.function at (Act a xs r) at (AsResult h)) (sym same) as_result)
+        (λ h same. subst (λ r. IntroducesAt f.function at (Act a xs r) at (AsResult h)) (sym same) as_result)
         (done_err (check_result n r s) (next_number n) e q.1))
         (and_err (check_uses f.function s n xs) (result_and (check_result n r s) (Ok (next_number n))) e is))
     statement_breaks k n m _ at s t num is = absurd cc
 
-    all_breaks : (k n m : ℕ) (ss : Statements) (at : Point) (s : Handles) → Tracks f.function at s → IsNumber n m →
+    all_breaks : (k n m : ℕ) (ss : Statements) (at : ScopeState) (s : Handles) → Tracks f.function at s → IsNumber n m →
         check_all f k n ss s ≡ Err e → Among f.function m (standing f.function at ss) e
     all_breaks k n m end at s t num is = absurd cc
     all_breaks k n m (then st ss) at s t num is =
@@ -601,7 +608,7 @@ module _ (f : Naming) (e : ScopeFault) where
         (further_is x.0 (suc m + length xs) (m + length (here ∷ xs)) (omega arith) first) x.2))
         (onward_err (λ n. check_all f k1 n ss s1) (check_statement f k n st s) e is)
 
-    cases_break : (k n m : ℕ) (cs : Cases) (at : Point) (s : Handles) → Tracks f.function at s → IsNumber n m →
+    cases_break : (k n m : ℕ) (cs : Cases) (at : ScopeState) (s : Handles) → Tracks f.function at s → IsNumber n m →
         check_cases f k n cs s ≡ Err e → Among f.function m (case_standing f.function at cs) e
     cases_break k n m no_case at s t num is = absurd cc
     cases_break k n m (case l b falls cs) at s t num is =
@@ -632,20 +639,20 @@ first_values_break f ordered e i (o ∷ os) stands is =
         let own = before_local f i in
         let x = unless_err (usable own (at_start f) h) (FirstValue i h) e is in
         let t = tracks_start own ordered in
-        let out : IsOutOfScopeAt own entry_point h = λ d. false_is_not_true (usable own (at_start f) h) x.0
+        let out : IsOutOfScopeAt own start_state h = λ d. false_is_not_true (usable own (at_start f) h) x.0
         ((t.used h).1 d) in
         let at = subst (λ j. slice_get f.first_values j ≡ Some (Some h)) (omega arith) (stands 0 h (ap Some same)) in
         subst (IsScopeFault f) x.1 (at, out)
 
 -- a fault of the body
-of_body : (f : Function) (e : ScopeFault) → Among f 0 (standing f entry_point f.body) e → IsScopeFault f e
+of_body : (f : Function) (e : ScopeFault) → Among f 0 (standing f start_state f.body) e → IsScopeFault f e
 of_body f e x = by e (subst (λ j. BreaksWith f x.1 (j % 2 ^ 64) e) (omega arith) x.3)
   where
     by : (e : ScopeFault) → BreaksWith f x.1 (x.0 % 2 ^ 64) e → IsScopeFault f e
     by (FirstValue i h) breaks = elim breaks [ ]
     by (Operand k h) breaks = (x.0, x.1, x.2, breaks)
     by (EmittedOperand k y h) breaks = (x.0, x.1, x.2, breaks)
-    by (GivenBefore k h) breaks = (x.0, x.1, x.2, breaks)
+    by (IntroducedBefore k h) breaks = (x.0, x.1, x.2, breaks)
     by (NeedsNoEmit k h) breaks = (x.0, x.1, x.2, breaks)
 
 -- where operands stand before their expressions, what the check finds is a fault
@@ -655,7 +662,7 @@ check_finds f ordered e is =
     ⊎_elim (first_values_break f.function ordered e 0 f.function.first_values
     (λ k h at. subst (λ j. slice_get f.function.first_values j ≡ Some (Some h)) (omega arith) at))
     (λ p. of_body f.function e
-    (all_breaks f e 0 0 0 f.function.body entry_point (at_start f.function) (tracks_start f.function ordered) refl p.1))
+    (all_breaks f e 0 0 0 f.function.body start_state (at_start f.function) (tracks_start f.function ordered) refl p.1))
     (and_err (check_first_values f.function 0 f.function.first_values)
     (check_all f 0 0 f.function.body (at_start f.function)) e is)
 
@@ -667,7 +674,7 @@ within (y ∷ xs) ys zero x is = inl is
 within (y ∷ xs) ys (suc i) x is = within xs ys i x is
 
 mutual
-  stands_in : (f : Function) (at : Point) (ss : Statements) (i : ℕ) (s : Standing) →
+  stands_in : (f : Function) (at : ScopeState) (ss : Statements) (i : ℕ) (s : Standing) →
       slice_get (standing f at ss) i ≡ Some s →
       StandsIn f at ss s.at s.statement
   stands_in f at end i s is = absurd cc
@@ -678,7 +685,7 @@ mutual
       ⊎_elim (inside_in f at st ss i s) (λ p. later (stands_in f (following f st at) ss p.0 s p.1))
       (within (inside f at st) (standing f (following f st at) ss) i s is)
 
-  inside_in : (f : Function) (at : Point) (st : Statement) (ss : Statements) (i : ℕ) (s : Standing) →
+  inside_in : (f : Function) (at : ScopeState) (st : Statement) (ss : Statements) (i : ℕ) (s : Standing) →
       slice_get (inside f at st) i ≡ Some s → StandsIn f at (then st ss) s.at s.statement
   inside_in f at (Block b) ss i s is = in_block (stands_in f at b i s is)
   inside_in f at (If c a b) ss i s is =
@@ -691,7 +698,7 @@ mutual
       (within (standing f at b) (standing f (after_turn f b at) d) i s is)
   inside_in f at _ ss i s is = absurd cc
 
-  case_in : (f : Function) (at : Point) (cs : Cases) (i : ℕ) (s : Standing) →
+  case_in : (f : Function) (at : ScopeState) (cs : Cases) (i : ℕ) (s : Standing) →
       slice_get (case_standing f at cs) i ≡ Some s →
       (b : Statements) × IsCaseBody b cs × StandsIn f at b s.at s.statement
   case_in f at no_case i s is = absurd cc
@@ -700,8 +707,8 @@ mutual
       (λ p. let x = case_in f at cs p.0 s p.1 in (x.0, later_case x.1, x.2))
       (within (standing f at b) (case_standing f at cs) i s is)
 
-binds_operand : (f : Function) (at : Point) (st : Statement) (there : Point) (x h : ℕ) →
-    GivesAt f at st there (Emitted x) →
+binds_operand : (f : Function) (at : ScopeState) (st : Statement) (there : ScopeState) (x h : ℕ) →
+    IntroducesAt f at st there (Emitted x) →
     IsTrue (binds f x) → IsOperandOf f x h → UsesAt f at st there h
 binds_operand f at st there x h (emitted i l) bound is = emitted_operand i is.0 l bound is.1
 
@@ -711,22 +718,22 @@ breaks_scope f s n (FirstValue i h) x = elim x [ ]
 breaks_scope f s n (Operand k h) x = let c = x.1 in out_of_scope c.0 h c.1 c.2
 breaks_scope f s n (EmittedOperand k y h) x =
     let c = x.1 in out_of_scope c.0 h (binds_operand f s.at s.statement c.0 y h c.1 c.2 c.3) c.4
-breaks_scope f s n (GivenBefore k h) x =
-    let c = x.1 in given_before c.0 c.1 c.2 (subst (WasIntroduced f c.0) (sym c.3) c.4)
+breaks_scope f s n (IntroducedBefore k h) x =
+    let c = x.1 in introduced_before c.0 c.1 c.2 (subst (WasIntroduced f c.0) (sym c.3) c.4)
 breaks_scope f s n (NeedsNoEmit k h) x = let c = x.1 in not_emittable c.0 h c.1 c.2
 
 in_the_body : (f : Function) (e : ScopeFault) →
-    ((n : ℕ) × (s : Standing) × (slice_get (standing f entry_point f.body) n ≡ Some s)
+    ((n : ℕ) × (s : Standing) × (slice_get (standing f start_state f.body) n ≡ Some s)
     × BreaksWith f s (n % 2 ^ 64) e) →
     HasScopeFault f
 in_the_body f e x =
-    in_body x.1.at x.1.statement (stands_in f entry_point f.body x.0 x.1 x.2) (breaks_scope f x.1 (x.0 % 2 ^ 64) e x.3)
+    in_body x.1.at x.1.statement (stands_in f start_state f.body x.0 x.1 x.2) (breaks_scope f x.1 (x.0 % 2 ^ 64) e x.3)
 
 pub fault_breaks : (f : Function) (e : ScopeFault) → IsScopeFault f e → HasScopeFault f
 fault_breaks f (FirstValue i h) x = in_first_value i h x.0 x.1
 fault_breaks f (Operand k h) x = in_the_body f (Operand k h) x
 fault_breaks f (EmittedOperand k y h) x = in_the_body f (EmittedOperand k y h) x
-fault_breaks f (GivenBefore k h) x = in_the_body f (GivenBefore k h) x
+fault_breaks f (IntroducedBefore k h) x = in_the_body f (IntroducedBefore k h) x
 fault_breaks f (NeedsNoEmit k h) x = in_the_body f (NeedsNoEmit k h) x
 
 -- ---- in code

@@ -25,9 +25,9 @@ use Rattle.module_meaning.specs.ExpressionOperators.{ExpressionContext}
 use Rattle.module_meaning.specs.ExpressionOperators.{is_atomic_pointer}
 use Rattle.module_meaning.specs.ExpressionShapes.{Declared, shape_of, applied_or, applied_shape}
 use Rattle.module_meaning.specs.ExpressionShapes.{part_selector, part_shape}
-use Rattle.module_meaning.specs.BindingCounts.{is_bound_by_uses, uses_of}
+use Rattle.module_meaning.specs.LetCounts.{is_bound_by_uses, uses_of}
 use Rattle.module_meaning.specs.FunctionShapes.{function_shape}
-use Rattle.module_meaning.proofs.BindingCounts.{bound_by_uses_at}
+use Rattle.module_meaning.proofs.LetCounts.{bound_by_uses_at}
 use Rattle.module_meaning.specs.OperatorTable.{Operator as TableOperator, AtomicLoad, BinarySign}
 use Rattle.module_meaning.specs.OperatorTable.{CooperativeLoad}
 use Rattle.module_meaning.specs.ShapeKinds.{shape_kind}

@@ -26,7 +26,7 @@ use Rattle.module_meaning.specs.DeclarationForms.IsPassed.{OfArgument, OfResult}
 use Rattle.module_meaning.specs.Layouts.{HasOtherStride, IsMisplaced, concerned_members}
 use Rattle.module_meaning.specs.Layouts.{concerned_of, concerned_only, layout_in, module_rule}
 use Rattle.module_meaning.specs.Undeclared.{is_declared, is_spellable, is_undeclared}
-use Rattle.module_meaning.specs.ExpressionForms.{global_is_written}
+use Rattle.module_meaning.specs.ExpressionForms.{global_has_form}
 use Rattle.naga_info.specs.declared.info.TypeResolution.TheVariants.{Handle}
 use Rattle.naga_ir.specs.declared.binding.Binding.{Binding}
 use Rattle.naga_ir.specs.declared.binding.Binding.TheVariants as binding
@@ -308,7 +308,7 @@ module _ (m : Module) where
     types_formed _ (OverrideType i o at) = (in_overrides i o at).type
     types_formed _ (VariableType i g at) = (in_variables i g at).type
 
-    initialisers_formed : (h : ℕ) → IsInitialiser m h → IsTrue (global_is_written m h)
+    initialisers_formed : (h : ℕ) → IsInitialiser m h → IsTrue (global_has_form m h)
     initialisers_formed _ (ConstantInitialiser i k at is_named) = (in_constants i k at is_named).initialiser k.init refl
     initialisers_formed h (OverrideInitialiser i o _ at is) = (in_overrides i o at).initialiser h is
     initialisers_formed h (VariableInitialiser i g _ at is) = (in_variables i g at).initialiser h is

@@ -18,9 +18,9 @@ use Rattle.naga_form.proofs.declarations.OwnExpressions.{initialiser_stands_befo
 use Rattle.naga_form.proofs.declarations.OwnExpressions.{initialiser_within, own_is}
 use Rattle.naga_info.specs.declared.info.ModuleInfo.{ModuleInfo}
 use Rattle.module_meaning.specs.Undeclared.{is_spellable}
-use Rattle.module_meaning.specs.ExpressionForms.{constant_is_written, constant_is_written_over}
-use Rattle.module_meaning.specs.ExpressionForms.{global_is_written, global_is_written_over}
-use Rattle.module_meaning.specs.ExpressionForms.{global_is_written_within}
+use Rattle.module_meaning.specs.ExpressionForms.{constant_has_form, constant_has_form_over}
+use Rattle.module_meaning.specs.ExpressionForms.{global_has_form, global_has_form_over}
+use Rattle.module_meaning.specs.ExpressionForms.{global_has_form_within}
 use Rattle.module_meaning.specs.Premises.{OperandsStandBefore}
 use Rattle.module_meaning.specs.WrittenOut.{is_written_out, written_out_over, written_out_within}
 use Rattle.naga_ir.specs.Operands.{expression_operands}
@@ -100,7 +100,7 @@ not_beyond es h le =
 -- a constant whose initialiser stands below
 constant_same : (m : Module) (a b : ℕ → Bool) (h c : ℕ) →
     ((k : Constant) → slice_get m.constants c ≡ Some k → k.init < h) →
-    ((x : ℕ) → x < h → a x ≡ b x) → constant_is_written_over m a c ≡ constant_is_written_over m b c
+    ((x : ℕ) → x < h → a x ≡ b x) → constant_has_form_over m a c ≡ constant_has_form_over m b c
 constant_same m a b h c before same = by (slice_get m.constants c) refl
   where
     by : (o : Option Constant) → slice_get m.constants c ≡ o →
@@ -111,7 +111,7 @@ constant_same m a b h c before same = by (slice_get m.constants c) refl
 
 pub global_same : (m : Module) → GlobalsStandInOrder m → (h : ℕ) (e : Expression) →
     slice_get m.global_expressions h ≡ Some e → (a b : ℕ → Bool) →
-    ((x : ℕ) → x < h → a x ≡ b x) → global_is_written_over m a e ≡ global_is_written_over m b e
+    ((x : ℕ) → x < h → a x ≡ b x) → global_has_form_over m a e ≡ global_has_form_over m b e
 global_same m ordered h (expression.Constant c) at a b same =
     constant_same m a b h c (λ k there. ordered.initialisers h c k at there) same
 global_same m ordered h (expression.Compose ty components) at a b same =
@@ -125,27 +125,27 @@ global_same m ordered h _ at a b same = refl
 -- one is written by which of those before it are
 pub global_by : (m : Module) → GlobalsStandInOrder m → (h : ℕ) (e : Expression) →
     slice_get m.global_expressions h ≡ Some e → (marks : List Bool) →
-    MarksBelow (global_is_written m) (length m.global_expressions) marks h →
-    global_is_written_over m (is_marked marks) e ≡ global_is_written m h
+    MarksBelow (global_has_form m) (length m.global_expressions) marks h →
+    global_has_form_over m (is_marked marks) e ≡ global_has_form m h
 global_by m ordered h e at marks below =
-    by_those_before false m.global_expressions (global_is_written_over m)
-    (λ k h. global_is_written_within k m h) (λ k h. refl) (global_same m ordered) h e at
+    by_those_before false m.global_expressions (global_has_form_over m)
+    (λ k h. global_has_form_within k m h) (λ k h. refl) (global_same m ordered) h e at
     (is_marked marks) below.cells
 
 pub no_global_beyond : (m : Module) (h : ℕ) → length m.global_expressions ≤ h →
-    global_is_written m h ≡ false
+    global_has_form m h ≡ false
 no_global_beyond m h le =
-    ap (λ o. option_map_or (global_is_written_over m (global_is_written_within h m)) o false)
+    ap (λ o. option_map_or (global_has_form_over m (global_has_form_within h m)) o false)
     (slice_get_past m.global_expressions h le)
 
 -- a constant is written, by marks of the module's own expressions
 pub constant_marked : (m : Module) (marks : List Bool) → MarksGlobals m marks → (c : ℕ) →
-    constant_is_written_over m (is_marked marks) c ≡ constant_is_written m c
+    constant_has_form_over m (is_marked marks) c ≡ constant_has_form m c
 constant_marked m marks are c = by (slice_get m.constants c)
   where
     by : (o : Option Constant) →
         option_map_or (λ k. is_some k.name || is_marked marks k.init) o false ≡
-        option_map_or (λ k. is_some k.name || global_is_written m k.init) o false
+        option_map_or (λ k. is_some k.name || global_has_form m k.init) o false
     by None = refl
     by (Some k) = ap (λ w. is_some k.name || w) (are k.init)
 

@@ -16,7 +16,7 @@ use Rattle.module_meaning.specs.FunctionNumbers.{all_functions}
 use Rattle.module_meaning.specs.Layouts.{HasOtherStride, IsMisplaced, concerned_only, layout_in}
 use Rattle.module_meaning.specs.Layouts.{module_rule}
 use Rattle.module_meaning.specs.Undeclared.{is_declared, is_spellable}
-use Rattle.module_meaning.specs.ExpressionForms.{global_is_written}
+use Rattle.module_meaning.specs.ExpressionForms.{global_has_form}
 use Rattle.naga_info.specs.declared.info.TypeResolution.TheVariants.{Handle}
 use Rattle.naga_ir.specs.declared.binding.Binding.{Binding}
 use Rattle.naga_ir.specs.declared.binding.Binding.TheVariants as binding
@@ -56,7 +56,7 @@ abbrev pub IsUnsupportedDeclaration : Module → UnsupportedDeclaration → Type
 IsUnsupportedDeclaration m (declaration.Type_ ty) =
     IsDeclaredType m ty × IsFalse (is_spellable m (Handle ty))
 IsUnsupportedDeclaration m (declaration.Initialiser h) =
-    IsInitialiser m h × IsFalse (global_is_written m h)
+    IsInitialiser m h × IsFalse (global_has_form m h)
 IsUnsupportedDeclaration m (declaration.BuiltIn v) =
     IsMemberBinding m (binding.BuiltIn v) × IsFalse (binding_has_form (binding.BuiltIn v))
 IsUnsupportedDeclaration m (declaration.Head it) = (number : ℕ) × IsUnsupportedHead m number it
@@ -92,7 +92,7 @@ FindsFirst {X} xs HasForm at IsUnsupportedItem (Some found) =
 -- the type that is told, and the initialiser if there is one, have forms
 pub record ValueHasForm (m : Module) (ty : ℕ) (init : Option ℕ) : Type 0 where
   pub type : IsTrue (is_spellable m (Handle ty))
-  pub initialiser : (h : ℕ) → init ≡ Some h → IsTrue (global_is_written m h)
+  pub initialiser : (h : ℕ) → init ≡ Some h → IsTrue (global_has_form m h)
 
 -- the type has none, or the initialiser of one that has a form
 abbrev pub IsUnsupportedValue : Module → (ty : ℕ) → (init : Option ℕ) → UnsupportedDeclaration →
@@ -100,7 +100,7 @@ abbrev pub IsUnsupportedValue : Module → (ty : ℕ) → (init : Option ℕ) �
 IsUnsupportedValue m ty init (declaration.Type_ found) =
     (found ≡ ty) × IsFalse (is_spellable m (Handle found))
 IsUnsupportedValue m ty init (declaration.Initialiser h) =
-    IsTrue (is_spellable m (Handle ty)) × (init ≡ Some h) × IsFalse (global_is_written m h)
+    IsTrue (is_spellable m (Handle ty)) × (init ≡ Some h) × IsFalse (global_has_form m h)
 IsUnsupportedValue m ty init _ = ⊥
 
 -- so it is with a constant that has a name: its declaration tells both

@@ -13,7 +13,8 @@ use Rattle.naga_scope.specs.declared.plan.PlanError.TheVariants.{StatementWithou
 use Rattle.naga_scope.specs.declared.scope_faults.ScopeFault.{ScopeFault}
 use Rattle.naga_scope.specs.declared.scope_faults.ScopeFault.TheVariants.{FirstValue, Operand}
 use Rattle.naga_scope.specs.declared.scope_faults.ScopeFault.TheVariants.{EmittedOperand}
-use Rattle.naga_scope.specs.declared.scope_faults.ScopeFault.TheVariants.{GivenBefore, NeedsNoEmit}
+use Rattle.naga_scope.specs.declared.scope_faults.ScopeFault.TheVariants.{IntroducedBefore}
+use Rattle.naga_scope.specs.declared.scope_faults.ScopeFault.TheVariants.{NeedsNoEmit}
 use Rattle.naga_scope.specs.declared.statements.UnsupportedStatement.{UnsupportedStatement}
 
 -- the line on which a rule of scope is broken
@@ -21,7 +22,7 @@ abbrev pub line_of_fault : ScopeFault → Line
 line_of_fault (FirstValue i h) = line.Local i
 line_of_fault (Operand n h) = line.Statement n
 line_of_fault (EmittedOperand n x h) = line.Statement n
-line_of_fault (GivenBefore n h) = line.Statement n
+line_of_fault (IntroducedBefore n h) = line.Statement n
 line_of_fault (NeedsNoEmit n h) = line.Statement n
 
 -- the line on which something declares a type

@@ -2,7 +2,7 @@
 use Rattle.std.specs.Prelude.{◌≡◌, ◌<◌, ℕ, Bool, false, List, ◌&&◌, ◌||◌, get_or, length, nat_eq}
 use Rattle.std.specs.Prelude.{nat_lt, IsFalse, IsSomeAnd, IsTrue, None, Option, Some, slice_get}
 use Rattle.std.specs.List.{list_any}
-use Rattle.module_meaning.specs.ExpressionForms.{global_is_written}
+use Rattle.module_meaning.specs.ExpressionForms.{global_has_form}
 use Rattle.module_meaning.specs.Premises.{OperandsStandBefore}
 use Rattle.module_meaning.specs.WrittenOut.{is_written_out}
 use Rattle.module_meaning.specs.Written.{IsWritten}
@@ -36,7 +36,7 @@ MarksJust handles marks =
 
 -- just those of the module's own expressions have marks that are written
 abbrev pub MarksGlobals : Module → List Bool → Type 0
-MarksGlobals m marks = (h : ℕ) → is_marked marks h ≡ global_is_written m h
+MarksGlobals m marks = (h : ℕ) → is_marked marks h ≡ global_has_form m h
 
 -- Among the module's own expressions operands stand before what they are operands of, and so do the
 -- initialisers of the constants that an expression names, which are there, as are all initialisers.

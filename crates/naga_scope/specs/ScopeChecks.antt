@@ -11,12 +11,14 @@ use Rattle.std.specs.Result.{result_and}
 use Rattle.naga_scope.specs.declared.scope_faults.ScopeFault.{ScopeFault}
 use Rattle.naga_scope.specs.declared.scope_faults.ScopeFault.TheVariants.{FirstValue, Operand}
 use Rattle.naga_scope.specs.declared.scope_faults.ScopeFault.TheVariants.{EmittedOperand}
-use Rattle.naga_scope.specs.declared.scope_faults.ScopeFault.TheVariants.{GivenBefore, NeedsNoEmit}
+use Rattle.naga_scope.specs.declared.scope_faults.ScopeFault.TheVariants.{IntroducedBefore}
+use Rattle.naga_scope.specs.declared.scope_faults.ScopeFault.TheVariants.{NeedsNoEmit}
 use Rattle.shader_runs.specs.Program.{Statement, Emit, Store, Block, If, Switch, Loop, Return, Act}
 use Rattle.shader_runs.specs.Program.{Jumps, Statements, end, then, Cases, no_case, case, Function}
 use Rattle.shader_runs.specs.Program.{expression_of, operands_of, binds, from, is_emittable}
 use Rattle.shader_runs.specs.Scope.{Handles, Naming, before_local, at_start, is_new, usable}
-use Rattle.shader_runs.specs.Scope.{after_one, after, after_all, named_after, named_by, named_by_all}
+use Rattle.shader_runs.specs.Scope.{after_one, after, after_all, named_after, named_by}
+use Rattle.shader_runs.specs.Scope.{named_by_all}
 
 -- nothing is wrong, or there is a fault
 abbrev pub Checked : Type 0
@@ -62,7 +64,7 @@ check_bound false operands = Ok tt
 abbrev pub check_emitted : Function → Handles → (n h : ℕ) → Checked
 check_emitted f s n h =
     let e = expression_of f h in
-    result_and (unless (is_new (s h)) (GivenBefore n h))
+    result_and (unless (is_new (s h)) (IntroducedBefore n h))
     (result_and (unless (is_emittable e) (NeedsNoEmit n h))
     (check_bound (binds f h) (check_operands f s n h (operands_of e))))
 
@@ -74,7 +76,7 @@ check_emit f k n (h ∷ hs) s =
 
 abbrev pub check_result : (n : ℕ) → Option ℕ → Handles → Checked
 check_result n None s = Ok tt
-check_result n (Some h) s = unless (is_new (s h)) (GivenBefore n h)
+check_result n (Some h) s = unless (is_new (s h)) (IntroducedBefore n h)
 
 -- ---- statements
 -- Each check of statements tells the number of the next one.

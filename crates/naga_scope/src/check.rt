@@ -30,9 +30,9 @@ ghost use Rattle.naga_scope.specs.ScopeChecks.{check_operands, check_result, che
 ghost use Rattle.naga_scope.specs.ScopeChecks.{check_use, check_use_if, check_uses};
 ghost use Rattle.naga_scope.specs.Walks.{after_each};
 
-use crate::binding::{expression_at, is_emittable, kind_at};
 use crate::continues::split_at_continue;
 use crate::known_function::KnownFunction;
+use crate::lets::{expression_at, is_emittable, kind_at};
 use crate::points::Scope;
 use crate::scope_faults::ScopeFault;
 use naga_ir::{
@@ -234,7 +234,7 @@ fn check_emitted(
     ensures { result ≡ check_emitted (shape_of known.now) (handles_at scope.now) number handle }
 {
     if !scope.availability(handle).is_new() {
-        return Err(ScopeFault::GivenBefore {
+        return Err(ScopeFault::IntroducedBefore {
             statement: number,
             expression: handle,
         });
@@ -318,11 +318,11 @@ fn check_result(
     match outcome {
         Some(handle) => {
             let is_new = scope.availability(handle).is_new();
-            scope.give(handle);
+            scope.introduce(handle);
             if is_new {
                 Ok(())
             } else {
-                Err(ScopeFault::GivenBefore {
+                Err(ScopeFault::IntroducedBefore {
                     statement: number,
                     expression: handle,
                 })

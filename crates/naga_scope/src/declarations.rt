@@ -351,7 +351,7 @@ fn unsupported_value(
     }
     match init {
         Some(init) => {
-            if tables.is_written(module, init) {
+            if tables.has_form(module, init) {
                 None
             } else {
                 Some(UnsupportedDeclaration::Initialiser(init))

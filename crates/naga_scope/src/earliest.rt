@@ -20,7 +20,7 @@ fn line_of_fault(fault: &ScopeFault) -> Line
         ScopeFault::FirstValue { local, .. } => Line::Local(*local),
         ScopeFault::Operand { statement, .. }
         | ScopeFault::EmittedOperand { statement, .. }
-        | ScopeFault::GivenBefore { statement, .. }
+        | ScopeFault::IntroducedBefore { statement, .. }
         | ScopeFault::NeedsNoEmit { statement, .. } => Line::Statement(*statement),
     }
 }

@@ -2,13 +2,13 @@
 
 ghost use Rattle.std.specs.Prelude.{◌≡◌, List, Some};
 ghost use Rattle.std.specs.Option.{is_some, option_and_then};
-ghost use Rattle.module_meaning.specs.ExpressionForms.{converts, expression_is_written};
-ghost use Rattle.module_meaning.specs.ExpressionForms.{is_written_literal};
+ghost use Rattle.module_meaning.specs.ExpressionForms.{converts, expression_has_own_form};
+ghost use Rattle.module_meaning.specs.ExpressionForms.{literal_has_form};
 ghost use Rattle.module_meaning.specs.ExpressionOperators.{pointee_scalar, scalar_in};
 ghost use Rattle.module_meaning.specs.Names.{HasNamesOf, module_names, name_in};
-ghost use Rattle.module_meaning.specs.ExpressionForms.{known_passes, loads_matrix, part_is_written};
-ghost use Rattle.module_meaning.specs.Sampling.{sampling_is_written};
-ghost use Rattle.module_meaning.specs.Undeclared.{member_words, part_is_written_at};
+ghost use Rattle.module_meaning.specs.ExpressionForms.{known_passes, loads_matrix, part_has_form};
+ghost use Rattle.module_meaning.specs.Sampling.{sampling_has_form};
+ghost use Rattle.module_meaning.specs.Undeclared.{member_words, part_has_form_at};
 ghost use Rattle.module_meaning.specs.Undeclared.{whole_known, whole_of};
 ghost use Rattle.naga_info.specs.Resolution.{InRange, inner_of};
 ghost use Rattle.naga_ir.specs.declared.types.Type_.{Type_};
@@ -32,7 +32,7 @@ use std::collections::HashMap;
 use wgsl_words::TryToWgsl;
 
 /// Whether an expression is one that is written, where its offset, if it has one, is written out.
-pub(crate) fn is_written(
+pub(crate) fn has_own_form(
     module: &Module,
     tables: &ModuleTables,
     names: &HashMap<NameKey, String>,
@@ -42,7 +42,7 @@ pub(crate) fn is_written(
     requires tables { AreTablesOf «module».now tables.now }
     requires named { HasNamesOf «module».now (names_in names.now) }
     requires known { AreKnownIn «module».now.types info.now }
-    ensures { result ≡ expression_is_written «module».now info.now expression.now }
+    ensures { result ≡ expression_has_own_form «module».now info.now expression.now }
 {
     match expression {
         Expression::Literal(literal) => literal_has_form(*literal),
@@ -65,7 +65,7 @@ pub(crate) fn is_written(
         Expression::RayQueryProceedResult => false,
         Expression::Compose { ty, .. } => tables.is_spellable(module, *ty),
         Expression::AccessIndex { base, index } => {
-            part_is_written(module, tables, names, info, *base, *index)
+            part_has_form(module, tables, names, info, *base, *index)
         }
         Expression::As {
             expr,
@@ -97,7 +97,7 @@ pub fn sampling_has_form(
     compares: bool,
     clamped: bool,
 ) -> bool
-    ensures { result ≡ sampling_is_written gather level compares clamped }
+    ensures { result ≡ sampling_has_form gather level compares clamped }
 {
     match gather {
         Some(_) => match level {
@@ -113,7 +113,7 @@ pub fn sampling_has_form(
 
 /// Whether an expression has parts, and the one with this number is written: it is no member of a
 /// struct that no text declares, or a text can name it.
-fn part_is_written(
+fn part_has_form(
     module: &Module,
     tables: &ModuleTables,
     names: &HashMap<NameKey, String>,
@@ -124,11 +124,11 @@ fn part_is_written(
     requires tables { AreTablesOf «module».now tables.now }
     requires named { HasNamesOf «module».now (names_in names.now) }
     requires known { AreKnownIn «module».now.types info.now }
-    ensures { result ≡ part_is_written «module».now info.now base index }
+    ensures { result ≡ part_has_form «module».now info.now base index }
 {
     known_has_parts(&module.types, info.expressions.as_slice(), base)
         && match whole_known(&module.types, info, base) {
-            Some(whole) => part_is_written_at(module, tables, names, index, whole),
+            Some(whole) => part_has_form_at(module, tables, names, index, whole),
             None => true,
         }
 }
@@ -160,7 +160,7 @@ fn whole_of(types: &UniqueArena<Type_>, ty: &TypeResolution) -> Option<Handle<Ty
 }
 
 /// Whether the part with this number of a type of the module is no member of a struct, or is written.
-fn part_is_written_at(
+fn part_has_form_at(
     module: &Module,
     tables: &ModuleTables,
     names: &HashMap<NameKey, String>,
@@ -169,7 +169,7 @@ fn part_is_written_at(
 ) -> bool
     requires tables { AreTablesOf «module».now tables.now }
     requires named { HasNamesOf «module».now (names_in names.now) }
-    ensures { result ≡ part_is_written_at «module».now index whole }
+    ensures { result ≡ part_has_form_at «module».now index whole }
 {
     if whole.index() >= module.types.len() {
         return true;
@@ -213,7 +213,7 @@ fn is_member_word(name: &str) -> bool
 }
 
 pub(crate) fn literal_has_form(literal: Literal) -> bool
-    ensures { result ≡ is_written_literal literal }
+    ensures { result ≡ literal_has_form literal }
 {
     match literal {
         Literal::Bool(_)

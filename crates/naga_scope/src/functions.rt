@@ -1,4 +1,4 @@
-//! Functions and entry points of a module, by which of them is meant.
+//! The function or entry point that a `FunctionType` names.
 
 ghost use Rattle.std.specs.Prelude.{◌≡◌, IsTrue, Some, slice_get};
 ghost use Rattle.module_meaning.specs.acceptance.Accepted.{is_accepted};

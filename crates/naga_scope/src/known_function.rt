@@ -3,7 +3,7 @@
 ghost use Rattle.std.specs.Prelude.{◌≡◌};
 ghost use Rattle.naga_scope.specs.KnownFunctions.{bound_in};
 
-use crate::binding::binds;
+use crate::lets::binds;
 use crate::tables::ModuleTables;
 use naga_info::{FunctionInfo, ModuleInfo};
 use naga_ir::{Expression, Function, Handle, Module};

@@ -3,7 +3,6 @@
 //! module's declarations have no form.
 #![tactic(auto)]
 
-pub mod binding;
 mod changes;
 pub mod check;
 pub mod continues;
@@ -13,6 +12,7 @@ mod forms;
 pub mod functions;
 mod in_order;
 mod known_function;
+pub mod lets;
 pub mod lines;
 mod named;
 pub mod plan;
@@ -24,7 +24,6 @@ pub mod statements;
 pub mod tables;
 mod written;
 
-pub use binding::binds;
 pub use continues::split_at_continue;
 pub use declarations::{
     DeclarationPosition, UnsupportedDeclaration, UnsupportedHead, unsupported_declaration,
@@ -32,6 +31,7 @@ pub use declarations::{
 };
 pub use forms::{pointee_scalar, sampling_has_form, whole_known};
 pub use functions::function_of;
+pub use lets::binds;
 pub use lines::{Declared, Line};
 pub use plan::{Plan, PlanError};
 pub use points::{Availability, BoundName, Scope};

@@ -9,7 +9,7 @@ ghost use Rattle.naga_scope.specs.ExpressionNames.{NamesLabels, RefusesLabels};
 ghost use Rattle.naga_scope.specs.InOrder.{own_labels, trees_of};
 ghost use Rattle.shader_runs.specs.Program.{from};
 
-use crate::binding::label_of;
+use crate::lets::label_of;
 use naga_ir::{Expression, Function, Handle, ItemIndex, Range, Statement};
 use naga_names::NamerError;
 use naga_names::namer::Namer;

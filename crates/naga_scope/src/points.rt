@@ -28,10 +28,10 @@ ghost use Rattle.naga_scope.specs.KnownFunctions.{IsPointOf, handles_at, shape_o
 ghost use Rattle.naga_scope.specs.Log.{Counted, Extends, HasRoom, Reverts, Same, back_to};
 ghost use Rattle.naga_scope.specs.Log.{forget_at, grows};
 
-use crate::binding::{
+use crate::known_function::KnownFunction;
+use crate::lets::{
     binds, expression_at, is_constant_leaf, is_named, is_operator, kind_at, label_of,
 };
-use crate::known_function::KnownFunction;
 use naga_info::FunctionInfo;
 use naga_ir::{Expression, Function, Handle, ItemIndex, Type_, UniqueArena};
 use std::alloc::{AllocError, Global};
@@ -454,7 +454,7 @@ impl Scope {
 
     /// Goes after a statement that gives the expression with this handle: its result is bound
     /// under the name that is made of the handle.
-    pub fn give(&mut self, handle: Handle<Expression>)
+    pub fn introduce(&mut self, handle: Handle<Expression>)
         requires size { handle < length self.old.table }
         requires room { HasRoom self.old 1 }
         ensures handles { (names : NameMap) (m : Module) (named : ℕ → List ℕ) (g : ℕ) →
@@ -502,7 +502,7 @@ impl Scope {
         self.availabilities[index] = availability;
     }
 
-    /// A point to come back to.
+    /// A mark of the log, to go back to.
     pub fn mark(&self) -> usize
         ensures { result ≡ length self.now.log }
     {

@@ -25,7 +25,7 @@ pub enum ScopeFault {
         operand: Handle<Expression>,
     },
     /// The statement gives this expression, which was given before.
-    GivenBefore {
+    IntroducedBefore {
         statement: usize,
         expression: Handle<Expression>,
     },

@@ -1,4 +1,4 @@
-//! What is asked of one type by itself, without a look at those that it is over.
+//! Questions about one type, and not about those that it is made of.
 
 ghost use Rattle.std.specs.Prelude.{◌≡◌};
 ghost use Rattle.std.specs.Option.{is_some};

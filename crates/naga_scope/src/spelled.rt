@@ -1,4 +1,4 @@
-//! Which of the types that the text of a function spells no text can spell.
+//! Which type in a function's text cannot be spelled.
 
 ghost use Rattle.std.specs.Prelude.{◌≡◌, ◌-◌, ◌&&◌, true};
 ghost use Rattle.std.specs.List.{filter, find};

@@ -5,9 +5,9 @@ ghost use Rattle.std.specs.Prelude.{length, replicate};
 ghost use Rattle.std.specs.Option.{is_some, option_and_then, option_map};
 ghost use Rattle.indexmap.specs.IndexMap.{values};
 ghost use Rattle.module_meaning.specs.AlikeTypes.{is_spelled};
-ghost use Rattle.module_meaning.specs.ExpressionForms.{constant_is_written};
-ghost use Rattle.module_meaning.specs.ExpressionForms.{constant_is_written_over};
-ghost use Rattle.module_meaning.specs.ExpressionForms.{global_is_written, global_is_written_over};
+ghost use Rattle.module_meaning.specs.ExpressionForms.{constant_has_form};
+ghost use Rattle.module_meaning.specs.ExpressionForms.{constant_has_form_over};
+ghost use Rattle.module_meaning.specs.ExpressionForms.{global_has_form, global_has_form_over};
 ghost use Rattle.module_meaning.specs.Layouts.{layout_in, module_rule};
 ghost use Rattle.module_meaning.specs.Undeclared.{handle_names_undeclared, is_spellable};
 ghost use Rattle.module_meaning.specs.Undeclared.{is_undeclared, names_undeclared};
@@ -102,9 +102,9 @@ impl ModuleTables {
     /// Whether one of the module's own expressions is written: whether it is made of literals, zero
     /// values, compositions, splats, overrides and constants that all have forms. One that is not there
     /// is not.
-    pub fn is_written(&self, module: &Module, handle: Handle<Expression>) -> bool
+    pub fn has_form(&self, module: &Module, handle: Handle<Expression>) -> bool
         requires tables { AreTablesOf «module».now self.now }
-        ensures { result ≡ global_is_written «module».now handle }
+        ensures { result ≡ global_has_form «module».now handle }
     {
         is_marked(&self.written, handle)
     }
@@ -112,7 +112,7 @@ impl ModuleTables {
     /// Whether a constant is written: it has a name, or its initialiser is written.
     pub(crate) fn writes(&self, module: &Module, constant: Handle<Constant>) -> bool
         requires tables { AreTablesOf «module».now self.now }
-        ensures { result ≡ constant_is_written «module».now constant }
+        ensures { result ≡ constant_has_form «module».now constant }
     {
         constant_is_marked(&self.written, module, constant)
     }
@@ -462,13 +462,13 @@ fn mark_globals(marks: &mut [bool], naming: &[bool], spelled: &[bool], module: &
 {
     for index in 0..module.global_expressions.len() {
         let expression = &module.global_expressions[ItemIndex::from_index(index)];
-        let is_written = is_written_over(marks, naming, spelled, module, expression);
-        marks[index] = is_written;
+        let has_form = has_form_over(marks, naming, spelled, module, expression);
+        marks[index] = has_form;
     }
 }
 
 /// Whether one is written, by marks of those before it.
-fn is_written_over(
+fn has_form_over(
     marks: &[bool],
     naming: &[bool],
     spelled: &[bool],
@@ -477,7 +477,7 @@ fn is_written_over(
 ) -> bool
     requires naming { MarksNaming «module».now naming.now }
     requires spelled { MarksSpelled «module».now spelled.now }
-    ensures { result ≡ global_is_written_over «module».now (is_marked marks.now) expression.now }
+    ensures { result ≡ global_has_form_over «module».now (is_marked marks.now) expression.now }
 {
     match expression {
         Expression::Literal(literal) => literal_has_form(*literal),
@@ -495,7 +495,7 @@ fn is_written_over(
 
 /// Whether a constant has a name, or its initialiser a mark.
 fn constant_is_marked(marks: &[bool], module: &Module, constant: Handle<Constant>) -> bool
-    ensures { result ≡ constant_is_written_over «module».now (is_marked marks.now) constant }
+    ensures { result ≡ constant_has_form_over «module».now (is_marked marks.now) constant }
 {
     if constant.index() >= module.constants.len() {
         return false;

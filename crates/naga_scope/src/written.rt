@@ -10,7 +10,7 @@ ghost use Rattle.naga_ir.specs.declared.expression.Expression.{Expression};
 ghost use Rattle.naga_names.specs.Keys.{names_in};
 ghost use Rattle.module_meaning.specs.Names.{HasNamesOf};
 ghost use Rattle.module_meaning.specs.Premises.{OperandsStandBefore};
-ghost use Rattle.module_meaning.specs.Sampling.{own_offset_is_written};
+ghost use Rattle.module_meaning.specs.Sampling.{own_offset_has_form};
 ghost use Rattle.module_meaning.specs.WrittenOut.{written_out_over};
 ghost use Rattle.module_meaning.specs.ExpressionForms.{expression_has_form};
 ghost use Rattle.naga_scope.specs.Forms.{AreKnownIn};
@@ -25,7 +25,7 @@ ghost use Rattle.naga_scope.specs.Tables.{AreTablesOf};
 ghost use Rattle.naga_scope.specs.declared.lines.Line.{Line};
 ghost use Rattle.shader_runs.specs.Program.{from};
 
-use crate::forms::is_written;
+use crate::forms::has_own_form;
 use crate::known_function::KnownFunction;
 use crate::lines::{Line, is_before};
 use crate::tables::ModuleTables;
@@ -108,7 +108,7 @@ fn mark_constants(marks: &mut [bool], function: &Function)
 /// those that may.
 fn offset_has_form(constants: &[bool], expression: &Expression) -> bool
     ensures { (es : List Expression) → MarksConstants es constants.now →
-        result ≡ own_offset_is_written es expression.now }
+        result ≡ own_offset_has_form es expression.now }
 {
     match expression {
         Expression::ImageSample { offset, .. } => match offset {
@@ -134,7 +134,7 @@ fn expression_has_form(
     ensures { (es : List Expression) → MarksConstants es constants.now →
         result ≡ expression_has_form «module».now info.now es expression.now }
 {
-    is_written(module, tables, names, info, expression) && offset_has_form(constants, expression)
+    has_own_form(module, tables, names, info, expression) && offset_has_form(constants, expression)
 }
 
 /// The first of a line that is known and this one.
@@ -174,10 +174,10 @@ fn note(lines: &mut [Option<Line>], handle: Handle<Expression>, line: &Line)
     }
 }
 
-fn note_if(lines: &mut [Option<Line>], handle: Handle<Expression>, line: &Line, is_written: bool)
-    ensures { WritesAlso lines.old (if is_written then (line.now, handle) ∷ [] else []) lines.new }
+fn note_if(lines: &mut [Option<Line>], handle: Handle<Expression>, line: &Line, has_form: bool)
+    ensures { WritesAlso lines.old (if has_form then (line.now, handle) ∷ [] else []) lines.new }
 {
-    if is_written {
+    if has_form {
         note(lines, handle, line);
     }
 }

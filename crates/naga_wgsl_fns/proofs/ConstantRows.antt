@@ -11,9 +11,9 @@ use Rattle.module_meaning.proofs.Stepwise.{by_those_before}
 use Rattle.module_meaning.specs.AlikeTypes.{is_spelled}
 use Rattle.module_meaning.specs.OperatorTable.{Splat, run_word}
 use Rattle.module_meaning.specs.Names.{constant_name, module_names}
-use Rattle.module_meaning.specs.ExpressionForms.{constant_is_written, global_is_written}
-use Rattle.module_meaning.specs.ExpressionForms.{global_is_written_over, global_is_written_within}
-use Rattle.module_meaning.specs.ExpressionForms.{is_written_literal}
+use Rattle.module_meaning.specs.ExpressionForms.{constant_has_form, global_has_form}
+use Rattle.module_meaning.specs.ExpressionForms.{global_has_form_over, global_has_form_within}
+use Rattle.module_meaning.specs.ExpressionForms.{literal_has_form}
 use Rattle.module_meaning.specs.ExpressionContexts.{expression_context}
 use Rattle.naga_form.proofs.operators.Operators.{constructor_called, typed_notation}
 use Rattle.naga_form.proofs.types.SameValues.{or_nothing}
@@ -72,7 +72,7 @@ initialiser_at m c = option_map_or (λ k. k.init) (slice_get m.constants c) 0
 
 -- these stand before, and are written
 abbrev pub ArePartsBelow : Module → (h : ℕ) → List ℕ → Type 0
-ArePartsBelow m h xs = AllByRecursion (λ x. (x < h) × (global_is_written m x ≡ true)) xs
+ArePartsBelow m h xs = AllByRecursion (λ x. (x < h) × (global_has_form m x ≡ true)) xs
 
 -- the form of one of the module's own expressions, over those of others
 abbrev over : Module → TypeNames → (ℕ → Expression) → ir.Expression → Expression
@@ -82,38 +82,38 @@ over m t own e = constant_form_over (expression_context m (λ x. None)) t (const
 -- ---- what is written among the module's own expressions
 module _ (m : Module) (ordered : GlobalsStandInOrder m) where
   -- one that is written is there
-  pub global_there : (h : ℕ) → global_is_written m h ≡ true → h < length m.global_expressions
+  pub global_there : (h : ℕ) → global_has_form m h ≡ true → h < length m.global_expressions
   global_there h is = by (slice_get m.global_expressions h) refl is
     where
       by : (o : Option ir.Expression) → slice_get m.global_expressions h ≡ o →
-          option_map_or (global_is_written_over m (global_is_written_within h m)) o false ≡ true →
+          option_map_or (global_has_form_over m (global_has_form_within h m)) o false ≡ true →
           h < length m.global_expressions
       by (Some e) at is = slice_get_within m.global_expressions h e at
       by None at is = absurd cc
 
   -- it is so by what stands before it
   written_over : (h : ℕ) (e : ir.Expression) → slice_get m.global_expressions h ≡ Some e →
-      global_is_written m h ≡ true → global_is_written_over m (global_is_written m) e ≡ true
+      global_has_form m h ≡ true → global_has_form_over m (global_has_form m) e ≡ true
   written_over h e at is =
-      by_those_before false m.global_expressions (global_is_written_over m)
-      (λ k h. global_is_written_within k m h) (λ k h. refl) (global_same m ordered) h e at
-      (global_is_written m) (λ x lt. refl)
+      by_those_before false m.global_expressions (global_has_form_over m)
+      (λ k h. global_has_form_within k m h) (λ k h. refl) (global_same m ordered) h e at
+      (global_has_form m) (λ x lt. refl)
       ∙ is
 
-  parts_of : (h : ℕ) (xs : List ℕ) → AllBelow h xs → list_all (global_is_written m) xs ≡ true →
+  parts_of : (h : ℕ) (xs : List ℕ) → AllBelow h xs → list_all (global_has_form m) xs ≡ true →
       ArePartsBelow m h xs
   parts_of h [] below is = tt
   parts_of h (x ∷ xs) below is =
-      let both = and_parts (global_is_written m x) (list_all (global_is_written m) xs) is in
+      let both = and_parts (global_has_form m x) (list_all (global_has_form m) xs) is in
       ((below.0, both.0), parts_of h xs below.1 both.1)
 
   pub parts_are_written : (h : ℕ) (e : ir.Expression) → slice_get m.global_expressions h ≡ Some e →
-      global_is_written m h ≡ true → ArePartsBelow m h (expression_operands e)
+      global_has_form m h ≡ true → ArePartsBelow m h (expression_operands e)
   parts_are_written h e at is = by e at (ordered.operands h e at) (written_over h e at is)
     where
       by : (e : ir.Expression) → slice_get m.global_expressions h ≡ Some e →
           AllBelow h (expression_operands e) →
-          global_is_written_over m (global_is_written m) e ≡ true →
+          global_has_form_over m (global_has_form m) e ≡ true →
           ArePartsBelow m h (expression_operands e)
       by (expression.Literal value) at below is = tt
       by (expression.Constant c) at below is = tt
@@ -121,44 +121,44 @@ module _ (m : Module) (ordered : GlobalsStandInOrder m) where
       by (expression.ZeroValue ty) at below is = tt
       by (expression.Compose ty components) at below is =
           parts_of h components.items below
-          (and_parts (is_spellable m (Handle ty)) (list_all (global_is_written m) components.items)
+          (and_parts (is_spellable m (Handle ty)) (list_all (global_has_form m) components.items)
           is).1
       by (expression.Splat size value) at below is = ((below.0, is), tt)
       by _ at below is = absurd cc
 
   -- a constant that is written is there, and its initialiser is written where it has no name
-  constant_over : (c : ℕ) → constant_is_written m c ≡ true →
+  constant_over : (c : ℕ) → constant_has_form m c ≡ true →
       (k : ir_constant.Constant) × (slice_get m.constants c ≡ Some k)
-      × ((is_some k.name || global_is_written m k.init) ≡ true)
+      × ((is_some k.name || global_has_form m k.init) ≡ true)
   constant_over c is = by (slice_get m.constants c) refl is
     where
       by : (o : Option ir_constant.Constant) → slice_get m.constants c ≡ o →
-          option_map_or (λ k. is_some k.name || global_is_written m k.init) o false ≡ true →
+          option_map_or (λ k. is_some k.name || global_has_form m k.init) o false ≡ true →
           (k : ir_constant.Constant) × (slice_get m.constants c ≡ Some k)
-          × ((is_some k.name || global_is_written m k.init) ≡ true)
+          × ((is_some k.name || global_has_form m k.init) ≡ true)
       by (Some k) at is = (k, at, is)
       by None at is = absurd cc
 
-  pub constant_there : (c : ℕ) → constant_is_written m c ≡ true → c < length m.constants
+  pub constant_there : (c : ℕ) → constant_has_form m c ≡ true → c < length m.constants
   constant_there c is = let k = constant_over c is in slice_get_within m.constants c k.0 k.1
 
-  pub initialiser_written : (c : ℕ) → constant_is_written m c ≡ true → (k : ir_constant.Constant) →
-      slice_get m.constants c ≡ Some k → is_some k.name ≡ false → global_is_written m k.init ≡ true
+  pub initialiser_written : (c : ℕ) → constant_has_form m c ≡ true → (k : ir_constant.Constant) →
+      slice_get m.constants c ≡ Some k → is_some k.name ≡ false → global_has_form m k.init ≡ true
   initialiser_written c is k there unnamed =
       let one = constant_over c is in
       let same = same_Some one.0 k (sym one.1 ∙ there) in
-      ap (λ b. b || global_is_written m k.init) (sym unnamed)
-      ∙ (sym (ap (λ k. is_some k.name || global_is_written m k.init) same) ∙ one.2)
+      ap (λ b. b || global_has_form m k.init) (sym unnamed)
+      ∙ (sym (ap (λ k. is_some k.name || global_has_form m k.init) same) ∙ one.2)
 
   -- a constant that one names is written, and its initialiser stands before
   pub constant_passes : (h : ℕ) (e : ir.Expression) (c : ℕ) →
       slice_get m.global_expressions h ≡ Some e → e ≡ expression.Constant c →
-      global_is_written m h ≡ true → constant_is_written m c ≡ true
+      global_has_form m h ≡ true → constant_has_form m c ≡ true
   constant_passes h e c at same is = written_over h (expression.Constant c) (at ∙ ap Some same) is
 
   pub initialiser_before : (h : ℕ) (e : ir.Expression) (c : ℕ) →
       slice_get m.global_expressions h ≡ Some e → e ≡ expression.Constant c →
-      global_is_written m h ≡ true → initialiser_at m c < h
+      global_has_form m h ≡ true → initialiser_at m c < h
   initialiser_before h e c at same is =
       let k = constant_over c (constant_passes h e c at same is) in
       subst (λ o. option_map_or (λ k. k.init) o 0 < h) (sym k.1)
@@ -166,10 +166,10 @@ module _ (m : Module) (ordered : GlobalsStandInOrder m) where
 
   -- no other expression is written
   pub no_other_global : (h : ℕ) (e : ir.Expression) → slice_get m.global_expressions h ≡ Some e →
-      global_is_written m h ≡ true → IsNoOtherGlobal e → ⊥
+      global_has_form m h ≡ true → IsNoOtherGlobal e → ⊥
   no_other_global h e at is none = by e (written_over h e at is) none
     where
-      by : (e : ir.Expression) → global_is_written_over m (global_is_written m) e ≡ true →
+      by : (e : ir.Expression) → global_has_form_over m (global_has_form m) e ≡ true →
           IsNoOtherGlobal e → ⊥
       by (expression.Literal v) is none = none.literal v refl
       by (expression.Constant c) is none = none.constant c refl
@@ -181,21 +181,21 @@ module _ (m : Module) (ordered : GlobalsStandInOrder m) where
 
   pub literal_passes : (h : ℕ) (e : ir.Expression) (value : _) →
       slice_get m.global_expressions h ≡ Some e → e ≡ expression.Literal value →
-      global_is_written m h ≡ true → is_written_literal value ≡ true
+      global_has_form m h ≡ true → literal_has_form value ≡ true
   literal_passes h e value at same is = written_over h (expression.Literal value) (at ∙ ap Some same) is
 
   pub zero_passes : (h : ℕ) (e : ir.Expression) (ty : ℕ) → slice_get m.global_expressions h ≡ Some e →
-      e ≡ expression.ZeroValue ty → global_is_written m h ≡ true →
+      e ≡ expression.ZeroValue ty → global_has_form m h ≡ true →
       is_spelled m.types (Handle ty) ≡ true
   zero_passes h e ty at same is =
       spelled_of_spellable m (Handle ty) (written_over h (expression.ZeroValue ty) (at ∙ ap Some same) is)
 
   pub composed_passes : (h : ℕ) (e : ir.Expression) (ty : ℕ) (parts : _) →
       slice_get m.global_expressions h ≡ Some e → e ≡ expression.Compose ty parts →
-      global_is_written m h ≡ true → is_spelled m.types (Handle ty) ≡ true
+      global_has_form m h ≡ true → is_spelled m.types (Handle ty) ≡ true
   composed_passes h e ty parts at same is =
       spelled_of_spellable m (Handle ty)
-      (and_parts (is_spellable m (Handle ty)) (list_all (global_is_written m) parts.items)
+      (and_parts (is_spellable m (Handle ty)) (list_all (global_has_form m) parts.items)
       (written_over h (expression.Compose ty parts) (at ∙ ap Some same) is)).0
 
   -- ---- forms

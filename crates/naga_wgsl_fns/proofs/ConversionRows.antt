@@ -6,7 +6,7 @@ use Rattle.std.specs.Prelude.{slice_get, unwrap_or, if◌then◌else◌}
 use Rattle.module_meaning.specs.Conversions.{conversion_target, keeps_bits}
 use Rattle.module_meaning.specs.ExpressionOperators.{type_known}
 use Rattle.module_meaning.specs.AlikeTypes.{is_spelled}
-use Rattle.module_meaning.specs.ExpressionForms.{expression_is_written}
+use Rattle.module_meaning.specs.ExpressionForms.{expression_has_own_form}
 use Rattle.module_meaning.specs.acceptance.Ranges.{resolution_fits}
 use Rattle.naga_form.proofs.operators.AllowedParts.{conversion}
 use Rattle.naga_form.proofs.operators.Operators.{bits_text, cast_called, conversion_is}
@@ -115,7 +115,7 @@ cast_else f bits ty is = sym (ap (λ b. if b then bitcast_text f ty else resolut
 -- ---- what an expression is made of that is a conversion
 pub own_conversion : (f : FunctionText) (table : List Availability) {handle : ℕ} {e : ir.Expression}
     {operand : ℕ} {kind : ScalarKind} {convert : Option ℕ} → CanWrite f → IsInText f handle →
-    expression_is_written f.shader.now f.info.now (As operand kind convert) ≡ true →
+    expression_has_own_form f.shader.now f.info.now (As operand kind convert) ≡ true →
     slice_get (expressions f) handle ≡ Some e → e ≡ As operand kind convert →
     made_text f table (conversion_callee f operand kind convert) handle ≡ own_text f table handle
 own_conversion f table {handle} {e} {operand} {kind} {convert} can within may here is =

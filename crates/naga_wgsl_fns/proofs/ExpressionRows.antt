@@ -1,6 +1,6 @@
 -- The text of an expression by its kind and by where it stands, and from what is written of it in
 -- turn.
-use Rattle.module_meaning.specs.ExpressionForms.{expression_is_written}
+use Rattle.module_meaning.specs.ExpressionForms.{expression_has_own_form}
 use Rattle.naga_wgsl_fns.proofs.Preconditions.{IsNoOther, expression_formed}
 use Rattle.std.proofs.Common.{◌≡◌, ℕ, zero, suc, ◌<◌, Bool, true, false, List, [], ◌∷◌, length}
 use Rattle.std.proofs.Common.{Option, Some}
@@ -654,7 +654,7 @@ no_value_row f table handle can within e here none =
     sym (own_row f table handle can within
     ∙ (ap (own_at f table handle) here ∙ by e (expression_formed f can handle e here within) none))
   where
-    by : (e : ir.Expression) → IsTrue (expression_is_written f.shader.now f.info.now e) → IsNoOther e →
+    by : (e : ir.Expression) → IsTrue (expression_has_own_form f.shader.now f.info.now e) → IsNoOther e →
         own_at f table handle (Some e) ≡ codes "false"
     by (expression.Literal v) is none = absurd (none.literal v refl)
     by (expression.Constant c) is none = absurd (none.constant c refl)

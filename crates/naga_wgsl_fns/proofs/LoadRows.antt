@@ -7,7 +7,7 @@ use Rattle.std.specs.Option.{option_map_or}
 use Rattle.module_meaning.specs.AlikeTypes.{is_spelled}
 use Rattle.module_meaning.specs.ExpressionOperators.{is_atomic_pointer}
 use Rattle.module_meaning.specs.OperatorTable.{AtomicLoad, run_word}
-use Rattle.module_meaning.specs.ExpressionForms.{expression_is_written}
+use Rattle.module_meaning.specs.ExpressionForms.{expression_has_own_form}
 use Rattle.naga_form.proofs.operators.AllowedParts.{loaded_matrix}
 use Rattle.naga_form.proofs.operators.Operators.{load_called, load_text as loaded_text, matrix_is}
 use Rattle.naga_form.proofs.operators.Operators.{typed_notation}
@@ -127,7 +127,7 @@ pub own_matrix_load : (f : FunctionText) (table : List Availability) {handle : �
     {e : ir.Expression}
     {columns rows : CooperativeSize} {role : CooperativeRole} {place : CooperativeData} →
     CanWrite f → IsInText f handle →
-    expression_is_written f.shader.now f.info.now (CooperativeLoad columns rows role place) ≡ true →
+    expression_has_own_form f.shader.now f.info.now (CooperativeLoad columns rows role place) ≡ true →
     slice_get (expressions f) handle ≡ Some e → e ≡ CooperativeLoad columns rows role place →
     made_text f table (matrix_callee f columns rows role place) handle ≡ own_text f table handle
 own_matrix_load f table {handle} {e} {columns} {rows} {role} {place} can within may here is =

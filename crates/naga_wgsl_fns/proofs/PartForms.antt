@@ -7,7 +7,7 @@ use Rattle.std.proofs.lemmas.Option.{same_Some}
 use Rattle.naga_ir.specs.declared.expression.Expression as ir
 use Rattle.naga_ir.specs.declared.expression.Expression.TheVariants as expression
 use Rattle.module_meaning.specs.OperatorTable.{WithoutForm, PartAt}
-use Rattle.module_meaning.specs.ExpressionForms.{expression_is_written}
+use Rattle.module_meaning.specs.ExpressionForms.{expression_has_own_form}
 use Rattle.naga_form.proofs.operators.AllowedParts.{selected}
 use Rattle.naga_form.specs.Expressions.{PlainForm, as_value, as_reference, applied_plain, no_form}
 use Rattle.naga_form.specs.Expressions.{own_if, part_plain, is_pointer, selected_part}
@@ -58,7 +58,7 @@ module _ (f : FunctionText) (table : List Availability) (can : CanWrite f) where
   }
 
   selected_form : (base index : ℕ) →
-      expression_is_written f.shader.now f.info.now (expression.AccessIndex base index) ≡ true →
+      expression_has_own_form f.shader.now f.info.now (expression.AccessIndex base index) ≡ true →
       PartForm f table (Some (expression.AccessIndex base index)) base
   unfolding selector_text
   selected_form base index may =

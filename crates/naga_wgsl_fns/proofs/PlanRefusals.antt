@@ -93,7 +93,7 @@ use Rattle.naga_wgsl_fns.specs.Unplanned.{IsRefusedFor, IsUnplanned, TellsUnplan
 use Rattle.naga_wgsl_fns.specs.declared.plans.Unplanned.{Unplanned}
 use Rattle.naga_wgsl_fns.specs.declared.plans.Unplanned.TheVariants as unplanned
 use Rattle.naga_wgsl_fns.specs.declared.refusals.construct.Construct.{Construct}
-use Rattle.naga_wgsl_fns.specs.declared.plans.FunctionPart.{FunctionPart}
+use Rattle.naga_wgsl_fns.specs.declared.plans.FunctionRefusalPosition.{FunctionRefusalPosition}
 
 -- ---- functions with a plan
 -- what holds of the shape of each function that there is holds of the shape with its handle
@@ -447,7 +447,7 @@ module _ (explicit : Bool) (m : Module) (info : ModuleInfo) (accepted : IsTrue (
 
     -- what is told of a construct for which it has no plan
     pub unplanned_refusal : (namer : Names) → HasOtherUses wgsl_names namer → HasNamed namer earlier →
-        (it : Construct) (at : FunctionPart) → IsRefusedFor explicit m info i namer it at →
+        (it : Construct) (at : FunctionRefusalPosition) → IsRefusedFor explicit m info i namer it at →
         (reported : Error) → IsToldAs it reported → IsPlanRefusal explicit m info earlier i reported
     unplanned_refusal namer words has it at r reported told =
         plan_refusal known.0 known.1 namer words has r.error reported r.refused

@@ -27,7 +27,7 @@ use Rattle.naga_ir.specs.declared.types.VectorSize.{VectorSize}
 use Rattle.naga_info.specs.declared.info.ExpressionInfo.{ExpressionInfo}
 use Rattle.module_meaning.proofs.Lists.{list_all_at}
 use Rattle.module_meaning.proofs.ExpressionForms.{spelled_of_spellable, has_form_parts}
-use Rattle.module_meaning.specs.Sampling.{own_offset_is_written}
+use Rattle.module_meaning.specs.Sampling.{own_offset_has_form}
 use Rattle.naga_ir.specs.declared.expression.SampleLevel.{SampleLevel}
 use Rattle.std.proofs.Common.{Bool, max}
 use Rattle.naga_wgsl_fns.specs.FunctionText.{named_in}
@@ -39,7 +39,7 @@ use Rattle.module_meaning.specs.DeclarationForms.{binding_has_form}
 use Rattle.module_meaning.specs.DeclarationForms.IsPassed.{OfArgument as PassedArgument}
 use Rattle.module_meaning.specs.DeclarationForms.IsPassed.{OfResult as PassedResult}
 use Rattle.naga_wgsl_fns.specs.Bindings.{passing_has_form}
-use Rattle.module_meaning.specs.ExpressionForms.{expression_is_written, known_passes}
+use Rattle.module_meaning.specs.ExpressionForms.{expression_has_own_form, known_passes}
 use Rattle.naga_form.proofs.declarations.AcceptedGroups.{fits_in_range, known_fits, known_is_fit}
 use Rattle.naga_form.proofs.types.PartTypes.{known_before}
 use Rattle.naga_info.specs.declared.info.ModuleInfo.{ModuleInfo}
@@ -66,7 +66,7 @@ use Rattle.naga_names.specs.Keys.{names_in}
 use Rattle.naga_names.specs.Reset.{members_of}
 use Rattle.naga_names.specs.declared.key.NameKey.TheVariants as key
 use Rattle.module_meaning.specs.Undeclared.{is_spellable, member_is_written, names_undeclared}
-use Rattle.module_meaning.specs.Undeclared.{part_is_written_at}
+use Rattle.module_meaning.specs.Undeclared.{part_has_form_at}
 use Rattle.module_meaning.specs.Undeclared.{whole_known, whole_of}
 use Rattle.shader_runs.specs.Value.{MemberNamed}
 use Rattle.wgsl_text.specs.Words.{stands_in}
@@ -279,7 +279,7 @@ module _ (t : FunctionText) (can : CanWrite t) where
   -- ---- parts
   -- a member of a struct, by its name
   pub member_is : (base index h : ℕ) →
-      expression_is_written m es (expression.AccessIndex base index) ≡ true →
+      expression_has_own_form m es (expression.AccessIndex base index) ≡ true →
       struct_known t base ≡ Some h →
       part_selector (source t).declared base index ≡
       Some (MemberNamed (name_in (module_names m) (key.StructMember h index)))
@@ -291,7 +291,7 @@ module _ (t : FunctionText) (can : CanWrite t) where
 
   -- which the map of names has
   pub member_there : (base index h : ℕ) →
-      expression_is_written m es (expression.AccessIndex base index) ≡ true →
+      expression_has_own_form m es (expression.AccessIndex base index) ≡ true →
       struct_known t base ≡ Some h →
       names_in t.names.now (key.StructMember h index) ≡
       Some (name_in (module_names m) (key.StructMember h index))
@@ -305,7 +305,7 @@ module _ (t : FunctionText) (can : CanWrite t) where
       (ap (λ o. option_map_or
       (λ ty. not (is_struct ty.inner) || member_is_written m whole.0 (members_of ty.inner) index) o
       true) s.there)
-      ∙ (sym (ap (λ o. option_map_or (part_is_written_at m index) o true) whole.1) ∙ written)) in
+      ∙ (sym (ap (λ o. option_map_or (part_has_form_at m index) o true) whole.1) ∙ written)) in
       let a = element (members_of s.type.inner) index (ltb-true index _ lt) in
       subst
       (λ k. names_in t.names.now (key.StructMember k index) ≡
@@ -332,7 +332,7 @@ module _ (t : FunctionText) (can : CanWrite t) where
   letter_of d whole _ index none parts = absurd cc
 
   pub component_is : (base index : ℕ) →
-      expression_is_written m es (expression.AccessIndex base index) ≡ true →
+      expression_has_own_form m es (expression.AccessIndex base index) ≡ true →
       struct_known t base ≡ None →
       (letter : Option (List ℕ)) →
       letter ≡ (if has_components t base then slice_get component_letters index else None) →
@@ -385,7 +385,7 @@ module _ (t : FunctionText) (can : CanWrite t) where
 
   -- what a part is taken of is known
   pub base_known : (base index : ℕ) →
-      expression_is_written m es (expression.AccessIndex base index) ≡ true → base < length es
+      expression_has_own_form m es (expression.AccessIndex base index) ≡ true → base < length es
   base_known base index may =
       let b = known_base m es base index may in slice_get_within es base b.known b.there
 
@@ -432,21 +432,21 @@ module _ (t : FunctionText) (can : CanWrite t) where
   -- ---- expressions
   -- one that is written has a form
   pub expression_formed : (h : ℕ) (e : Expression) → slice_get f.expressions h ≡ Some e → IsInText t h →
-      IsTrue (expression_is_written m es e)
+      IsTrue (expression_has_own_form m es e)
   expression_formed h e here is = (has_form_parts m es f.expressions e (can.formed.expressions h e here is.written)).0
 
   -- and so has its offset
   pub offset_has_form : (h : ℕ) (e : Expression) → slice_get f.expressions h ≡ Some e → IsInText t h →
-      IsTrue (own_offset_is_written f.expressions e)
+      IsTrue (own_offset_has_form f.expressions e)
   offset_has_form h e here is = (has_form_parts m es f.expressions e (can.formed.expressions h e here is.written)).1
 
   -- so it is written as what it is: a literal of a type that is written, a constant that has a name or
   -- whose initialiser is written, a conversion or a load of a matrix that has a form, a function of
   -- mathematics or a relation that has a word
   pub written_as : {h : ℕ} {e own : Expression} → slice_get f.expressions h ≡ Some e → IsInText t h →
-      e ≡ own → expression_is_written m es own ≡ true
+      e ≡ own → expression_has_own_form m es own ≡ true
   written_as {h} {e} {own} here within is =
-      ap (expression_is_written m es) (sym is) ∙ expression_formed h e here within
+      ap (expression_has_own_form m es) (sym is) ∙ expression_formed h e here within
 
   -- what an expression names is there
   names_there : (h : ℕ) (e own : Expression) → slice_get f.expressions h ≡ Some e → e ≡ own →
@@ -530,19 +530,19 @@ module _ (t : FunctionText) (can : CanWrite t) where
   base_in h base is within = part_in h base (slice_get f.expressions h) refl is within
 
   -- a part at a known index that is written is one of what has parts
-  pub part_is_written : (h base : ℕ) (e : Expression) (b i : ℕ) → slice_get f.expressions h ≡ Some e →
+  pub part_has_form : (h base : ℕ) (e : Expression) (b i : ℕ) → slice_get f.expressions h ≡ Some e →
       IsInText t h → e ≡ expression.AccessIndex b i →
       base_of (slice_get f.expressions h) ≡ Some base →
-      expression_is_written m es (expression.AccessIndex base i) ≡ true
-  part_is_written h base e b i here within is part =
+      expression_has_own_form m es (expression.AccessIndex base i) ≡ true
+  part_has_form h base e b i here within is part =
       let there = here ∙ ap Some is in
       let same = same_Some b base (sym (ap base_of there) ∙ part) in
-      subst (λ b. expression_is_written m es (expression.AccessIndex b i) ≡ true) same
+      subst (λ b. expression_has_own_form m es (expression.AccessIndex b i) ≡ true) same
       (expression_formed h (expression.AccessIndex b i) there within)
 
   -- what the operand of a conversion is converted to
   pub converted_is : (x : ℕ) (kind : ScalarKind) (convert : Option ℕ) →
-      expression_is_written m es (expression.As x kind convert) ≡ true → (from : TypeInner) →
+      expression_has_own_form m es (expression.As x kind convert) ≡ true → (from : TypeInner) →
       type_known (context t) x ≡ Some from →
       (to : TypeInner) × ((conversion_target from kind convert ≡ Some to)
       × (is_spelled m.types (resolution.Value to) ≡ true))
@@ -568,14 +568,14 @@ module _ (t : FunctionText) (can : CanWrite t) where
   -- the load of a matrix that is written is from scalars that are known
   pub matrix_loaded : (columns rows : CooperativeSize) (role : CooperativeRole)
       (place : CooperativeData) →
-      expression_is_written m es (expression.CooperativeLoad columns rows role place) ≡ true →
+      expression_has_own_form m es (expression.CooperativeLoad columns rows role place) ≡ true →
       LoadedMatrix m (context t) columns rows role place.pointer
   matrix_loaded columns rows role place may = loaded_matrix m info es columns rows role place may
 
   -- the type of which an expression that is written makes a value has a form
   pub made_value : {h : ℕ} {e own : Expression} (ty : ℕ) → slice_get f.expressions h ≡ Some e →
       IsInText t h → e ≡ own →
-      expression_is_written m es own ≡ is_spellable m (resolution.Handle ty) →
+      expression_has_own_form m es own ≡ is_spellable m (resolution.Handle ty) →
       IsTrue (is_spelled m.types (resolution.Handle ty))
   made_value {h} {e} {own} ty here within is names =
       spelled_of_spellable m (resolution.Handle ty) (sym names ∙ written_as here within is)

@@ -6,8 +6,8 @@ use Rattle.std.proofs.Common.{◌≡◌, ◌≤◌, ◌<◌, ℕ, zero, suc, Boo
 use Rattle.std.proofs.Common.{None, refl, sym, ◌∙◌, arith, slice_get, subst}
 use Rattle.std.specs.Prelude.{if◌then◌else◌}
 use Rattle.std.specs.Option.{is_some, option_and_then, option_map_or}
-use Rattle.module_meaning.specs.ExpressionForms.{global_is_written, global_is_written_over}
-use Rattle.module_meaning.specs.ExpressionForms.{global_is_written_within}
+use Rattle.module_meaning.specs.ExpressionForms.{global_has_form, global_has_form_over}
+use Rattle.module_meaning.specs.ExpressionForms.{global_has_form_within}
 use Rattle.naga_ir.specs.declared.expression.Expression.{Expression}
 use Rattle.naga_ir.specs.declared.expression.Expression.TheVariants as expression
 use Rattle.naga_ir.specs.declared.module.Constant.{Constant}
@@ -21,17 +21,17 @@ use Rattle.naga_wgsl_fns.specs.ModuleText.{CanWriteOf}
 -- what one is written by has its text, is written as it is, and does not stand after it
 pub record IsRepresentative (m : Module) (h representative : ℕ) : Type 0 where
   pub text : global_text m representative ≡ global_text m h
-  pub written : global_is_written m representative ≡ true
+  pub written : global_has_form m representative ≡ true
   pub before : representative ≤ h
 
 module _ (m : Module) (can : CanWriteOf m) (representatives : List ℕ) (are : AreRepresentatives m representatives) where
-  itself : (h : ℕ) → global_is_written m h ≡ true → IsRepresentative m h h
+  itself : (h : ℕ) → global_has_form m h ≡ true → IsRepresentative m h h
   itself h is = record { text = refl; written = is; before = omega arith }
 
   -- by the initialiser of the constant that it names
   of_initialiser : (h c : ℕ) (k : Constant) →
       slice_get m.global_expressions h ≡ Some (expression.Constant c) →
-      slice_get m.constants c ≡ Some k → is_some k.name ≡ false → global_is_written m h ≡ true →
+      slice_get m.constants c ≡ Some k → is_some k.name ≡ false → global_has_form m h ≡ true →
       (representative : ℕ) → IsRepresentative m k.init representative → IsRepresentative m h representative
   of_initialiser h c k at there unnamed is representative of =
       let before = (in_order m can).initialisers h c k at there in
@@ -47,8 +47,8 @@ module _ (m : Module) (can : CanWriteOf m) (representatives : List ℕ) (are : A
   -- the initialiser of a constant without a name is written where the constant is
   written_initialiser : (h c : ℕ) (k : Constant) →
       slice_get m.global_expressions h ≡ Some (expression.Constant c) →
-      slice_get m.constants c ≡ Some k → is_some k.name ≡ false → global_is_written m h ≡ true →
-      global_is_written m k.init ≡ true
+      slice_get m.constants c ≡ Some k → is_some k.name ≡ false → global_has_form m h ≡ true →
+      global_has_form m k.init ≡ true
   written_initialiser h c k at there unnamed is =
       let order = in_order m can in
       initialiser_written m order c (constant_passes m order h (expression.Constant c) c at refl is) k
@@ -56,8 +56,8 @@ module _ (m : Module) (can : CanWriteOf m) (representatives : List ℕ) (are : A
 
   -- so it is for one by those before it
   over_those : (h : ℕ) (e : Expression) → slice_get m.global_expressions h ≡ Some e →
-      global_is_written m h ≡ true →
-      ((x : ℕ) → x < h → global_is_written m x ≡ true → IsRepresentative m x (representative_at representatives x)) →
+      global_has_form m h ≡ true →
+      ((x : ℕ) → x < h → global_has_form m x ≡ true → IsRepresentative m x (representative_at representatives x)) →
       IsRepresentative m h (representative_over m (representative_at representatives) h e)
   over_those h (expression.Constant c) at is earlier = by (slice_get m.constants c) refl
     where
@@ -78,14 +78,14 @@ module _ (m : Module) (can : CanWriteOf m) (representatives : List ℕ) (are : A
       by (Some k) there = named k there (is_some k.name) refl
   over_those h _ at is earlier = itself h is
 
-  below : (bound h : ℕ) → h < bound → global_is_written m h ≡ true →
+  below : (bound h : ℕ) → h < bound → global_has_form m h ≡ true →
       IsRepresentative m h (representative_at representatives h)
   below zero h lt is = absurd (omega (arith, lt))
   below (suc bound) h lt is = by (slice_get m.global_expressions h) refl is (below bound)
     where
       by : (o : Option Expression) → slice_get m.global_expressions h ≡ o →
-          option_map_or (global_is_written_over m (global_is_written_within h m)) o false ≡ true →
-          ((x : ℕ) → x < bound → global_is_written m x ≡ true →
+          option_map_or (global_has_form_over m (global_has_form_within h m)) o false ≡ true →
+          ((x : ℕ) → x < bound → global_has_form m x ≡ true →
           IsRepresentative m x (representative_at representatives x)) →
           IsRepresentative m h (representative_at representatives h)
       by None at is_over earlier = absurd cc
@@ -94,6 +94,6 @@ module _ (m : Module) (can : CanWriteOf m) (representatives : List ℕ) (are : A
           (over_those h e at is (λ x lt_x. earlier x (omega (arith, lt, lt_x))))
 
   -- what the table tells of one
-  pub representative_is : (h : ℕ) → global_is_written m h ≡ true →
+  pub representative_is : (h : ℕ) → global_has_form m h ≡ true →
       IsRepresentative m h (representative_at representatives h)
   representative_is h is = below (suc h) h (omega arith) is

@@ -5,7 +5,7 @@ use Rattle.std.specs.Prelude.{Err, IfErr, IsErrAnd, IsFalse, IsTrue, Ok, OnErr, 
 use Rattle.naga_ir.specs.declared.module.Module.{Module}
 use Rattle.naga_info.specs.declared.info.ModuleInfo.{ModuleInfo}
 use Rattle.module_meaning.specs.acceptance.Accepted.{is_accepted}
-use Rattle.module_meaning.specs.ExpressionForms.{global_is_written}
+use Rattle.module_meaning.specs.ExpressionForms.{global_has_form}
 use Rattle.module_meaning.specs.Types.{type_names}
 use Rattle.naga_form.proofs.declarations.DeclaredPrograms.{written_global}
 use Rattle.naga_form.proofs.declarations.GlobalValues.{has_value_of}
@@ -42,7 +42,7 @@ module _ (m : Module) (handle : ℕ) where
       untouched = λ tells. (refl, refl);
     }
 
-    pub global_for_form : (error : Error) → IsFalse (global_is_written m handle) →
+    pub global_for_form : (error : Error) → IsFalse (global_has_form m handle) →
         NamesGlobal m error handle → IsGlobalRefusal m handle before before error
     global_for_form (FmtError e) unsupported named = absurd (no_global_sink m e handle named)
     global_for_form (Memory e) unsupported named = tt
@@ -55,7 +55,7 @@ module _ (m : Module) (handle : ℕ) where
   global_for_want before after _ is = absurd is
 
   module _ (info : ModuleInfo) (accepted : IsTrue (is_accepted m info))
-      (formed : IsTrue (global_is_written m handle)) where
+      (formed : IsTrue (global_has_form m handle)) where
     one_expression :
         HasOneReading ReadsExpression (global_text m handle) (global_form m (type_names m) handle)
     unfolding global_text

@@ -9,9 +9,9 @@ use Rattle.std.specs.Option.{is_none, is_some, option_and_then, option_map_or}
 use Rattle.std.proofs.lemmas.Bool.{not-false, not-true, or_parts}
 use Rattle.module_meaning.proofs.Stepwise.{by_those_before}
 use Rattle.module_meaning.specs.Undeclared.{is_spellable}
-use Rattle.module_meaning.specs.ExpressionForms.{constant_is_written, global_is_written}
-use Rattle.module_meaning.specs.ExpressionForms.{global_is_written_over}
-use Rattle.module_meaning.specs.ExpressionForms.{global_is_written_within, is_written_literal}
+use Rattle.module_meaning.specs.ExpressionForms.{constant_has_form, global_has_form}
+use Rattle.module_meaning.specs.ExpressionForms.{global_has_form_over}
+use Rattle.module_meaning.specs.ExpressionForms.{global_has_form_within, literal_has_form}
 use Rattle.naga_info.specs.declared.info.TypeResolution.TheVariants.{Handle}
 use Rattle.naga_ir.specs.Operands.{expression_operands}
 use Rattle.naga_ir.specs.declared.expression.Expression.{Expression}
@@ -42,28 +42,28 @@ as_it_is (x ∷ xs) = ap (λ ys. x ∷ ys) (as_it_is xs)
 -- ---- operands
 module _ (m : Module) where
   abbrev unwritten : ℕ → Bool
-  unwritten h = not (global_is_written m h)
+  unwritten h = not (global_has_form m h)
 
   -- where none is found that is not written, all are
   all_written : (xs : List ℕ) →
       ((i x : ℕ) → slice_get xs i ≡ Some x → unwritten x ≡ false) →
-      list_all (global_is_written m) xs ≡ true
+      list_all (global_has_form m) xs ≡ true
   all_written [] each = refl
   all_written (x ∷ xs) each =
-      ap₂ (λ a b. a && b) (not-false (global_is_written m x) (each 0 x refl))
+      ap₂ (λ a b. a && b) (not-false (global_has_form m x) (each 0 x refl))
       (all_written xs (λ i y at. each (suc i) y at))
 
   pub none_unwritten : (xs : List ℕ) → None ≡ find unwritten xs →
-      list_all (global_is_written m) xs ≡ true
+      list_all (global_has_form m) xs ≡ true
   none_unwritten xs is = all_written xs (none_passes unwritten xs (sym is))
 
   -- the one that is found is among these, and is not written
   pub one_unwritten : (xs : List ℕ) (x : ℕ) → Some x ≡ find unwritten xs →
-      IsAmong xs x × (global_is_written m x ≡ false)
+      IsAmong xs x × (global_has_form m x ≡ false)
   one_unwritten xs x is =
       let found = found_passes unwritten xs x (sym is) in (
         among_there xs found.0 x found.1,
-        not-true (global_is_written m x) found.2,
+        not-true (global_has_form m x) found.2,
       )
 
 -- ---- what has no form
@@ -72,18 +72,18 @@ unnamed None is = refl
 unnamed (Some x) is = absurd cc
 
 module _ (m : Module) (ordered : GlobalsStandInOrder m) (h : ℕ)
-    (unsupported : global_is_written m h ≡ false) where
+    (unsupported : global_has_form m h ≡ false) where
   -- it is not written by what stands before it
   fails_over : (e : Expression) → slice_get m.global_expressions h ≡ Some e →
-      global_is_written_over m (global_is_written m) e ≡ false
+      global_has_form_over m (global_has_form m) e ≡ false
   fails_over e at =
-      by_those_before false m.global_expressions (global_is_written_over m)
-      (λ k h. global_is_written_within k m h) (λ k h. refl) (global_same m ordered) h e at
-      (global_is_written m) (λ x lt. refl)
+      by_those_before false m.global_expressions (global_has_form_over m)
+      (λ k h. global_has_form_within k m h) (λ k h. refl) (global_same m ordered) h e at
+      (global_has_form m) (λ x lt. refl)
       ∙ unsupported
 
   pub literal_fails : (e : Expression) (value : _) → slice_get m.global_expressions h ≡ Some e →
-      e ≡ expression.Literal value → is_written_literal value ≡ false
+      e ≡ expression.Literal value → literal_has_form value ≡ false
   literal_fails e value at same = fails_over (expression.Literal value) (at ∙ ap Some same)
 
   pub zero_fails : (e : Expression) (ty : ℕ) → slice_get m.global_expressions h ≡ Some e →
@@ -92,7 +92,7 @@ module _ (m : Module) (ordered : GlobalsStandInOrder m) (h : ℕ)
 
   pub composed_fails : (e : Expression) (ty : ℕ) (parts : _) →
       slice_get m.global_expressions h ≡ Some e → e ≡ expression.Compose ty parts →
-      list_all (global_is_written m) parts.items ≡ true → is_spellable m (Handle ty) ≡ false
+      list_all (global_has_form m) parts.items ≡ true → is_spellable m (Handle ty) ≡ false
   composed_fails e ty parts at same all =
       by (is_spellable m (Handle ty))
       (ap (λ b. is_spellable m (Handle ty) && b) (sym all)
@@ -104,7 +104,7 @@ module _ (m : Module) (ordered : GlobalsStandInOrder m) (h : ℕ)
 
   pub splat_fails : (e : Expression) (size : _) (value : ℕ) →
       slice_get m.global_expressions h ≡ Some e → e ≡ expression.Splat size value →
-      global_is_written m value ≡ false
+      global_has_form m value ≡ false
   splat_fails e size value at same =
       fails_over (expression.Splat size value) (at ∙ ap Some same)
 
@@ -117,12 +117,12 @@ module _ (m : Module) (ordered : GlobalsStandInOrder m) (h : ℕ)
   pub constant_fails : (e : Expression) (c : ℕ) (k : Constant) →
       slice_get m.global_expressions h ≡ Some e → e ≡ expression.Constant c →
       slice_get m.constants c ≡ Some k →
-      (k.init < h) × (global_is_written m k.init ≡ false) × (is_none k.name ≡ true)
+      (k.init < h) × (global_has_form m k.init ≡ false) × (is_none k.name ≡ true)
   constant_fails e c k at same there =
       let here = at ∙ ap Some same in
-      let both = or_parts (is_some k.name) (global_is_written m k.init)
+      let both = or_parts (is_some k.name) (global_has_form m k.init)
       (sym
-      (ap (λ o. option_map_or (λ k. is_some k.name || global_is_written m k.init) o false)
+      (ap (λ o. option_map_or (λ k. is_some k.name || global_has_form m k.init) o false)
       there)
       ∙ fails_over (expression.Constant c) here) in
       (ordered.initialisers h c k here there, both.1, unnamed k.name both.0)
@@ -150,7 +150,7 @@ no_scalar m h _ none = tt
 -- the scalar of a type
 pub of_type : (m : Module) (h ty : ℕ) (e : Expression) → slice_get m.global_expressions h ≡ Some e →
     made_type e ≡ Some ty →
-    list_all (global_is_written m) (expression_operands e) ≡ true → (it : Construct) → CarriesOfType m (Handle ty) it →
+    list_all (global_has_form m) (expression_operands e) ≡ true → (it : Construct) → CarriesOfType m (Handle ty) it →
     CarriesOfGlobal m h it
 of_type m h ty e at made all (construct.ScalarType s) lacks = LacksOfType h ty e at made all lacks
 of_type m h ty e at made all _ lacks = tt
@@ -158,7 +158,7 @@ of_type m h ty e at made all _ lacks = tt
 -- that of the first operand without a form
 pub of_operand : (m : Module) (h x : ℕ) (e : Expression) → slice_get m.global_expressions h ≡ Some e →
     is_operation e ≡ false →
-    find (λ x. not (global_is_written m x)) (expression_operands e) ≡ Some x → (it : Construct) →
+    find (λ x. not (global_has_form m x)) (expression_operands e) ≡ Some x → (it : Construct) →
     CarriesOfGlobal m x it →
     CarriesOfGlobal m h it
 of_operand m h x e at made first (construct.ScalarType s) lacks = LacksOfOperand h x e at made first lacks
@@ -183,14 +183,14 @@ constant_carries m it c k there carried =
 -- has none names why that one has none.
 pub record IsUnsupportedItem (m : Module) (h representative : ℕ) : Type 0 where
   pub there : representative < length m.global_expressions
-  pub unsupported : global_is_written m representative ≡ false
+  pub unsupported : global_has_form m representative ≡ false
   pub before : representative ≤ h
   pub names : (error : Error) → NamesGlobal m error representative → NamesGlobal m error h
   pub carries : (it : Construct) → CarriesOfGlobal m representative it → CarriesOfGlobal m h it
 
 module _ (m : Module) (ordered : GlobalsStandInOrder m) (known : List ℕ)
     (are : AreRepresentatives m known) where
-  itself : (h : ℕ) → h < length m.global_expressions → global_is_written m h ≡ false →
+  itself : (h : ℕ) → h < length m.global_expressions → global_has_form m h ≡ false →
       IsUnsupportedItem m h h
   itself h there unsupported = record {
     there = there;
@@ -201,9 +201,9 @@ module _ (m : Module) (ordered : GlobalsStandInOrder m) (known : List ℕ)
   }
 
   -- it is so for one by those before it
-  over_those : (h : ℕ) → h < length m.global_expressions → global_is_written m h ≡ false →
+  over_those : (h : ℕ) → h < length m.global_expressions → global_has_form m h ≡ false →
       (e : Expression) → slice_get m.global_expressions h ≡ Some e →
-      ((x : ℕ) → x < h → x < length m.global_expressions → global_is_written m x ≡ false →
+      ((x : ℕ) → x < h → x < length m.global_expressions → global_has_form m x ≡ false →
       IsUnsupportedItem m x (representative_at known x)) →
       IsUnsupportedItem m h (representative_over m (representative_at known) h e)
   over_those h within unsupported (expression.Constant c) at earlier = by (slice_get m.constants c) refl
@@ -239,7 +239,7 @@ module _ (m : Module) (ordered : GlobalsStandInOrder m) (known : List ℕ)
   over_those h within unsupported _ at earlier = itself h within unsupported
 
   below : (bound h : ℕ) → h < bound → h < length m.global_expressions →
-      global_is_written m h ≡ false → IsUnsupportedItem m h (representative_at known h)
+      global_has_form m h ≡ false → IsUnsupportedItem m h (representative_at known h)
   below zero h lt within unsupported = absurd (omega (arith, lt))
   below (suc bound) h lt within unsupported =
       let found = element m.global_expressions h within in
@@ -247,7 +247,7 @@ module _ (m : Module) (ordered : GlobalsStandInOrder m) (known : List ℕ)
       (over_those h within unsupported found.0 found.1
       (λ x lt_x. below bound x (omega (arith, lt, lt_x))))
 
-  pub unsupported_is : (h : ℕ) → h < length m.global_expressions → global_is_written m h ≡ false →
+  pub unsupported_is : (h : ℕ) → h < length m.global_expressions → global_has_form m h ≡ false →
       IsUnsupportedItem m h (representative_at known h)
   unsupported_is h within unsupported = below (suc h) h (omega arith) within unsupported
 
@@ -275,8 +275,8 @@ constant_named m error c k there is =
     subst (λ o. IsSomeAnd o (λ k. NamesGlobal m error k.init)) (sym there) is
 
 pub initialiser_fails : (m : Module) (c : ℕ) (k : Constant) → slice_get m.constants c ≡ Some k →
-    constant_is_written m c ≡ false → global_is_written m k.init ≡ false
+    constant_has_form m c ≡ false → global_has_form m k.init ≡ false
 initialiser_fails m c k there unsupported =
-    (or_parts (is_some k.name) (global_is_written m k.init)
-    (sym (ap (λ o. option_map_or (λ k. is_some k.name || global_is_written m k.init) o false) there)
+    (or_parts (is_some k.name) (global_has_form m k.init)
+    (sym (ap (λ o. option_map_or (λ k. is_some k.name || global_has_form m k.init) o false) there)
     ∙ unsupported)).1

@@ -21,7 +21,7 @@ use Rattle.naga_ir.specs.declared.module.Module.{Module}
 use Rattle.naga_ir.specs.declared.types.Scalar.{Scalar}
 use Rattle.naga_ir.specs.declared.types.TypeInner.{TypeInner}
 use Rattle.naga_ir.specs.declared.types.TypeInner.TheVariants as inner
-use Rattle.module_meaning.specs.ExpressionForms.{global_is_written}
+use Rattle.module_meaning.specs.ExpressionForms.{global_has_form}
 use Rattle.module_meaning.specs.LackingScalars.{lacking_scalar}
 use Rattle.naga_scope.specs.declared.declarations.UnsupportedDeclaration.{UnsupportedDeclaration}
 use Rattle.naga_scope.specs.declared.declarations.UnsupportedDeclaration.TheVariants as declaration
@@ -59,11 +59,11 @@ CarriesOfConversion new it = CarriesScalar (option_and_then converted_to new) it
 -- operands that has no form, or with the initialiser of the constant without a name that it names.
 pub data LacksScalar (m : Module) (s : Scalar) : (handle : ℕ) → Type 0 where
   OfType : (h ty : ℕ) (e : Expression) → slice_get m.global_expressions h ≡ Some e →
-      made_type e ≡ Some ty → IsTrue (list_all (global_is_written m) (expression_operands e)) →
+      made_type e ≡ Some ty → IsTrue (list_all (global_has_form m) (expression_operands e)) →
       lacking_scalar m.types (Handle ty) ≡ Some s → LacksScalar m s h
   OfOperand : (h x : ℕ) (e : Expression) → slice_get m.global_expressions h ≡ Some e →
       IsFalse (is_operation e) →
-      find (λ x. not (global_is_written m x)) (expression_operands e) ≡ Some x →
+      find (λ x. not (global_has_form m x)) (expression_operands e) ≡ Some x →
       LacksScalar m s x → LacksScalar m s h
   OfConstant : (h c : ℕ) (k : constant.Constant) →
       slice_get m.global_expressions h ≡ Some (Constant c) → slice_get m.constants c ≡ Some k →

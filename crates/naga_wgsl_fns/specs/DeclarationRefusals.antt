@@ -10,7 +10,7 @@ use Rattle.module_meaning.specs.DeclarationForms.{stage_has_form}
 use Rattle.module_meaning.specs.FunctionNumbers.{all_functions}
 use Rattle.module_meaning.specs.Layouts.{HasOtherStride, IsMisplaced}
 use Rattle.module_meaning.specs.Undeclared.{is_spellable}
-use Rattle.module_meaning.specs.ExpressionForms.{global_is_written}
+use Rattle.module_meaning.specs.ExpressionForms.{global_has_form}
 use Rattle.naga_info.specs.declared.info.TypeResolution.TheVariants.{Handle}
 use Rattle.naga_ir.specs.declared.binding.Binding.{Binding}
 use Rattle.naga_ir.specs.declared.module.EntryPoint.{EntryPoint}
@@ -79,7 +79,7 @@ pub data NamesHead (m : Module) (number : ℕ) (error : Error) : Type 0 where
 pub data NamesDeclaration (m : Module) (error : Error) : Type 0 where
   OfType : (ty : ℕ) → IsDeclaredType m ty → IsFalse (is_spellable m (Handle ty)) →
       NamesType m (Handle ty) error → NamesDeclaration m error
-  OfInitialiser : (h : ℕ) → IsInitialiser m h → IsFalse (global_is_written m h) →
+  OfInitialiser : (h : ℕ) → IsInitialiser m h → IsFalse (global_has_form m h) →
       NamesGlobal m error h → NamesDeclaration m error
   OfMember : (b : Binding) → IsMemberBinding m b → IsFalse (binding_has_form b) →
       NamesBuiltin error → NamesDeclaration m error

@@ -29,7 +29,7 @@ use Rattle.naga_back.specs.declared.flags.WriterFlags.{WriterFlags}
 use Rattle.naga_wgsl_fns.specs.declared.functions.FunctionText.{FunctionText}
 use Rattle.naga_wgsl_fns.specs.FunctionText.{named_in, handles_in, source, naming}
 use Rattle.naga_wgsl_fns.specs.FunctionText.{number, type_names_of}
-use Rattle.naga_wgsl_fns.specs.Positions.{HasScope}
+use Rattle.naga_wgsl_fns.specs.BodyStates.{HasScope}
 use Rattle.module_meaning.specs.FunctionNumbers.{all_functions, all_infos}
 use Rattle.naga_wgsl_fns.specs.Attributes.{attributes_text}
 use Rattle.naga_wgsl_fns.specs.Names.{name_of_function}

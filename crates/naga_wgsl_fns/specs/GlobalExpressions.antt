@@ -6,7 +6,7 @@ use Rattle.std.specs.Prelude.{IsTrue, Ok, Err, OnErr, OnOk, Result}
 use Rattle.naga_ir.specs.declared.module.Module.{Module}
 use Rattle.naga_info.specs.declared.info.ModuleInfo.{ModuleInfo}
 use Rattle.module_meaning.specs.acceptance.Accepted.{is_accepted}
-use Rattle.module_meaning.specs.ExpressionForms.{global_is_written}
+use Rattle.module_meaning.specs.ExpressionForms.{global_has_form}
 use Rattle.module_meaning.specs.Names.{LabelNames}
 use Rattle.naga_form.specs.Declarations.{program_under}
 use Rattle.naga_form.specs.GlobalValues.{HasValueOf}
@@ -26,11 +26,11 @@ abbrev pub IsGlobalRefusal : Module → (handle : ℕ) → (before now : ℕ) �
 IsGlobalRefusal m handle before now (FmtError e) = IsSinkWant before now e
 IsGlobalRefusal m handle before now (Memory e) = ⊤
 IsGlobalRefusal m handle before now error =
-    IsFalse (global_is_written m handle) × NamesGlobal m error handle
+    IsFalse (global_has_form m handle) × NamesGlobal m error handle
 
 abbrev pub RefusesGlobalOnlyFor : Result Unit Error → Module → (handle : ℕ) → (before now : ℕ) →
     Type 0
-RefusesGlobalOnlyFor (Ok _) m handle before now = IsTrue (global_is_written m handle)
+RefusesGlobalOnlyFor (Ok _) m handle before now = IsTrue (global_has_form m handle)
 RefusesGlobalOnlyFor (Err error) m handle before now = IsGlobalRefusal m handle before now error
 
 -- However what was appended is read, it has the value of the module's own expression, where it

@@ -15,7 +15,7 @@ pub mod Items
 pub mod Literals
 pub mod ModuleText
 pub mod Names
-pub mod Positions
+pub mod BodyStates
 pub mod Refusals
 pub mod Stages
 pub mod Statements

@@ -31,9 +31,9 @@ use Rattle.naga_ir.specs.declared.module.Constant as constant
 use Rattle.naga_ir.specs.declared.module.Function.{Function}
 use Rattle.naga_ir.specs.declared.module.Module.{Module}
 use Rattle.module_meaning.specs.FunctionNumbers.{all_functions, all_infos}
-use Rattle.module_meaning.specs.ExpressionForms.{expression_has_form, global_is_written}
-use Rattle.module_meaning.specs.ExpressionForms.{is_written_literal, known_passes}
-use Rattle.module_meaning.specs.Sampling.{offset_is_written, sampling_is_written}
+use Rattle.module_meaning.specs.ExpressionForms.{expression_has_form, global_has_form}
+use Rattle.module_meaning.specs.ExpressionForms.{literal_has_form, known_passes}
+use Rattle.module_meaning.specs.Sampling.{offset_has_form, sampling_has_form}
 use Rattle.module_meaning.specs.LackingScalars.{lacking_scalar}
 use Rattle.module_meaning.specs.Written.{IsSpelledIn, IsWrittenIn, WrittenHaveFormsAt}
 use Rattle.module_meaning.specs.ExpressionOperators.{has_parts}
@@ -160,7 +160,7 @@ NamesRayQuery error = IsUnimplemented (codes "ray query") error
 
 -- An image is sampled in a way that has no form; or in one that has, with an offset that applies an
 -- operator.
-abbrev pub NamesSampling : (sampling_is_written offset_is_written : Bool) → Error → Type 0
+abbrev pub NamesSampling : (sampling_has_form offset_has_form : Bool) → Error → Type 0
 NamesSampling sampling offset error =
     (IsFalse sampling × IsUnimplemented (codes "sampling form") error)
     ⊎ (IsTrue sampling × IsFalse offset × IsCustom (codes "operator in a constant") error)
@@ -189,16 +189,16 @@ made_type e = None
 pub data NamesGlobal (m : Module) (error : Error) : (handle : ℕ) → Type 0 where
   OfLiteral : (h : ℕ) (value : LiteralValue) →
       slice_get m.global_expressions h ≡ Some (Literal value) →
-      IsFalse (is_written_literal value) → NamesLiteral value error → NamesGlobal m error h
+      IsFalse (literal_has_form value) → NamesLiteral value error → NamesGlobal m error h
   OfType : (h ty : ℕ) (e : Expression) → slice_get m.global_expressions h ≡ Some e →
-      made_type e ≡ Some ty → IsTrue (list_all (global_is_written m) (expression_operands e)) →
+      made_type e ≡ Some ty → IsTrue (list_all (global_has_form m) (expression_operands e)) →
       IsFalse (is_spellable m (Handle ty)) → NamesType m (Handle ty) error → NamesGlobal m error h
   OfOperation : (h : ℕ) (e : Expression) → slice_get m.global_expressions h ≡ Some e →
       IsTrue (is_operation e) → IsCustom (codes "operator in a constant") error →
       NamesGlobal m error h
   OfOperand : (h x : ℕ) (e : Expression) → slice_get m.global_expressions h ≡ Some e →
       IsFalse (is_operation e) →
-      find (λ x. not (global_is_written m x)) (expression_operands e) ≡ Some x →
+      find (λ x. not (global_has_form m x)) (expression_operands e) ≡ Some x →
       NamesGlobal m error x → NamesGlobal m error h
   OfConstant : (h c : ℕ) (k : constant.Constant) →
       slice_get m.global_expressions h ≡ Some (Constant c) → slice_get m.constants c ≡ Some k →
@@ -227,8 +227,8 @@ NamesExpression m known es (As operand kind convert) error =
     NamesConversion (converted m.types known operand kind convert) error
 NamesExpression m known es
     (ImageSample image sampler gather coordinate array_index offset level depth_ref clamp) error =
-    NamesSampling (sampling_is_written gather level (is_some depth_ref) clamp)
-    (offset_is_written es offset) error
+    NamesSampling (sampling_has_form gather level (is_some depth_ref) clamp)
+    (offset_has_form es offset) error
 NamesExpression m known es (ImageLoad image coordinate array_index sample level) error =
     IsCustom (codes "image load with sample and level") error
 NamesExpression m known es (ZeroValue ty) error = NamesType m (Handle ty) error

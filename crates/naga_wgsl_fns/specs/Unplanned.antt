@@ -15,13 +15,13 @@ use Rattle.naga_wgsl_fns.specs.Refusals.{TellsPlanError}
 use Rattle.naga_wgsl_fns.specs.declared.refusals.construct.Construct.{Construct}
 use Rattle.naga_wgsl_fns.specs.declared.refusals.error.Error.{Error}
 use Rattle.naga_wgsl_fns.specs.declared.refusals.error.Error.TheVariants.{Memory}
-use Rattle.naga_wgsl_fns.specs.declared.plans.FunctionPart.{FunctionPart}
-use Rattle.naga_wgsl_fns.specs.declared.plans.FunctionPart.TheVariants as part
+use Rattle.naga_wgsl_fns.specs.declared.plans.FunctionRefusalPosition.{FunctionRefusalPosition}
+use Rattle.naga_wgsl_fns.specs.declared.plans.FunctionRefusalPosition.TheVariants as part
 use Rattle.naga_wgsl_fns.specs.declared.plans.Unplanned.{Unplanned}
 use Rattle.naga_wgsl_fns.specs.declared.plans.Unplanned.TheVariants as unplanned
 
 -- the part of a function that an error of a plan tells of
-abbrev pub part_of : PlanError → FunctionPart
+abbrev pub part_of : PlanError → FunctionRefusalPosition
 part_of (plan_error.OutOfScope fault) = part.Scope fault
 part_of (plan_error.StatementWithoutForm number statement) = part.Statement number
 part_of (plan_error.WithoutForm line handle) = part.Expression line handle
@@ -43,7 +43,7 @@ is_want _ = false
 -- the function with this number has no plan where the namer was this: for a construct at a part of
 -- it, which is the first in the order of the text
 pub record IsRefusedFor (explicit : Bool) (m : Module) (info : ModuleInfo) (number : ℕ)
-    (namer : Names) (it : Construct) (at : FunctionPart) : Type 0 where
+    (namer : Names) (it : Construct) (at : FunctionRefusalPosition) : Type 0 where
   pub error : PlanError
   pub refused : IsRefusalToPlanOf explicit m info number namer error
   pub first : IsFirstToPlanOf explicit m info number namer error

@@ -17,13 +17,13 @@ ghost use Rattle.naga_words.specs.Output.{Writes};
 ghost use Rattle.naga_wgsl_fns.specs.Expressions.{operands_left};
 ghost use Rattle.naga_wgsl_fns.specs.FunctionText.{AreInText, CanWrite, CanWriteStatement, IsLet};
 ghost use Rattle.naga_wgsl_fns.specs.FunctionText.{handles_in};
-ghost use Rattle.naga_wgsl_fns.specs.Positions.{HasScope, PassesStatement, text_at};
+ghost use Rattle.naga_wgsl_fns.specs.BodyStates.{HasScope, PassesStatement, text_at};
 ghost use Rattle.naga_wgsl_fns.specs.Statements.{act_text, act_word, after_statement, is_act};
 ghost use Rattle.naga_wgsl_fns.specs.Statements.{barriers_text, barrier_text};
 ghost use Rattle.naga_wgsl_fns.specs.Statements.{outcome_text, statement_text};
 
 use crate::functions::FunctionText;
-use crate::lines::Position;
+use crate::lines::BodyState;
 use crate::names::write_numbered_name;
 use bitflags::Flags;
 use naga_ir::{
@@ -39,7 +39,7 @@ impl FunctionText<'_> {
     pub(crate) fn write_act<W: TextSink>(
         &self,
         statement: &Statement,
-        at: &mut Position,
+        at: &mut BodyState,
         out: &mut Output<'_, W>,
     )
         requires can { CanWrite self.now }
@@ -57,7 +57,7 @@ impl FunctionText<'_> {
         let word = self.act_str(statement);
         self.write_act_line(word, statement, at, out);
         if let Some(outcome) = statement.result() {
-            at.scope.give(outcome);
+            at.scope.introduce(outcome);
         }
     }
 
@@ -67,7 +67,7 @@ impl FunctionText<'_> {
         &self,
         word: &str,
         statement: &Statement,
-        at: &Position,
+        at: &BodyState,
         out: &mut Output<'_, W>,
     )
         requires can { CanWrite self.now }
@@ -269,7 +269,7 @@ fn matrix_store_str(row_major: bool) -> &'static str
 
 /// A barrier: a line for each kind of access that it keeps apart.
 #[tactic(auto, using(naga_words::proofs::Writing::writes_then, crate::proofs::ActRows::barriers_row))]
-pub(crate) fn write_barrier<W: TextSink>(barrier: Barrier, at: &Position, out: &mut Output<'_, W>)
+pub(crate) fn write_barrier<W: TextSink>(barrier: Barrier, at: &BodyState, out: &mut Output<'_, W>)
     ensures { Writes W.text W.failures out.old out.new (barriers_text at.now.indent barrier) }
 {
     write_barrier_if(
@@ -300,7 +300,7 @@ pub(crate) fn write_barrier<W: TextSink>(barrier: Barrier, at: &Position, out: &
 
 /// The line of a barrier, where it is of that kind.
 #[tactic(auto, using(naga_words::proofs::Writing::writes_nothing), unfolding(crate::specs::Statements::barrier_text))]
-fn write_barrier_if<W: TextSink>(is_kept: bool, line: &str, at: &Position, out: &mut Output<'_, W>)
+fn write_barrier_if<W: TextSink>(is_kept: bool, line: &str, at: &BodyState, out: &mut Output<'_, W>)
     ensures { Writes W.text W.failures out.old out.new (barrier_text at.now.indent is_kept line.now) }
 {
     if is_kept {

@@ -40,9 +40,9 @@ pub fn write_worded<W: TextSink>(front: &str, word: &str, out: &mut Output<'_, W
     out.put(") ");
 }
 
-/// A text that stands there if a test passes.
+/// Writes a piece if the condition holds.
 #[tactic(auto, unfolding(crate::specs::Attributes::text_if))]
-pub fn write_if<W: TextSink>(there: bool, piece: &str, out: &mut Output<'_, W>)
+pub fn write_optional_piece<W: TextSink>(there: bool, piece: &str, out: &mut Output<'_, W>)
     ensures { Writes W.text W.failures out.old out.new (text_if there piece.now) }
 {
     out.put(if there { piece } else { "" });

@@ -1,4 +1,4 @@
-//! Blocks.
+//! Writes blocks.
 
 ghost use Rattle.std.specs.Prelude.{suc};
 ghost use Rattle.naga_ir.specs.StatementTree.{block, branch, has_no_statements};
@@ -6,12 +6,12 @@ ghost use Rattle.naga_scope.specs.Changes.{block_changes, statement_changes};
 ghost use Rattle.naga_scope.specs.Log.{Same};
 ghost use Rattle.naga_words.specs.Output.{Writes};
 ghost use Rattle.naga_wgsl_fns.specs.FunctionText.{CanWrite, CanWriteBlock, CanWriteStatement};
-ghost use Rattle.naga_wgsl_fns.specs.Positions.{HasScope, PassesBlock, PassesStatement, text_at};
+ghost use Rattle.naga_wgsl_fns.specs.BodyStates.{HasScope, PassesBlock, PassesStatement, text_at};
 ghost use Rattle.naga_wgsl_fns.specs.Statements.{block_text, braces_text, else_text};
 ghost use Rattle.naga_wgsl_fns.specs.Statements.{statement_text};
 
 use crate::functions::FunctionText;
-use crate::lines::Position;
+use crate::lines::BodyState;
 use naga_ir::{Block, Expression, Handle};
 use naga_words::{Output, TextSink};
 
@@ -22,7 +22,7 @@ impl FunctionText<'_> {
     pub(crate) fn write_here<W: TextSink>(
         &self,
         body: &Block,
-        at: &mut Position,
+        at: &mut BodyState,
         out: &mut Output<'_, W>,
     )
         requires can { CanWrite self.now }
@@ -43,7 +43,7 @@ impl FunctionText<'_> {
     pub(crate) fn write_inner<W: TextSink>(
         &self,
         body: &Block,
-        at: &mut Position,
+        at: &mut BodyState,
         out: &mut Output<'_, W>,
     )
         requires can { CanWrite self.now }
@@ -67,7 +67,7 @@ impl FunctionText<'_> {
         &self,
         start: &str,
         body: &Block,
-        at: &mut Position,
+        at: &mut BodyState,
         out: &mut Output<'_, W>,
     )
         requires can { CanWrite self.now }
@@ -89,7 +89,7 @@ impl FunctionText<'_> {
     pub(crate) fn write_nested<W: TextSink>(
         &self,
         nested: &Block,
-        at: &mut Position,
+        at: &mut BodyState,
         out: &mut Output<'_, W>,
     )
         requires can { CanWrite self.now }
@@ -107,7 +107,7 @@ impl FunctionText<'_> {
     /// where the module has statements for it.
     #[cycle(statement)]
     #[tactic(auto, using(naga_words::proofs::Writing::writes_then, naga_words::proofs::Writing::writes_nothing, crate::proofs::BlockRows::else_row, crate::proofs::BlockRows::no_else, crate::proofs::Passing::nothing_passed))]
-    fn write_else<W: TextSink>(&self, reject: &Block, at: &mut Position, out: &mut Output<'_, W>)
+    fn write_else<W: TextSink>(&self, reject: &Block, at: &mut BodyState, out: &mut Output<'_, W>)
         requires can { CanWrite self.now }
         requires reject { CanWriteBlock self.now reject.now }
         requires scope { HasScope self.now at.old.scope (block_changes reject.now) }
@@ -131,7 +131,7 @@ impl FunctionText<'_> {
         condition: Handle<Expression>,
         accept: &Block,
         reject: &Block,
-        at: &mut Position,
+        at: &mut BodyState,
         out: &mut Output<'_, W>,
     )
         requires can { CanWrite self.now }

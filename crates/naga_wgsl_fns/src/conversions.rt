@@ -4,7 +4,7 @@ ghost use Rattle.std.specs.Prelude.{◌≡◌, ◌<◌, IsTrue, Some, length};
 ghost use Rattle.std.specs.Option.{is_some};
 ghost use Rattle.module_meaning.specs.Conversions.{conversion_target, keeps_bits};
 ghost use Rattle.module_meaning.specs.AlikeTypes.{is_spelled};
-ghost use Rattle.module_meaning.specs.ExpressionForms.{expression_is_written};
+ghost use Rattle.module_meaning.specs.ExpressionForms.{expression_has_own_form};
 ghost use Rattle.module_meaning.specs.acceptance.Ranges.{resolution_fits};
 ghost use Rattle.naga_ir.specs.declared.expression.Expression.TheVariants.{As};
 ghost use Rattle.naga_wgsl_fns.specs.Expressions.{bitcast_text, callee_text, cast_text};
@@ -33,7 +33,7 @@ impl FunctionText<'_> {
     )
         requires can { CanWrite self.now }
         requires handle { IsInText self.now handle }
-        requires formed { IsTrue (expression_is_written self.now.shader.now self.now.info.now
+        requires formed { IsTrue (expression_has_own_form self.now.shader.now self.now.info.now
             (As operand kind convert)) }
         ensures { Writes W.text W.failures out.old out.new
             (made_text self.now scope.now.table (conversion_callee self.now operand kind convert)
@@ -54,7 +54,7 @@ impl FunctionText<'_> {
         out: &mut Output<'_, W>,
     )
         requires can { CanWrite self.now }
-        requires formed { IsTrue (expression_is_written self.now.shader.now self.now.info.now
+        requires formed { IsTrue (expression_has_own_form self.now.shader.now self.now.info.now
             (As operand kind convert)) }
         ensures { Writes W.text W.failures out.old out.new
             (callee_text self.now operand kind convert) }

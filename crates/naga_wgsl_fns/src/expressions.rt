@@ -1,4 +1,4 @@
-//! Expressions.
+//! Writes expressions.
 
 ghost use Rattle.std.specs.Prelude.{[], ◌∷◌, ◌<◌, ◌≡◌, length, IsTrue};
 ghost use Rattle.module_meaning.specs.AlikeTypes.{is_spelled};

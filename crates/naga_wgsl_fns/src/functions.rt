@@ -1,4 +1,4 @@
-//! Functions.
+//! Writes functions and entry points.
 
 ghost use Rattle.std.specs.Prelude.{◌≡◌, ◌<◌, ◌++◌, IfErr, IsTrue, OnErr, OnOk, Some, length};
 ghost use Rattle.std.specs.Prelude.{slice_get, true};
@@ -19,7 +19,7 @@ ghost use Rattle.naga_wgsl_fns.specs.FunctionText.{CanWrite};
 ghost use Rattle.naga_back.specs.Flags.{annotates_types};
 ghost use Rattle.naga_wgsl_fns.specs.FunctionText.{AreInText, IsInText};
 ghost use Rattle.naga_wgsl_fns.specs.FunctionText.{number};
-ghost use Rattle.naga_wgsl_fns.specs.Positions.{HasScope, text_at};
+ghost use Rattle.naga_wgsl_fns.specs.BodyStates.{HasScope, text_at};
 ghost use Rattle.naga_wgsl_fns.specs.Statements.{block_text};
 ghost use Rattle.std.specs.Option.{option_map_or, option_to_list};
 ghost use Rattle.naga_wgsl_fns.specs.Functions.{IsAtStart, StartsAt, answer_text, argument_text};
@@ -32,7 +32,7 @@ ghost use Rattle.naga_wgsl_fns.specs.Functions.{names_of, text_under};
 use crate::Error;
 use crate::bindings::write_optional_binding;
 use crate::indent::Indent;
-use crate::lines::Position;
+use crate::lines::BodyState;
 use crate::refusals::error::error_of_want;
 use naga_back::{FunctionType, WriterFlags};
 use naga_info::{FunctionInfo, ModuleInfo};
@@ -100,7 +100,7 @@ pub fn write_planned<'a, W: TextSink>(
         info: function_info,
     };
     let indent = Indent::new(alloc);
-    let mut at = Position { scope, indent };
+    let mut at = BodyState { scope, indent };
     let mut written = Output::new(out);
     text.write_item(&mut at, &mut written);
     match written.outcome() {
@@ -130,7 +130,7 @@ pub(crate) struct FunctionText<'a> {
 impl FunctionText<'_> {
     /// The whole function, after its stage. The scope is that at its start.
     #[tactic(auto, using(naga_words::proofs::Writing::writes_then, crate::proofs::FunctionRows::item_row))]
-    fn write_item<W: TextSink>(&self, at: &mut Position, out: &mut Output<'_, W>)
+    fn write_item<W: TextSink>(&self, at: &mut BodyState, out: &mut Output<'_, W>)
         requires can { CanWrite self.now }
         requires start { IsAtStart self.now at.old.scope }
         requires level { at.old.indent ≡ 0 }
@@ -159,7 +159,7 @@ impl FunctionText<'_> {
 
     /// The function by itself. The scope is that at its start.
     #[tactic(auto, using(naga_words::proofs::Writing::writes_then, crate::proofs::FunctionRows::function_row))]
-    fn write_declaration<W: TextSink>(&self, at: &mut Position, out: &mut Output<'_, W>)
+    fn write_declaration<W: TextSink>(&self, at: &mut BodyState, out: &mut Output<'_, W>)
         requires can { CanWrite self.now }
         requires start { IsAtStart self.now at.old.scope }
         requires level { at.old.indent ≡ 0 }
@@ -259,7 +259,7 @@ impl FunctionText<'_> {
 
     /// What stands after the head. The scope is that at the function's start.
     #[tactic(auto, using(naga_words::proofs::Writing::writes_then, crate::proofs::FunctionRows::body_row))]
-    fn write_body<W: TextSink>(&self, at: &mut Position, out: &mut Output<'_, W>)
+    fn write_body<W: TextSink>(&self, at: &mut BodyState, out: &mut Output<'_, W>)
         requires can { CanWrite self.now }
         requires start { IsAtStart self.now at.old.scope }
         requires level { at.old.indent ≡ 0 }
@@ -271,7 +271,7 @@ impl FunctionText<'_> {
     }
 
     /// The statements, one level deep.
-    fn write_statements<W: TextSink>(&self, at: &mut Position, out: &mut Output<'_, W>)
+    fn write_statements<W: TextSink>(&self, at: &mut BodyState, out: &mut Output<'_, W>)
         requires can { CanWrite self.now }
         requires scope { HasScope self.now at.old.scope (block_changes self.now.function.now.body) }
         requires level { at.old.indent ≡ 0 }

@@ -3,7 +3,7 @@
 ghost use Rattle.std.specs.Prelude.{◌≡◌, ◌<◌, ◌++◌, IfErr, IsTrue, OnErr, OnOk, length};
 ghost use Rattle.module_meaning.specs.acceptance.Accepted.{is_accepted};
 ghost use Rattle.module_meaning.specs.Names.{HasNamesOf};
-ghost use Rattle.module_meaning.specs.ExpressionForms.{global_is_written};
+ghost use Rattle.module_meaning.specs.ExpressionForms.{global_has_form};
 ghost use Rattle.naga_info.specs.declared.info.ModuleInfo.{ModuleInfo};
 ghost use Rattle.naga_names.specs.Keys.{names_in};
 ghost use Rattle.naga_words.specs.Sink.{IsAfter};
@@ -54,7 +54,7 @@ pub fn write_global_expression<W: TextSink>(
         (W.failures out.old) (W.failures out.new) }
 {
     let tables = ModuleTables::of(alloc, module)?;
-    if tables.is_written(module, handle) {
+    if tables.has_form(module, handle) {
         write_written_global(
             alloc,
             ModuleText {
@@ -79,7 +79,7 @@ fn write_written_global<W: TextSink>(
     out: &mut W,
 ) -> Result<(), Error>
     requires can { CanWriteIn text }
-    requires written { IsTrue (global_is_written text.shader.now handle) }
+    requires written { IsTrue (global_has_form text.shader.now handle) }
     ensures text_ok { OnOk result
         (W.text out.new ≡ W.text out.old ++ global_text text.entry.shader.now handle) }
     ensures text_err { OnErr result

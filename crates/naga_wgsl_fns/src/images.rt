@@ -5,7 +5,7 @@ ghost use Rattle.std.specs.Option.{is_some, option_to_list};
 ghost use Rattle.module_meaning.specs.ExpressionOperators.{level_of};
 ghost use Rattle.module_meaning.specs.ExpressionOperators.{sample_operator};
 ghost use Rattle.module_meaning.specs.OperatorTable.{Sample, run_word, zero_is_written};
-ghost use Rattle.module_meaning.specs.Sampling.{offset_is_written, sampling_is_written};
+ghost use Rattle.module_meaning.specs.Sampling.{offset_has_form, sampling_has_form};
 ghost use Rattle.naga_form.specs.Expressions.{zero_is_whole};
 ghost use Rattle.naga_form.specs.Images.{sampling_word};
 ghost use Rattle.naga_ir.specs.Operands.{level_operands};
@@ -78,7 +78,7 @@ impl FunctionText<'_> {
     )
         requires can { CanWrite self.now }
         requires image { IsInText self.now image }
-        requires written { IsTrue (sampling_is_written gather level compares clamped) }
+        requires written { IsTrue (sampling_has_form gather level compares clamped) }
         ensures { Writes W.text W.failures out.old out.new
             (head_text self.now image gather level compares clamped) }
     {
@@ -153,7 +153,7 @@ impl FunctionText<'_> {
     fn write_offset<W: TextSink>(&self, offset: Option<Handle<Expression>>, out: &mut Output<'_, W>)
         requires can { CanWrite self.now }
         requires offset { AreInText self.now (option_to_list offset) }
-        requires constant { IsTrue (offset_is_written (expressions self.now) offset) }
+        requires constant { IsTrue (offset_has_form (expressions self.now) offset) }
         ensures { Writes W.text W.failures out.old out.new (offset_text self.now offset) }
     {
         if let Some(offset) = offset {
@@ -169,7 +169,7 @@ fn sampling_str(
     compares: bool,
     clamped: bool,
 ) -> &'static str
-    requires { IsTrue (sampling_is_written gather level compares clamped) }
+    requires { IsTrue (sampling_has_form gather level compares clamped) }
     ensures { (of_depths : Bool) → result.now ≡ sampling_word
         (sample_operator of_depths gather (level_of level) compares clamped false false) }
 {

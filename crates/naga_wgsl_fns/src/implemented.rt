@@ -1,4 +1,4 @@
-//! Words that WGSL may lack.
+//! The word of a value, or the refusal where WGSL has none.
 
 ghost use Rattle.std.specs.Prelude.{◌≡◌, IfErr, IfOk, IsErr, None, Some};
 ghost use Rattle.naga_wgsl_fns.specs.Errors.{IsUnsupported};

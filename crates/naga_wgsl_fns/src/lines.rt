@@ -9,7 +9,7 @@ ghost use Rattle.naga_scope.specs.Log.{Extends};
 ghost use Rattle.naga_words.specs.Output.{Writes};
 ghost use Rattle.naga_wgsl_fns.specs.FunctionText.{AreInText, CanWrite, CanWriteStatement};
 ghost use Rattle.naga_wgsl_fns.specs.FunctionText.{IsInText, IsLet, bound, handles_in};
-ghost use Rattle.naga_wgsl_fns.specs.Positions.{HasScope, PassesStatement, text_at};
+ghost use Rattle.naga_wgsl_fns.specs.BodyStates.{HasScope, PassesStatement, text_at};
 ghost use Rattle.naga_wgsl_fns.specs.Statements.{after_statement, around_text, assignment_text};
 ghost use Rattle.naga_wgsl_fns.specs.Statements.{emitted_text, let_text, line_start};
 ghost use Rattle.naga_wgsl_fns.specs.Statements.{statement_text};
@@ -20,14 +20,14 @@ use naga_ir::{Expression, Handle, ItemIndex, Range, Statement};
 use naga_scope::{Scope, binds};
 use naga_words::{Output, TextSink};
 
-/// Where a line of a function's body stands: what is in scope in front of it, and how deep it is.
+/// The state in front of a line of a function's body: what is in scope, and how deep the line is.
 #[derive(Drop)]
-pub(crate) struct Position {
+pub(crate) struct BodyState {
     pub(crate) scope: Scope,
     pub(crate) indent: Indent,
 }
 
-impl Position {
+impl BodyState {
     /// Writes the blanks before a line, and what it starts with, which may be all of it.
     #[tactic(auto, using(naga_words::proofs::Writing::writes_then, crate::proofs::StatementRows::line_start_row))]
     pub(crate) fn write_start<W: TextSink>(&self, words: &str, out: &mut Output<'_, W>)
@@ -45,7 +45,7 @@ impl FunctionText<'_> {
     pub(crate) fn write_emit<W: TextSink>(
         &self,
         range: Range,
-        at: &mut Position,
+        at: &mut BodyState,
         out: &mut Output<'_, W>,
     )
         requires can { CanWrite self.now }
@@ -75,7 +75,7 @@ impl FunctionText<'_> {
     fn write_emitted<W: TextSink>(
         &self,
         handle: Handle<Expression>,
-        at: &Position,
+        at: &BodyState,
         out: &mut Output<'_, W>,
     )
         requires can { CanWrite self.now }
@@ -93,7 +93,7 @@ impl FunctionText<'_> {
     fn write_let<W: TextSink>(
         &self,
         handle: Handle<Expression>,
-        at: &Position,
+        at: &BodyState,
         out: &mut Output<'_, W>,
     )
         requires can { CanWrite self.now }
@@ -116,7 +116,7 @@ impl FunctionText<'_> {
         statement: &Statement,
         pointer: Handle<Expression>,
         value: Handle<Expression>,
-        at: &Position,
+        at: &BodyState,
         out: &mut Output<'_, W>,
     )
         requires can { CanWrite self.now }
@@ -136,7 +136,7 @@ impl FunctionText<'_> {
         &self,
         pointer: Handle<Expression>,
         value: Handle<Expression>,
-        at: &Position,
+        at: &BodyState,
         out: &mut Output<'_, W>,
     )
         requires can { CanWrite self.now }
@@ -155,7 +155,7 @@ impl FunctionText<'_> {
     pub(crate) fn write_return<W: TextSink>(
         &self,
         value: Option<Handle<Expression>>,
-        at: &Position,
+        at: &BodyState,
         out: &mut Output<'_, W>,
     )
         requires can { CanWrite self.now }
@@ -175,7 +175,7 @@ impl FunctionText<'_> {
         start: &str,
         value: Handle<Expression>,
         end: &str,
-        at: &Position,
+        at: &BodyState,
         out: &mut Output<'_, W>,
     )
         requires can { CanWrite self.now }

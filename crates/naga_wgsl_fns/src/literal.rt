@@ -1,7 +1,7 @@
-//! Literals.
+//! Writes literals.
 
 ghost use Rattle.std.specs.Prelude.{◌++◌, IsTrue};
-ghost use Rattle.module_meaning.specs.ExpressionForms.{is_written_literal};
+ghost use Rattle.module_meaning.specs.ExpressionForms.{literal_has_form};
 ghost use Rattle.naga_words.specs.Output.{Writes};
 ghost use Rattle.naga_wgsl_fns.specs.Literals.{i32_text, literal_text, i64_text, i16_text};
 ghost use Rattle.naga_wgsl_fns.specs.Literals.{f16_text, f32_text, f64_text, u16_text};
@@ -19,7 +19,7 @@ use std::alloc::Global;
 /// `1.0lf` and `1e16lf`.
 #[tactic(auto, unfolding(crate::specs::Literals::literal_text, crate::specs::Literals::i32_text, crate::specs::Literals::i64_text, crate::specs::Literals::i16_text, crate::specs::Literals::u16_text, crate::specs::Literals::f64_text, crate::specs::Literals::f32_text, crate::specs::Literals::f16_text))]
 pub fn write_literal<W: TextSink>(alloc: Global, literal: Literal, out: &mut Output<'_, W>)
-    requires { IsTrue (is_written_literal literal) }
+    requires { IsTrue (literal_has_form literal) }
     ensures { Writes W.text W.failures out.old out.new (literal_text literal) }
 {
     match literal {

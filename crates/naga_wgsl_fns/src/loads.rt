@@ -4,7 +4,7 @@ ghost use Rattle.std.specs.Prelude.{◌≡◌, ◌<◌, IsTrue, Some, length, sl
 ghost use Rattle.std.specs.Option.{is_some};
 ghost use Rattle.module_meaning.specs.AlikeTypes.{is_spelled};
 ghost use Rattle.module_meaning.specs.ExpressionOperators.{is_atomic_pointer};
-ghost use Rattle.module_meaning.specs.ExpressionForms.{expression_is_written};
+ghost use Rattle.module_meaning.specs.ExpressionForms.{expression_has_own_form};
 ghost use Rattle.module_meaning.specs.acceptance.Ranges.{resolution_fits};
 ghost use Rattle.naga_form.specs.Expressions.{scalar_pointed};
 ghost use Rattle.naga_ir.specs.declared.expression.Expression.TheVariants.{CooperativeLoad, Load};
@@ -78,7 +78,7 @@ impl FunctionText<'_> {
     )
         requires can { CanWrite self.now }
         requires handle { IsInText self.now handle }
-        requires formed { IsTrue (expression_is_written self.now.shader.now self.now.info.now
+        requires formed { IsTrue (expression_has_own_form self.now.shader.now self.now.info.now
             (CooperativeLoad columns rows role place)) }
         ensures { Writes W.text W.failures out.old out.new
             (made_text self.now scope.now.table (matrix_callee self.now columns rows role place)
@@ -99,7 +99,7 @@ impl FunctionText<'_> {
         out: &mut Output<'_, W>,
     )
         requires can { CanWrite self.now }
-        requires formed { IsTrue (expression_is_written self.now.shader.now self.now.info.now
+        requires formed { IsTrue (expression_has_own_form self.now.shader.now self.now.info.now
             (CooperativeLoad columns rows role place)) }
         ensures { Writes W.text W.failures out.old out.new
             (matrix_callee_text self.now columns rows role place) }

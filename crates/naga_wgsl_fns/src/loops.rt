@@ -1,4 +1,4 @@
-//! Loops.
+//! Writes loops.
 
 ghost use Rattle.std.specs.Prelude.{◌≡◌, None, Some, suc};
 ghost use Rattle.std.specs.Option.{option_to_list};
@@ -8,12 +8,12 @@ ghost use Rattle.naga_scope.specs.Log.{Reverts, Same};
 ghost use Rattle.naga_words.specs.Output.{Writes};
 ghost use Rattle.naga_wgsl_fns.specs.FunctionText.{AreInText, CanWrite, CanWriteBlock};
 ghost use Rattle.naga_wgsl_fns.specs.FunctionText.{CanWriteStatement, IsInText, handles_in};
-ghost use Rattle.naga_wgsl_fns.specs.Positions.{HasScope, PassesBlock, PassesStatement, text_at};
+ghost use Rattle.naga_wgsl_fns.specs.BodyStates.{HasScope, PassesBlock, PassesStatement, text_at};
 ghost use Rattle.naga_wgsl_fns.specs.Statements.{block_text, continuing_text, last_text};
 ghost use Rattle.naga_wgsl_fns.specs.Statements.{left_to_continuing, statement_text, turn_text};
 
 use crate::functions::FunctionText;
-use crate::lines::Position;
+use crate::lines::BodyState;
 use naga_ir::{Block, Expression, Handle};
 use naga_scope::split_at_continue;
 use naga_words::{Output, TextSink};
@@ -27,7 +27,7 @@ impl FunctionText<'_> {
         body: &Block,
         continuing: &Block,
         break_if: Option<Handle<Expression>>,
-        at: &mut Position,
+        at: &mut BodyState,
         out: &mut Output<'_, W>,
     )
         requires can { CanWrite self.now }
@@ -52,7 +52,7 @@ impl FunctionText<'_> {
         body: &Block,
         continuing: &Block,
         break_if: Option<Handle<Expression>>,
-        at: &mut Position,
+        at: &mut BodyState,
         out: &mut Output<'_, W>,
     )
         requires can { CanWrite self.now }
@@ -80,7 +80,7 @@ impl FunctionText<'_> {
         body: &Block,
         continuing: &Block,
         break_if: Option<Handle<Expression>>,
-        at: &mut Position,
+        at: &mut BodyState,
         out: &mut Output<'_, W>,
     )
         requires can { CanWrite self.now }
@@ -100,7 +100,12 @@ impl FunctionText<'_> {
     /// A loop's body. After the call, the scope is that in `continuing`.
     #[cycle(statement)]
     #[tactic(auto, using(naga_words::proofs::Writing::writes_then))]
-    fn write_loop_body<W: TextSink>(&self, body: &Block, at: &mut Position, out: &mut Output<'_, W>)
+    fn write_loop_body<W: TextSink>(
+        &self,
+        body: &Block,
+        at: &mut BodyState,
+        out: &mut Output<'_, W>,
+    )
         requires can { CanWrite self.now }
         requires body { CanWriteBlock self.now body.now }
         requires scope { HasScope self.now at.old.scope (block_changes body.now) }
@@ -127,7 +132,7 @@ impl FunctionText<'_> {
         &self,
         continuing: &Block,
         break_if: Option<Handle<Expression>>,
-        at: &mut Position,
+        at: &mut BodyState,
         out: &mut Output<'_, W>,
     )
         requires can { CanWrite self.now }
@@ -150,7 +155,7 @@ impl FunctionText<'_> {
     fn write_plain_continuing<W: TextSink>(
         &self,
         continuing: &Block,
-        at: &mut Position,
+        at: &mut BodyState,
         out: &mut Output<'_, W>,
     )
         requires can { CanWrite self.now }
@@ -174,7 +179,7 @@ impl FunctionText<'_> {
         &self,
         continuing: &Block,
         condition: Handle<Expression>,
-        at: &mut Position,
+        at: &mut BodyState,
         out: &mut Output<'_, W>,
     )
         requires can { CanWrite self.now }
@@ -201,7 +206,7 @@ impl FunctionText<'_> {
         &self,
         continuing: &Block,
         condition: Handle<Expression>,
-        at: &mut Position,
+        at: &mut BodyState,
         out: &mut Output<'_, W>,
     )
         requires can { CanWrite self.now }

@@ -16,7 +16,7 @@ ghost use Rattle.naga_wgsl_fns.specs.Expressions.{has_components, is_vector_at, 
 ghost use Rattle.naga_wgsl_fns.specs.Expressions.{struct_at, struct_known};
 ghost use Rattle.module_meaning.specs.ExpressionOperators.{type_known};
 ghost use Rattle.module_meaning.specs.Names.{module_names, name_in};
-ghost use Rattle.module_meaning.specs.ExpressionForms.{expression_is_written};
+ghost use Rattle.module_meaning.specs.ExpressionForms.{expression_has_own_form};
 ghost use Rattle.naga_names.specs.Keys.{names_in};
 ghost use Rattle.naga_names.specs.declared.key.NameKey.TheVariants as key;
 ghost use Rattle.naga_ir.specs.declared.expression.Expression.TheVariants.{AccessIndex};
@@ -181,7 +181,7 @@ impl FunctionText<'_> {
         out: &mut Output<'_, W>,
     )
         requires can { CanWrite self.now }
-        requires written { IsTrue (expression_is_written self.now.shader.now self.now.info.now
+        requires written { IsTrue (expression_has_own_form self.now.shader.now self.now.info.now
             (AccessIndex base index)) }
         ensures { Writes W.text W.failures out.old out.new (selector_text self.now base index) }
     {
@@ -215,7 +215,7 @@ impl FunctionText<'_> {
         out: &mut Output<'_, W>,
     )
         requires can { CanWrite self.now }
-        requires written { IsTrue (expression_is_written self.now.shader.now self.now.info.now
+        requires written { IsTrue (expression_has_own_form self.now.shader.now self.now.info.now
             (AccessIndex base index)) }
         requires no_member { struct_known self.now base ≡ None }
         ensures { Writes W.text W.failures out.old out.new (selector_text self.now base index) }
@@ -241,7 +241,7 @@ impl FunctionText<'_> {
     /// The letter of a component of a vector, or of one that is pointed at. Other parts have none.
     fn component(&self, base: Handle<Expression>, index: u32) -> Option<&'static str>
         requires can { CanWrite self.now }
-        requires written { IsTrue (expression_is_written self.now.shader.now self.now.info.now
+        requires written { IsTrue (expression_has_own_form self.now.shader.now self.now.info.now
             (AccessIndex base index)) }
         requires no_member { struct_known self.now base ≡ None }
         ensures { part_selector (source self.now).declared base index

@@ -41,7 +41,7 @@ use std::collections::HashMap;
 /// number in the order of the text: those in blocks are counted too, each after the one that holds
 /// the block, from 0 (modulo 2^64).
 #[derive(Clone, Copy, Debug, PartialEq, Eq)]
-pub enum FunctionPart {
+pub enum FunctionRefusalPosition {
     /// The labels that front ends gave in it.
     Labels,
     /// Where it breaks a rule of scope.
@@ -60,7 +60,7 @@ pub enum FunctionPart {
 #[derive(Debug, Drop)]
 pub enum Unplanned {
     /// It is refused for this construct, which stands at this part of it.
-    Refused(Construct, FunctionPart),
+    Refused(Construct, FunctionRefusalPosition),
     /// Memory has run out.
     Memory(AllocError),
 }
@@ -167,16 +167,16 @@ pub fn plan_or_refusal<'a>(
 }
 
 /// Where a function has what keeps it from having a plan. Of want of memory nothing is told.
-fn part_of(error: &PlanError) -> FunctionPart
+fn part_of(error: &PlanError) -> FunctionRefusalPosition
     ensures { result ≡ part_of error.now }
 {
     match error {
-        PlanError::OutOfScope(fault) => FunctionPart::Scope(*fault),
-        PlanError::StatementWithoutForm(number, _) => FunctionPart::Statement(*number),
-        PlanError::WithoutForm(line, handle) => FunctionPart::Expression(*line, *handle),
-        PlanError::TypeWithoutForm(declared, ty) => FunctionPart::Type_(*declared, *ty),
-        PlanError::LetWithoutForm(number, handle) => FunctionPart::Let(*number, *handle),
-        PlanError::Unnamed(_) | PlanError::Memory(_) => FunctionPart::Labels,
+        PlanError::OutOfScope(fault) => FunctionRefusalPosition::Scope(*fault),
+        PlanError::StatementWithoutForm(number, _) => FunctionRefusalPosition::Statement(*number),
+        PlanError::WithoutForm(line, handle) => FunctionRefusalPosition::Expression(*line, *handle),
+        PlanError::TypeWithoutForm(declared, ty) => FunctionRefusalPosition::Type_(*declared, *ty),
+        PlanError::LetWithoutForm(number, handle) => FunctionRefusalPosition::Let(*number, *handle),
+        PlanError::Unnamed(_) | PlanError::Memory(_) => FunctionRefusalPosition::Labels,
     }
 }
 

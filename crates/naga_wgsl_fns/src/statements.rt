@@ -1,4 +1,4 @@
-//! Statements in order.
+//! Writes statements in order.
 
 ghost use Rattle.std.specs.Prelude.{◌≡◌};
 ghost use Rattle.naga_ir.specs.StatementViews.{block_of, tree_of};
@@ -7,13 +7,13 @@ ghost use Rattle.naga_scope.specs.Log.{Extends};
 ghost use Rattle.naga_words.specs.Output.{Writes};
 ghost use Rattle.naga_wgsl_fns.specs.FunctionText.{CanWrite, CanWriteBlock, CanWriteStatement};
 ghost use Rattle.naga_wgsl_fns.specs.FunctionText.{handles_in};
-ghost use Rattle.naga_wgsl_fns.specs.Positions.{HasScope, PassesBlock, PassesStatement, text_at};
+ghost use Rattle.naga_wgsl_fns.specs.BodyStates.{HasScope, PassesBlock, PassesStatement, text_at};
 ghost use Rattle.naga_wgsl_fns.specs.Statements.{after_statement, after_statements, block_text};
 ghost use Rattle.naga_wgsl_fns.specs.Statements.{statement_text};
 
 use crate::acts::write_barrier;
 use crate::functions::FunctionText;
-use crate::lines::Position;
+use crate::lines::BodyState;
 use naga_ir::Statement;
 use naga_words::{Output, TextSink};
 
@@ -26,7 +26,7 @@ impl FunctionText<'_> {
     pub(crate) fn write_lines<W: TextSink>(
         &self,
         statements: &[Statement],
-        at: &mut Position,
+        at: &mut BodyState,
         out: &mut Output<'_, W>,
     )
         requires can { CanWrite self.now }
@@ -51,7 +51,7 @@ impl FunctionText<'_> {
     fn write_statement<W: TextSink>(
         &self,
         statement: &Statement,
-        at: &mut Position,
+        at: &mut BodyState,
         out: &mut Output<'_, W>,
     )
         requires can { CanWrite self.now }

@@ -1,4 +1,4 @@
-//! Switches.
+//! Writes switches.
 
 ghost use Rattle.std.specs.Prelude.{◌≡◌, ◌<◌, ◌+◌, [], IsTrue, if◌then◌else◌, suc};
 ghost use Rattle.naga_form.specs.Statements.{case_value_form};
@@ -9,14 +9,14 @@ ghost use Rattle.naga_scope.specs.Log.{Same};
 ghost use Rattle.naga_words.specs.Output.{Writes};
 ghost use Rattle.naga_wgsl_fns.specs.FunctionText.{CanWrite, CanWriteBlock, CanWriteCases};
 ghost use Rattle.naga_wgsl_fns.specs.FunctionText.{CanWriteStatement};
-ghost use Rattle.naga_wgsl_fns.specs.Positions.{HasScope, PassesBlock, PassesCases};
-ghost use Rattle.naga_wgsl_fns.specs.Positions.{PassesStatement, text_at};
+ghost use Rattle.naga_wgsl_fns.specs.BodyStates.{HasScope, PassesBlock, PassesCases};
+ghost use Rattle.naga_wgsl_fns.specs.BodyStates.{PassesStatement, text_at};
 ghost use Rattle.naga_wgsl_fns.specs.Statements.{case_text, cases_text, group_start, group_text};
 ghost use Rattle.naga_wgsl_fns.specs.Statements.{case_value_text, labels_of, stands_alone};
 ghost use Rattle.naga_wgsl_fns.specs.Statements.{statement_text, waiting_text};
 
 use crate::functions::FunctionText;
-use crate::lines::Position;
+use crate::lines::BodyState;
 use crate::literal::write_number;
 use naga_ir::{Block, Expression, Handle, SwitchCase, SwitchValue};
 use naga_words::{Output, TextSink};
@@ -29,7 +29,7 @@ impl FunctionText<'_> {
         &self,
         selector: Handle<Expression>,
         cases: &[SwitchCase],
-        at: &mut Position,
+        at: &mut BodyState,
         out: &mut Output<'_, W>,
     )
         requires can { CanWrite self.now }
@@ -57,7 +57,7 @@ impl FunctionText<'_> {
     fn write_cases<W: TextSink>(
         &self,
         cases: &[SwitchCase],
-        at: &mut Position,
+        at: &mut BodyState,
         out: &mut Output<'_, W>,
     )
         requires can { CanWrite self.now }
@@ -83,7 +83,7 @@ impl FunctionText<'_> {
         &self,
         waiting: &[SwitchCase],
         case: &SwitchCase,
-        at: &mut Position,
+        at: &mut BodyState,
         out: &mut Output<'_, W>,
     )
         requires can { CanWrite self.now }
@@ -109,7 +109,7 @@ impl FunctionText<'_> {
         waiting: &[SwitchCase],
         value: SwitchValue,
         body: &Block,
-        at: &mut Position,
+        at: &mut BodyState,
         out: &mut Output<'_, W>,
     )
         requires can { CanWrite self.now }

@@ -18,7 +18,7 @@ use Rattle.module_meaning.specs.AlikeTypes.{is_spelled}
 use Rattle.module_meaning.specs.DeclarationForms.{IsDeclaredType, IsInitialiser}
 use Rattle.module_meaning.specs.Names.{module_names, name_in}
 use Rattle.module_meaning.specs.Types.{type_names}
-use Rattle.module_meaning.specs.ExpressionForms.{global_is_written}
+use Rattle.module_meaning.specs.ExpressionForms.{global_has_form}
 use Rattle.naga_form.specs.Attributes.{id_attributes}
 use Rattle.naga_form.specs.ConstantForms.{global_form}
 use Rattle.naga_form.specs.Declarations.{override_form}
@@ -192,7 +192,7 @@ module _ (t : ModuleText) (can : CanDeclare t) (h : ℕ) where
         spelled_of_spellable m (Handle c.ty)
         (can.forms.types c.ty (IsDeclaredType.OfConstant h c at named))
 
-    pub constant_is_formed : IsTrue (is_some c.name) → IsTrue (global_is_written m c.init)
+    pub constant_is_formed : IsTrue (is_some c.name) → IsTrue (global_has_form m c.init)
     constant_is_formed named =
         can.forms.initialisers c.init (IsInitialiser.OfConstant h c at named)
 
@@ -205,6 +205,6 @@ module _ (t : ModuleText) (can : CanDeclare t) (h : ℕ) where
         spelled_of_spellable m (Handle o.ty)
         (can.forms.types o.ty (IsDeclaredType.OfOverride h o at))
 
-    pub override_is_formed : (value : ℕ) → o.init ≡ Some value → IsTrue (global_is_written m value)
+    pub override_is_formed : (value : ℕ) → o.init ≡ Some value → IsTrue (global_has_form m value)
     override_is_formed value is =
         can.forms.initialisers value (IsInitialiser.OfOverride h o value at is)

@@ -1,5 +1,6 @@
 -- What stands at a part of a function keeps it from being written, and the first stands at one part.
-use Rattle.std.proofs.Common.{◌≡◌, ◌<◌, ◌≤◌, ◌^◌, ◌%◌, ◌⊎◌, inl, inr, ℕ, Bool, true, false, List, [], Option, Some}
+use Rattle.std.proofs.Common.{◌≡◌, ◌<◌, ◌≤◌, ◌^◌, ◌%◌, ◌⊎◌, inl, inr, ℕ, Bool, true, false, List}
+use Rattle.std.proofs.Common.{[], Option, Some}
 use Rattle.std.proofs.Common.{None, ap, arith, length, nat_lt, refl, slice_get, subst, sym, ◌∙◌}
 use Rattle.std.proofs.Math.Nat.{mod-eq_of_lt}
 use Rattle.std.proofs.lemmas.Bool.{false≢true, ltb-false, ltb-true}
@@ -13,7 +14,8 @@ use Rattle.module_meaning.specs.FunctionShapes.{function_shape}
 use Rattle.module_meaning.specs.Written.{WrittenHaveForms}
 use Rattle.naga_info.specs.declared.info.ExpressionInfo.{ExpressionInfo}
 use Rattle.naga_info.specs.declared.info.ModuleInfo.{ModuleInfo}
-use Rattle.naga_ir.specs.StatementTree.{StatementTree, simple, switch, CaseTrees, no_cases, case, has_no_statements}
+use Rattle.naga_ir.specs.StatementTree.{StatementTree, simple, switch, CaseTrees, no_cases, case}
+use Rattle.naga_ir.specs.StatementTree.{has_no_statements}
 use Rattle.naga_ir.specs.declared.expression.Expression.{Expression}
 use Rattle.naga_ir.specs.declared.module.Function.{Function}
 use Rattle.naga_ir.specs.declared.module.Module.{Module}
@@ -24,11 +26,13 @@ use Rattle.naga_scope.proofs.WrittenLines.{in_the_function}
 use Rattle.naga_scope.specs.Earliest.{line_of}
 use Rattle.naga_scope.specs.InOrder.{own_lets, trees_in}
 use Rattle.naga_scope.specs.Lines.{IsWrittenAt, is_before, lets_at}
-use Rattle.naga_scope.specs.Plans.{ComesBefore, IsFirstInText, IsFirstOfKind, IsFirstToPlan, NothingAt, kind_of}
+use Rattle.naga_scope.specs.Plans.{ComesBefore, IsFirstInText, IsFirstOfKind, IsFirstToPlan}
+use Rattle.naga_scope.specs.Plans.{NothingAt, kind_of}
 use Rattle.naga_scope.specs.Plans.{checked_scope, kind_rank}
 use Rattle.naga_scope.specs.SpelledTypes.{declared_unsupported, own_annotated}
 use Rattle.naga_scope.specs.UnsupportedStatements.{IsUnsupportedAt, LacksForm, SomeCaseFalls}
-use Rattle.naga_scope.specs.UnsupportedStatements.{falls_unsupported, own_unsupported, unsupported_case}
+use Rattle.naga_scope.specs.UnsupportedStatements.{falls_unsupported, own_unsupported}
+use Rattle.naga_scope.specs.UnsupportedStatements.{unsupported_case}
 use Rattle.naga_scope.specs.declared.lines.Line.{Line}
 use Rattle.naga_scope.specs.declared.lines.Line.TheVariants as lines
 use Rattle.naga_scope.specs.declared.plan.PlanError.{PlanError}
@@ -38,8 +42,8 @@ use Rattle.naga_wgsl_fns.specs.Carried.{CarriesOfExpression}
 use Rattle.naga_wgsl_fns.specs.Constructs.{Tells}
 use Rattle.naga_wgsl_fns.specs.Refusals.{NamesExpression}
 use Rattle.naga_wgsl_fns.specs.Unplanned.{part_of}
-use Rattle.naga_wgsl_fns.specs.declared.plans.FunctionPart.{FunctionPart}
-use Rattle.naga_wgsl_fns.specs.declared.plans.FunctionPart.TheVariants as part
+use Rattle.naga_wgsl_fns.specs.declared.plans.FunctionRefusalPosition.{FunctionRefusalPosition}
+use Rattle.naga_wgsl_fns.specs.declared.plans.FunctionRefusalPosition.TheVariants as part
 use Rattle.naga_wgsl_fns.specs.declared.refusals.construct.Construct.{Construct}
 use Rattle.naga_wgsl_out.specs.Unwritable.{IsUnspelled, LabelsGetNamesIn, StandsAtPart}
 use Rattle.shader_runs.proofs.ScopeFaults.{fault_is_no_rule}
@@ -104,7 +108,8 @@ module _ (explicit : Bool) (m : Module) (info : ModuleInfo) (number : ℕ) (f : 
       × Tells it (NamesExpression m known f.expressions e) × CarriesOfExpression m known e it
 
   -- ---- what stands there keeps the function from being written
-  pub part_refuses : (at : FunctionPart) (it : Construct) → StandsAtPart explicit m info number f known at it →
+  pub part_refuses : (at : FunctionRefusalPosition) (it : Construct) →
+      StandsAtPart explicit m info number f known at it →
       ScopeHolds (function_shape m info f known) → WrittenHaveForms explicit m info f known →
       LabelsGetNamesIn m number → ⊥
   part_refuses (part.Scope fault) it stands scope formed labelled =

@@ -18,7 +18,7 @@ use Rattle.module_meaning.specs.DeclarationForms.IsPassed.{OfArgument, OfResult}
 use Rattle.module_meaning.specs.FunctionNumbers.{all_functions, all_infos}
 use Rattle.module_meaning.specs.Layouts.{concerned_members, concerned_of}
 use Rattle.module_meaning.specs.Layouts.{module_rule}
-use Rattle.module_meaning.specs.ExpressionForms.{global_is_written}
+use Rattle.module_meaning.specs.ExpressionForms.{global_has_form}
 use Rattle.module_meaning.specs.Undeclared.{is_spellable}
 use Rattle.naga_info.specs.declared.info.ModuleInfo.{ModuleInfo}
 use Rattle.naga_info.specs.declared.info.TypeResolution.TheVariants.{Handle}
@@ -38,9 +38,12 @@ use Rattle.naga_scope.proofs.Planned.{shape_found}
 use Rattle.naga_scope.proofs.UnsupportedDeclarations.{entry_point_lacks}
 use Rattle.naga_scope.specs.Declarations.{ConstantHasForm, EntryPointHasForm, HaveFormsBefore}
 use Rattle.naga_scope.specs.Declarations.{IsUnsupportedConstant, IsUnsupportedHead}
-use Rattle.naga_scope.specs.Declarations.{IsUnsupportedFunction, IsUnsupportedHeadOf, IsUnsupportedIn}
-use Rattle.naga_scope.specs.Declarations.{IsUnsupportedPassed, IsUnsupportedStruct, IsUnsupportedType}
-use Rattle.naga_scope.specs.Declarations.{IsUnsupportedValue, PassedHasForm, StructHasForm, TypeHasForm}
+use Rattle.naga_scope.specs.Declarations.{IsUnsupportedFunction, IsUnsupportedHeadOf}
+use Rattle.naga_scope.specs.Declarations.{IsUnsupportedIn}
+use Rattle.naga_scope.specs.Declarations.{IsUnsupportedPassed, IsUnsupportedStruct}
+use Rattle.naga_scope.specs.Declarations.{IsUnsupportedType}
+use Rattle.naga_scope.specs.Declarations.{IsUnsupportedValue, PassedHasForm, StructHasForm}
+use Rattle.naga_scope.specs.Declarations.{TypeHasForm}
 use Rattle.naga_scope.specs.Declarations.{ValueHasForm, concerned_among}
 use Rattle.naga_scope.specs.Plans.{IsFirstToPlan}
 use Rattle.naga_scope.specs.declared.declarations.DeclarationPosition.{DeclarationPosition}
@@ -49,7 +52,7 @@ use Rattle.naga_scope.specs.declared.declarations.UnsupportedDeclaration.{Unsupp
 use Rattle.naga_scope.specs.declared.declarations.UnsupportedDeclaration.TheVariants as declaration
 use Rattle.naga_scope.specs.declared.declarations.UnsupportedHead.{UnsupportedHead}
 use Rattle.naga_scope.specs.declared.declarations.UnsupportedHead.TheVariants as head
-use Rattle.naga_wgsl_fns.specs.declared.plans.FunctionPart.{FunctionPart}
+use Rattle.naga_wgsl_fns.specs.declared.plans.FunctionRefusalPosition.{FunctionRefusalPosition}
 use Rattle.naga_wgsl_fns.specs.declared.refusals.construct.Construct.{Construct}
 use Rattle.naga_wgsl_out.proofs.FirstParts.{lowest, one_part, part_refuses}
 use Rattle.naga_wgsl_out.proofs.ModuleScopes.{each_writable}
@@ -67,7 +70,7 @@ use Rattle.shader_runs.specs.ScopeRules.{ScopeHolds}
 -- ---- functions
 module _ (explicit : Bool) (m : Module) (info : ModuleInfo) (number : ℕ) where
   -- what stands in a function keeps it from having a plan
-  unplanned : (found : Construct × FunctionPart) → StandsInFunction explicit m info number found →
+  unplanned : (found : Construct × FunctionRefusalPosition) → StandsInFunction explicit m info number found →
       HasPlan explicit m info number → ⊥
   unplanned found stands has =
       let plan = has.plan stands.function stands.known stands.stands stands.is_known in
@@ -75,7 +78,7 @@ module _ (explicit : Bool) (m : Module) (info : ModuleInfo) (number : ℕ) where
       plan.formed has.nameable
 
   -- and from being one for which nothing is refused
-  refused_in : (found : Construct × FunctionPart) → StandsInFunction explicit m info number found →
+  refused_in : (found : Construct × FunctionRefusalPosition) → StandsInFunction explicit m info number found →
       NothingIsRefused explicit m info → ⊥
   refused_in found stands nothing =
       let writable = each_writable explicit m info nothing number in
@@ -86,7 +89,7 @@ module _ (explicit : Bool) (m : Module) (info : ModuleInfo) (number : ℕ) where
       (writable.formed stands.function stands.known stands.stands stands.is_known) writable.nameable
 
   -- the first stands at one part
-  one_place : AreNumbered m → (found other : Construct × FunctionPart) →
+  one_place : AreNumbered m → (found other : Construct × FunctionRefusalPosition) →
       StandsInFunction explicit m info number found → StandsInFunction explicit m info number other →
       found.1 ≡ other.1
   one_place numbered found other stands stood =
@@ -214,7 +217,7 @@ module _ (m : Module) where
       type = has.types c.ty (ConstantType i c at is_named);
       initialiser = λ h same.
           let handle : c.init ≡ h = cc in
-          subst (λ h. global_is_written m h ≡ true) handle
+          subst (λ h. global_has_form m h ≡ true) handle
           (has.initialisers c.init (ConstantInitialiser i c at is_named));
     }
 
@@ -389,13 +392,14 @@ module _ (explicit : Bool) (m : Module) (info : ModuleInfo) where
         StandsAt explicit m info (position.Declaration at) it → ⊥
     not_declaration at it stands = none_in m before.declarations at stands.0 stands.1
 
-    not_function : (k : ℕ) (at : FunctionPart) (it : Construct) → StandsInFunction explicit m info k (it, at) →
+    not_function : (k : ℕ) (at : FunctionRefusalPosition) (it : Construct) →
+        StandsInFunction explicit m info k (it, at) →
         k < n → ⊥
     not_function k at it stands less = unplanned explicit m info k (it, at) stands (before.planned k less)
 
   module _ (numbered : AreNumbered m) where
     -- of one function
-    one_at : (n k : ℕ) (at by : FunctionPart) (it that : Construct) → n ≡ k →
+    one_at : (n k : ℕ) (at by : FunctionRefusalPosition) (it that : Construct) → n ≡ k →
         StandsInFunction explicit m info n (it, at) → StandsInFunction explicit m info k (that, by) → at ≡ by
     one_at n k at by it that same stands stood =
         one_place explicit m info n numbered (it, at) (that, by) stands

@@ -41,7 +41,7 @@ use Rattle.naga_wgsl_fns.specs.declared.plans.Unplanned.{Unplanned}
 use Rattle.naga_wgsl_fns.specs.declared.plans.Unplanned.TheVariants as unplanned
 use Rattle.naga_wgsl_fns.specs.declared.refusals.construct.Construct.{Construct}
 use Rattle.naga_wgsl_fns.specs.declared.refusals.construct.Construct.TheVariants as construct
-use Rattle.naga_wgsl_fns.specs.declared.plans.FunctionPart.{FunctionPart}
+use Rattle.naga_wgsl_fns.specs.declared.plans.FunctionRefusalPosition.{FunctionRefusalPosition}
 use Rattle.naga_wgsl_out.proofs.ExpressionNames.{none_past}
 use Rattle.naga_wgsl_out.proofs.ModuleScopes.{all_planned_formed, all_planned_hold}
 use Rattle.naga_back.specs.Flags.{annotates_types}
@@ -120,7 +120,7 @@ module _ (explicit : Bool) (m : Module) (info : ModuleInfo) (accepted : IsTrue (
   first_in (plan_error.Unnamed e) first = tt
   first_in (plan_error.Memory e) first = tt
 
-  pub stands_in : (it : Construct) (at : FunctionPart) → IsRefusedFor explicit m info number namer it at →
+  pub stands_in : (it : Construct) (at : FunctionRefusalPosition) → IsRefusedFor explicit m info number namer it at →
       StandsInFunction explicit m info number (it, at)
   stands_in it at r = record {
     function = f;

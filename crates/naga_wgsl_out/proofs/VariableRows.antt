@@ -22,7 +22,7 @@ use Rattle.module_meaning.specs.DeclarationForms.{IsDeclaredType, IsInitialiser}
 use Rattle.module_meaning.specs.Names.{module_names, name_in}
 use Rattle.module_meaning.specs.StageBindings.{is_coherent_memory, is_volatile_memory}
 use Rattle.module_meaning.specs.Types.{type_names}
-use Rattle.module_meaning.specs.ExpressionForms.{global_is_written}
+use Rattle.module_meaning.specs.ExpressionForms.{global_has_form}
 use Rattle.naga_form.specs.Attributes.{attribute_if, decoration_attributes, global_attributes}
 use Rattle.naga_form.specs.Attributes.{resource_attributes}
 use Rattle.naga_form.specs.Declarations.{space_form, space_of_words, variable_form}
@@ -222,6 +222,6 @@ module _ (t : ModuleText) (can : CanDeclare t) (h : ℕ) (v : GlobalVariable)
       spelled_of_spellable m (Handle v.ty)
       (can.forms.types v.ty (IsDeclaredType.OfVariable h v at))
 
-  pub variable_is_formed : (value : ℕ) → v.init ≡ Some value → IsTrue (global_is_written m value)
+  pub variable_is_formed : (value : ℕ) → v.init ≡ Some value → IsTrue (global_has_form m value)
   variable_is_formed value is =
       can.forms.initialisers value (IsInitialiser.OfVariable h v value at is)

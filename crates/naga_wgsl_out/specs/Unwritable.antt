@@ -41,8 +41,8 @@ use Rattle.naga_wgsl_fns.specs.Refusals.{NamesType}
 use Rattle.naga_wgsl_fns.specs.Unplanned.{part_of}
 use Rattle.naga_wgsl_fns.specs.declared.refusals.construct.Construct.{Construct}
 use Rattle.naga_wgsl_fns.specs.declared.refusals.error.Error.{Error}
-use Rattle.naga_wgsl_fns.specs.declared.plans.FunctionPart.{FunctionPart}
-use Rattle.naga_wgsl_fns.specs.declared.plans.FunctionPart.TheVariants as part
+use Rattle.naga_wgsl_fns.specs.declared.plans.FunctionRefusalPosition.{FunctionRefusalPosition}
+use Rattle.naga_wgsl_fns.specs.declared.plans.FunctionRefusalPosition.TheVariants as part
 use Rattle.naga_wgsl_fns.specs.declared.plans.Unplanned.{Unplanned}
 use Rattle.naga_wgsl_fns.specs.declared.plans.Unplanned.TheVariants as unplanned
 use Rattle.naga_wgsl_out.specs.ModuleRefusals.{HasNamedBefore, ItemsAreFull, KeyIsOutOfRange}
@@ -68,7 +68,7 @@ IsUnspelled explicit m info f known ty it =
 -- that a `let` of this statement tells, or labels that front ends gave, of which one gets no name
 -- after all labels in front of the function.
 abbrev pub StandsAtPart : (explicit : Bool) → Module → ModuleInfo → (number : ℕ) → Function →
-    (known : List ExpressionInfo) → FunctionPart → Construct → Type 0
+    (known : List ExpressionInfo) → FunctionRefusalPosition → Construct → Type 0
 StandsAtPart explicit m info number f known (part.Scope fault) it =
     IsScopeFault (function_shape m info f known) fault
     × TellsCustom it (codes "operand out of scope")
@@ -97,7 +97,7 @@ LabelsGetNamesIn m number = ExpressionNamesAreFullIn m (labels_before m number) 
 -- so it is with a function that there is, and nothing in front of it in the order of the text keeps
 -- the function from having a plan
 pub record StandsInFunction (explicit : Bool) (m : Module) (info : ModuleInfo) (number : ℕ)
-    (found : Construct × FunctionPart) : Type 0 where
+    (found : Construct × FunctionRefusalPosition) : Type 0 where
   pub function : Function
   pub known : List ExpressionInfo
   pub stands : slice_get (all_functions m) number ≡ Some function
@@ -121,7 +121,8 @@ StandsInLabels m it =
     ⊎ (KeyIsOutOfRange m × TellsCustom it (codes "name key out of range"))
 
 -- ---- modules
--- the construct stands at its place in the module; the entry points are numbered after the functions
+-- the construct stands at its position in the module; the entry points are numbered after the
+-- functions
 abbrev pub StandsAt : (explicit : Bool) → Module → ModuleInfo → RefusalPosition → Construct → Type 0
 StandsAt explicit m info position.Labels it = StandsInLabels m it
 StandsAt explicit m info (position.Declaration at) it = StandsInDeclaration m at it
@@ -144,7 +145,7 @@ pub record AreWritableBefore (explicit : Bool) (m : Module) (info : ModuleInfo)
   pub planned : (i : ℕ) → i < number → HasPlan explicit m info i
 
 -- a module is looked at by its declarations, by the labels of its items, and by its functions and
--- entry points: nothing stands in front of this place for which it is refused
+-- entry points: nothing stands in front of this position for which it is refused
 abbrev pub IsFirst : (explicit : Bool) → Module → ModuleInfo → RefusalPosition → Type 0
 IsFirst explicit m info (position.Declaration at) = HaveFormsBefore m at
 IsFirst explicit m info position.Labels = DeclarationsHaveForms m
@@ -153,8 +154,8 @@ IsFirst explicit m info (position.EntryPoint i at) =
     AreWritableBefore explicit m info (length m.functions + i)
 
 -- ---- on the way
--- the place of this part of a function or an entry point
-abbrev pub position_at : FunctionType → FunctionPart → RefusalPosition
+-- the position of this part of a function or an entry point
+abbrev pub position_at : FunctionType → FunctionRefusalPosition → RefusalPosition
 position_at (item.Function h) at = position.Function h at
 position_at (item.EntryPoint i) at = position.EntryPoint i at
 
@@ -167,7 +168,7 @@ IsFoundOf ty (unplanned.Memory e) found = ⊥
 -- it is refused for this, which stands at a part of it
 abbrev pub IsRefusalOf : (explicit : Bool) → Module → ModuleInfo → FunctionType → Refusal → Type 0
 IsRefusalOf explicit m info ty refusal =
-    (at : FunctionPart) × (refusal.position ≡ position_at ty at)
+    (at : FunctionRefusalPosition) × (refusal.position ≡ position_at ty at)
     × StandsInFunction explicit m info (function_number m ty) (refusal.construct, at)
 
 -- the function with this number has a plan, and the namer has named its labels after all in front of

@@ -1,4 +1,4 @@
-//! Helpers of the writer.
+//! naga's module `back`: helpers of the writer.
 
 pub use crate::wgsl;
 pub use naga_back::{

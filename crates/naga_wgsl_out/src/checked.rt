@@ -1,4 +1,4 @@
-//! The writer, after the question whether a module is accepted.
+//! Writes a module after asking whether it is accepted.
 
 ghost use Rattle.std.specs.Prelude.{◌≡◌, [], IfErr, OnOk};
 ghost use Rattle.std.specs.Option.{IfSome, is_none};
@@ -24,7 +24,7 @@ use thiserror::Error as DisplayedError;
 /// Why [`write_checked`] gives no text.
 #[derive(Debug, Drop, DisplayedError)]
 pub enum CheckedError {
-    /// The module is not accepted: at this place, for a fault of this kind.
+    /// The module is not accepted: at this position, for a fault of this kind.
     #[error("not accepted: {0}")]
     NotAccepted(Unaccepted),
     /// The module is accepted, and the writer refuses it, or memory was wanting.

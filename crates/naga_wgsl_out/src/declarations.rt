@@ -5,7 +5,7 @@ ghost use Rattle.std.specs.Prelude.{◌≡◌, ℕ, IsTrue, Some};
 ghost use Rattle.module_meaning.specs.AlikeTypes.{is_spelled};
 ghost use Rattle.module_meaning.specs.DeclarationForms.{DeclarationsHaveForms};
 ghost use Rattle.module_meaning.specs.Names.{HasNamesOf};
-ghost use Rattle.module_meaning.specs.ExpressionForms.{global_is_written};
+ghost use Rattle.module_meaning.specs.ExpressionForms.{global_has_form};
 ghost use Rattle.naga_info.specs.declared.info.TypeResolution.TheVariants as resolution;
 ghost use Rattle.naga_names.specs.Keys.{names_in};
 ghost use Rattle.naga_scope.specs.Tables.{AreTablesOf};
@@ -104,7 +104,7 @@ pub(crate) fn write_value<W: TextSink>(
 )
     requires can { CanWriteIn text.now }
     requires written { (h : ℕ) → value ≡ Some h →
-        IsTrue (global_is_written text.now.shader.now h) }
+        IsTrue (global_has_form text.now.shader.now h) }
     ensures { Writes W.text W.failures out.old out.new (value_text text.now.shader.now value) }
 {
     match value {
@@ -122,7 +122,7 @@ pub(crate) fn write_first_value<W: TextSink>(
     out: &mut Output<'_, W>,
 )
     requires can { CanWriteIn text.now }
-    requires written { IsTrue (global_is_written text.now.shader.now value) }
+    requires written { IsTrue (global_has_form text.now.shader.now value) }
     ensures { Writes W.text W.failures out.old out.new
         (first_value_text text.now.shader.now value) }
 {

@@ -1,8 +1,10 @@
 //! What is known of a module beside itself, whether it is accepted, and if not, where and why; how
 //! often its expressions are used.
 
-pub use fault_details::{Counted, Expected, ListName, Need, TypeClass, explain};
-pub use naga_acceptance::{Fault, FunctionPosition, Item, Unaccepted, accepts, count, unaccepted};
+pub use fault_details::{Counted, ListName, Mismatch, Need, TypeClass, explain};
+pub use naga_acceptance::{
+    Fault, FaultPosition, FunctionPosition, Unaccepted, accepts, count, unaccepted,
+};
 pub use naga_info::{
     Conclusion, ExpressionInfo, FunctionInfo, GlobalCtx, ModuleInfo, Rule, ToCtx, TypeResolution,
 };

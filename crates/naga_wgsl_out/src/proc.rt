@@ -1,3 +1,3 @@
-//! naga's path to the namer.
+//! The namer under naga's path `proc::namer`.
 
 pub use naga_names::namer;

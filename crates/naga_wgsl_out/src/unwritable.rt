@@ -20,7 +20,8 @@ use naga_names::NameKey;
 use naga_names::namer::Namer;
 use naga_scope::{DeclarationPosition, ModuleTables, unsupported_declaration};
 use naga_wgsl_fns::{
-    Construct, FunctionPart, Unplanned, construct_of_names, plan_or_refusal, unsupported_construct,
+    Construct, FunctionRefusalPosition, Unplanned, construct_of_names, plan_or_refusal,
+    unsupported_construct,
 };
 use std::alloc::{AllocError, Global};
 use std::collections::HashMap;
@@ -33,9 +34,9 @@ pub enum RefusalPosition {
     /// In a declaration.
     Declaration(DeclarationPosition),
     /// In the function with this handle.
-    Function(Handle<Function>, FunctionPart),
+    Function(Handle<Function>, FunctionRefusalPosition),
     /// In the entry point with this index.
-    EntryPoint(usize, FunctionPart),
+    EntryPoint(usize, FunctionRefusalPosition),
 }
 
 /// A construct for which a module is refused, and where it stands.
@@ -50,11 +51,12 @@ pub struct Refusal {
 /// these flags.
 ///
 /// Where several stand, it is the first that the writer finds, and the error that `write` answers
-/// names what stands at the same place: first of the declarations, in the order of the text; then of the labels of
-/// items; then of the functions and the entry points, in the order of the text. In each of these its
-/// labels come first, and then the lines of its text: the signature, the locals, the statements. Of
-/// one line it is a rule of scope, then the statement itself, the written expression with the lowest
-/// handle, the type that is declared, and the one that a `let` tells.
+/// names what stands at the same position: first of the declarations, in the order of the text;
+/// then of the labels of items; then of the functions and the entry points, in the order of the
+/// text. In each of these its labels come first, and then the lines of its text: the signature, the
+/// locals, the statements. Of one line it is a rule of scope, then the statement itself, the
+/// written expression with the lowest handle, the type that is declared, and the one that a `let`
+/// tells.
 ///
 /// It takes the time of `write` without the text.
 ///
@@ -186,8 +188,8 @@ fn refusal_of(ty: FunctionType, unplanned: Unplanned) -> Result<Option<Refusal>,
     }
 }
 
-/// The place of this part of a function or an entry point.
-fn position_at(ty: FunctionType, part: FunctionPart) -> RefusalPosition
+/// The position of this part of a function or an entry point.
+fn position_at(ty: FunctionType, part: FunctionRefusalPosition) -> RefusalPosition
     ensures { result ≡ position_at ty part }
 {
     match ty {

@@ -1,3 +1,3 @@
-//! naga's path to what is known of a module.
+//! What is known of a module, under naga's path `valid`.
 
 pub use naga_info::{FunctionInfo, ModuleInfo};

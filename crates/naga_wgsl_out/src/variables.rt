@@ -13,7 +13,7 @@ use crate::declarations::{write_typed, write_value};
 use bitflags::Flags;
 use naga_ir::{AddressSpace, GlobalVariable, Handle, MemoryDecorations, ResourceBinding};
 use naga_names::NameKey;
-use naga_wgsl_fns::attributes::{write_if, write_numbered};
+use naga_wgsl_fns::attributes::{write_numbered, write_optional_piece};
 use naga_wgsl_fns::functions::write_group_end;
 use naga_wgsl_fns::module_text::ModuleText;
 use naga_words::{Output, TextSink};
@@ -104,12 +104,12 @@ fn write_decorations<W: TextSink>(decorations: MemoryDecorations, out: &mut Outp
     ensures { Writes W.text W.failures out.old out.new
         (attributes_text (decoration_attributes decorations)) }
 {
-    write_if(
+    write_optional_piece(
         decorations.contains(MemoryDecorations::COHERENT),
         "@coherent ",
         out,
     );
-    write_if(
+    write_optional_piece(
         decorations.contains(MemoryDecorations::VOLATILE),
         "@volatile ",
         out,

@@ -9,5 +9,6 @@ pub use module_limits::{Limits, Nested, nested_past};
 pub use naga_back::WriterFlags;
 pub use naga_scope::{DeclarationPosition, Declared, Line, ScopeFault};
 pub use naga_wgsl_fns::{
-    Construct, Error, FunctionPart, write_binding, write_function, write_global_expression,
+    Construct, Error, FunctionRefusalPosition, write_binding, write_function,
+    write_global_expression,
 };

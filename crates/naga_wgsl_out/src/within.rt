@@ -21,7 +21,7 @@ pub enum LimitedError {
     /// This of the module is nested deeper than the limit.
     #[error("{0}")]
     TooDeep(Nested),
-    /// The module is not accepted: at this place, for a fault of this kind.
+    /// The module is not accepted: at this position, for a fault of this kind.
     #[error("not accepted: {0}")]
     NotAccepted(Unaccepted),
     /// The module's text has more bytes than the limit.

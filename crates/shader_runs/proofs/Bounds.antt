@@ -5,7 +5,7 @@ use Rattle.std.proofs.Common.{refl, sym, ap, ◌∙◌, subst, arith}
 use Rattle.shader_runs.specs.Value.{PartTypes, ValueType, Value}
 use Rattle.shader_runs.specs.World.{Event, entries}
 use Rattle.shader_runs.specs.Outcome.{Stop, OutOfTurns, ReachedOrHalted, Gives, Halts}
-use Rattle.shader_runs.specs.ProgramRun.{KeptValues}
+use Rattle.shader_runs.specs.ProgramRun.{EmittedValues}
 use Rattle.shader_runs.proofs.Process.{Pause, DoneWith, ContinuedWith, BrokeWith, ReturnedWith}
 use Rattle.shader_runs.proofs.Process.{Process, gives, stuck, unreturned, discards, tells, wants}
 use Rattle.shader_runs.proofs.Process.{looks, sequence, repeats, resumed}
@@ -29,13 +29,13 @@ pub data Cut : Course → Course → Type 0 where
   cut_join : {c c' : Course} {next next' : Pause → Course} → Cut c c' →
       ((x : Pause) → Cut (next x) (next' x)) → Cut (joins c next) (joins c' next')
 
-laps_cut : (each each' : KeptValues → Course) → ((s : KeptValues) → Cut (each s) (each' s)) →
-    (j n : ℕ) → j ≤ n → (s : KeptValues) → Cut (laps j each s) (laps n each' s)
+laps_cut : (each each' : EmittedValues → Course) → ((s : EmittedValues) → Cut (each s) (each' s)) →
+    (j n : ℕ) → j ≤ n → (s : EmittedValues) → Cut (laps j each s) (laps n each' s)
 laps_cut each each' cut zero n le s = cut_off
 laps_cut each each' cut (suc j) zero le s = absurd (omega (arith, le))
 laps_cut each each' cut (suc j) (suc n) le s = cut_join (cut s) (go (laps_cut each each' cut j n (omega (arith, le))))
   where
-    go : ((s : KeptValues) → Cut (laps j each s) (laps n each' s)) → (x : Pause) →
+    go : ((s : EmittedValues) → Cut (laps j each s) (laps n each' s)) → (x : Pause) →
         Cut (lap_on (laps j each) x) (lap_on (laps n each') x)
     go rest (DoneWith s) = rest s
     go rest (ContinuedWith s) = cut_stop

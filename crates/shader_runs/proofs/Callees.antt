@@ -21,7 +21,8 @@ use Rattle.shader_runs.specs.Program.{Numbered, Operator, Request, Statement, St
 use Rattle.shader_runs.specs.Program.{end}
 use Rattle.shader_runs.specs.Program.{expression_of, from, handle_type, is_counted}
 use Rattle.shader_runs.specs.Program.{operands_of, then, Jumps}
-use Rattle.shader_runs.specs.ProgramRun.{Call, KeptValues, action_answer, after_load, after_request}
+use Rattle.shader_runs.specs.ProgramRun.{Call, EmittedValues, action_answer, after_load}
+use Rattle.shader_runs.specs.ProgramRun.{after_request}
 use Rattle.shader_runs.specs.ProgramRun.{also, computed_value, constant_values, constants_kept}
 use Rattle.shader_runs.specs.ProgramRun.{emit}
 use Rattle.shader_runs.specs.ProgramRun.{emit_as, first_used, first_used_all, gathered_value}
@@ -42,29 +43,29 @@ module _ (c : Call) (told : List Function) (body : Statements) where
   used_as (Some (Constant e)) v = refl
   used_as _ v = refl
 
-  used : (kept : KeptValues) (h : ℕ) → used_value c kept h ≡ used_value retold kept h
+  used : (kept : EmittedValues) (h : ℕ) → used_value c kept h ≡ used_value retold kept h
   used kept h = used_as (expression_of c.function h) (kept h)
 
-  used_all : (kept : KeptValues) (xs : List ℕ) → used_values c kept xs ≡ used_values retold kept xs
+  used_all : (kept : EmittedValues) (xs : List ℕ) → used_values c kept xs ≡ used_values retold kept xs
   used_all kept [] = refl
   used_all kept (x ∷ xs) = λ i. also (used kept x i) (used_all kept xs i)
 
-  computed : (kept : KeptValues) (e : Option Expression) →
+  computed : (kept : EmittedValues) (e : Option Expression) →
       computed_value c kept e ≡ computed_value retold kept e
   computed kept e =
       ap (gathered_value c.environment.parts c.meaning e) (used_all kept (operands_of e))
 
-  first_one : (kept : KeptValues) (o : Option ℕ) → first_used c kept o ≡ first_used retold kept o
+  first_one : (kept : EmittedValues) (o : Option ℕ) → first_used c kept o ≡ first_used retold kept o
   first_one kept None = refl
   first_one kept (Some h) = ap (option_map Some) (used kept h)
 
-  first_all : (kept : KeptValues) (os : List (Option ℕ)) →
+  first_all : (kept : EmittedValues) (os : List (Option ℕ)) →
       first_used_all c kept os ≡ first_used_all retold kept os
   first_all kept [] = refl
   first_all kept (o ∷ os) = λ i. with_first (first_one kept o i) (first_all kept os i)
 
   -- ---- what is emitted
-  one_emitted : (h : ℕ) (o : Option Expression) (kept : KeptValues) (t : List Event) →
+  one_emitted : (h : ℕ) (o : Option Expression) (kept : EmittedValues) (t : List Event) →
       emit_as c h o kept t ≡ emit_as retold h o kept t
   one_emitted h (Some (Load p)) kept t =
       ap
@@ -90,18 +91,18 @@ module _ (c : Call) (told : List Function) (body : Statements) where
   one_emitted h (Some _) kept t = refl
   one_emitted h None kept t = refl
 
-  emitted : (hs : List ℕ) (kept : KeptValues) (t : List Event) → emit c hs kept t ≡ emit retold hs kept t
+  emitted : (hs : List ℕ) (kept : EmittedValues) (t : List Event) → emit c hs kept t ≡ emit retold hs kept t
   emitted [] kept t = refl
   emitted (h ∷ hs) kept t =
       λ i. and_then (one_emitted h (expression_of c.function h) kept t i) (λ kept t. emitted hs kept t i)
 
   -- ---- statements
-  left : (o : Option ℕ) (kept : KeptValues) (t : List Event) → leave c o kept t ≡ leave retold o kept t
+  left : (o : Option ℕ) (kept : EmittedValues) (t : List Event) → leave c o kept t ≡ leave retold o kept t
   left None kept t = refl
   left (Some h) kept t =
       ap (λ o. or_stuck o t (λ v. branch_by v t (Broke kept t) (Done kept t))) (used kept h)
 
-  returned : (o : Option ℕ) (kept : KeptValues) (t : List Event) →
+  returned : (o : Option ℕ) (kept : EmittedValues) (t : List Event) →
       return_outcome c o kept t ≡ return_outcome retold o kept t
   returned None kept t = refl
   returned (Some h) kept t = ap (λ o. or_stuck o t (λ v. Returned (Some v) t)) (used kept h)
@@ -111,7 +112,7 @@ module _ (c : Call) (told : List Function) (body : Statements) where
   answered (Asked w) vs t = refl
   answered (Called g) vs t = refl
 
-  resulted : (a : Action) (r : Option ℕ) (kept : KeptValues) (q : ReachedOrHalted (Option Value)) →
+  resulted : (a : Action) (r : Option ℕ) (kept : EmittedValues) (q : ReachedOrHalted (Option Value)) →
       with_result c.environment.parts c.function a r kept q
       ≡ with_result c.environment.parts retold.function a r kept q
   resulted a None kept (Gives v t) = refl
@@ -123,7 +124,7 @@ module _ (c : Call) (told : List Function) (body : Statements) where
 
   module _ (n : ℕ) where
     mutual
-      one_runs : (s : Statement) (kept : KeptValues) (t : List Event) → run c n s kept t ≡ run retold n s kept t
+      one_runs : (s : Statement) (kept : EmittedValues) (t : List Event) → run c n s kept t ≡ run retold n s kept t
       one_runs (Emit first count) kept t = emitted (from first count) kept t
       one_runs (Store p v) kept t =
           λ i. with_pointer (used kept p i) t
@@ -147,12 +148,12 @@ module _ (c : Call) (told : List Function) (body : Statements) where
           (λ vs. resulted a r kept (action_answer retold a vs t) i))
       one_runs _ kept t = refl
 
-      all_run : (ss : Statements) (kept : KeptValues) (t : List Event) →
+      all_run : (ss : Statements) (kept : EmittedValues) (t : List Event) →
           run_all c n ss kept t ≡ run_all retold n ss kept t
       all_run end kept t = refl
       all_run (then s ss) kept t = λ i. and_then (one_runs s kept t i) (λ kept t. all_run ss kept t i)
 
-      cases_run : (cs : Cases) (x : CaseValue) (kept : KeptValues) (t : List Event) →
+      cases_run : (cs : Cases) (x : CaseValue) (kept : EmittedValues) (t : List Event) →
           run_cases c n cs x kept t ≡ run_cases retold n cs x kept t
       cases_run no_case x kept t = refl
       cases_run (case l b falls cs) x kept t =
@@ -161,7 +162,7 @@ module _ (c : Call) (told : List Function) (body : Statements) where
           (λ kept1 t1. cond falls (on_run cs kept1 t1 i) (Done kept1 t1)))
           (cases_run cs x kept t i)
 
-      on_run : (cs : Cases) (kept : KeptValues) (t : List Event) →
+      on_run : (cs : Cases) (kept : EmittedValues) (t : List Event) →
           run_on c n cs kept t ≡ run_on retold n cs kept t
       on_run no_case kept t = refl
       on_run (case l b falls cs) kept t =
@@ -183,7 +184,7 @@ module _ (c : Call) (told : List Function) (body : Statements) where
 
     -- where the bodies do the same, so do the calls
     pub body_runs :
-        ((kept : KeptValues) (t : List Event) → run_all c n c.function.body kept t ≡ run_all c n body kept t) →
+        ((kept : EmittedValues) (t : List Event) → run_all c n c.function.body kept t ≡ run_all c n body kept t) →
         (g : ℕ) (vs : List Value) (t : List Event) →
         run_body c n g vs t ≡ run_body retold n g vs t
     body_runs same g vs t =

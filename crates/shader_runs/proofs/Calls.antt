@@ -17,7 +17,7 @@ use Rattle.shader_runs.specs.Program.{Operator, Request, Function, argument_coun
 use Rattle.shader_runs.specs.Program.{function_numbered, expression_of, handle_type, operands_of}
 use Rattle.shader_runs.specs.Program.{from, Statement, Emit, Block, If, Switch, Loop, Statements}
 use Rattle.shader_runs.specs.Program.{end, then, Cases, no_case, case, Module, any_continue}
-use Rattle.shader_runs.specs.ProgramRun.{Call, KeptValues, constants_kept, run_if_arguments_fit}
+use Rattle.shader_runs.specs.ProgramRun.{Call, EmittedValues, constants_kept, run_if_arguments_fit}
 use Rattle.shader_runs.specs.ProgramRun.{used_value, with_first}
 use Rattle.shader_runs.specs.ProgramRun.{first_used, first_used_all, run_from_entry, run_all}
 use Rattle.shader_runs.specs.ProgramRun.{run_body}
@@ -29,7 +29,8 @@ use Rattle.shader_runs.specs.TextRun.{first_then, first_of_each, entered_by, fol
 use Rattle.shader_runs.specs.TextRun.{follow_body, follow_call, is_operation}
 use Rattle.shader_runs.specs.Scope.{ModuleNames, Naming, usable, usable_if, named_after}
 use Rattle.shader_runs.specs.Scope.{named_after_all, named_by, named_by_all, named_by_cases}
-use Rattle.shader_runs.specs.Scope.{at_start, before_local, first_values_fit, fits_all, fits_function}
+use Rattle.shader_runs.specs.Scope.{at_start, before_local, first_values_fit, fits_all}
+use Rattle.shader_runs.specs.Scope.{fits_function}
 use Rattle.shader_runs.specs.Form.{names_from, variables_from, globals_from, value_at, value_if}
 use Rattle.shader_runs.specs.Form.{form_all, form_function, form_functions}
 use Rattle.shader_runs.specs.Form.{functions_of}
@@ -551,7 +552,7 @@ module _ (p : Module) (n : ModuleNames) (uses : Bytes → WordUse) (uses_fit : U
     abbrev spelled : Words
     spelled = words own d
 
-    abbrev kept : KeptValues
+    abbrev kept : EmittedValues
     kept = constants_kept f.function env m
 
     -- one first value, and those of the variables after it

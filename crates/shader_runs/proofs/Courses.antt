@@ -7,7 +7,7 @@ use Rattle.shader_runs.specs.Value.{PartTypes, ValueType, has_type, Value}
 use Rattle.shader_runs.specs.World.{Event, Discard, entries, World}
 use Rattle.shader_runs.specs.Outcome.{Stop, Stuck, Unreturned, OutOfTurns, Discarded, Mistyped}
 use Rattle.shader_runs.specs.Outcome.{ReachedOrHalted, Gives, Halts}
-use Rattle.shader_runs.specs.ProgramRun.{KeptValues}
+use Rattle.shader_runs.specs.ProgramRun.{EmittedValues}
 use Rattle.shader_runs.proofs.Process.{reached_events, Pause, DoneWith, ContinuedWith, BrokeWith}
 use Rattle.shader_runs.proofs.Process.{ReturnedWith, Process, gives, stuck, unreturned, discards}
 use Rattle.shader_runs.proofs.Process.{tells, wants, looks, sequence, repeats, answered, resumed}
@@ -29,13 +29,13 @@ pub data Course : Type 0 where
   counts : (ℕ → Course) → Course
   joins : Course → (Pause → Course) → Course
 
-abbrev pub lap_on : (KeptValues → Course) → Pause → Course
+abbrev pub lap_on : (EmittedValues → Course) → Pause → Course
 lap_on next (DoneWith s) = next s
 lap_on next (ContinuedWith s) = stops Stuck tt
 lap_on next (BrokeWith s) = comes_to (DoneWith s)
 lap_on next (ReturnedWith v) = comes_to (ReturnedWith v)
 
-abbrev pub laps : ℕ → (KeptValues → Course) → KeptValues → Course
+abbrev pub laps : ℕ → (EmittedValues → Course) → EmittedValues → Course
 laps zero once s = stops OutOfTurns tt
 laps (suc n) once s = joins (once s) (lap_on (laps n once))
 
@@ -68,15 +68,15 @@ resumed_alike q q' f f' same next = ap (λ q. resumed q f) same ∙ go q' refl
     go (Gives x e) h = next x e h
     go (Halts x e) h = refl
 
-rounds_run : (w : World) (once : KeptValues → List Event → ReachedOrHalted Pause) (each : KeptValues → Course) →
-    ((s : KeptValues) (t : List Event) → once s t ≡ run w (each s) t) →
-    (i : ℕ) (s : KeptValues) (t : List Event) → rounds i once s t ≡ run w (laps i each s) t
+rounds_run : (w : World) (once : EmittedValues → List Event → ReachedOrHalted Pause) (each : EmittedValues → Course) →
+    ((s : EmittedValues) (t : List Event) → once s t ≡ run w (each s) t) →
+    (i : ℕ) (s : EmittedValues) (t : List Event) → rounds i once s t ≡ run w (laps i each s) t
 rounds_run w once each same zero s t = refl
 rounds_run w once each same (suc i) s t =
     resumed_alike (once s t) (run w (each s) t) (again (rounds i once)) (λ x e. run w (lap_on (laps i each) x) e)
     (same s t) (λ x e h. go (rounds_run w once each same i) x e)
   where
-    go : ((s : KeptValues) (t : List Event) → rounds i once s t ≡ run w (laps i each s) t) →
+    go : ((s : EmittedValues) (t : List Event) → rounds i once s t ≡ run w (laps i each s) t) →
         (x : Pause) (e : List Event) → again (rounds i once) x e ≡ run w (lap_on (laps i each) x) e
     go rest (DoneWith s) e = rest s e
     go rest (ContinuedWith s) e = refl

@@ -12,7 +12,7 @@ use Rattle.shader_runs.specs.Program.{Access, AccessIndex, Logical, Swizzle, Req
 use Rattle.shader_runs.specs.Program.{ConstantTrees, expression_of, handle_type, operands_of}
 use Rattle.shader_runs.specs.Program.{is_counted, binds, binds_as, Module}
 use Rattle.shader_runs.specs.Program.{is_pure, is_emittable}
-use Rattle.shader_runs.specs.ProgramRun.{Call, KeptValues, used_value_as, constant_values}
+use Rattle.shader_runs.specs.ProgramRun.{Call, EmittedValues, used_value_as, constant_values}
 use Rattle.shader_runs.specs.ProgramRun.{used_value}
 use Rattle.shader_runs.specs.ProgramRun.{used_values, joined_values, combined_value, computed_value}
 use Rattle.shader_runs.specs.ProgramRun.{after_load, after_request, if_counted, emit_as, emit}
@@ -48,14 +48,14 @@ pub extends_update : (s : Handles) (h : ℕ) (st : Availability) →
 extends_update s h st i k p =
     update_cases (λ z. IsTrue (is_present z)) s h st k (λ e. i (subst (λ k. IsTrue (is_present (s k))) e p)) (λ e. p)
 
-pub agree_update : (s : Handles) (kept : KeptValues) (h : ℕ) (o : Option Value) →
+pub agree_update : (s : Handles) (kept : EmittedValues) (h : ℕ) (o : Option Value) →
     (IsTrue (is_present (s h)) → o ≡ kept h) → Agree s kept (update kept h o)
 agree_update s kept h o a k p =
     update_cases (λ z. z ≡ kept k) kept h o k
     (λ e. a (subst (λ k. IsTrue (is_present (s k))) e p) ∙ ap kept (sym e)) (λ e. refl)
 
 -- an event's handle wasn't in scope, and an operator's has the value that it had
-pub new_event : (c : Call) (s : Handles) (names : Scope) (kept : KeptValues) (y : ValueType)
+pub new_event : (c : Call) (s : Handles) (names : Scope) (kept : EmittedValues) (y : ValueType)
     (e : Option Expression) (o : Option Value) →
     ((vs : List Value) → combined_value c.environment.parts c.meaning e vs ≡ None) → (st : Availability) →
     IsTrue (is_new st) → Stands c s names kept y e o st → IsTrue (is_present st) → ⊥
@@ -67,7 +67,7 @@ new_event c s names kept y e o f Everywhere i d p =
 new_event c s names kept y e o f Inline i d p = true≢false (sym i)
 new_event c s names kept y e o f (Bound x) i d p = true≢false (sym i)
 
-new_operator : (c : Call) (s : Handles) (names : Scope) (kept : KeptValues) (y : ValueType)
+new_operator : (c : Call) (s : Handles) (names : Scope) (kept : EmittedValues) (y : ValueType)
     (e : Option Expression) (o : Option Value) (st : Availability) → IsTrue (is_new st) →
     Stands c s names kept y e o st → IsTrue (is_present st) → computed_value c kept e ≡ o
 new_operator c s names kept y e o Absent i d p = absurd (true≢false (sym p))
@@ -77,7 +77,7 @@ new_operator c s names kept y e o Inline i d p = absurd (true≢false (sym i))
 new_operator c s names kept y e o (Bound x) i d p = absurd (true≢false (sym i))
 
 -- another standing for one handle
-related_new : (c : Call) (n : Names) (s : Handles) (names names' : Scope) (kept : KeptValues)
+related_new : (c : Call) (n : Names) (s : Handles) (names names' : Scope) (kept : EmittedValues)
     (h : ℕ) (st : Availability) (o : Option Value) → Related c n s names kept →
     (IsTrue (is_present (s h)) → o ≡ kept h) →
     (IsTrue (is_present (s h)) → IsTrue (is_present st)) →
@@ -117,7 +117,7 @@ emitted_used c None o i = absurd (true≢false (sym i))
 emitted_used c (Some _) o i = refl
 
 -- a handle under a fresh name
-pub bind_related : (c : Call) (n : Names) (s : Handles) (names : Scope) (kept : KeptValues) (h : ℕ)
+pub bind_related : (c : Call) (n : Names) (s : Handles) (names : Scope) (kept : EmittedValues) (h : ℕ)
     (x : Bytes) (v : Value) → Related c n s names kept →
     (IsTrue (is_present (s h)) → Some v ≡ kept h) →
     ((o : Option Value) → used_value_as c (expression_of c.function h) o ≡ o) → IsFresh c n s x →
@@ -134,7 +134,7 @@ bind_related c n s names kept h x v r a i f y =
     )
 
 -- an operator that is written where it is used
-inline_related : (c : Call) (n : Names) (s : Handles) (names : Scope) (kept : KeptValues) (h : ℕ)
+inline_related : (c : Call) (n : Names) (s : Handles) (names : Scope) (kept : EmittedValues) (h : ℕ)
     (o : Option Value) → Related c n s names kept → (IsTrue (is_present (s h)) → o ≡ kept h) →
     IsTrue (usable_all c.function s (operands_of (expression_of c.function h))) →
     TypedValue c.environment.parts (handle_type c.function h) o →
@@ -152,7 +152,7 @@ inline_related c n s names kept h o r a u v e =
     )
 
 -- an operator that may not be written
-barred_related : (c : Call) (n : Names) (s : Handles) (names : Scope) (kept : KeptValues) (h : ℕ)
+barred_related : (c : Call) (n : Names) (s : Handles) (names : Scope) (kept : EmittedValues) (h : ℕ)
     (o : Option Value) → Related c n s names kept → (IsTrue (is_present (s h)) → o ≡ kept h) →
     Related c n (update s h (availability_without_name false (s h))) names (update kept h o)
 barred_related c n s names kept h o r a = go (s h) refl
@@ -200,10 +200,10 @@ barred_related c n s names kept h o r a = go (s h) refl
     go (Bound x) e = same (Bound x) e
 
 -- what holds wherever both runs go on with this scope
-abbrev pub GoesOn : (c : Call) → Names → (R : Option Value → Type 0) → (P Q B : KeptValues → Scope → Type 0) →
-    Handles → KeptValues → Handles → Next KeptValues → Next Scope → Type 0
+abbrev pub GoesOn : (c : Call) → Names → (R : Option Value → Type 0) → (P Q B : EmittedValues → Scope → Type 0) →
+    Handles → EmittedValues → Handles → Next EmittedValues → Next Scope → Type 0
 GoesOn c n R P Q B s kept s1 f g =
-    (kept1 : KeptValues) (names1 : Scope) (t : List Event) → Related c n s1 names1 kept1 → Agree s kept kept1 →
+    (kept1 : EmittedValues) (names1 : Scope) (t : List Event) → Related c n s1 names1 kept1 → Agree s kept kept1 →
     Alike R P Q B (f kept1 t) (g names1 t)
 
 -- a `let`
@@ -214,9 +214,9 @@ value_only : (parts : PartTypes) (k : ValueType) (o : Option Value) → TypedVal
 value_only parts k o v = (v.0, v.1)
 
 module _ (p : Module) (c : Call) (n : Names) (d : Respond) (facts : Facts p c n d)
-    (R : Option Value → Type 0) (P Q B : KeptValues → Scope → Type 0) (bound : ℕ)
-    (f : Next KeptValues) (tail : Lines) where
-  module _ (s : Handles) (names : Scope) (kept : KeptValues) (r : Related c n s names kept) (h : ℕ)
+    (R : Option Value → Type 0) (P Q B : EmittedValues → Scope → Type 0) (bound : ℕ)
+    (f : Next EmittedValues) (tail : Lines) where
+  module _ (s : Handles) (names : Scope) (kept : EmittedValues) (r : Related c n s names kept) (h : ℕ)
       (x : Bytes) (a : IsTrue (is_new (s h))) (i : (o : Option Value) →
       used_value_as c (expression_of c.function h) o ≡ o) (t : List Event) where
     load_place : (IsTrue (is_present (s h)) → ⊥) → IsFresh c n s x →
@@ -475,9 +475,9 @@ then_assoc _ f g = refl
 
 -- emitted handles, and what follows
 pub emit_alike : (p : Module) (c : Call) (n : Names) (d : Respond) (facts : Facts p c n d)
-    (R : Option Value → Type 0) (P Q B : KeptValues → Scope → Type 0) (bound : ℕ)
-    (f : Next KeptValues) (tail : Lines) (k : ℕ) (hs : List ℕ) (s : Handles) (names : Scope)
-    (kept : KeptValues) (t : List Event) → Related c n s names kept → MayEmitAll c n k hs s →
+    (R : Option Value → Type 0) (P Q B : EmittedValues → Scope → Type 0) (bound : ℕ)
+    (f : Next EmittedValues) (tail : Lines) (k : ℕ) (hs : List ℕ) (s : Handles) (names : Scope)
+    (kept : EmittedValues) (t : List Event) → Related c n s names kept → MayEmitAll c n k hs s →
     GoesOn c n R P Q B s kept (after_emit (naming c n) k hs s) f
     (follow_in_loop (words c d) bound tail) →
     Alike R P Q B (and_then (emit c hs kept t) f)
@@ -487,7 +487,7 @@ emit_alike p c n d facts R P Q B bound f tail k (h ∷ hs) s names kept t r m ne
     let k1 = named_after c.function h k in
     let s1 = after_one (naming c n) k h s in
     let rest = lets (naming c n) k1 hs s1 tail in
-    let g = λ (kept1 : KeptValues) (t1 : List Event). and_then (emit c hs kept1 t1) f in
+    let g = λ (kept1 : EmittedValues) (t1 : List Event). and_then (emit c hs kept1 t1) f in
     let x = extends_one c n k h s in
     let there = emit_one_as p c n d facts R P Q B bound g rest s names kept r h
     (bound_name (naming c n) k h) m.0.new

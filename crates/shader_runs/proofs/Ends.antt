@@ -10,7 +10,7 @@ use Rattle.shader_runs.specs.Outcome.{after_switch, branch_by, with_integer, or_
 use Rattle.shader_runs.specs.Program.{CaseValue, Numbered, Statement, Block, If, Switch}
 use Rattle.shader_runs.specs.Program.{Loop, Statements}
 use Rattle.shader_runs.specs.Program.{end, then, Cases, no_case, case}
-use Rattle.shader_runs.specs.ProgramRun.{Call, KeptValues, used_value, leave, same_case_value}
+use Rattle.shader_runs.specs.ProgramRun.{Call, EmittedValues, used_value, leave, same_case_value}
 use Rattle.shader_runs.specs.ProgramRun.{has_case_value}
 use Rattle.shader_runs.specs.ProgramRun.{case_value_if, run, run_all, run_cases, run_on}
 use Rattle.shader_runs.specs.Passes.{Region, Inner, LoopBody, Continuing, here, following, inside}
@@ -28,16 +28,16 @@ not_early e = absurd (true≢false (sym e))
 module _ (c : Call) (n : ℕ) where
   abbrev EndsOf : Statements → Type 0
   EndsOf ss =
-      (kept : KeptValues) (t : List Event) → IsTrue (is_early (run_all c n ss kept t)) →
+      (kept : EmittedValues) (t : List Event) → IsTrue (is_early (run_all c n ss kept t)) →
       EndsAt c n ss kept t (run_all c n ss kept t)
 
   abbrev EndsOne : Statement → Type 0
   EndsOne st =
-      (ss : Statements) (kept : KeptValues) (t : List Event) → IsTrue (is_early (run c n st kept t)) →
+      (ss : Statements) (kept : EmittedValues) (t : List Event) → IsTrue (is_early (run c n st kept t)) →
       EndsAt c n (then st ss) kept t (run c n st kept t)
 
-  ends_after : (st : Statement) (ss : Statements) (kept kept1 : KeptValues) (t t1 : List Event)
-      (o : Outcome KeptValues) → run c n st kept t ≡ Done kept1 t1 → EndsAt c n ss kept1 t1 o →
+  ends_after : (st : Statement) (ss : Statements) (kept kept1 : EmittedValues) (t t1 : List Event)
+      (o : Outcome EmittedValues) → run c n st kept t ≡ Done kept1 t1 → EndsAt c n ss kept1 t1 o →
       EndsAt c n (then st ss) kept t o
   ends_after st ss kept kept1 t t1 o e w =
       record {
@@ -52,8 +52,8 @@ module _ (c : Call) (n : ℕ) where
         ends = w.ends;
       }
 
-  ends_inside : (st : Statement) (g : Region) (ss : Statements) (kept kept1 : KeptValues)
-      (t t1 : List Event) (o : Outcome KeptValues) → Comes c n st g kept t kept1 t1 →
+  ends_inside : (st : Statement) (g : Region) (ss : Statements) (kept kept1 : EmittedValues)
+      (t t1 : List Event) (o : Outcome EmittedValues) → Comes c n st g kept t kept1 t1 →
       EndsAt c n (statements_in st g) kept1 t1 o → EndsAt c n (then st ss) kept t o
   ends_inside st g ss kept kept1 t t1 o e w =
       record {
@@ -85,7 +85,7 @@ module _ (c : Call) (n : ℕ) where
   then_ends : (st : Statement) (ss : Statements) → EndsOne st → EndsOf ss → EndsOf (then st ss)
   then_ends st ss one all kept t = go (run c n st kept t) refl (one ss kept t)
     where
-      go : (o : Outcome KeptValues) → run c n st kept t ≡ o →
+      go : (o : Outcome EmittedValues) → run c n st kept t ≡ o →
           (IsTrue (is_early o) → EndsAt c n (then st ss) kept t o) →
           IsTrue (is_early (and_then o (run_all c n ss))) →
           EndsAt c n (then st ss) kept t (and_then o (run_all c n ss))
@@ -110,34 +110,34 @@ module _ (c : Call) (n : ℕ) where
       go _ e early = not_early early
 
   -- from the first case on, the run comes to a case that ends early
-  abbrev OnTo : Cases → KeptValues → List Event → Outcome KeptValues → Type 0
+  abbrev OnTo : Cases → EmittedValues → List Event → Outcome EmittedValues → Type 0
   OnTo cs kept t o =
-      (i : ℕ) × (kept1 : KeptValues) × (t1 : List Event) × FallsTo c n cs i kept t kept1 t1
+      (i : ℕ) × (kept1 : EmittedValues) × (t1 : List Event) × FallsTo c n cs i kept t kept1 t1
       × EndsAt c n (body_at cs i) kept1 t1 o
 
   abbrev EndsOn : Cases → Type 0
-  EndsOn cs = (kept : KeptValues) (t : List Event) → IsTrue (is_early (run_on c n cs kept t)) →
+  EndsOn cs = (kept : EmittedValues) (t : List Event) → IsTrue (is_early (run_on c n cs kept t)) →
       OnTo cs kept t (run_on c n cs kept t)
 
   -- the same for a case value
-  abbrev ForTo : CaseValue → Cases → KeptValues → List Event → Outcome KeptValues → Type 0
+  abbrev ForTo : CaseValue → Cases → EmittedValues → List Event → Outcome EmittedValues → Type 0
   ForTo x cs kept t o =
-      (i : ℕ) × (kept1 : KeptValues) × (t1 : List Event) × ComesToCase c n x cs i kept t kept1 t1
+      (i : ℕ) × (kept1 : EmittedValues) × (t1 : List Event) × ComesToCase c n x cs i kept t kept1 t1
       × EndsAt c n (body_at cs i) kept1 t1 o
 
   abbrev EndsFor : Cases → Type 0
   EndsFor cs =
-      (x : CaseValue) (kept : KeptValues) (t : List Event) → IsTrue (is_early (run_cases c n cs x kept t)) →
+      (x : CaseValue) (kept : EmittedValues) (t : List Event) → IsTrue (is_early (run_cases c n cs x kept t)) →
       ForTo x cs kept t (run_cases c n cs x kept t)
 
-  abbrev Goes_on : Bool → Cases → Next KeptValues
+  abbrev Goes_on : Bool → Cases → Next EmittedValues
   Goes_on falls cs kept t = cond falls (run_on c n cs kept t) (Done kept t)
 
   on_ends : (l : CaseValue) (b : Statements) (falls : Bool) (cs : Cases) → EndsOf b → EndsOn cs →
       EndsOn (case l b falls cs)
   on_ends l b falls cs in_b on kept t = go falls (run_all c n b kept t) refl (in_b kept t)
     where
-      go : (falls : Bool) (o : Outcome KeptValues) → run_all c n b kept t ≡ o →
+      go : (falls : Bool) (o : Outcome EmittedValues) → run_all c n b kept t ≡ o →
           (IsTrue (is_early o) → EndsAt c n b kept t o) →
           IsTrue (is_early (and_then o (Goes_on falls cs))) →
           OnTo (case l b falls cs) kept t (and_then o (Goes_on falls cs))
@@ -167,7 +167,7 @@ module _ (c : Call) (n : ℕ) where
           (suc w.0, w.1, w.2, other_case e w.3, w.4)
 
   -- a switch keeps an early end, but for a break
-  switch_keeps : (o : Outcome KeptValues) → IsTrue (is_early (after_switch o)) → (after_switch o ≡ o)
+  switch_keeps : (o : Outcome EmittedValues) → IsTrue (is_early (after_switch o)) → (after_switch o ≡ o)
       × IsTrue (is_early o)
   switch_keeps (Broke k t) early = not_early early
   switch_keeps _ early = (refl, early)
@@ -194,24 +194,24 @@ module _ (c : Call) (n : ℕ) where
       go _ e early = not_early early
 
   -- what ends a loop early
-  abbrev ends_loop : Outcome KeptValues → Bool
+  abbrev ends_loop : Outcome EmittedValues → Bool
   ends_loop (Returned v t) = true
   ends_loop (Stopped x t) = stops_early x
   ends_loop _ = false
 
   -- the turn that ends the loop
-  abbrev LastTurn : Next KeptValues → ℕ → KeptValues → List Event → Outcome KeptValues → Type 0
+  abbrev LastTurn : Next EmittedValues → ℕ → EmittedValues → List Event → Outcome EmittedValues → Type 0
   LastTurn once m kept t o =
-      (j : ℕ) × (kept1 : KeptValues) × (t1 : List Event) × (j < m) × (after_turns once j kept t ≡ Done kept1 t1)
+      (j : ℕ) × (kept1 : EmittedValues) × (t1 : List Event) × (j < m) × (after_turns once j kept t ≡ Done kept1 t1)
       × IsTrue (ends_loop (once kept1 t1)) × (o ≡ once kept1 t1)
 
-  last_turn : (once : Next KeptValues) (m : ℕ) (kept : KeptValues) (t : List Event) →
+  last_turn : (once : Next EmittedValues) (m : ℕ) (kept : EmittedValues) (t : List Event) →
       IsTrue (is_early (turns m once kept t)) → LastTurn once m kept t (turns m once kept t)
   last_turn once zero kept t early = not_early early
   last_turn once (suc m) kept t early = go (once kept t) refl (last_turn once m) early
     where
-      go : (o : Outcome KeptValues) → once kept t ≡ o →
-          ((kept : KeptValues) (t : List Event) → IsTrue (is_early (turns m once kept t)) →
+      go : (o : Outcome EmittedValues) → once kept t ≡ o →
+          ((kept : EmittedValues) (t : List Event) → IsTrue (is_early (turns m once kept t)) →
           LastTurn once m kept t (turns m once kept t)) →
           IsTrue (is_early (and_again o (turns m once))) →
           LastTurn once (suc m) kept t (and_again o (turns m once))
@@ -223,7 +223,7 @@ module _ (c : Call) (n : ℕ) where
       go (Returned v t1) e later early = (0, kept, t, omega arith, refl, ap ends_loop e, sym e)
       go (Stopped x t1) e later early = (0, kept, t, omega arith, refl, ap ends_loop e ∙ early, sym e)
 
-  leave_never : (e : Option ℕ) (kept : KeptValues) (t : List Event) → IsTrue (ends_loop (leave c e kept t)) → ⊥
+  leave_never : (e : Option ℕ) (kept : EmittedValues) (t : List Event) → IsTrue (ends_loop (leave c e kept t)) → ⊥
   leave_never None kept t early = not_early early
   leave_never (Some h) kept t early = go (used_value c kept h) early
     where
@@ -234,18 +234,18 @@ module _ (c : Call) (n : ℕ) where
 
   -- in that turn the body or `continuing` ends early
   module _ (b d : Statements) (e : Option ℕ) (ss : Statements) (in_b : EndsOf b) (in_d : EndsOf d)
-      (kept kept1 : KeptValues) (t t1 : List Event) (j : ℕ) (less : j < n)
+      (kept kept1 : EmittedValues) (t t1 : List Event) (j : ℕ) (less : j < n)
       (done : after_turns (module_turn c n b d e) j kept t ≡ Done kept1 t1) where
-    abbrev Ends : Outcome KeptValues → Type 0
+    abbrev Ends : Outcome EmittedValues → Type 0
     Ends o = EndsAt c n (then (Loop b d e) ss) kept t o
 
-    continuing_ends : (k : KeptValues) (t2 : List Event) →
+    continuing_ends : (k : EmittedValues) (t2 : List Event) →
         and_continue (run_all c n b kept1 t1) (λ s t. Done s t) ≡ Done k t2 →
         IsTrue (ends_loop (and_then (within (run_all c n d k t2)) (leave c e))) →
         Ends (and_then (within (run_all c n d k t2)) (leave c e))
     continuing_ends k t2 q = go (run_all c n d k t2) (in_d k t2)
       where
-        go : (o : Outcome KeptValues) → (IsTrue (is_early o) → EndsAt c n d k t2 o) →
+        go : (o : Outcome EmittedValues) → (IsTrue (is_early o) → EndsAt c n d k t2 o) →
             IsTrue (ends_loop (and_then (within o) (leave c e))) → Ends (and_then (within o) (leave c e))
         go (Done k1 t3) own early = absurd (leave_never e k1 t3 early)
         go (Continued k1 t3) own early = not_early early
@@ -260,7 +260,7 @@ module _ (c : Call) (n : ℕ) where
     turn_ends : IsTrue (ends_loop (module_turn c n b d e kept1 t1)) → Ends (module_turn c n b d e kept1 t1)
     turn_ends = go (run_all c n b kept1 t1) refl (in_b kept1 t1)
       where
-        go : (o : Outcome KeptValues) → run_all c n b kept1 t1 ≡ o →
+        go : (o : Outcome EmittedValues) → run_all c n b kept1 t1 ≡ o →
             (IsTrue (is_early o) → EndsAt c n b kept1 t1 o) →
             IsTrue (ends_loop
             (and_continue o (λ k t2. and_then (within (run_all c n d k t2)) (leave c e)))) →
@@ -302,7 +302,7 @@ module _ (c : Call) (n : ℕ) where
         let on = on_ends l b falls cs (all_ends b) rest.0 in
         (on, for_ends l b falls cs on rest.1)
 
-  end_passed : (ss : Statements) (kept kept1 : KeptValues) (t t1 : List Event) → run_all c n ss kept t
+  end_passed : (ss : Statements) (kept kept1 : EmittedValues) (t t1 : List Event) → run_all c n ss kept t
       ≡ Done kept1 t1 → Passes c n ss (end_of ss) kept t kept1 t1
   end_passed end kept kept1 t t1 e =
       subst (λ k. Passes c n end here kept t k t1) (same_state kept kept1 t t1 e)

@@ -14,7 +14,8 @@ use Rattle.shader_runs.specs.Program.{Store, Block, If, Switch, Loop, Break, Con
 use Rattle.shader_runs.specs.Program.{Barrier, Act, Statements, end, then, Cases, no_case, case}
 use Rattle.shader_runs.specs.Program.{Function, argument_count, expression_of, handle_type}
 use Rattle.shader_runs.specs.Program.{is_counted, from, Jumps}
-use Rattle.shader_runs.specs.ProgramRun.{Call, KeptValues, constant_values, used_value, used_values}
+use Rattle.shader_runs.specs.ProgramRun.{Call, EmittedValues, constant_values, used_value}
+use Rattle.shader_runs.specs.ProgramRun.{used_values}
 use Rattle.shader_runs.specs.ProgramRun.{joined_values, barrier_words, same_case_value}
 use Rattle.shader_runs.specs.ProgramRun.{has_case_value}
 use Rattle.shader_runs.specs.ProgramRun.{case_value_if, constants_kept, first_used_all}
@@ -62,12 +63,12 @@ module _ (calls : ℕ → List Value → Course) where
   Entered (counts next) t = Entered (next (entries t)) t
   Entered (joins c next) t = Entered c t × ((x : Pause) (e : List Event) → Entered (next x) e)
 
-  laps_entered : (each : KeptValues → Course) → ((s : KeptValues) (t : List Event) → Entered (each s) t) →
-      (i : ℕ) (s : KeptValues) (t : List Event) → Entered (laps i each s) t
+  laps_entered : (each : EmittedValues → Course) → ((s : EmittedValues) (t : List Event) → Entered (each s) t) →
+      (i : ℕ) (s : EmittedValues) (t : List Event) → Entered (laps i each s) t
   laps_entered each all zero s t = tt
   laps_entered each all (suc i) s t = (all s t, go (laps_entered each all i))
     where
-      go : ((s : KeptValues) (t : List Event) → Entered (laps i each s) t) →
+      go : ((s : EmittedValues) (t : List Event) → Entered (laps i each s) t) →
           (x : Pause) (e : List Event) → Entered (lap_on (laps i each) x) e
       go rest (DoneWith s) e = rest s e
       go rest (ContinuedWith s) e = tt
@@ -87,12 +88,12 @@ module _ (calls : ℕ → List Value → Course) where
     chosen_enters true p q h k = h
     chosen_enters false p q h k = k
 
-    then_enters : (next : KeptValues → Process) → ((s : KeptValues) → Enters (next s)) → (x : Pause) →
+    then_enters : (next : EmittedValues → Process) → ((s : EmittedValues) → Enters (next s)) → (x : Pause) →
         Enters (then_on next x)
     then_enters next h (DoneWith s) t = h s t
     then_enters next h _ t = tt
 
-    continue_enters : (next : KeptValues → Process) → ((s : KeptValues) → Enters (next s)) → (x : Pause) →
+    continue_enters : (next : EmittedValues → Process) → ((s : EmittedValues) → Enters (next s)) → (x : Pause) →
         Enters (continue_on next x)
     continue_enters next h (DoneWith s) t = h s t
     continue_enters next h (ContinuedWith s) t = h s t
@@ -111,35 +112,35 @@ module _ (calls : ℕ → List Value → Course) where
     answers_enter (DoneWith s) t = tt
     answers_enter _ t = tt
 
-    result_enters : (r : Option ℕ) (kept : KeptValues) (o : Option Value) → Enters (result_process r kept o)
+    result_enters : (r : Option ℕ) (kept : EmittedValues) (o : Option Value) → Enters (result_process r kept o)
     result_enters None kept o t = tt
     result_enters (Some h) kept None t = tt
     result_enters (Some h) kept (Some v) t = tt
 
-    keeping_enters : (parts : PartTypes) (k : ValueType) (h : ℕ) (r : Event) (kept : KeptValues) → IsNoEntry r →
+    keeping_enters : (parts : PartTypes) (k : ValueType) (h : ℕ) (r : Event) (kept : EmittedValues) → IsNoEntry r →
         Enters (keeping parts k h r kept)
     keeping_enters parts k h r kept apart t = (apart, λ v. tt)
 
-    load_enters : (parts : PartTypes) (k : ValueType) (h : ℕ) (kept : KeptValues) (o : Option Value) →
+    load_enters : (parts : PartTypes) (k : ValueType) (h : ℕ) (kept : EmittedValues) (o : Option Value) →
         Enters (load_process parts k h kept o)
     load_enters parts k h kept None t = tt
     load_enters parts k h kept (Some v) t =
         there_enters (place_in v) (λ p. keeping parts k h (Read p) kept)
         (λ p. keeping_enters parts k h (Read p) kept tt) t
 
-    ask_enters : (parts : PartTypes) (k : ValueType) (h : ℕ) (word : Bytes) (kept : KeptValues)
+    ask_enters : (parts : PartTypes) (k : ValueType) (h : ℕ) (word : Bytes) (kept : EmittedValues)
         (o : Option (List Value)) → Enters (ask_process parts k h word kept o)
     ask_enters parts k h word kept None t = tt
     ask_enters parts k h word kept (Some vs) t = keeping_enters parts k h (Ask word vs) kept tt t
 
-    asks_enter : (words : List Bytes) (kept : KeptValues) → Enters (asks_process words kept)
+    asks_enter : (words : List Bytes) (kept : EmittedValues) → Enters (asks_process words kept)
     asks_enter [] kept t = tt
     asks_enter (word ∷ words) kept t = (tt, asks_enter words kept (Ask word [] ∷ t))
 
     -- a body's statements, where the calls of callees enter so
     module _ (c : Call) (callees : ℕ → List Value → Process)
         (each : (g : ℕ) (vs : List Value) → Enters (callees g vs)) where
-      one_enters : (h : ℕ) (o : Option Expression) (kept : KeptValues) → Enters (emit_one c callees h o kept)
+      one_enters : (h : ℕ) (o : Option Expression) (kept : EmittedValues) → Enters (emit_one c callees h o kept)
       one_enters h (Some (Load p)) kept =
           let parts = c.environment.parts in
           let k = handle_type c.function h in
@@ -153,31 +154,31 @@ module _ (calls : ℕ → List Value → Course) where
           (ask_enters parts k h w kept o) (λ t. tt)
       one_enters h _ kept = λ t. tt
 
-      emit_enters : (hs : List ℕ) (kept : KeptValues) → Enters (emit_process c callees hs kept)
+      emit_enters : (hs : List ℕ) (kept : EmittedValues) → Enters (emit_process c callees hs kept)
       emit_enters [] kept t = tt
       emit_enters (h ∷ hs) kept t =
           (one_enters h (expression_of c.function h) kept t, then_enters (emit_process c callees hs) (emit_enters hs))
 
-      act_enters : (a : Action) (r : Option ℕ) (kept : KeptValues) (vs : List Value) →
+      act_enters : (a : Action) (r : Option ℕ) (kept : EmittedValues) (vs : List Value) →
           Enters (act_process c callees a r kept vs)
       act_enters (Asked word) None kept vs t = (tt, tt)
       act_enters (Asked word) (Some h) kept vs t =
           keeping_enters c.environment.parts (handle_type c.function h) h (Ask word vs) kept tt t
       act_enters (Called g) r kept vs t = (each g vs t, λ x. result_enters r kept (answer_back x))
 
-      leave_enters : (o : Option ℕ) (kept : KeptValues) → Enters (leave_process c callees o kept)
+      leave_enters : (o : Option ℕ) (kept : EmittedValues) → Enters (leave_process c callees o kept)
       leave_enters None kept = λ t. tt
       leave_enters (Some h) kept =
           there_enters (used_value c kept h) (λ v. on_truth v (gives (BrokeWith kept)) (gives (DoneWith kept)))
           (λ v. there_enters (truth_in v) (λ y. if_true y (gives (BrokeWith kept)) (gives (DoneWith kept)))
           (λ y. chosen_enters y (gives (BrokeWith kept)) (gives (DoneWith kept)) (λ t. tt) (λ t. tt)))
 
-      return_enters : (o : Option ℕ) (kept : KeptValues) → Enters (return_process c callees o kept)
+      return_enters : (o : Option ℕ) (kept : EmittedValues) → Enters (return_process c callees o kept)
       return_enters None kept = λ t. tt
       return_enters (Some h) kept = there_enters (used_value c kept h) (λ v. gives (ReturnedWith (Some v))) (λ v t. tt)
 
       mutual
-        statement_enters : (s : Statement) (kept : KeptValues) → Enters (statement_process c callees s kept)
+        statement_enters : (s : Statement) (kept : EmittedValues) → Enters (statement_process c callees s kept)
         statement_enters (Emit first count) kept = emit_enters (from first count) kept
         statement_enters (Store p v) kept =
             there_enters (option_and_then place_in (used_value c kept p)) _
@@ -213,12 +214,12 @@ module _ (calls : ℕ → List Value → Course) where
         statement_enters (Act a xs r) kept =
             there_enters (used_values c kept xs) (act_process c callees a r kept) (act_enters a r kept)
 
-        list_enters : (ss : Statements) (kept : KeptValues) → Enters (list_process c callees ss kept)
+        list_enters : (ss : Statements) (kept : EmittedValues) → Enters (list_process c callees ss kept)
         list_enters end kept t = tt
         list_enters (then s ss) kept t =
             (statement_enters s kept t, then_enters (list_process c callees ss) (list_enters ss))
 
-        cases_enter : (ks : Cases) (x : CaseValue) (kept : KeptValues) → Enters (cases_process c callees ks x kept)
+        cases_enter : (ks : Cases) (x : CaseValue) (kept : EmittedValues) → Enters (cases_process c callees ks x kept)
         cases_enter no_case x kept = λ t. tt
         cases_enter (case l b falls ks) x kept =
             chosen_enters (same_case_value x l) _ _
@@ -229,7 +230,7 @@ module _ (calls : ℕ → List Value → Course) where
                   (λ t. tt)),
             )) (cases_enter ks x kept)
 
-        on_enters : (ks : Cases) (kept : KeptValues) → Enters (on_process c callees ks kept)
+        on_enters : (ks : Cases) (kept : EmittedValues) → Enters (on_process c callees ks kept)
         on_enters no_case kept t = tt
         on_enters (case l b falls ks) kept t = (
           list_enters b kept t,

@@ -10,7 +10,7 @@ use Rattle.shader_runs.specs.Value.{truth_in, integer_in, place_in, Place, type_
 use Rattle.shader_runs.specs.World.{Event, Ask, World, Meaning}
 use Rattle.shader_runs.specs.Outcome.{ReachedOrHalted, Gives, reach, unless}
 use Rattle.shader_runs.specs.Program.{Module, Function, function_numbered, Expression}
-use Rattle.shader_runs.specs.ProgramRun.{Call, KeptValues, used_value, also, used_values}
+use Rattle.shader_runs.specs.ProgramRun.{Call, EmittedValues, used_value, also, used_values}
 use Rattle.shader_runs.specs.ProgramRun.{operator_value}
 use Rattle.shader_runs.specs.ProgramRun.{index_value_of, part_value, swizzle_value, decides}
 use Rattle.shader_runs.specs.ProgramRun.{undecided_value, combined_value, gathered_value}
@@ -90,7 +90,7 @@ place_form_gives c d names (AsValue e) o m t =
     ap dereference (ap (read_value c.world) (m t) ∙ valued_denoted c.world o t) ∙ dereferenced_reached o t
 place_form_gives c d names (AsPlace e) o m t = m.2 t ∙ ap (λ o. placed o t) (sym m.1)
 
-abbrev pub AllMean : Call → Respond → Scope → KeptValues → (ℕ → Plain) → List ℕ → Type 0
+abbrev pub AllMean : Call → Respond → Scope → EmittedValues → (ℕ → Plain) → List ℕ → Type 0
 AllMean c d names kept operand [] = Unit {0}
 AllMean c d names kept operand (x ∷ xs) =
     Means c d names (operand x) (used_value c kept x) × AllMean c d names kept operand xs
@@ -102,7 +102,7 @@ followed_reached None os t rest h = refl
 followed_reached (Some v) None t rest h = ap (put_before v) (h t)
 followed_reached (Some v) (Some vs) t rest h = ap (put_before v) (h t)
 
-pub value_forms_give : (c : Call) (d : Respond) (names : Scope) (kept : KeptValues) (operand : ℕ →
+pub value_forms_give : (c : Call) (d : Respond) (names : Scope) (kept : EmittedValues) (operand : ℕ →
     Plain) (xs : List ℕ) → AllMean c d names kept operand xs →
     (t : List Event) → evaluate_all (words c d) (value_forms operand xs) names t ≡ reach
     (used_values c kept xs) t

@@ -16,7 +16,7 @@ use Rattle.shader_runs.specs.Program.{local_pointer, expression_of, handle_type,
 use Rattle.shader_runs.specs.Program.{VariableShape, Held, AtPlace, is_held, variable_type}
 use Rattle.shader_runs.specs.Program.{variable_shape_at, Module}
 use Rattle.shader_runs.specs.Program.{is_pure}
-use Rattle.shader_runs.specs.ProgramRun.{Call, KeptValues, constant_value, constant_values}
+use Rattle.shader_runs.specs.ProgramRun.{Call, EmittedValues, constant_value, constant_values}
 use Rattle.shader_runs.specs.ProgramRun.{global_value}
 use Rattle.shader_runs.specs.ProgramRun.{used_value_as, used_value, also, used_values}
 use Rattle.shader_runs.specs.ProgramRun.{joined_values, operator_value, combined_value}
@@ -183,11 +183,11 @@ module _ (p : Module) (c : Call)
   used_typed k (Some _) l m o st v u = v u
 
 -- each handle in scope has a value of its type
-abbrev pub UsesTyped : Call → Handles → KeptValues → Type 0
+abbrev pub UsesTyped : Call → Handles → EmittedValues → Type 0
 UsesTyped c s kept = (h : ℕ) → IsTrue (usable c.function s h) →
     TypedValue c.environment.parts (handle_type c.function h) (used_value c kept h)
 
-module _ (p : Module) (c : Call) (s : Handles) (kept : KeptValues) (each : UsesTyped c s kept) where
+module _ (p : Module) (c : Call) (s : Handles) (kept : EmittedValues) (each : UsesTyped c s kept) where
   pub all_typed : (xs : List ℕ) → IsTrue (usable_all c.function s xs) → (vs : List Value)
       × (used_values c kept xs ≡ Some vs) × IsTrue (has_types c.environment.parts (handle_types c.function xs) vs)
   all_typed [] u = ([], refl, refl)
@@ -226,7 +226,7 @@ module _ (p : Module) (c : Call) (s : Handles) (kept : KeptValues) (each : UsesT
       )
 
 module _ (p : Module) (c : Call) (n : Names) (d : Respond) (facts : Facts p c n d) (s : Handles) (names : Scope)
-    (kept : KeptValues) (r : Related c n s names kept) where
+    (kept : EmittedValues) (r : Related c n s names kept) where
   typed_value_as : (k : ValueType) (e : Option Expression) → LeafFits p c.function k e →
       LeafTyped c.environment.parts p c.meaning e → (o : Option Value) (st : Availability) →
       Stands c s names kept k e o st → IsTrue (usable_as c.function e st) →

@@ -13,7 +13,8 @@ use Rattle.shader_runs.specs.Program.{expression_of, CaseValue, Numbered, Statem
 use Rattle.shader_runs.specs.Program.{Store, Block, If, Switch, Loop, Break, Continue, Return}
 use Rattle.shader_runs.specs.Program.{Barrier, Act, Statements, end, then, Cases, no_case, case}
 use Rattle.shader_runs.specs.Program.{Module, binds, from, holds_continue, any_continue, Jumps}
-use Rattle.shader_runs.specs.ProgramRun.{Call, KeptValues, used_value, emit, emit_as, barrier_words}
+use Rattle.shader_runs.specs.ProgramRun.{Call, EmittedValues, used_value, emit, emit_as}
+use Rattle.shader_runs.specs.ProgramRun.{barrier_words}
 use Rattle.shader_runs.specs.ProgramRun.{ask_each, same_case_value, case_value_if, run, run_all}
 use Rattle.shader_runs.specs.Text.{Tree, Line, Let, Braces, IfElse, SwitchOn, LoopOf, Lines, last}
 use Rattle.shader_runs.specs.Text.{before, Groups}
@@ -149,7 +150,7 @@ module _ (p : Module) (c : Call) (n : Names) (d : Respond) (facts : Facts p c n 
       Text ls (way q) names t names2 t2
 
   -- the text's run is after a statement
-  abbrev Following : ℕ → Statement → Handles → Scope → List Event → KeptValues → List Event → Type 0
+  abbrev Following : ℕ → Statement → Handles → Scope → List Event → EmittedValues → List Event → Type 0
   Following k st s names t kept1 t1 =
       (names1 : Scope) × Related c n (after (naming c n) k st s) names1 kept1 ×
       ((tail : Lines) →
@@ -157,7 +158,7 @@ module _ (p : Module) (c : Call) (n : Names) (d : Respond) (facts : Facts p c n 
       tail names1 t1)
 
   -- the outcome of a statement's own lines
-  own_lines : (st : Statement) (k : ℕ) (s : Handles) (names : Scope) (kept kept1 : KeptValues)
+  own_lines : (st : Statement) (k : ℕ) (s : Handles) (names : Scope) (kept kept1 : EmittedValues)
       (t t1 : List Event) → Related c n s names kept → Fits p c n k st s →
       run c bound st kept t ≡ Done kept1 t1 → (names1 : Scope) ×
       (follow_in_loop (words c d) bound (form (naming c n) k st s last) names t ≡ Done names1 t1) ×
@@ -169,7 +170,7 @@ module _ (p : Module) (c : Call) (n : Names) (d : Respond) (facts : Facts p c n 
       (ap (λ o. and_then o (λ s t. Done s t)) e)
 
   -- a line that gives a name or nothing
-  one_line : (x : Line) (s1 : Handles) (names : Scope) (kept1 : KeptValues) (t t1 : List Event) →
+  one_line : (x : Line) (s1 : Handles) (names : Scope) (kept1 : EmittedValues) (t t1 : List Event) →
       has_continue x ≡ false → (names1 : Scope) ×
       (follow_in_loop (words c d) bound (before x last) names t ≡ Done names1 t1) ×
       Related c n s1 names1 kept1 → (names1 : Scope) × Related c n s1 names1 kept1 ×
@@ -217,7 +218,7 @@ module _ (p : Module) (c : Call) (n : Names) (d : Respond) (facts : Facts p c n 
       (follow_groups (words c d) bound gs (case_value_if (group_has (Numbered z) gs) z) names t1)))
       refl
 
-  closing_line : (x : Line) (s : Handles) (names : Scope) (kept kept1 : KeptValues)
+  closing_line : (x : Line) (s : Handles) (names : Scope) (kept kept1 : EmittedValues)
       (t t1 : List Event) → Closes x names t → Related c n s names kept → (names1 : Scope) ×
       (follow_in_loop (words c d) bound (before x last) names t ≡ Done names1 t1) × Agree s kept kept1 →
       (names1 : Scope) × Related c n s names1 kept1 ×
@@ -231,7 +232,7 @@ module _ (p : Module) (c : Call) (n : Names) (d : Respond) (facts : Facts p c n 
       )
 
   -- a line for each handle that is bound
-  emits_one : (k h : ℕ) (s : Handles) (names : Scope) (kept kept1 : KeptValues)
+  emits_one : (k h : ℕ) (s : Handles) (names : Scope) (kept kept1 : EmittedValues)
       (t t1 : List Event) → Related c n s names kept → MayEmitAll c n k (h ∷ []) s →
       emit c (h ∷ []) kept t ≡ Done kept1 t1 →
       (names1 : Scope) × Related c n (after_one (naming c n) k h s) names1 kept1 ×
@@ -239,7 +240,7 @@ module _ (p : Module) (c : Call) (n : Names) (d : Respond) (facts : Facts p c n 
       Leads (lets (naming c n) k (h ∷ []) s tail) (after_lines (let_count c.function (h ∷ [])))
       names t tail names1 t1)
   emits_one k h s names kept kept1 t t1 r m e =
-      let f = λ (kept1 : KeptValues) (t1 : List Event). Done kept1 t1 in
+      let f = λ (kept1 : EmittedValues) (t1 : List Event). Done kept1 t1 in
       let s1 = after_one (naming c n) k h s in
       let w = both_done (emit_alike p c n d facts (λ o. Unit {0}) (λ k l. Related c n s1 l k)
       (λ k l. Unit {0}) (λ k l. Unit {0}) bound f last k (h ∷ []) s names kept t r m
@@ -261,7 +262,7 @@ module _ (p : Module) (c : Call) (n : Names) (d : Respond) (facts : Facts p c n 
           subst (λ l. Text tail q l t names2 t2) (sym (same_state names names1 t t1 e))
           (subst (λ e. Text tail q names1 e names2 t2) (sym (same_events names names1 t t1 e)) h)
 
-  emits_all : (k : ℕ) (hs : List ℕ) (s : Handles) (names : Scope) (kept kept1 : KeptValues)
+  emits_all : (k : ℕ) (hs : List ℕ) (s : Handles) (names : Scope) (kept kept1 : EmittedValues)
       (t t1 : List Event) → Related c n s names kept → MayEmitAll c n k hs s →
       emit c hs kept t ≡ Done kept1 t1 →
       (names1 : Scope) × Related c n (after_emit (naming c n) k hs s) names1 kept1 ×
@@ -290,7 +291,7 @@ module _ (p : Module) (c : Call) (n : Names) (d : Respond) (facts : Facts p c n 
       )
 
   -- a line for each word of a barrier
-  asks_all : (ws : List Bytes) (s : Handles) (names : Scope) (kept kept1 : KeptValues)
+  asks_all : (ws : List Bytes) (s : Handles) (names : Scope) (kept kept1 : EmittedValues)
       (t t1 : List Event) → Related c n s names kept → EachAsks p (naming c n) ws →
       ask_each ws kept t ≡ Done kept1 t1 → (kept1 ≡ kept) ×
       ((tail : Lines) → Leads (perform_each ws tail) (after_lines (length ws)) names t tail names
@@ -312,7 +313,7 @@ module _ (p : Module) (c : Call) (n : Names) (d : Respond) (facts : Facts p c n 
       )
 
   -- the text's run gets after each statement that the module's run gets after
-  goes_on : (st : Statement) (k : ℕ) (s : Handles) (names : Scope) (kept kept1 : KeptValues)
+  goes_on : (st : Statement) (k : ℕ) (s : Handles) (names : Scope) (kept kept1 : EmittedValues)
       (t t1 : List Event) → Related c n s names kept → Fits p c n k st s →
       run c bound st kept t ≡ Done kept1 t1 → Following k st s names t kept1 t1
   goes_on (Emit first count) k s names kept kept1 t t1 r m e =
@@ -360,7 +361,7 @@ module _ (p : Module) (c : Call) (n : Names) (d : Respond) (facts : Facts p c n 
       form_all (naming c n) (named_in c.function st g k) (statements_in st g) (handles_in (naming c n) k st g s)
 
   -- the text's run is in front of a region
-  abbrev Enters : ℕ → Statement → Region → Handles → Scope → List Event → KeptValues → List Event → Type 0
+  abbrev Enters : ℕ → Statement → Region → Handles → Scope → List Event → EmittedValues → List Event → Type 0
   Enters k st g s names t kept1 t1 =
       (names1 : Scope) × Related c n (handles_in (naming c n) k st g s) names1 kept1 ×
       FitsAll p c n (named_in c.function st g k) (statements_in st g)
@@ -381,7 +382,7 @@ module _ (p : Module) (c : Call) (n : Names) (d : Respond) (facts : Facts p c n 
       go (goes_inside_line {x = x} {ls = rest} a b) e = absurd (some_line x rest e)
 
   -- the value of a handle in scope, by the text
-  value_there : (s : Handles) (names : Scope) (kept : KeptValues) (t : List Event) (h : ℕ)
+  value_there : (s : Handles) (names : Scope) (kept : EmittedValues) (t : List Event) (h : ℕ)
       (v : Value) → Related c n s names kept → IsTrue (usable c.function s h) →
       used_value c kept h ≡ Some v → value_of (words c d) (value_at (naming c n) s h) names t ≡
       Gives v t
@@ -434,12 +435,12 @@ module _ (p : Module) (c : Call) (n : Names) (d : Respond) (facts : Facts p c n 
   found_here l (then st ss) true cs k labels s x e m = absurd m.0
 
   -- a case that falls through is empty
-  nothing_done : (b : Statements) (cs : Cases) (kept kept1 : KeptValues) (t t1 : List Event) →
+  nothing_done : (b : Statements) (cs : Cases) (kept kept1 : EmittedValues) (t t1 : List Event) →
       JoinsNext true b cs → run_all c bound b kept t ≡ Done kept1 t1 → (kept1 ≡ kept) × (t1 ≡ t)
   nothing_done end cs kept kept1 t t1 m e = (sym (same_state kept kept1 t t1 e), sym (same_events kept kept1 t t1 e))
   nothing_done (then st ss) cs kept kept1 t t1 m e = absurd m
 
-  falls_to : {cs : Cases} {i : ℕ} {kept kept1 : KeptValues} {t t1 : List Event} →
+  falls_to : {cs : Cases} {i : ℕ} {kept kept1 : EmittedValues} {t t1 : List Event} →
       FallsTo c bound cs i kept t kept1 t1 →
       (k : ℕ) (labels : List CaseValue) (s : Handles) (x : CaseValue) → Awaited x labels cs →
       FitsCases p c n k cs s → Found k labels cs s x i × (kept1 ≡ kept) × (t1 ≡ t)
@@ -452,7 +453,7 @@ module _ (p : Module) (c : Call) (n : Names) (d : Respond) (facts : Facts p c n 
       (awaited_more x (labels ++ l ∷ []) b cs m.0 e) m.2 in
       (w.0, w.1 ∙ first.0, w.2 ∙ first.1)
 
-  comes_to : {x : CaseValue} {cs : Cases} {i : ℕ} {kept kept1 : KeptValues} {t t1 : List Event} →
+  comes_to : {x : CaseValue} {cs : Cases} {i : ℕ} {kept kept1 : EmittedValues} {t t1 : List Event} →
       ComesToCase c bound x cs i kept t kept1 t1 → (k : ℕ) (labels : List CaseValue) (s : Handles) →
       among x labels ≡ false → FitsCases p c n k cs s → Found k labels cs s x i × (kept1 ≡ kept) ×
       (t1 ≡ t)
@@ -493,7 +494,7 @@ module _ (p : Module) (c : Call) (n : Names) (d : Respond) (facts : Facts p c n 
     Turn = text_turn (words c d) bound Body_lines Continuing_lines (value_if (naming c n) S2 e)
 
     -- turns that are done
-    turns_go : (j : ℕ) (names : Scope) (kept kept1 : KeptValues) (t t1 : List Event) →
+    turns_go : (j : ℕ) (names : Scope) (kept kept1 : EmittedValues) (t t1 : List Event) →
         Related c n s names kept → after_turns (module_turn c bound b b2 e) j kept t ≡
         Done kept1 t1 → (names1 : Scope) × (after_turns Turn j names t ≡ Done names1 t1) ×
         Related c n s names1 kept1
@@ -516,7 +517,7 @@ module _ (p : Module) (c : Call) (n : Names) (d : Respond) (facts : Facts p c n 
         (rest.0, one_more_turn Turn j names one.0 t parts.1 (Done rest.0 t1) one.1 rest.1, rest.2)
 
     -- the end of the body, or a `continue`
-    body_goes : (names : Scope) (kept kept1 : KeptValues) (t t1 : List Event) →
+    body_goes : (names : Scope) (kept kept1 : EmittedValues) (t t1 : List Event) →
         Related c n s names kept → and_continue (run_all c bound b kept t) (λ s t. Done s t) ≡
         Done kept1 t1 → (names1 : Scope) ×
         (and_continue (follow_in_loop (words c d) bound Body_lines names t) (λ s t. Done s t) ≡
@@ -529,7 +530,7 @@ module _ (p : Module) (c : Call) (n : Names) (d : Respond) (facts : Facts p c n 
         (λ k l t a. done a) both) kept1 t1 q
 
     -- the end of `continuing`
-    continuing_goes : (names : Scope) (kept kept1 : KeptValues) (t t1 : List Event) →
+    continuing_goes : (names : Scope) (kept kept1 : EmittedValues) (t t1 : List Event) →
         Related c n S1 names kept → run_all c bound b2 kept t ≡ Done kept1 t1 → (names1 : Scope) ×
         (follow_in_loop (words c d) bound Continuing_lines names t ≡ Done names1 t1) ×
         Related c n S2 names1 kept1
@@ -537,7 +538,7 @@ module _ (p : Module) (c : Call) (n : Names) (d : Respond) (facts : Facts p c n 
         let w = both_done (same_all p c n d facts bound b2 K1 S1 names kept t r m.1) kept1 t1 q in
         (w.0, w.1, w.2.0)
 
-    in_turn : {g : Region} {kept kept1 : KeptValues} {t t1 : List Event} →
+    in_turn : {g : Region} {kept kept1 : EmittedValues} {t t1 : List Event} →
         InTurn bound (run_all c bound b) (run_all c bound b2) (module_turn c bound b b2 e) g kept t
         kept1 t1 → (names : Scope) → Related c n s names kept →
         (names1 : Scope) × InTurn bound (follow_in_loop (words c d) bound Body_lines)
@@ -560,7 +561,7 @@ module _ (p : Module) (c : Call) (n : Names) (d : Respond) (facts : Facts p c n 
         (w1.0, to_break_if w.1 w1.1, w1.2, tt, refl)
 
   -- the text's run comes to each region that the module's run comes to
-  enters : {st : Statement} {g : Region} {kept kept1 : KeptValues} {t t1 : List Event} →
+  enters : {st : Statement} {g : Region} {kept kept1 : EmittedValues} {t t1 : List Event} →
       Comes c bound st g kept t kept1 t1 → (k : ℕ) (s : Handles) (names : Scope) →
       Related c n s names kept → Fits p c n k st s → Enters k st g s names t kept1 t1
   enters into_block k s names r m =
@@ -602,7 +603,7 @@ module _ (p : Module) (c : Call) (n : Names) (d : Respond) (facts : Facts p c n 
       )
 
   -- some first handles of an Emit
-  emits_some : (i count first k : ℕ) (s : Handles) (names : Scope) (kept kept1 : KeptValues)
+  emits_some : (i count first k : ℕ) (s : Handles) (names : Scope) (kept kept1 : EmittedValues)
       (t t1 : List Event) (tail : Lines) → i ≤ count → Related c n s names kept →
       MayEmitAll c n k (from first count) s → emit c (from first i) kept t ≡ Done kept1 t1 →
       (names1 : Scope) × Text (lets (naming c n) k (from first count) s tail)
@@ -637,7 +638,7 @@ module _ (p : Module) (c : Call) (n : Names) (d : Respond) (facts : Facts p c n 
           (value_form (own_form (naming c n) (written_form (naming c n) s) (expression_of c.function x))))
           (lets_append xs ys (named_after c.function x k) (after_one (naming c n) k x s) tail)
 
-  pub passes : {ss : Statements} {q : Point} {kept kept1 : KeptValues} {t t1 : List Event} →
+  pub passes : {ss : Statements} {q : Point} {kept kept1 : EmittedValues} {t t1 : List Event} →
       Passes c bound ss q kept t kept1 t1 → (k : ℕ) (s : Handles) (names : Scope) →
       Related c n s names kept → FitsAll p c n k ss s →
       (names1 : Scope) × Text (form_all (naming c n) k ss s) (point_in_text c.function ss q) names t

@@ -18,7 +18,7 @@ use Rattle.shader_runs.specs.Program.{Return, Barrier, Act, Statements, end}
 use Rattle.shader_runs.specs.Program.{then, Cases, no_case, case, Function, argument_count}
 use Rattle.shader_runs.specs.Program.{expression_of, handle_type, operands_of, is_counted}
 use Rattle.shader_runs.specs.Program.{from, Jumps}
-use Rattle.shader_runs.specs.ProgramRun.{Call, KeptValues, constant_values, used_value}
+use Rattle.shader_runs.specs.ProgramRun.{Call, EmittedValues, constant_values, used_value}
 use Rattle.shader_runs.specs.ProgramRun.{used_value_as}
 use Rattle.shader_runs.specs.ProgramRun.{also, used_values, gathered_value, computed_value}
 use Rattle.shader_runs.specs.ProgramRun.{joined_values, if_typed, keep_typed, after_load}
@@ -41,7 +41,7 @@ use Rattle.shader_runs.proofs.Process.{statement_process, list_process, cases_pr
 use Rattle.shader_runs.proofs.Process.{body_process, call_in, call_alone, call_process}
 
 -- what a performed process is as an outcome, and as what a call gives
-abbrev outcome : ReachedOrHalted Pause → Outcome KeptValues
+abbrev outcome : ReachedOrHalted Pause → Outcome EmittedValues
 outcome (Gives (DoneWith s) t) = Done s t
 outcome (Gives (ContinuedWith s) t) = Continued s t
 outcome (Gives (BrokeWith s) t) = Broke s t
@@ -53,14 +53,14 @@ call_outcome (Gives x t) = Gives (answer_back x) t
 call_outcome (Halts x t) = Halts x t
 
 module _ (w : World) (n : ℕ) where
-  abbrev IsPerformed : (List Event → Outcome KeptValues) → Process → Type 0
+  abbrev IsPerformed : (List Event → Outcome EmittedValues) → Process → Type 0
   IsPerformed f p = (t : List Event) → f t ≡ outcome (perform w n p t)
 
-  abbrev NextPerformed : Next KeptValues → (KeptValues → Process) → Type 0
-  NextPerformed f next = (s : KeptValues) → IsPerformed (f s) (next s)
+  abbrev NextPerformed : Next EmittedValues → (EmittedValues → Process) → Type 0
+  NextPerformed f next = (s : EmittedValues) → IsPerformed (f s) (next s)
 
-  then_performed : (o : Outcome KeptValues) (p : Process) (t : List Event) (f : Next KeptValues)
-      (next : KeptValues → Process) → o ≡ outcome (perform w n p t) → NextPerformed f next →
+  then_performed : (o : Outcome EmittedValues) (p : Process) (t : List Event) (f : Next EmittedValues)
+      (next : EmittedValues → Process) → o ≡ outcome (perform w n p t) → NextPerformed f next →
       and_then o f ≡ outcome (perform w n (sequence p (then_on next)) t)
   then_performed o p t f next e h = ap (λ o. and_then o f) e ∙ go (perform w n p t)
     where
@@ -72,8 +72,8 @@ module _ (w : World) (n : ℕ) where
       go (Gives (ReturnedWith v) e) = refl
       go (Halts x e) = refl
 
-  continue_performed : (o : Outcome KeptValues) (p : Process) (t : List Event) (f : Next KeptValues)
-      (next : KeptValues → Process) → o ≡ outcome (perform w n p t) → NextPerformed f next →
+  continue_performed : (o : Outcome EmittedValues) (p : Process) (t : List Event) (f : Next EmittedValues)
+      (next : EmittedValues → Process) → o ≡ outcome (perform w n p t) → NextPerformed f next →
       and_continue o f ≡ outcome (perform w n (sequence p (continue_on next)) t)
   continue_performed o p t f next e h = ap (λ o. and_continue o f) e ∙ go (perform w n p t)
     where
@@ -85,7 +85,7 @@ module _ (w : World) (n : ℕ) where
       go (Gives (ReturnedWith v) e) = refl
       go (Halts x e) = refl
 
-  within_performed : (o : Outcome KeptValues) (p : Process) (t : List Event) → o ≡ outcome (perform w n p t) →
+  within_performed : (o : Outcome EmittedValues) (p : Process) (t : List Event) → o ≡ outcome (perform w n p t) →
       within o ≡ outcome (perform w n (sequence p inside) t)
   within_performed o p t e = ap within e ∙ go (perform w n p t)
     where
@@ -96,7 +96,7 @@ module _ (w : World) (n : ℕ) where
       go (Gives (ReturnedWith v) e) = refl
       go (Halts x e) = refl
 
-  switch_performed : (o : Outcome KeptValues) (p : Process) (t : List Event) → o ≡ outcome (perform w n p t) →
+  switch_performed : (o : Outcome EmittedValues) (p : Process) (t : List Event) → o ≡ outcome (perform w n p t) →
       after_switch o ≡ outcome (perform w n (sequence p following_switch) t)
   switch_performed o p t e = ap after_switch e ∙ go (perform w n p t)
     where
@@ -108,15 +108,15 @@ module _ (w : World) (n : ℕ) where
       go (Gives (ReturnedWith v) e) = refl
       go (Halts x e) = refl
 
-  turns_performed : (once : Next KeptValues) (next : KeptValues → Process) →
-      NextPerformed once next → (j : ℕ) (s : KeptValues) (t : List Event) →
+  turns_performed : (once : Next EmittedValues) (next : EmittedValues → Process) →
+      NextPerformed once next → (j : ℕ) (s : EmittedValues) (t : List Event) →
       turns j once s t ≡ outcome (rounds j (λ s e. perform w n (next s) e) s t)
   turns_performed once next h zero s t = refl
   turns_performed once next h (suc j) s t =
       ap (λ o. and_again o (turns j once)) (h s t) ∙ go (perform w n (next s) t) (turns_performed once next h j)
     where
       go : (q : ReachedOrHalted Pause) →
-          ((s : KeptValues) (t : List Event) →
+          ((s : EmittedValues) (t : List Event) →
           turns j once s t ≡ outcome (rounds j (λ s e. perform w n (next s) e) s t)) →
           and_again (outcome q) (turns j once) ≡ outcome
           (resumed q (again (rounds j (λ s e. perform w n (next s) e))))
@@ -126,7 +126,7 @@ module _ (w : World) (n : ℕ) where
       go (Gives (ReturnedWith v) e) rest = refl
       go (Halts x e) rest = refl
 
-  there_performed : {A : Type 0} (o o' : Option A) (t : List Event) (go : A → Outcome KeptValues)
+  there_performed : {A : Type 0} (o o' : Option A) (t : List Event) (go : A → Outcome EmittedValues)
       (p : A → Process) → o ≡ o' → ((a : A) → go a ≡ outcome (perform w n (p a) t)) →
       or_stuck o t go ≡ outcome (perform w n (on_there o' p) t)
   there_performed {A} o o' t go p e h = ap (λ o. or_stuck o t go) e ∙ at o'
@@ -135,19 +135,19 @@ module _ (w : World) (n : ℕ) where
       at None = refl
       at (Some a) = h a
 
-  if_performed : (b : Bool) (t : List Event) (o o' : Outcome KeptValues) (p q : Process) →
+  if_performed : (b : Bool) (t : List Event) (o o' : Outcome EmittedValues) (p q : Process) →
       o ≡ outcome (perform w n p t) → o' ≡ outcome (perform w n q t) →
       cond b o o' ≡ outcome (perform w n (if_true b p q) t)
   if_performed true t o o' p q h k = h
   if_performed false t o o' p q h k = k
 
-  chosen_performed : (v : Value) (t : List Event) (a b : Outcome KeptValues) (p q : Process) →
+  chosen_performed : (v : Value) (t : List Event) (a b : Outcome EmittedValues) (p q : Process) →
       a ≡ outcome (perform w n p t) → b ≡ outcome (perform w n q t) →
       branch_by v t a b ≡ outcome (perform w n (on_truth v p q) t)
   chosen_performed v t a b p q h k =
       there_performed (truth_in v) (truth_in v) t _ (λ y. if_true y p q) refl (λ y. if_performed y t a b p q h k)
 
-  keeping_performed : (parts : PartTypes) (k : ValueType) (h : ℕ) (r : Event) (kept : KeptValues)
+  keeping_performed : (parts : PartTypes) (k : ValueType) (h : ℕ) (r : Event) (kept : EmittedValues)
       (t : List Event) → keep_typed parts k h (w t r) kept (r ∷ t) ≡ outcome
       (perform w n (keeping parts k h r kept) t)
   keeping_performed parts k h r kept t = go (has_type parts k (w t r))
@@ -157,7 +157,7 @@ module _ (w : World) (n : ℕ) where
       go true = refl
       go false = refl
 
-  load_performed : (parts : PartTypes) (k : ValueType) (h : ℕ) (kept : KeptValues) (t : List Event)
+  load_performed : (parts : PartTypes) (k : ValueType) (h : ℕ) (kept : EmittedValues) (t : List Event)
       (o : Option Value) →
       after_load parts k w h o kept t ≡ outcome (perform w n (load_process parts k h kept o) t)
   load_performed parts k h kept t None = refl
@@ -165,20 +165,20 @@ module _ (w : World) (n : ℕ) where
       there_performed (place_in v) (place_in v) t _ (λ p. keeping parts k h (Read p) kept) refl
       (λ p. keeping_performed parts k h (Read p) kept t)
 
-  ask_performed : (parts : PartTypes) (k : ValueType) (h : ℕ) (word : Bytes) (kept : KeptValues)
+  ask_performed : (parts : PartTypes) (k : ValueType) (h : ℕ) (word : Bytes) (kept : EmittedValues)
       (t : List Event) (o : Option (List Value)) →
       after_request parts k w h word o kept t ≡ outcome
       (perform w n (ask_process parts k h word kept o) t)
   ask_performed parts k h word kept t None = refl
   ask_performed parts k h word kept t (Some vs) = keeping_performed parts k h (Ask word vs) kept t
 
-  counted_performed : (b : Bool) (f : Next KeptValues) (kept : KeptValues) (t : List Event)
+  counted_performed : (b : Bool) (f : Next EmittedValues) (kept : EmittedValues) (t : List Event)
       (p : Process) → f kept t ≡ outcome (perform w n p t) →
       if_counted b f kept t ≡ outcome (perform w n (if_true b p (gives (DoneWith kept))) t)
   counted_performed true f kept t p h = h
   counted_performed false f kept t p h = refl
 
-  asks_performed : (words : List Bytes) (kept : KeptValues) (t : List Event) → ask_each words kept t
+  asks_performed : (words : List Bytes) (kept : EmittedValues) (t : List Event) → ask_each words kept t
       ≡ outcome (perform w n (asks_process words kept) t)
   asks_performed [] kept t = refl
   asks_performed (word ∷ words) kept t = asks_performed words kept (Ask word [] ∷ t)
@@ -198,19 +198,19 @@ module _ (w : World) (n : ℕ) where
     used_as_alone None o = refl
     used_as_alone _ o = refl
 
-    used_alone : (kept : KeptValues) (h : ℕ) → used_value c kept h ≡ used_value alone kept h
+    used_alone : (kept : EmittedValues) (h : ℕ) → used_value c kept h ≡ used_value alone kept h
     used_alone kept h = used_as_alone (expression_of f h) (kept h)
 
-    used_all_alone : (kept : KeptValues) (xs : List ℕ) → used_values c kept xs ≡ used_values alone kept xs
+    used_all_alone : (kept : EmittedValues) (xs : List ℕ) → used_values c kept xs ≡ used_values alone kept xs
     used_all_alone kept [] = refl
     used_all_alone kept (x ∷ xs) = ap₂ also (used_alone kept x) (used_all_alone kept xs)
 
-    computed_performed : (h : ℕ) (e : Option Expression) (kept : KeptValues) (t : List Event) →
+    computed_performed : (h : ℕ) (e : Option Expression) (kept : EmittedValues) (t : List Event) →
         Done (update kept h (computed_value c kept e)) t ≡ Done (update kept h (computed_value alone kept e)) t
     computed_performed h e kept t =
         ap (λ o. Done (update kept h (gathered_value env.parts m e o)) t) (used_all_alone kept (operands_of e))
 
-    one_performed : (h : ℕ) (e : Option Expression) (kept : KeptValues) (t : List Event) → emit_as c h e kept t
+    one_performed : (h : ℕ) (e : Option Expression) (kept : EmittedValues) (t : List Event) → emit_as c h e kept t
         ≡ outcome (perform w n (emit_one alone callees h e kept) t)
     one_performed h (Some (Load p)) kept t =
         counted_performed (is_counted f h)
@@ -244,7 +244,7 @@ module _ (w : World) (n : ℕ) where
         (emit_process alone callees hs) (one_performed h (expression_of f h) kept t)
         (emit_performed hs)
 
-    act_performed : (a : Action) (r : Option ℕ) (kept : KeptValues) (us : List Value)
+    act_performed : (a : Action) (r : Option ℕ) (kept : EmittedValues) (us : List Value)
         (t : List Event) → with_result env.parts f a r kept (action_answer c a us t) ≡ outcome
         (perform w n (act_process alone callees a r kept us) t)
     act_performed (Asked word) None kept us t = refl
@@ -383,11 +383,12 @@ module _ (w : World) (n : ℕ) where
           (λ s e. if_performed falls e (run_on c n ks s e) (Done s e)
           (on_process alone callees ks s) (gives (DoneWith s)) (on_performed ks s e) refl)
 
-    first_alone : (kept : KeptValues) (o : Option ℕ) → first_used c kept o ≡ first_used alone kept o
+    first_alone : (kept : EmittedValues) (o : Option ℕ) → first_used c kept o ≡ first_used alone kept o
     first_alone kept None = refl
     first_alone kept (Some h) = ap (option_map Some) (used_alone kept h)
 
-    firsts_alone : (kept : KeptValues) (os : List (Option ℕ)) → first_used_all c kept os ≡ first_used_all alone kept os
+    firsts_alone : (kept : EmittedValues) (os : List (Option ℕ)) → first_used_all c kept os
+        ≡ first_used_all alone kept os
     firsts_alone kept [] = refl
     firsts_alone kept (o ∷ os) = ap₂ with_first (first_alone kept o) (firsts_alone kept os)
 

@@ -8,7 +8,7 @@ use Rattle.shader_runs.specs.World.{Event}
 use Rattle.shader_runs.specs.Program.{CaseValue, Statement, Emit, Barrier, Statements, Cases}
 use Rattle.shader_runs.specs.Program.{no_case}
 use Rattle.shader_runs.specs.Program.{case, expression_of, binds, from}
-use Rattle.shader_runs.specs.ProgramRun.{Call, KeptValues, barrier_words}
+use Rattle.shader_runs.specs.ProgramRun.{Call, EmittedValues, barrier_words}
 use Rattle.shader_runs.specs.Text.{Tree, Lines}
 use Rattle.shader_runs.specs.Scope.{Handles, Naming, bound_name, after_one, named_after}
 use Rattle.shader_runs.specs.Scope.{named_after_all, after_emit, named_by, named_by_all, after}
@@ -90,7 +90,7 @@ module _ (f : Naming) where
       case_lines cs i (named_by_all f.function b k) (labels ++ l ∷ []) s e
 
   module _ (c : Call) (n : ℕ) where
-    inside_form : {st : Statement} {g : Region} {kept kept1 : KeptValues} {t t1 : List Event} →
+    inside_form : {st : Statement} {g : Region} {kept kept1 : EmittedValues} {t t1 : List Event} →
         Comes c n st g kept t kept1 t1 → (k : ℕ) (s : Handles) (tail : Lines) (q : Point) →
         region_falls st g ≡ false →
         lines_after (form f k st s tail) (inside (region_in_text st g) q) ≡ lines_after
@@ -104,7 +104,7 @@ module _ (f : Naming) where
     inside_form (into_loop (to_continuing turn there)) k s tail q e = refl
     inside_form (into_loop (to_break_if turn there)) k s tail q e = refl
 
-    pub lines_there : {ss : Statements} {q : Point} {kept kept1 : KeptValues} {t t1 : List Event} →
+    pub lines_there : {ss : Statements} {q : Point} {kept kept1 : EmittedValues} {t t1 : List Event} →
         Passes c n ss q kept t kept1 t1 → (k : ℕ) (s : Handles) → falls_at ss q ≡ false →
         lines_after (form_all f k ss s) (point_in_text f.function ss q) ≡ form_all f
         (named_at f.function k ss q) (statements_at ss q) (handles_at f k ss q s)

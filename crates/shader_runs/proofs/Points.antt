@@ -4,7 +4,7 @@ use Rattle.std.proofs.Common.{arith}
 use Rattle.shader_runs.specs.Value.{PartTypes}
 use Rattle.shader_runs.specs.World.{Meaning, Environment}
 use Rattle.shader_runs.specs.Program.{expression_of, handle_type, Module}
-use Rattle.shader_runs.specs.ProgramRun.{Call, KeptValues, run_call}
+use Rattle.shader_runs.specs.ProgramRun.{Call, EmittedValues, run_call}
 use Rattle.shader_runs.specs.TextRun.{Scope, word_use}
 use Rattle.shader_runs.specs.Scope.{Handles, ModuleNames, Names, Naming, at_start}
 use Rattle.shader_runs.specs.Form.{form_functions, functions_of, form_all}
@@ -27,7 +27,7 @@ use Rattle.shader_runs.specs.Passes.{TextPasses, point_in_text}
 use Rattle.shader_runs.specs.Outcome.{reach}
 
 facts_hold : (p : Module) (c : Call) (n : Names) (d : Respond) → Facts p c n d →
-    (s : Handles) (names : Scope) (kept : KeptValues) → Related c n s names kept →
+    (s : Handles) (names : Scope) (kept : EmittedValues) → Related c n s names kept →
     FactsHold c (words c d) (naming c n) s kept names
 facts_hold p c n d facts s names kept r =
     record {

@@ -15,7 +15,7 @@ use Rattle.shader_runs.specs.Program.{Function}
 use Rattle.shader_runs.specs.Program.{function_numbered, expression_of}
 use Rattle.shader_runs.specs.Program.{handle_type, operands_of}
 use Rattle.shader_runs.specs.Program.{Module}
-use Rattle.shader_runs.specs.ProgramRun.{Call, KeptValues}
+use Rattle.shader_runs.specs.ProgramRun.{Call, EmittedValues}
 use Rattle.shader_runs.specs.ProgramRun.{if_typed}
 use Rattle.shader_runs.specs.ProgramRun.{with_pointer}
 use Rattle.shader_runs.specs.Scope.{Availability, Absent, Barred, Everywhere, Inline, Bound}
@@ -171,7 +171,7 @@ pub record Sound (p : Module) (c : Call) : Type 0 where
       (t : List Event) → Answered (Returns c.environment.parts callee) (c.calls g vs t)
 
 -- each handle in scope has a value of its type
-abbrev pub Typed : Call → Handles → KeptValues → Type 0
+abbrev pub Typed : Call → Handles → EmittedValues → Type 0
 Typed c s kept = (h : ℕ) → IsTrue (is_present (s h)) → TypedValue c.environment.parts (handle_type c.function h)
     (kept h)
 
@@ -179,10 +179,10 @@ Typed c s kept = (h : ℕ) → IsTrue (is_present (s h)) → TypedValue c.enviro
 abbrev pub Rooted : Call → Handles → Type 0
 Rooted c s = (h : ℕ) → s h ≡ Everywhere → IsTrue (usable_all c.function s (operands_of (expression_of c.function h)))
 
-pub typed_less : (c : Call) (s s2 : Handles) (kept : KeptValues) → Extends s s2 → Typed c s2 kept → Typed c s kept
+pub typed_less : (c : Call) (s s2 : Handles) (kept : EmittedValues) → Extends s s2 → Typed c s2 kept → Typed c s kept
 typed_less c s s2 kept x y h p = y h (x h p)
 
-pub typed_update : (c : Call) (s : Handles) (kept : KeptValues) (h : ℕ) (st : Availability)
+pub typed_update : (c : Call) (s : Handles) (kept : EmittedValues) (h : ℕ) (st : Availability)
     (o : Option Value) →
     (IsTrue (is_present st) → TypedValue c.environment.parts (handle_type c.function h) o) →
     Typed c s kept → Typed c (update s h st) (update kept h o)
@@ -197,7 +197,7 @@ forgotten_present : (st now : Availability) → IsTrue (is_present (forgotten_on
 forgotten_present Everywhere now p = refl
 forgotten_present _ now p = p
 
-pub typed_forgotten : (c : Call) (s now : Handles) (kept : KeptValues) → Typed c s kept →
+pub typed_forgotten : (c : Call) (s now : Handles) (kept : EmittedValues) → Typed c s kept →
     Typed c (forgotten_handles s now) kept
 typed_forgotten c s now kept y h p = y h (forgotten_present (s h) (now h) p)
 

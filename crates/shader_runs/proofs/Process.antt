@@ -16,7 +16,8 @@ use Rattle.shader_runs.specs.Program.{Statement, Emit, Store, Block, If, Switch,
 use Rattle.shader_runs.specs.Program.{Continue, Return, Barrier, Act, Statements, end, then}
 use Rattle.shader_runs.specs.Program.{Cases, no_case, case, Function, argument_count, expression_of}
 use Rattle.shader_runs.specs.Program.{handle_type, is_counted, from, Jump, Jumps}
-use Rattle.shader_runs.specs.ProgramRun.{Call, KeptValues, constant_values, used_value, used_values}
+use Rattle.shader_runs.specs.ProgramRun.{Call, EmittedValues, constant_values, used_value}
+use Rattle.shader_runs.specs.ProgramRun.{used_values}
 use Rattle.shader_runs.specs.ProgramRun.{computed_value, joined_values, barrier_words}
 use Rattle.shader_runs.specs.ProgramRun.{same_case_value}
 use Rattle.shader_runs.specs.ProgramRun.{has_case_value, case_value_if, constants_kept}
@@ -35,9 +36,9 @@ reached_events (Halts x t) = t
 
 -- how a process leaves what follows it
 pub data Pause : Type 0 where
-  DoneWith : KeptValues → Pause
-  ContinuedWith : KeptValues → Pause
-  BrokeWith : KeptValues → Pause
+  DoneWith : EmittedValues → Pause
+  ContinuedWith : EmittedValues → Pause
+  BrokeWith : EmittedValues → Pause
   ReturnedWith : Option Value → Pause
 
 -- gives a pause, is stuck, lacks a result or discards; tells an event; wants an answer of a type to
@@ -52,7 +53,7 @@ pub data Process : Type 0 where
   wants : PartTypes → ValueType → Event → (Value → Process) → Process
   looks : (ℕ → Process) → Process
   sequence : Process → (Pause → Process) → Process
-  repeats : (KeptValues → Process) → KeptValues → Process
+  repeats : (EmittedValues → Process) → EmittedValues → Process
 
 -- a process in a world, with at most n turns of each loop
 abbrev pub answered : Bool → List Event → ReachedOrHalted Pause → ReachedOrHalted Pause
@@ -63,13 +64,13 @@ abbrev pub resumed : ReachedOrHalted Pause → (Pause → List Event → Reached
 resumed (Gives x t) next = next x t
 resumed (Halts x t) next = Halts x t
 
-abbrev pub again : (KeptValues → List Event → ReachedOrHalted Pause) → Pause → List Event → ReachedOrHalted Pause
+abbrev pub again : (EmittedValues → List Event → ReachedOrHalted Pause) → Pause → List Event → ReachedOrHalted Pause
 again next (DoneWith s) t = next s t
 again next (ContinuedWith s) t = Halts Stuck t
 again next (BrokeWith s) t = Gives (DoneWith s) t
 again next (ReturnedWith v) t = Gives (ReturnedWith v) t
 
-abbrev pub rounds : ℕ → (KeptValues → List Event → ReachedOrHalted Pause) → KeptValues → List Event →
+abbrev pub rounds : ℕ → (EmittedValues → List Event → ReachedOrHalted Pause) → EmittedValues → List Event →
     ReachedOrHalted Pause
 rounds zero once s t = Halts OutOfTurns t
 rounds (suc n) once s t = resumed (once s t) (again (rounds n once))
@@ -86,13 +87,13 @@ perform w n (sequence p next) t = resumed (perform w n p t) (λ x e. perform w n
 perform w n (repeats once s) t = rounds n (λ s e. perform w n (once s) e) s t
 
 -- what a list or a loop's body leaves to what follows it
-abbrev pub then_on : (KeptValues → Process) → Pause → Process
+abbrev pub then_on : (EmittedValues → Process) → Pause → Process
 then_on next (DoneWith s) = next s
 then_on next (ContinuedWith s) = gives (ContinuedWith s)
 then_on next (BrokeWith s) = gives (BrokeWith s)
 then_on next (ReturnedWith v) = gives (ReturnedWith v)
 
-abbrev pub continue_on : (KeptValues → Process) → Pause → Process
+abbrev pub continue_on : (EmittedValues → Process) → Pause → Process
 continue_on next (DoneWith s) = next s
 continue_on next (ContinuedWith s) = next s
 continue_on next (BrokeWith s) = gives (BrokeWith s)
@@ -122,18 +123,18 @@ if_true false p q = q
 abbrev pub on_truth : Value → (accept reject : Process) → Process
 on_truth v a b = on_there (truth_in v) (λ y. if_true y a b)
 
-abbrev pub keeping : PartTypes → ValueType → ℕ → Event → KeptValues → Process
+abbrev pub keeping : PartTypes → ValueType → ℕ → Event → EmittedValues → Process
 keeping parts k h r kept = wants parts k r (λ v. gives (DoneWith (update kept h (Some v))))
 
-abbrev pub load_process : PartTypes → ValueType → ℕ → KeptValues → Option Value → Process
+abbrev pub load_process : PartTypes → ValueType → ℕ → EmittedValues → Option Value → Process
 load_process parts k h kept None = gives (DoneWith (update kept h None))
 load_process parts k h kept (Some v) = on_there (place_in v) (λ p. keeping parts k h (Read p) kept)
 
-abbrev pub ask_process : PartTypes → ValueType → ℕ → Bytes → KeptValues → Option (List Value) → Process
+abbrev pub ask_process : PartTypes → ValueType → ℕ → Bytes → EmittedValues → Option (List Value) → Process
 ask_process parts k h word kept None = gives (DoneWith (update kept h None))
 ask_process parts k h word kept (Some vs) = keeping parts k h (Ask word vs) kept
 
-abbrev pub asks_process : List Bytes → KeptValues → Process
+abbrev pub asks_process : List Bytes → EmittedValues → Process
 asks_process [] kept = gives (DoneWith kept)
 asks_process (word ∷ words) kept = tells (Ask word []) (asks_process words kept)
 
@@ -142,7 +143,7 @@ abbrev pub answer_back : Pause → Option Value
 answer_back (ReturnedWith v) = v
 answer_back _ = None
 
-abbrev pub result_process : Option ℕ → KeptValues → Option Value → Process
+abbrev pub result_process : Option ℕ → EmittedValues → Option Value → Process
 result_process None kept v = gives (DoneWith kept)
 result_process (Some h) kept None = unreturned
 result_process (Some h) kept (Some v) = gives (DoneWith (update kept h (Some v)))
@@ -159,7 +160,7 @@ entry_process g vs (Some firsts) p = tells (Entry g vs firsts) p
 
 -- no process looks at the world and the callees of its call
 module _ (c : Call) (calls : ℕ → List Value → Process) where
-  abbrev pub emit_one : ℕ → Option Expression → KeptValues → Process
+  abbrev pub emit_one : ℕ → Option Expression → EmittedValues → Process
   emit_one h (Some (Load p)) kept =
       if_true (is_counted c.function h) (load_process c.environment.parts (handle_type c.function h) h kept
       (used_value c kept p)) (gives (DoneWith kept))
@@ -178,33 +179,33 @@ module _ (c : Call) (calls : ℕ → List Value → Process) where
   emit_one h (Some (Swizzle l r)) kept = gives (DoneWith (update kept h (computed_value c kept (Some (Swizzle l r)))))
   emit_one h _ kept = gives (DoneWith kept)
 
-  abbrev pub emit_process : List ℕ → KeptValues → Process
+  abbrev pub emit_process : List ℕ → EmittedValues → Process
   emit_process [] kept = gives (DoneWith kept)
   emit_process (h ∷ hs) kept = sequence (emit_one h (expression_of c.function h) kept) (then_on (emit_process hs))
 
-  abbrev pub act_process : Action → Option ℕ → KeptValues → List Value → Process
+  abbrev pub act_process : Action → Option ℕ → EmittedValues → List Value → Process
   act_process (Asked word) None kept vs = tells (Ask word vs) (gives (DoneWith kept))
   act_process (Asked word) (Some h) kept vs = keeping c.environment.parts (handle_type c.function h) h
       (Ask word vs) kept
   act_process (Called g) r kept vs = sequence (calls g vs) (λ x. result_process r kept (answer_back x))
 
-  abbrev pub leave_process : Option ℕ → KeptValues → Process
+  abbrev pub leave_process : Option ℕ → EmittedValues → Process
   leave_process None kept = gives (DoneWith kept)
   leave_process (Some h) kept =
       on_there (used_value c kept h) (λ v. on_truth v (gives (BrokeWith kept)) (gives (DoneWith kept)))
 
-  abbrev pub return_process : Option ℕ → KeptValues → Process
+  abbrev pub return_process : Option ℕ → EmittedValues → Process
   return_process None kept = gives (ReturnedWith None)
   return_process (Some h) kept = on_there (used_value c kept h) (λ v. gives (ReturnedWith (Some v)))
 
-  abbrev pub jump_process : Jump ℕ → KeptValues → Process
+  abbrev pub jump_process : Jump ℕ → EmittedValues → Process
   jump_process Break kept = gives (BrokeWith kept)
   jump_process Continue kept = gives (ContinuedWith kept)
   jump_process (Return v) kept = return_process v kept
   jump_process _ kept = discards
 
   abbrev mutual
-    pub statement_process : Statement → KeptValues → Process
+    pub statement_process : Statement → EmittedValues → Process
     statement_process (Emit first count) kept = emit_process (from first count) kept
     statement_process (Store p v) kept =
         on_there (option_and_then place_in (used_value c kept p))
@@ -222,17 +223,17 @@ module _ (c : Call) (calls : ℕ → List Value → Process) where
     statement_process (Barrier bits) kept = asks_process (barrier_words bits) kept
     statement_process (Act a xs r) kept = on_there (used_values c kept xs) (act_process a r kept)
 
-    pub list_process : Statements → KeptValues → Process
+    pub list_process : Statements → EmittedValues → Process
     list_process end kept = gives (DoneWith kept)
     list_process (then s ss) kept = sequence (statement_process s kept) (then_on (list_process ss))
 
-    pub cases_process : Cases → CaseValue → KeptValues → Process
+    pub cases_process : Cases → CaseValue → EmittedValues → Process
     cases_process no_case x kept = gives (DoneWith kept)
     cases_process (case l b falls ks) x kept =
         if_true (same_case_value x l) (sequence (list_process b kept)
         (then_on (λ s. if_true falls (on_process ks s) (gives (DoneWith s))))) (cases_process ks x kept)
 
-    pub on_process : Cases → KeptValues → Process
+    pub on_process : Cases → EmittedValues → Process
     on_process no_case kept = gives (DoneWith kept)
     on_process (case l b falls ks) kept =
         sequence (list_process b kept) (then_on (λ s. if_true falls (on_process ks s) (gives (DoneWith s))))

@@ -23,7 +23,8 @@ use Rattle.shader_runs.specs.Program.{handle_type, operands_of, is_counted, bind
 use Rattle.shader_runs.specs.Program.{from, holds_continue, any_continue, some_case_continues}
 use Rattle.shader_runs.specs.Program.{Module}
 use Rattle.shader_runs.specs.Program.{is_pure, is_emittable, Jumps}
-use Rattle.shader_runs.specs.ProgramRun.{Call, KeptValues, constant_values, used_value, used_values}
+use Rattle.shader_runs.specs.ProgramRun.{Call, EmittedValues, constant_values, used_value}
+use Rattle.shader_runs.specs.ProgramRun.{used_values}
 use Rattle.shader_runs.specs.ProgramRun.{joined_values, computed_value, if_typed, after_load}
 use Rattle.shader_runs.specs.ProgramRun.{after_request, if_counted, emit_as, emit}
 use Rattle.shader_runs.specs.ProgramRun.{leave, return_outcome, action_answer, with_result}
@@ -141,16 +142,16 @@ new_everywhere Inline i p = absurd (true≢false (sym i))
 new_everywhere (Bound x) i p = absurd (true≢false (sym i))
 
 module _ (p : Module) (c : Call) (n : Names) (sound : Sound p c) where
-  uses : (s : Handles) (kept : KeptValues) → Typed c s kept → UsesTyped c s kept
+  uses : (s : Handles) (kept : EmittedValues) → Typed c s kept → UsesTyped c s kept
   uses s kept y h u =
       used_typed p c sound.arguments sound.environment (handle_type c.function h) (expression_of c.function h)
       (sound.leaves h) (sound.typed.constants h) (kept h) (s h) (y h) u
 
   -- what a run from an Emit is, where it leaves this scope
-  abbrev Emits : Handles → Outcome KeptValues → Type 0
+  abbrev Emits : Handles → Outcome EmittedValues → Type 0
   Emits s = Proceeds (Returns c.environment.parts c.function) (Typed c s) (λ k. ⊥) (λ k. ⊥)
 
-  module _ (s : Handles) (kept : KeptValues) (t : List Event) (r : Rooted c s) (y : Typed c s kept) (h : ℕ)
+  module _ (s : Handles) (kept : EmittedValues) (t : List Event) (r : Rooted c s) (y : Typed c s kept) (h : ℕ)
       (x : Bytes) (new : IsTrue (is_new (s h))) where
     -- an answer is kept under a name
     answer_kept : (v : Value) (e : Event) →
@@ -233,7 +234,7 @@ module _ (p : Module) (c : Call) (n : Names) (sound : Sound p c) where
     emit_as_proceeds (Some _) e l i k z m = absurd (true≢false (sym z))
     emit_as_proceeds None e l i k z m = absurd (true≢false (sym z))
 
-  emit_proceeds : (k : ℕ) (hs : List ℕ) (s : Handles) (kept : KeptValues) (t : List Event) →
+  emit_proceeds : (k : ℕ) (hs : List ℕ) (s : Handles) (kept : EmittedValues) (t : List Event) →
       Rooted c s → Typed c s kept → MayEmitAll c n k hs s →
       Emits (after_emit (naming c n) k hs s) (emit c hs kept t)
   emit_proceeds k [] s kept t r y m = done y
@@ -249,22 +250,22 @@ module _ (p : Module) (c : Call) (n : Names) (sound : Sound p c) where
 module _ (p : Module) (c : Call) (n : Names) (sound : Sound p c) (bound : ℕ) where
   -- what a run from the scope s is, which leaves the scope s2: held tells whether it holds a
   -- `continue`, and breaks and continues whether one may stand here
-  abbrev Runs : (s s2 at_continue : Handles) → (breaks continues held : Bool) → Outcome KeptValues → Type 0
+  abbrev Runs : (s s2 at_continue : Handles) → (breaks continues held : Bool) → Outcome EmittedValues → Type 0
   Runs s s2 at_continue breaks continues held =
       Proceeds (Returns c.environment.parts c.function) (Typed c s2)
       (λ k. Typed c at_continue k × IsTrue held × IsTrue continues) (λ k. Typed c s k × IsTrue breaks)
 
   -- a statement, and a list
-  abbrev Line : Handles → Handles → (breaks continues held : Bool) → Outcome KeptValues → Type 0
+  abbrev Line : Handles → Handles → (breaks continues held : Bool) → Outcome EmittedValues → Type 0
   Line s s2 = Runs s s2 s
 
-  abbrev Body : Handles → Handles → (breaks continues held : Bool) → Outcome KeptValues → Type 0
+  abbrev Body : Handles → Handles → (breaks continues held : Bool) → Outcome EmittedValues → Type 0
   Body s s2 = Runs s s2 s2
 
   -- a statement and what follows it
   row : (s s1 s2 : Handles) (breaks continues held held2 : Bool) → Extends s s1 → Extends s1 s2 →
-      (o : Outcome KeptValues) (f : Next KeptValues) → Line s s1 breaks continues held o →
-      ((kept : KeptValues) (t : List Event) → Typed c s1 kept →
+      (o : Outcome EmittedValues) (f : Next EmittedValues) → Line s s1 breaks continues held o →
+      ((kept : EmittedValues) (t : List Event) → Typed c s1 kept →
       Body s1 s2 breaks continues held2 (f kept t)) →
       Body s (forgotten_if held s s2) breaks continues (held || held2) (and_then o f)
   row s s1 s2 breaks continues true held2 x x2 o f line next =
@@ -275,7 +276,7 @@ module _ (p : Module) (c : Call) (n : Names) (sound : Sound p c) (bound : ℕ) w
       (λ k b. (typed_less c s s1 k x b.0, b.1)) (next k t y))
       (weaker (λ k y. y) (λ k q. (typed_forgotten c s s2 k q.0, q.2)) (λ k b. b) line))
     where
-      back : (k : KeptValues) → Typed c s2 k → Typed c (forgotten_handles s s2) k
+      back : (k : EmittedValues) → Typed c s2 k → Typed c (forgotten_handles s s2) k
       back k y = typed_forgotten c s s2 k (typed_less c s s2 k (extends_trans s s1 s2 x x2) y)
   row s s1 s2 breaks continues false held2 x x2 o f line next =
       then_proceeds {P = Typed c s1}
@@ -284,7 +285,7 @@ module _ (p : Module) (c : Call) (n : Names) (sound : Sound p c) (bound : ℕ) w
 
   leave_proceeds : (s s2 : Handles) → Extends s s2 →
       (e : Option ℕ) → IsTrue (usable_if c.function s2 e) → BreakIfFits c.function e →
-      (kept : KeptValues) (t : List Event) → Typed c s2 kept →
+      (kept : EmittedValues) (t : List Event) → Typed c s2 kept →
       Proceeds (Returns c.environment.parts c.function) (Typed c s) (λ k. ⊥) (Typed c s)
       (leave c e kept t)
   leave_proceeds s s2 x None u w kept t y = done (typed_less c s s2 kept x y)
@@ -296,18 +297,18 @@ module _ (p : Module) (c : Call) (n : Names) (sound : Sound p c) (bound : ℕ) w
 
   -- a loop: each turn starts in the loop's own scope
   loop_proceeds : (s s1 s2 : Handles) (hb hd breaks continues : Bool)
-      (body continuing : Next KeptValues) (e : Option ℕ) → Extends s s1 → Extends s1 s2 →
+      (body continuing : Next EmittedValues) (e : Option ℕ) → Extends s s1 → Extends s1 s2 →
       IsTrue (usable_if c.function s2 e) → BreakIfFits c.function e →
-      ((kept : KeptValues) (t : List Event) → Typed c s kept →
+      ((kept : EmittedValues) (t : List Event) → Typed c s kept →
       Body s s1 true true hb (body kept t)) →
-      ((kept : KeptValues) (t : List Event) → Typed c s1 kept →
-      Body s1 s2 false false hd (continuing kept t)) → (kept : KeptValues) (t : List Event) →
+      ((kept : EmittedValues) (t : List Event) → Typed c s1 kept →
+      Body s1 s2 false false hd (continuing kept t)) → (kept : EmittedValues) (t : List Event) →
       Typed c s kept →
       Line s s breaks continues false (turns bound (turn body continuing (leave c e)) kept t)
   loop_proceeds s s1 s2 hb hd breaks continues body continuing e x x2 u w in_body in_continuing kept t y =
       turns_proceed {I = Typed c s} once bound kept t y
     where
-      tail : (kept : KeptValues) (t : List Event) → Typed c s1 kept →
+      tail : (kept : EmittedValues) (t : List Event) → Typed c s1 kept →
           Proceeds (Returns c.environment.parts c.function) (Typed c s) (λ k. ⊥) (Typed c s)
           (and_then (within (continuing kept t)) (leave c e))
       tail kept t y =
@@ -316,7 +317,7 @@ module _ (p : Module) (c : Call) (n : Names) (sound : Sound p c) (bound : ℕ) w
           (within_proceeds (λ k q. true≢false (sym q.2)) (λ k b. true≢false (sym b.1))
           (in_continuing kept t y))
 
-      once : (kept : KeptValues) (t : List Event) → Typed c s kept →
+      once : (kept : EmittedValues) (t : List Event) → Typed c s kept →
           Proceeds (Returns c.environment.parts c.function) (Typed c s) (λ k. ⊥) (Typed c s)
           (turn body continuing (leave c e) kept t)
       once kept t y =
@@ -324,7 +325,7 @@ module _ (p : Module) (c : Call) (n : Names) (sound : Sound p c) (bound : ℕ) w
 
   return_proceeds : (s : Handles) (breaks continues : Bool) (e : Option ℕ) →
       IsTrue (usable_if c.function s e) → ReturnFits c.function e →
-      (kept : KeptValues) (t : List Event) → Typed c s kept →
+      (kept : EmittedValues) (t : List Event) → Typed c s kept →
       Line s s breaks continues false (return_outcome c e kept t)
   return_proceeds s breaks continues None u w kept t y = returns tt
   return_proceeds s breaks continues (Some h) u w kept t y =
@@ -332,7 +333,7 @@ module _ (p : Module) (c : Call) (n : Names) (sound : Sound p c) (bound : ℕ) w
       _ (uses p c n sound s kept y h u)
       (λ v z. returns (subst (λ k. ResultTyped c.environment.parts (Some v) k) (sym w) z))
 
-  asks_proceed : (s : Handles) (breaks continues : Bool) (ws : List Bytes) (kept : KeptValues)
+  asks_proceed : (s : Handles) (breaks continues : Bool) (ws : List Bytes) (kept : EmittedValues)
       (t : List Event) → Typed c s kept → Line s s breaks continues false (ask_each ws kept t)
   asks_proceed s breaks continues [] kept t y = done y
   asks_proceed s breaks continues (w ∷ ws) kept t y = asks_proceed s breaks continues ws kept (Ask w [] ∷ t) y
@@ -352,7 +353,7 @@ module _ (p : Module) (c : Call) (n : Names) (sound : Sound p c) (bound : ℕ) w
           sound.calls g callee e vs (subst (λ ts. IsTrue (has_types c.environment.parts ts vs)) w.0 z) t
 
   result_proceeds : (s : Handles) (breaks continues : Bool) (a : Action) (xs : List ℕ)
-      (r : Option ℕ) → ActionFits p c.callees (naming c n) a xs r → (kept : KeptValues) →
+      (r : Option ℕ) → ActionFits p c.callees (naming c n) a xs r → (kept : EmittedValues) →
       Typed c s kept → (q : ReachedOrHalted (Option Value)) → Answered (ActionReturns c a) q →
       Line s (after_result n r s) breaks continues false
       (with_result c.environment.parts c.function a r kept q)
@@ -371,7 +372,7 @@ module _ (p : Module) (c : Call) (n : Names) (sound : Sound p c) (bound : ℕ) w
 
   act_proceeds : (s : Handles) (breaks continues : Bool) (a : Action) (xs : List ℕ) (r : Option ℕ) →
       IsTrue (usable_all c.function s xs) → ActionFits p c.callees (naming c n) a xs r →
-      (kept : KeptValues) (t : List Event) → Typed c s kept →
+      (kept : EmittedValues) (t : List Event) → Typed c s kept →
       Line s (after_result n r s) breaks continues false
       (or_stuck (used_values c kept xs) t
       (λ vs. with_result c.environment.parts c.function a r kept (action_answer c a vs t)))
@@ -385,7 +386,7 @@ module _ (p : Module) (c : Call) (n : Names) (sound : Sound p c) (bound : ℕ) w
 
   store_proceeds : (s : Handles) (breaks continues : Bool) (q v : ℕ) →
       IsTrue (usable c.function s q) → IsTrue (usable c.function s v) →
-      IsPointer (handle_type c.function q) → (kept : KeptValues) (t : List Event) → Typed c s kept →
+      IsPointer (handle_type c.function q) → (kept : EmittedValues) (t : List Event) → Typed c s kept →
       Line s s breaks continues false (run c bound (Store q v) kept t)
   store_proceeds s breaks continues q v u z w kept t y =
       pointer_proceeds c.environment.parts (handle_type c.function q) w (used_value c kept q) t
@@ -394,14 +395,14 @@ module _ (p : Module) (c : Call) (n : Names) (sound : Sound p c) (bound : ℕ) w
       (used_value c kept v) t _ (uses p c n sound s kept y v z) (λ value i. done y))
 
   -- what holds after a block
-  block_proceeds : (s s1 : Handles) (breaks continues held : Bool) → Extends s s1 → (o : Outcome KeptValues) →
+  block_proceeds : (s s1 : Handles) (breaks continues held : Bool) → Extends s s1 → (o : Outcome EmittedValues) →
       Body s s1 breaks continues held o → Line s s breaks continues held o
   block_proceeds s s1 breaks continues held x o b =
       weaker (λ k y. typed_less c s s1 k x y) (λ k q. (typed_less c s s1 k x q.0, q.1, q.2)) (λ k b. b) b
 
   if_proceeds : (s s1 s2 : Handles) (breaks continues ha hb : Bool) (h : ℕ) →
       IsTrue (usable c.function s h) → IsBoolean (handle_type c.function h) → Extends s s1 →
-      Extends s s2 → (a b : Outcome KeptValues) (kept : KeptValues) (t : List Event) →
+      Extends s s2 → (a b : Outcome EmittedValues) (kept : EmittedValues) (t : List Event) →
       Typed c s kept → Body s s1 breaks continues ha a → Body s s2 breaks continues hb b →
       Line s s breaks continues (ha || hb)
       (or_stuck (used_value c kept h) t (λ v. branch_by v t a b))
@@ -415,14 +416,14 @@ module _ (p : Module) (c : Call) (n : Names) (sound : Sound p c) (bound : ℕ) w
       (block_proceeds s s2 breaks continues hb x2 b in_b)))
 
   -- a case, which a `break` ends
-  abbrev In_case : Handles → (continues held : Bool) → Outcome KeptValues → Type 0
+  abbrev In_case : Handles → (continues held : Bool) → Outcome EmittedValues → Type 0
   In_case s continues held =
       Proceeds (Returns c.environment.parts c.function) (Typed c s)
       (λ k. Typed c s k × IsTrue held × IsTrue continues) (Typed c s)
 
   switch_line : (s : Handles) (breaks continues held : Bool) (h : ℕ) (cs : Cases) →
       IsTrue (usable c.function s h) → IsInteger (handle_type c.function h) →
-      (kept : KeptValues) (t : List Event) → Typed c s kept →
+      (kept : EmittedValues) (t : List Event) → Typed c s kept →
       ((x : CaseValue) → In_case s continues held (run_cases c bound cs x kept t)) →
       Line s s breaks continues held (run c bound (Switch h cs) kept t)
   switch_line s breaks continues held h cs u w kept t y each =
@@ -433,8 +434,8 @@ module _ (p : Module) (c : Call) (n : Names) (sound : Sound p c) (bound : ℕ) w
 
   -- a case and those that it falls through to
   case_proceeds : (s s1 : Handles) (continues held held2 falls : Bool) → Extends s s1 →
-      (o : Outcome KeptValues) (on : Next KeptValues) → Body s s1 true continues held o →
-      ((kept : KeptValues) (t : List Event) → Typed c s kept →
+      (o : Outcome EmittedValues) (on : Next EmittedValues) → Body s s1 true continues held o →
+      ((kept : EmittedValues) (t : List Event) → Typed c s kept →
       In_case s continues held2 (on kept t)) →
       In_case s continues (held || held2)
       (and_then o (λ kept1 t1. cond falls (on kept1 t1) (Done kept1 t1)))
@@ -442,12 +443,12 @@ module _ (p : Module) (c : Call) (n : Names) (sound : Sound p c) (bound : ℕ) w
       then_proceeds {P = Typed c s1} (λ k t y. go falls k t (typed_less c s s1 k x y))
       (weaker (λ k y. y) (λ k q. (typed_less c s s1 k x q.0, or_left held held2 q.1, q.2)) (λ k b. b.0) body)
     where
-      go : (b : Bool) (k : KeptValues) (t : List Event) → Typed c s k →
+      go : (b : Bool) (k : EmittedValues) (t : List Event) → Typed c s k →
           In_case s continues (held || held2) (cond b (on k t) (Done k t))
       go true k t y = weaker (λ k y. y) (λ k q. (q.0, or_right held held2 q.1, q.2)) (λ k b. b) (next k t y)
       go false k t y = done y
 
-  picked_proceeds : (s : Handles) (continues held : Bool) (b : Bool) (o o2 : Outcome KeptValues) →
+  picked_proceeds : (s : Handles) (continues held : Bool) (b : Bool) (o o2 : Outcome EmittedValues) →
       In_case s continues held o → In_case s continues held o2 → In_case s continues held (cond b o o2)
   picked_proceeds s continues held true o o2 x x2 = x
   picked_proceeds s continues held false o o2 x x2 = x2
@@ -455,7 +456,7 @@ module _ (p : Module) (c : Call) (n : Names) (sound : Sound p c) (bound : ℕ) w
   mutual
     line_proceeds : (st : Statement) (k : ℕ) (s : Handles) (breaks continues : Bool) → Rooted c s →
         Fits p c n k st s → IsWellFormed c.function breaks continues st →
-        (kept : KeptValues) (t : List Event) → Typed c s kept →
+        (kept : EmittedValues) (t : List Event) → Typed c s kept →
         Line s (after (naming c n) k st s) breaks continues (holds_continue st)
         (run c bound st kept t)
     line_proceeds (Emit first count) k s breaks continues r m w kept t y =
@@ -497,7 +498,7 @@ module _ (p : Module) (c : Call) (n : Names) (sound : Sound p c) (bound : ℕ) w
 
     pub body_proceeds : (ss : Statements) (k : ℕ) (s : Handles) (breaks continues : Bool) →
         Rooted c s → FitsAll p c n k ss s → AreWellFormed c.function breaks continues ss →
-        (kept : KeptValues) (t : List Event) → Typed c s kept →
+        (kept : EmittedValues) (t : List Event) → Typed c s kept →
         Body s (after_all (naming c n) k ss s) breaks continues (any_continue ss)
         (run_all c bound ss kept t)
     body_proceeds end k s breaks continues r m w kept t y = done y
@@ -513,7 +514,7 @@ module _ (p : Module) (c : Call) (n : Names) (sound : Sound p c) (bound : ℕ) w
     -- from the case with this value on
     cases_proceed : (cs : Cases) (k : ℕ) (s : Handles) (continues : Bool) → Rooted c s →
         FitsCases p c n k cs s → CasesAreWellFormed c.function continues cs →
-        (x : CaseValue) (kept : KeptValues) (t : List Event) → Typed c s kept →
+        (x : CaseValue) (kept : EmittedValues) (t : List Event) → Typed c s kept →
         In_case s continues (some_case_continues cs) (run_cases c bound cs x kept t)
     cases_proceed no_case k s continues r m w x kept t y = done y
     cases_proceed (case l b falls cs) k s continues r m w x kept t y =
@@ -530,7 +531,7 @@ module _ (p : Module) (c : Call) (n : Names) (sound : Sound p c) (bound : ℕ) w
     -- on from a case that fell through
     on_proceeds : (cs : Cases) (k : ℕ) (s : Handles) (continues : Bool) → Rooted c s →
         FitsCases p c n k cs s → CasesAreWellFormed c.function continues cs →
-        (kept : KeptValues) (t : List Event) → Typed c s kept →
+        (kept : EmittedValues) (t : List Event) → Typed c s kept →
         In_case s continues (some_case_continues cs) (run_on c bound cs kept t)
     on_proceeds no_case k s continues r m w kept t y = done y
     on_proceeds (case l b falls cs) k s continues r m w kept t y =
@@ -541,14 +542,14 @@ module _ (p : Module) (c : Call) (n : Names) (sound : Sound p c) (bound : ℕ) w
         (λ kept t y. on_proceeds cs k1 s continues r m.2 w.1 kept t y)
 
 -- what the start of a body owes to its run, by what is known of a standing at the start
-start_value : (c : Call) (s : Handles) (names : Scope) (kept : KeptValues) (k : ValueType)
+start_value : (c : Call) (s : Handles) (names : Scope) (kept : EmittedValues) (k : ValueType)
     (e : Option Expression) (o : Option Value) (b : Bool) →
     Stands c s names kept k e o (start_availability b) →
     IsTrue (is_present (start_availability b)) → TypedValue c.environment.parts k o
 start_value c s names kept k e o true d i = d.1
 start_value c s names kept k e o false d i = absurd (true≢false (sym i))
 
-start_operands : (c : Call) (s : Handles) (names : Scope) (kept : KeptValues) (k : ValueType)
+start_operands : (c : Call) (s : Handles) (names : Scope) (kept : EmittedValues) (k : ValueType)
     (e : Option Expression) (o : Option Value) (b : Bool) →
     Stands c s names kept k e o (start_availability b) → start_availability b ≡ Everywhere →
     IsTrue (usable_all c.function s (operands_of e))
@@ -588,7 +589,7 @@ module _ (p : Module) (n : ModuleNames) (env : Environment) (environment : Envir
     abbrev start : Handles
     start = at_start f.function
 
-    abbrev kept : KeptValues
+    abbrev kept : EmittedValues
     kept = constants_kept f.function env m
 
     sound : Sound p c

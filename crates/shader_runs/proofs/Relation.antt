@@ -8,7 +8,7 @@ use Rattle.shader_runs.specs.World.{GlobalValue, Stored, InHandleSpace}
 use Rattle.shader_runs.specs.Program.{Expression, Constant, Argument, Local, Global, Function}
 use Rattle.shader_runs.specs.Program.{argument_count, local_count, local_pointer, expression_of}
 use Rattle.shader_runs.specs.Program.{handle_type, operands_of}
-use Rattle.shader_runs.specs.ProgramRun.{Call, KeptValues, used_value_as, used_value, also}
+use Rattle.shader_runs.specs.ProgramRun.{Call, EmittedValues, used_value_as, used_value, also}
 use Rattle.shader_runs.specs.ProgramRun.{used_values}
 use Rattle.shader_runs.specs.ProgramRun.{gathered_value, computed_value}
 use Rattle.shader_runs.specs.TextRun.{Denotation, IsValue, IsPlace, Scope}
@@ -65,7 +65,7 @@ pub record NoName (c : Call) (n : Names) (w : Bytes) : Type 0 where
   pub named : (k : ℕ) → k < named_by_all c.function c.function.body 0 → n.named k ≢ w
 
 -- what is known of a handle with this expression and this kept value
-abbrev pub Stands : Call → Handles → Scope → KeptValues → ValueType → Option Expression → Option Value →
+abbrev pub Stands : Call → Handles → Scope → EmittedValues → ValueType → Option Expression → Option Value →
     Availability → Type 0
 Stands c s names kept y e o Absent = Unit {0}
 Stands c s names kept y e o Barred = Unit {0}
@@ -76,7 +76,7 @@ Stands c s names kept y e o Everywhere = IsTrue (usable_all c.function s (operan
 Stands c s names kept y e o (Bound x) = TypedValue c.environment.parts y (used_value_as c e o)
     × (names x ≡ as_denoted (used_value_as c e o))
 
-pub record Related (c : Call) (n : Names) (s : Handles) (names : Scope) (kept : KeptValues) : Type 0 where
+pub record Related (c : Call) (n : Names) (s : Handles) (names : Scope) (kept : EmittedValues) : Type 0 where
   pub availability : (h : ℕ) → Stands c s names kept (handle_type c.function h) (expression_of c.function h)
       (kept h) (s h)
   pub fixed : (x : FixedName) → IsHere c x → names (fixed_name n x) ≡ fixed_denoted c x
@@ -87,19 +87,20 @@ abbrev pub Extends : Handles → Handles → Type 0
 Extends s s' = (h : ℕ) → IsTrue (is_present (s h)) → IsTrue (is_present (s' h))
 
 -- the same values are kept for the handles in scope
-abbrev pub Agree : Handles → KeptValues → KeptValues → Type 0
+abbrev pub Agree : Handles → EmittedValues → EmittedValues → Type 0
 Agree s kept kept' = (h : ℕ) → IsTrue (is_present (s h)) → kept' h ≡ kept h
 
 pub extends_refl : (s : Handles) → Extends s s
 extends_refl s h p = p
 
-pub agree_refl : (s : Handles) (kept : KeptValues) → Agree s kept kept
+pub agree_refl : (s : Handles) (kept : EmittedValues) → Agree s kept kept
 agree_refl s kept h p = refl
 
 pub extends_trans : (s s1 s2 : Handles) → Extends s s1 → Extends s1 s2 → Extends s s2
 extends_trans s s1 s2 a b h p = b h (a h p)
 
-pub agree_trans : (s s1 : Handles) (k k1 k2 : KeptValues) → Extends s s1 → Agree s k k1 → Agree s1 k1 k2 → Agree s k k2
+pub agree_trans : (s s1 : Handles) (k k1 k2 : EmittedValues) → Extends s s1 → Agree s k k1 → Agree s1 k1 k2 →
+    Agree s k k2
 agree_trans s s1 k k1 k2 x a b h p = b h (x h p) ∙ a h p
 
 used_agree_as : (c : Call) (e : Option Expression) (st : Availability) (o o' : Option Value) →
@@ -112,12 +113,12 @@ used_agree_as c (Some (Global held i)) st o o' u a = refl
 used_agree_as c None st o o' u a = refl
 used_agree_as c _ st o o' u a = a u
 
-pub used_agree : (c : Call) (s : Handles) (kept kept' : KeptValues) → Agree s kept kept' → (x : ℕ) →
+pub used_agree : (c : Call) (s : Handles) (kept kept' : EmittedValues) → Agree s kept kept' → (x : ℕ) →
     IsTrue (usable c.function s x) → used_value c kept' x ≡ used_value c kept x
 used_agree c s kept kept' a x u =
     used_agree_as c (expression_of c.function x) (s x) (kept x) (kept' x) u (a x)
 
-pub used_all_agree : (c : Call) (s : Handles) (kept kept' : KeptValues) → Agree s kept kept' → (xs : List ℕ) →
+pub used_all_agree : (c : Call) (s : Handles) (kept kept' : EmittedValues) → Agree s kept kept' → (xs : List ℕ) →
     IsTrue (usable_all c.function s xs) → used_values c kept' xs ≡ used_values c kept xs
 used_all_agree c s kept kept' a [] u = refl
 used_all_agree c s kept kept' a (x ∷ xs) u =
@@ -125,7 +126,7 @@ used_all_agree c s kept kept' a (x ∷ xs) u =
     let t = used_all_agree c s kept kept' a xs (and_right (usable c.function s x) (usable_all c.function s xs) u) in
     ap (λ v. also v (used_values c kept' xs)) h ∙ ap (also (used_value c kept x)) t
 
-pub computed_agree : (c : Call) (s : Handles) (kept kept' : KeptValues) → Agree s kept kept' →
+pub computed_agree : (c : Call) (s : Handles) (kept kept' : EmittedValues) → Agree s kept kept' →
     (e : Option Expression) → IsTrue (usable_all c.function s (operands_of e)) →
     computed_value c kept' e ≡ computed_value c kept e
 computed_agree c s kept kept' a e u = ap (gathered_value c.environment.parts c.meaning e)
@@ -155,7 +156,7 @@ KeepsName names names' (Bound x) = names' x ≡ names x
 KeepsName names names' _ = Unit {0}
 
 -- what is known of a handle stays known
-pub stands_on : (c : Call) (s s' : Handles) (names names' : Scope) (kept kept' : KeptValues) →
+pub stands_on : (c : Call) (s s' : Handles) (names names' : Scope) (kept kept' : EmittedValues) →
     Extends s s' → Agree s kept kept' →
     (y : ValueType) (e : Option Expression) (o o' : Option Value) (st : Availability) →
     (IsTrue (is_present st) → o' ≡ o) → KeepsName names names' st → Stands c s names kept y e o st →
@@ -185,7 +186,7 @@ keeps_all names (Bound x) = refl
 keeps_all names _ = tt
 
 -- other values for handles out of scope
-pub related_agree : (c : Call) (n : Names) (s : Handles) (names : Scope) (kept kept' : KeptValues) →
+pub related_agree : (c : Call) (n : Names) (s : Handles) (names : Scope) (kept kept' : EmittedValues) →
     Agree s kept kept' → Related c n s names kept → Related c n s names kept'
 related_agree c n s names kept kept' a r =
     record {
@@ -207,7 +208,7 @@ present_forgotten _ now = refl
 pub extends_forgotten : (s now : Handles) → Extends s (forgotten_handles s now)
 extends_forgotten s now h p = present_forgotten (s h) (now h) ∙ p
 
-stands_forgotten : (c : Call) (s : Handles) (names : Scope) (kept : KeptValues) (y : ValueType)
+stands_forgotten : (c : Call) (s : Handles) (names : Scope) (kept : EmittedValues) (y : ValueType)
     (e : Option Expression) (o : Option Value) (st now : Availability) →
     Stands c s names kept y e o st → Stands c s names kept y e o (forgotten_one st now)
 stands_forgotten c s names kept y e o Everywhere now d = go (is_new now)
@@ -218,7 +219,7 @@ stands_forgotten c s names kept y e o Everywhere now d = go (is_new now)
 stands_forgotten c s names kept y e o _ now d = d
 
 -- a constant tree that was emitted meanwhile
-pub related_forgotten : (c : Call) (n : Names) (s now : Handles) (names : Scope) (kept : KeptValues) →
+pub related_forgotten : (c : Call) (n : Names) (s now : Handles) (names : Scope) (kept : EmittedValues) →
     Related c n s names kept → Related c n (forgotten_handles s now) names kept
 related_forgotten c n s now names kept r =
     record {

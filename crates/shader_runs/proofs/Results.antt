@@ -16,7 +16,8 @@ use Rattle.shader_runs.specs.Program.{Loop, Break, Return, Barrier, Act, Stateme
 use Rattle.shader_runs.specs.Program.{end, then, Cases, no_case, case, Function, argument_count}
 use Rattle.shader_runs.specs.Program.{function_numbered, expression_of, handle_type, is_counted}
 use Rattle.shader_runs.specs.Program.{from, Module, Jumps}
-use Rattle.shader_runs.specs.ProgramRun.{Call, KeptValues, constant_values, used_value, used_values}
+use Rattle.shader_runs.specs.ProgramRun.{Call, EmittedValues, constant_values, used_value}
+use Rattle.shader_runs.specs.ProgramRun.{used_values}
 use Rattle.shader_runs.specs.ProgramRun.{joined_values, if_typed, after_load, after_request}
 use Rattle.shader_runs.specs.ProgramRun.{if_counted, emit_as, emit, leave, action_answer}
 use Rattle.shader_runs.specs.ProgramRun.{with_result, barrier_words, ask_each, same_case_value}
@@ -144,7 +145,7 @@ module _ (k : Option ValueType) where
   typed_leads false t s = tt
 
   -- an Emit is done, or ends by an answer of a wrong type or a value that is no pointer
-  emit_as_leads : (c : Call) (h : ℕ) (e : Option Expression) (kept : KeptValues) (t : List Event) →
+  emit_as_leads : (c : Call) (h : ℕ) (e : Option Expression) (kept : EmittedValues) (t : List Event) →
       Leads k true false (emit_as c h e kept t)
   emit_as_leads c h (Some (Load p)) kept t = go (is_counted c.function h) (used_value c kept p)
     where
@@ -172,17 +173,17 @@ module _ (k : Option ValueType) where
   emit_as_leads c h (Some _) kept t = refl
   emit_as_leads c h None kept t = refl
 
-  emit_leads : (c : Call) (hs : List ℕ) (kept : KeptValues) (t : List Event) → Leads k true false (emit c hs kept t)
+  emit_leads : (c : Call) (hs : List ℕ) (kept : EmittedValues) (t : List Event) → Leads k true false (emit c hs kept t)
   emit_leads c [] kept t = refl
   emit_leads c (h ∷ hs) kept t =
       then_leads true true false false (emit_as c h (expression_of c.function h) kept t) (emit c hs)
       (emit_as_leads c h (expression_of c.function h) kept t) (emit_leads c hs)
 
-  asks_lead : (ws : List Bytes) (kept : KeptValues) (t : List Event) → Leads k true false (ask_each ws kept t)
+  asks_lead : (ws : List Bytes) (kept : EmittedValues) (t : List Event) → Leads k true false (ask_each ws kept t)
   asks_lead [] kept t = refl
   asks_lead (w ∷ ws) kept t = asks_lead ws kept (Ask w [] ∷ t)
 
-  leave_leads : (c : Call) (b : Bool) (e : Option ℕ) → (kept : KeptValues) (t : List Event) →
+  leave_leads : (c : Call) (b : Bool) (e : Option ℕ) → (kept : EmittedValues) (t : List Event) →
       Leads k true (b || is_some e) (leave c e kept t)
   leave_leads c b None kept t = refl
   leave_leads c b (Some h) kept t =
@@ -193,7 +194,7 @@ module _ (k : Option ValueType) where
 
 -- a call that wants a result gets one
 result_leads : (parts : PartTypes) (k : Option ValueType) (f : Function) (callee : Option ValueType)
-    (a : Action) (r : Option ℕ) (kept : KeptValues) (q : ReachedOrHalted (Option Value)) →
+    (a : Action) (r : Option ℕ) (kept : EmittedValues) (q : ReachedOrHalted (Option Value)) →
     ((h : ℕ) → r ≡ Some h → (z : ValueType) × (callee ≡ Some z)) → IsComplete callee q →
     Leads k true false (with_result parts f a r kept q)
 result_leads parts k f callee a None kept (Gives v t) w l = refl
@@ -220,7 +221,7 @@ module _ (p : Module) (c : Call) (f : Naming) (complete : (g : ℕ) (callee : Fu
     function_numbered c.callees g ≡ Some callee → (vs : List Value) (t : List Event) →
     IsComplete callee.result (c.calls g vs t)) (k : Option ValueType) (bound : ℕ) where
   act_leads : (a : Action) (xs : List ℕ) (r : Option ℕ) → ActionFits p c.callees f a xs r →
-      (kept : KeptValues) (t : List Event) (o : Option (List Value)) →
+      (kept : EmittedValues) (t : List Event) (o : Option (List Value)) →
       Leads k true false
       (or_stuck o t
       (λ vs. with_result c.environment.parts c.function a r kept (action_answer c a vs t)))
@@ -252,16 +253,16 @@ module _ (p : Module) (c : Call) (f : Naming) (complete : (g : ℕ) (callee : Fu
       or_right (any_break b) ((not falls && may_end_all b) || some_case_ends cs)
       (or_right (not falls && may_end_all b) (some_case_ends cs) h)
 
-  case_leads : (b : Statements) (falls : Bool) (cs : Cases) (on : Next KeptValues)
-      (kept : KeptValues) (t : List Event) →
+  case_leads : (b : Statements) (falls : Bool) (cs : Cases) (on : Next EmittedValues)
+      (kept : EmittedValues) (t : List Event) →
       Leads k (may_end_all b) (any_break b) (run_all c bound b kept t) →
-      (IsTrue falls → (kept : KeptValues) (t : List Event) →
+      (IsTrue falls → (kept : EmittedValues) (t : List Event) →
       Leads k (some_case_ends cs) (some_case_ends cs) (on kept t)) →
       Leads k (Ends b falls cs) (Ends b falls cs)
       (and_then (run_all c bound b kept t) (λ kept1 t1. cond falls (on kept1 t1) (Done kept1 t1)))
   case_leads b falls cs on kept t l next = go (run_all c bound b kept t) l
     where
-      on_from : (z : Bool) → falls ≡ z → IsTrue (may_end_all b) → (kept : KeptValues) (t : List Event) →
+      on_from : (z : Bool) → falls ≡ z → IsTrue (may_end_all b) → (kept : EmittedValues) (t : List Event) →
           Leads k (Ends b falls cs) (Ends b falls cs) (cond z (on kept t) (Done kept t))
       on_from true q e kept t =
           more k (some_case_ends cs) (Ends b falls cs) (some_case_ends cs) (Ends b falls cs) (on kept t)
@@ -271,7 +272,7 @@ module _ (p : Module) (c : Call) (f : Naming) (complete : (g : ℕ) (callee : Fu
           (or_left (not falls && may_end_all b) (some_case_ends cs)
           (and_both (not falls) (may_end_all b) (ap not q) e))
 
-      go : (o : Outcome KeptValues) → Leads k (may_end_all b) (any_break b) o →
+      go : (o : Outcome EmittedValues) → Leads k (may_end_all b) (any_break b) o →
           Leads k (Ends b falls cs) (Ends b falls cs)
           (and_then o (λ kept1 t1. cond falls (on kept1 t1) (Done kept1 t1)))
       go (Done kept t) l = on_from falls refl l kept t
@@ -281,7 +282,7 @@ module _ (p : Module) (c : Call) (f : Naming) (complete : (g : ℕ) (callee : Fu
       go (Stopped x t) l = l
 
   -- a case by its value, and the later ones
-  picked_leads : (z there ends later : Bool) (o o2 : Outcome KeptValues) →
+  picked_leads : (z there ends later : Bool) (o o2 : Outcome EmittedValues) →
       (IsTrue later → IsTrue ends) → Leads k ends ends o → Leads k (not there || later) later o2 →
       Leads k (not (z || there) || ends) ends (cond z o o2)
   picked_leads true there ends later o o2 up l l2 = l
@@ -290,7 +291,7 @@ module _ (p : Module) (c : Call) (f : Naming) (complete : (g : ℕ) (callee : Fu
       (λ h. or_either (not there) later (not there || ends) (λ n. or_left (not there) ends n)
       (λ n. or_right (not there) ends (up n)) h) up l2
 
-  if_leads : (ea eb ba bb : Bool) (v : Value) (t : List Event) (a b : Outcome KeptValues) → Leads k ea ba a →
+  if_leads : (ea eb ba bb : Bool) (v : Value) (t : List Event) (a b : Outcome EmittedValues) → Leads k ea ba a →
       Leads k eb bb b → Leads k (ea || eb) (ba || bb) (branch_by v t a b)
   if_leads ea eb ba bb v t a b l l2 =
       chosen_leads k (ea || eb) (ba || bb) v t a b
@@ -299,9 +300,9 @@ module _ (p : Module) (c : Call) (f : Naming) (complete : (g : ℕ) (callee : Fu
 
   -- an integer goes to its own case or to the default
   one_case_value : (cs : Cases) →
-      ((x : CaseValue) (kept : KeptValues) (t : List Event) →
+      ((x : CaseValue) (kept : EmittedValues) (t : List Event) →
       Leads k (not (has_case_value x cs) || some_case_ends cs) (some_case_ends cs)
-      (run_cases c bound cs x kept t)) → (z : ℤ) (kept : KeptValues) (t : List Event) →
+      (run_cases c bound cs x kept t)) → (z : ℤ) (kept : EmittedValues) (t : List Event) →
       Leads k (may_end (Switch 0 cs)) false
       (after_switch (run_cases c bound cs (case_value_if (has_case_value (Numbered z) cs) z) kept t))
   one_case_value cs each z kept t = go (has_case_value (Numbered z) cs) refl
@@ -323,7 +324,7 @@ module _ (p : Module) (c : Call) (f : Naming) (complete : (g : ℕ) (callee : Fu
 
   mutual
     line_leads : (st : Statement) → IsRegular p c.callees f st → Where k (has_values st) →
-        (kept : KeptValues) (t : List Event) → Leads k (may_end st) (holds_break st) (run c bound st kept t)
+        (kept : EmittedValues) (t : List Event) → Leads k (may_end st) (holds_break st) (run c bound st kept t)
     line_leads (Emit first count) m w kept t = emit_leads k c (from first count) kept t
     line_leads (Store q v) m w kept t =
         there_leads k true false (option_and_then place_in (used_value c kept q)) t _
@@ -359,7 +360,7 @@ module _ (p : Module) (c : Call) (f : Naming) (complete : (g : ℕ) (callee : Fu
     line_leads (Act a xs r) m w kept t = act_leads a xs r m.0 kept t (used_values c kept xs)
 
     body_leads : (ss : Statements) → AreRegular p c.callees f ss → Where k (all_have_values ss) →
-        (kept : KeptValues) (t : List Event) →
+        (kept : EmittedValues) (t : List Event) →
         Leads k (may_end_all ss) (any_break ss) (run_all c bound ss kept t)
     body_leads end m w kept t = refl
     body_leads (then st ss) m w kept t =
@@ -370,7 +371,7 @@ module _ (p : Module) (c : Call) (f : Naming) (complete : (g : ℕ) (callee : Fu
         t)
 
     cases_lead : (cs : Cases) → CasesAreRegular p c.callees f cs → Where k (cases_have_values cs) →
-        (x : CaseValue) (kept : KeptValues) (t : List Event) →
+        (x : CaseValue) (kept : EmittedValues) (t : List Event) →
         Leads k (not (has_case_value x cs) || some_case_ends cs) (some_case_ends cs)
         (run_cases c bound cs x kept t)
     cases_lead no_case m w x kept t = refl
@@ -384,7 +385,7 @@ module _ (p : Module) (c : Call) (f : Naming) (complete : (g : ℕ) (callee : Fu
         (cases_lead cs m.2 later x kept t)
 
     on_lead : (cs : Cases) → IsCase cs → CasesAreRegular p c.callees f cs →
-        Where k (cases_have_values cs) → (kept : KeptValues) (t : List Event) →
+        Where k (cases_have_values cs) → (kept : EmittedValues) (t : List Event) →
         Leads k (some_case_ends cs) (some_case_ends cs) (run_on c bound cs kept t)
     on_lead no_case i m w kept t = absurd i
     on_lead (case l b falls cs) i m w kept t =
@@ -394,7 +395,7 @@ module _ (p : Module) (c : Call) (f : Naming) (complete : (g : ℕ) (callee : Fu
         (λ q kept t. on_lead cs (falls_to_case falls cs m.0 q) m.2 later kept t)
 
 -- a body's end, where it is reached, gives nothing
-answer_complete : (k : Option ValueType) (e b : Bool) (o : Outcome KeptValues) →
+answer_complete : (k : Option ValueType) (e b : Bool) (o : Outcome EmittedValues) →
     (IsTrue e → IsReturned k None) → Leads k e b o → IsComplete k (answer o)
 answer_complete k e b (Done s t) f l = f l
 answer_complete k e b (Continued s t) f l = tt
@@ -428,7 +429,7 @@ module _ (p : Module) (env : Environment) (w : World) (m : Meaning) (bound : ℕ
       c : Call
       c = call_of env w m bound f fs vs t
 
-      kept : KeptValues
+      kept : EmittedValues
       kept = constants_kept f.function env m
 
       go : (o : Option (List (Option Value))) →

@@ -15,15 +15,18 @@ use Rattle.shader_runs.specs.Scope.{may_emit_all, may_give, fits, fits_all, fits
 use Rattle.shader_runs.specs.Scope.{first_values_fit, fits_function}
 use Rattle.shader_runs.specs.Premises.{AllBelow}
 use Rattle.shader_runs.specs.ScopeRules.{IntroducedHandle, Emitted, AsResult, handle_of, InScope}
-use Rattle.shader_runs.specs.ScopeRules.{EachInScope, no_handle, and_handle, Point, entry_point}
+use Rattle.shader_runs.specs.ScopeRules.{EachInScope, no_handle, and_handle, ScopeState}
+use Rattle.shader_runs.specs.ScopeRules.{start_state}
 use Rattle.shader_runs.specs.ScopeRules.{following_one, following, after_turn, WasIntroduced}
 use Rattle.shader_runs.specs.ScopeRules.{MayEmit}
 use Rattle.shader_runs.specs.ScopeRules.{MayEmitEach, StatementHolds, StatementsHold, CasesHold}
 use Rattle.shader_runs.specs.ScopeRules.{FirstValuesHold, InScopeIf, ScopeHolds}
 use Rattle.shader_runs.specs.ScopeFaults.{IsOutOfScopeAt, after_some, UsesAt, emitted_operand}
 use Rattle.shader_runs.specs.ScopeFaults.{stored_pointer, stored_value, condition, selector}
-use Rattle.shader_runs.specs.ScopeFaults.{break_if, returned, operand, GivesAt, emitted, as_result}
-use Rattle.shader_runs.specs.ScopeFaults.{BreaksScope, out_of_scope, given_before, not_emittable}
+use Rattle.shader_runs.specs.ScopeFaults.{break_if, returned, operand, IntroducesAt, emitted}
+use Rattle.shader_runs.specs.ScopeFaults.{as_result}
+use Rattle.shader_runs.specs.ScopeFaults.{BreaksScope, out_of_scope, introduced_before}
+use Rattle.shader_runs.specs.ScopeFaults.{not_emittable}
 use Rattle.shader_runs.specs.ScopeFaults.{IsCaseBody, this_case, later_case, StandsIn, stands_first}
 use Rattle.shader_runs.specs.ScopeFaults.{later, in_block, in_accept, in_reject, in_case, in_loop}
 use Rattle.shader_runs.specs.ScopeFaults.{in_continuing, HasScopeFault, in_first_value, in_body}
@@ -40,7 +43,7 @@ each_at f v (x ∷ xs) (and_handle d ds) zero h e = subst (InScope f v) (same_So
 each_at f v (x ∷ xs) (and_handle d ds) (suc k) h e = each_at f v xs ds k h e
 
 -- an Emit may give each of its handles after those in front of it
-emit_at : (f : Function) (first count i : ℕ) (at : Point) → i < count → MayEmitEach f at (from first count) →
+emit_at : (f : Function) (first count i : ℕ) (at : ScopeState) → i < count → MayEmitEach f at (from first count) →
     MayEmit f (after_some f first i at) (first + i)
 emit_at f first zero i at l holds = absurd (omega (arith, l))
 emit_at f first (suc count) zero at l holds =
@@ -51,7 +54,7 @@ emit_at f first (suc count) (suc i) at l holds =
     subst (λ h. MayEmit f (after_some f first (suc i) at) h) same
     (emit_at f (suc first) count i (following_one f first at) (omega (arith, l)) holds.1)
 
-uses_hold : (f : Function) (at : Point) (st : Statement) (there : Point) (h : ℕ) →
+uses_hold : (f : Function) (at : ScopeState) (st : Statement) (there : ScopeState) (h : ℕ) →
     UsesAt f at st there h → StatementHolds f at st → InScope f there.visible h
 uses_hold f at st there h (emitted_operand {first = first} {count = count} i k l b e) holds =
     let may = emit_at f first count i at l holds in
@@ -64,29 +67,29 @@ uses_hold f at st there h break_if holds = holds.2
 uses_hold f at st there h returned holds = holds
 uses_hold f at st there h (operand {xs = xs} k e) holds = each_at f at.visible xs holds.0 k h e
 
-gives_hold : (f : Function) (at : Point) (st : Statement) (there : Point) (g : IntroducedHandle) →
-    GivesAt f at st there g → StatementHolds f at st → ¬ WasIntroduced f there (handle_of g)
-gives_hold f at st there g (emitted {first = first} {count = count} i l) holds =
+introduces_hold : (f : Function) (at : ScopeState) (st : Statement) (there : ScopeState) (g : IntroducedHandle) →
+    IntroducesAt f at st there g → StatementHolds f at st → ¬ WasIntroduced f there (handle_of g)
+introduces_hold f at st there g (emitted {first = first} {count = count} i l) holds =
     (emit_at f first count i at l holds).new
-gives_hold f at st there g as_result holds = holds.1
+introduces_hold f at st there g as_result holds = holds.1
 
-emittable_holds : (f : Function) (at : Point) (st : Statement) (there : Point) (h : ℕ) →
-    GivesAt f at st there (Emitted h) → StatementHolds f at st → IsTrue (is_emittable (expression_of f h))
+emittable_holds : (f : Function) (at : ScopeState) (st : Statement) (there : ScopeState) (h : ℕ) →
+    IntroducesAt f at st there (Emitted h) → StatementHolds f at st → IsTrue (is_emittable (expression_of f h))
 emittable_holds f at st there h (emitted {first = first} {count = count} i l) holds =
     (emit_at f first count i at l holds).kind
 
-fault_breaks : (f : Function) (at : Point) (st : Statement) → BreaksScope f at st → ¬ StatementHolds f at st
+fault_breaks : (f : Function) (at : ScopeState) (st : Statement) → BreaksScope f at st → ¬ StatementHolds f at st
 fault_breaks f at st (out_of_scope there h u out) holds = out (uses_hold f at st there h u holds)
-fault_breaks f at st (given_before there g u w) holds = gives_hold f at st there g u holds w
+fault_breaks f at st (introduced_before there g u w) holds = introduces_hold f at st there g u holds w
 fault_breaks f at st (not_emittable there h u e) holds =
     false_is_not_true (is_emittable (expression_of f h)) e (emittable_holds f at st there h u holds)
 
-case_holds : (f : Function) (at : Point) (b : Statements) (cs : Cases) → IsCaseBody b cs → CasesHold f at cs →
+case_holds : (f : Function) (at : ScopeState) (b : Statements) (cs : Cases) → IsCaseBody b cs → CasesHold f at cs →
     StatementsHold f at b
 case_holds f at b cs this_case holds = holds.0
 case_holds f at b cs (later_case {cs = rest} c) holds = case_holds f at b rest c holds.1
 
-stands_hold : (f : Function) (at : Point) (ss : Statements) (there : Point) (st : Statement) →
+stands_hold : (f : Function) (at : ScopeState) (ss : Statements) (there : ScopeState) (st : Statement) →
     StandsIn f at ss there st → StatementsHold f at ss → StatementHolds f there st
 stands_hold f at ss there st stands_first holds = holds.0
 stands_hold f at ss there st (later {st0 = st0} {ss = rest} s) holds =
@@ -101,22 +104,22 @@ stands_hold f at ss there st (in_continuing {b = b} {d = d} s) holds =
     stands_hold f (after_turn f b at) d there st s holds.0.1
 
 first_value_at : (f : Function) (os : List (Option ℕ)) (i k h : ℕ) → FirstValuesHold f i os →
-    slice_get os k ≡ Some (Some h) → InScope (before_local f (i + k)) entry_point.visible h
+    slice_get os k ≡ Some (Some h) → InScope (before_local f (i + k)) start_state.visible h
 first_value_at f [] i k h holds e = absurd cc
 first_value_at f (o ∷ os) i zero h holds e =
     let same : i ≡ i + 0 = omega arith in
-    let here = subst (λ o. InScopeIf (before_local f i) entry_point.visible o) (same_Some o (Some h) e) holds.0 in
-    subst (λ j. InScope (before_local f j) entry_point.visible h) same here
+    let here = subst (λ o. InScopeIf (before_local f i) start_state.visible o) (same_Some o (Some h) e) holds.0 in
+    subst (λ j. InScope (before_local f j) start_state.visible h) same here
 first_value_at f (o ∷ os) i (suc k) h holds e =
     let same : suc i + k ≡ i + suc k = omega arith in
-    subst (λ j. InScope (before_local f j) entry_point.visible h) same (first_value_at f os (suc i) k h holds.1 e)
+    subst (λ j. InScope (before_local f j) start_state.visible h) same (first_value_at f os (suc i) k h holds.1 e)
 
 pub fault_is_no_rule : (f : Function) → HasScopeFault f → ScopeHolds f → ⊥
 fault_is_no_rule f (in_first_value i h e out) holds =
     let here = first_value_at f f.first_values 0 i h holds.first_values e in
-    out (subst (λ j. InScope (before_local f j) entry_point.visible h) (omega arith) here)
+    out (subst (λ j. InScope (before_local f j) start_state.visible h) (omega arith) here)
 fault_is_no_rule f (in_body there st s b) holds =
-    fault_breaks f there st b (stands_hold f entry_point f.body there st s holds.body)
+    fault_breaks f there st b (stands_hold f start_state f.body there st s holds.body)
 
 -- ---- the first test that fails
 first_false : (a b : Bool) → IsFalse (a && b) → IsFalse a ⊎ (IsTrue a × IsFalse b)
@@ -129,7 +132,7 @@ or_false true b e = (refl, e)
 or_false false b e = absurd (true≢false e)
 
 -- ---- where the check fails, there is a fault
-module _ (f : Function) (at : Point) (s : Handles) (t : Tracks f at s) where
+module _ (f : Function) (at : ScopeState) (s : Handles) (t : Tracks f at s) where
   unusable : (h : ℕ) → IsFalse (usable f s h) → IsOutOfScopeAt f at h
   unusable h e d = false_is_not_true (usable f s h) e ((t.used h).1 d)
 
@@ -148,39 +151,39 @@ module _ (f : Function) (at : Point) (s : Handles) (t : Tracks f at s) where
       further p = (suc p.0, p.1, p.2, p.3)
 
 -- an Emit uses the operands of the handle with this number, and gives it
-uses_emitted : (f : Function) (at : Point) (first count i j k h : ℕ) → first + i ≡ j → i < count →
+uses_emitted : (f : Function) (at : ScopeState) (first count i j k h : ℕ) → first + i ≡ j → i < count →
     IsTrue (binds f j) → slice_get (operands_of (expression_of f j)) k ≡ Some h →
     UsesAt f at (Emit first count) (after_some f first i at) h
 uses_emitted f at first count i j k h q l b e =
     emitted_operand i k l (subst (λ j. IsTrue (binds f j)) (sym q) b)
     (subst (λ j. slice_get (operands_of (expression_of f j)) k ≡ Some h) (sym q) e)
 
-gives_emitted : (f : Function) (at : Point) (first count i j : ℕ) → first + i ≡ j → i < count →
-    GivesAt f at (Emit first count) (after_some f first i at) (Emitted j)
+gives_emitted : (f : Function) (at : ScopeState) (first count i j : ℕ) → first + i ≡ j → i < count →
+    IntroducesAt f at (Emit first count) (after_some f first i at) (Emitted j)
 gives_emitted f at first count i j q l =
-    subst (λ j. GivesAt f at (Emit first count) (after_some f first i at) (Emitted j)) q (emitted i l)
+    subst (λ j. IntroducesAt f at (Emit first count) (after_some f first i at) (Emitted j)) q (emitted i l)
 
 -- what the rest of an Emit uses and gives
-module _ (f : Function) (at : Point) (first count : ℕ) where
-  uses_further : (there : Point) (h : ℕ) → UsesAt f (following_one f first at) (Emit (suc first) count) there h →
+module _ (f : Function) (at : ScopeState) (first count : ℕ) where
+  uses_further : (there : ScopeState) (h : ℕ) → UsesAt f (following_one f first at) (Emit (suc first) count) there h →
       UsesAt f at (Emit first (suc count)) there h
   uses_further there h (emitted_operand i k l b e) =
       uses_emitted f at first (suc count) (suc i) (suc first + i) k h (omega arith) (omega (arith, l)) b e
 
-  gives_further : (there : Point) (g : IntroducedHandle) →
-      GivesAt f (following_one f first at) (Emit (suc first) count) there g →
-      GivesAt f at (Emit first (suc count)) there g
-  gives_further there g (emitted i l) =
+  introduces_further : (there : ScopeState) (g : IntroducedHandle) →
+      IntroducesAt f (following_one f first at) (Emit (suc first) count) there g →
+      IntroducesAt f at (Emit first (suc count)) there g
+  introduces_further there g (emitted i l) =
       gives_emitted f at first (suc count) (suc i) (suc first + i) (omega arith) (omega (arith, l))
 
   breaks_further : BreaksScope f (following_one f first at) (Emit (suc first) count) →
       BreaksScope f at (Emit first (suc count))
   breaks_further (out_of_scope there h u out) = out_of_scope there h (uses_further there h u) out
-  breaks_further (given_before there g u w) = given_before there g (gives_further there g u) w
-  breaks_further (not_emittable there h u e) = not_emittable there h (gives_further there (Emitted h) u) e
+  breaks_further (introduced_before there g u w) = introduced_before there g (introduces_further there g u) w
+  breaks_further (not_emittable there h u e) = not_emittable there h (introduces_further there (Emitted h) u) e
 
-  gives_first : GivesAt f at (Emit first (suc count)) at (Emitted first)
-  gives_first = gives_emitted f at first (suc count) 0 first (omega arith) (omega arith)
+  introduces_first : IntroducesAt f at (Emit first (suc count)) at (Emitted first)
+  introduces_first = gives_emitted f at first (suc count) 0 first (omega arith) (omega arith)
 
   -- its first handle may not be emitted
   first_breaks : (s : Handles) → Tracks f at s → IsFalse (may_emit f first s) →
@@ -189,8 +192,9 @@ module _ (f : Function) (at : Point) (first count : ℕ) where
       let x = expression_of f first in
       let operands = usable_all f s (operands_of x) in
       let asked = not (binds f first) || operands in
-      ⊎_elim (λ e. given_before at (Emitted first) gives_first (old f at s t first e))
-      (λ p. ⊎_elim (λ e. not_emittable at first gives_first e) (λ p. unbound (or_false (binds f first) operands p.1))
+      ⊎_elim (λ e. introduced_before at (Emitted first) introduces_first (old f at s t first e))
+      (λ p. ⊎_elim (λ e. not_emittable at first introduces_first e)
+          (λ p. unbound (or_false (binds f first) operands p.1))
       (first_false (is_emittable x) asked p.1))
       (first_false (is_new (s first)) (is_emittable x && asked) e)
     where
@@ -201,7 +205,7 @@ module _ (f : Function) (at : Point) (first count : ℕ) where
           let used = uses_emitted f at first (suc count) 0 first x.0 x.1 (omega arith) (omega arith) p.0 x.2 in
           out_of_scope at x.1 used x.3
 
-find_emit : (f : Naming) (k first count : ℕ) (at : Point) (s : Handles) → Tracks f.function at s →
+find_emit : (f : Naming) (k first count : ℕ) (at : ScopeState) (s : Handles) → Tracks f.function at s →
     IsFalse (may_emit_all f k (from first count) s) → BreaksScope f.function at (Emit first count)
 find_emit f k first zero at s t e = absurd (true≢false e)
 find_emit f k first (suc count) at s t e =
@@ -215,25 +219,26 @@ find_emit f k first (suc count) at s t e =
     (first_false (may_emit f.function first s) (may_emit_all f k1 (from (suc first) count) s1) e)
 
 -- a statement of the list breaks a rule where it stands
-abbrev Found : Function → Point → Statements → Type 0
-Found f at ss = (there : Point) × (st : Statement) × StandsIn f at ss there st × BreaksScope f there st
+abbrev Found : Function → ScopeState → Statements → Type 0
+Found f at ss = (there : ScopeState) × (st : Statement) × StandsIn f at ss there st × BreaksScope f there st
 
 -- the first one does
-itself : (f : Function) (at : Point) (st : Statement) (ss : Statements) → BreaksScope f at st → Found f at (then st ss)
+itself : (f : Function) (at : ScopeState) (st : Statement) (ss : Statements) → BreaksScope f at st →
+    Found f at (then st ss)
 itself f at st ss b = (at, st, stands_first, b)
 
-uses_itself : (f : Function) (at : Point) (st : Statement) (ss : Statements) (s : Handles) → Tracks f at s →
+uses_itself : (f : Function) (at : ScopeState) (st : Statement) (ss : Statements) (s : Handles) → Tracks f at s →
     (h : ℕ) → UsesAt f at st at h → IsFalse (usable f s h) → Found f at (then st ss)
 uses_itself f at st ss s t h u e = itself f at st ss (out_of_scope at h u (unusable f at s t h e))
 
 -- of a list in one of these cases
-abbrev FoundInCase : Function → Point → Cases → Type 0
+abbrev FoundInCase : Function → ScopeState → Cases → Type 0
 FoundInCase f at cs =
-    (b : Statements) × (there : Point) × (st : Statement) × IsCaseBody b cs × StandsIn f at b there st
+    (b : Statements) × (there : ScopeState) × (st : Statement) × IsCaseBody b cs × StandsIn f at b there st
     × BreaksScope f there st
 
 -- a `break if`
-find_break : (f : Function) (at : Point) (b d : Statements) (s : Handles) →
+find_break : (f : Function) (at : ScopeState) (b d : Statements) (s : Handles) →
     Tracks f (after_turn f d (after_turn f b at)) s → (o : Option ℕ) → IsFalse (usable_if f s o) →
     BreaksScope f at (Loop b d o)
 find_break f at b d s t None e = absurd (true≢false e)
@@ -242,7 +247,7 @@ find_break f at b d s t (Some h) e =
     out_of_scope there h break_if (unusable f there s t h e)
 
 mutual
-  find_in : (f : Naming) (k : ℕ) (st : Statement) (at : Point) (s : Handles) → Tracks f.function at s →
+  find_in : (f : Naming) (k : ℕ) (st : Statement) (at : ScopeState) (s : Handles) → Tracks f.function at s →
       IsFalse (fits f k st s) → (ss : Statements) → Found f.function at (then st ss)
   find_in f k (Emit first count) at s t e ss =
       itself f.function at (Emit first count) ss (find_emit f k first count at s t e)
@@ -291,10 +296,10 @@ mutual
     where
       find_result : (r : Option ℕ) → IsFalse (may_give r s) → BreaksScope f.function at (Act a xs r)
       find_result None e = absurd (true≢false e)
-      find_result (Some h) e = given_before at (AsResult h) as_result (old f.function at s t h e)
+      find_result (Some h) e = introduced_before at (AsResult h) as_result (old f.function at s t h e)
   find_in f k _ at s t e ss = absurd (true≢false e)
 
-  find_all : (f : Naming) (k : ℕ) (ss : Statements) (at : Point) (s : Handles) → Tracks f.function at s →
+  find_all : (f : Naming) (k : ℕ) (ss : Statements) (at : ScopeState) (s : Handles) → Tracks f.function at s →
       IsFalse (fits_all f k ss s) → Found f.function at ss
   find_all f k end at s t e = absurd (true≢false e)
   find_all f k (then st ss) at s t e =
@@ -306,7 +311,7 @@ mutual
       (x.0, x.1, later x.2, x.3))
       (first_false (fits f k st s) (fits_all f k1 ss s1) e)
 
-  find_case : (f : Naming) (k : ℕ) (cs : Cases) (at : Point) (s : Handles) → Tracks f.function at s →
+  find_case : (f : Naming) (k : ℕ) (cs : Cases) (at : ScopeState) (s : Handles) → Tracks f.function at s →
       IsFalse (fits_cases f k cs s) → FoundInCase f.function at cs
   find_case f k no_case at s t e = absurd (true≢false e)
   find_case f k (case l b falls cs) at s t e =
@@ -320,7 +325,7 @@ mutual
 abbrev FoundFirst : Function → ℕ → List (Option ℕ) → Type 0
 FoundFirst f i os =
     (k : ℕ) × (h : ℕ) × (slice_get os k ≡ Some (Some h))
-    × IsOutOfScopeAt (before_local f (i + k)) entry_point h
+    × IsOutOfScopeAt (before_local f (i + k)) start_state h
 
 find_first_value : (f : Function) → ((h : ℕ) → AllBelow h (operands_of (expression_of f h))) →
     (i : ℕ) (os : List (Option ℕ)) → IsFalse (first_values_fit f i os) → FoundFirst f i os
@@ -333,13 +338,13 @@ find_first_value f ordered i (o ∷ os) e =
     here None e = absurd (true≢false e)
     here (Some h) e =
         let own = before_local f i in
-        let out = unusable own entry_point (at_start f) (tracks_start own ordered) h e in
-        (0, h, refl, subst (λ j. IsOutOfScopeAt (before_local f j) entry_point h) (omega arith) out)
+        let out = unusable own start_state (at_start f) (tracks_start own ordered) h e in
+        (0, h, refl, subst (λ j. IsOutOfScopeAt (before_local f j) start_state h) (omega arith) out)
 
     further : FoundFirst f (suc i) os → FoundFirst f i (o ∷ os)
     further x =
         let same : suc i + x.0 ≡ i + suc x.0 = omega arith in
-        (suc x.0, x.1, x.2, subst (λ j. IsOutOfScopeAt (before_local f j) entry_point x.1) same x.3)
+        (suc x.0, x.1, x.2, subst (λ j. IsOutOfScopeAt (before_local f j) start_state x.1) same x.3)
 
 -- names for a check of which only the answer counts
 abbrev unnamed : Function → Naming
@@ -365,7 +370,7 @@ pub holds_or_fault : (f : Function) → ((h : ℕ) → AllBelow h (operands_of (
     ScopeHolds f ⊎ HasScopeFault f
 holds_or_fault f ordered = go (fits_function (unnamed f)) refl
   where
-    start : Tracks f entry_point (at_start f)
+    start : Tracks f start_state (at_start f)
     start = tracks_start f ordered
 
     go : (b : Bool) → fits_function (unnamed f) ≡ b → ScopeHolds f ⊎ HasScopeFault f
@@ -373,9 +378,9 @@ holds_or_fault f ordered = go (fits_function (unnamed f)) refl
     go false e =
         ⊎_elim
         (λ e. let x = find_first_value f ordered 0 f.first_values e in
-        inr (in_first_value x.0 x.1 x.2 (subst (λ j. IsOutOfScopeAt (before_local f j) entry_point x.1)
+        inr (in_first_value x.0 x.1 x.2 (subst (λ j. IsOutOfScopeAt (before_local f j) start_state x.1)
         (omega arith) x.3)))
-        (λ p. let x = find_all (unnamed f) 0 f.body entry_point (at_start f) start p.1 in
+        (λ p. let x = find_all (unnamed f) 0 f.body start_state (at_start f) start p.1 in
         inr (in_body x.0 x.1 x.2 x.3))
         (first_false (first_values_fit f 0 f.first_values) (fits_all (unnamed f) 0 f.body (at_start f)) e)
 

@@ -35,8 +35,8 @@ use Rattle.shader_runs.specs.ScopeRules.{constant_tree, argument, local, global,
 use Rattle.shader_runs.specs.ScopeRules.{result, still, EachInScope, no_handle, and_handle}
 use Rattle.shader_runs.specs.ScopeRules.{InScopeIf, is_unwritten, with_one, with_emitted}
 use Rattle.shader_runs.specs.ScopeRules.{with_statement, with_statements}
-use Rattle.shader_runs.specs.ScopeRules.{statements_before_continue, Point}
-use Rattle.shader_runs.specs.ScopeRules.{entry_point, following_one, following, after_turn}
+use Rattle.shader_runs.specs.ScopeRules.{statements_before_continue, ScopeState}
+use Rattle.shader_runs.specs.ScopeRules.{start_state, following_one, following, after_turn}
 use Rattle.shader_runs.specs.ScopeRules.{WasIntroduced}
 use Rattle.shader_runs.specs.ScopeRules.{in_sight, as_a_tree, MayEmit, MayEmitEach, MayResult}
 use Rattle.shader_runs.specs.ScopeRules.{StatementHolds, StatementsHold, CasesHold, FirstValuesHold}
@@ -215,7 +215,7 @@ each_tree_in_scope f v [] no_tree = no_handle
 each_tree_in_scope f v (x ∷ xs) (and_tree t ts) = and_handle (constant_tree t) (each_tree_in_scope f v xs ts)
 
 -- the availabilities of handles say what the rules do at a point
-pub record Tracks (f : Function) (at : Point) (s : Handles) : Type 0 where
+pub record Tracks (f : Function) (at : ScopeState) (s : Handles) : Type 0 where
   pub used : (h : ℕ) → (IsTrue (usable f s h) ↔ InScope f at.visible h)
   pub introduced : (h : ℕ) → ((is_new (s h) ≡ false) ↔ WasIntroduced f at h)
   pub trees : (h : ℕ) → s h ≡ Everywhere → IsCompound f h
@@ -225,28 +225,28 @@ each_parts : (f : Function) (v : List IntroducedHandle) (x : ℕ) (xs : List ℕ
     EachInScope f v (x ∷ xs) → InScope f v x × EachInScope f v xs
 each_parts f v x xs (and_handle d ds) = (d, ds)
 
-each_used : (f : Function) (at : Point) (s : Handles) → Tracks f at s →
+each_used : (f : Function) (at : ScopeState) (s : Handles) → Tracks f at s →
     (xs : List ℕ) → (IsTrue (usable_all f s xs) ↔ EachInScope f at.visible xs)
 each_used f at s t [] = (λ u. no_handle, λ d. refl)
 each_used f at s t (x ∷ xs) =
     let parts = both (usable f s x) (usable_all f s xs) (t.used x) (λ u. each_used f at s t xs) in
     (λ u. and_handle (parts.0 u).0 (parts.0 u).1, λ d. parts.1 (each_parts f at.visible x xs d))
 
-if_used : (f : Function) (at : Point) (s : Handles) → Tracks f at s →
+if_used : (f : Function) (at : ScopeState) (s : Handles) → Tracks f at s →
     (o : Option ℕ) → (IsTrue (usable_if f s o) ↔ InScopeIf f at.visible o)
 if_used f at s t None = (λ u. tt, λ d. refl)
 if_used f at s t (Some h) = t.used h
 
 -- one more handle is given
-abbrev with_introduced : IntroducedHandle → Point → Point
+abbrev with_introduced : IntroducedHandle → ScopeState → ScopeState
 with_introduced g at = record { visible = g ∷ at.visible; passed = g ∷ at.passed }
 
-introduced_more : (f : Function) (g : IntroducedHandle) (at : Point) (h : ℕ) → WasIntroduced f at h →
+introduced_more : (f : Function) (g : IntroducedHandle) (at : ScopeState) (h : ℕ) → WasIntroduced f at h →
     WasIntroduced f (with_introduced g at) h
 introduced_more f g at h (in_sight a) = in_sight (inr a)
 introduced_more f g at h (as_a_tree p t a) = as_a_tree p t (inr a)
 
-introduced_less : (f : Function) (g : IntroducedHandle) (at : Point) (h : ℕ) →
+introduced_less : (f : Function) (g : IntroducedHandle) (at : ScopeState) (h : ℕ) →
     (handle_of g ≡ h → ⊥) → WasIntroduced f (with_introduced g at) h → WasIntroduced f at h
 introduced_less f g at h n (in_sight a) = in_sight (⊎_elim (λ e. absurd (n e)) (λ a. a) a)
 introduced_less f g at h n (as_a_tree p t a) = as_a_tree p t (⊎_elim (λ e. absurd (n e)) (λ a. a) a)
@@ -259,7 +259,7 @@ abbrev UsedAs : Function → List IntroducedHandle → ℕ → Availability → 
 UsedAs f v h st = IsTrue (usable_as f (expression_of f h) st) ↔ InScope f v h
 
 -- one handle more is given, and has this availability
-module _ (f : Function) (g : IntroducedHandle) (st : Availability) (at : Point) (s : Handles)
+module _ (f : Function) (g : IntroducedHandle) (st : Availability) (at : ScopeState) (s : Handles)
     (t : Tracks f at s) (here : UsedAs f (g ∷ at.visible) (handle_of g) st) (new : is_new st ≡ false) where
   abbrev IntroducedAs : ℕ → Availability → Type 0
   IntroducedAs k z = (is_new z ≡ false) ↔ WasIntroduced f (with_introduced g at) k
@@ -294,7 +294,7 @@ module _ (f : Function) (g : IntroducedHandle) (st : Availability) (at : Point) 
       }
 
 -- an emitted operator that no name binds
-module _ (f : Function) (at : Point) (s : Handles) (h : ℕ) (t : Tracks f at s)
+module _ (f : Function) (at : ScopeState) (s : Handles) (h : ℕ) (t : Tracks f at s)
     (p : IsTrue (is_pure (expression_of f h))) (b : binds f h ≡ false) where
   each_operand : IsTrue (usable_all f s (operands_at f h)) ↔ EachInScope f at.visible (operands_at f h)
   each_operand = each_used f at s t (operands_at f h)
@@ -344,13 +344,13 @@ module _ (f : Function) (at : Point) (s : Handles) (h : ℕ) (t : Tracks f at s)
       go (Bound x) q = refl
 
 -- an emitted handle
-module _ (f : Function) (h : ℕ) (at : Point) (s : Handles) (t : Tracks f at s)
+module _ (f : Function) (h : ℕ) (at : ScopeState) (s : Handles) (t : Tracks f at s)
     (m : IsTrue (is_emittable (expression_of f h))) (x : Bytes) where
   abbrev Usable : Bool
   Usable = usable_all f s (operands_at f h)
 
   -- after an Emit that gives nothing, or the handle
-  abbrev WithOne : Bool → Point
+  abbrev WithOne : Bool → ScopeState
   WithOne c =
       record { visible = cond c at.visible (Emitted h ∷ at.visible); passed = cond c at.passed (Emitted h ∷ at.passed) }
 
@@ -375,7 +375,7 @@ module _ (f : Function) (h : ℕ) (at : Point) (s : Handles) (t : Tracks f at s)
       (tracks_kind (binds f h) (is_pure (expression_of f h)) refl refl)
 
 -- a result
-result_used : (f : Function) (h : ℕ) (at : Point) (s : Handles) → Tracks f at s →
+result_used : (f : Function) (h : ℕ) (at : ScopeState) (s : Handles) → Tracks f at s →
     (x : Bytes) (b : Bool) → can_be_introduced (expression_of f h) ≡ b →
     UsedAs f (AsResult h ∷ at.visible) h (Bound x)
 result_used f h at s t x true m = (λ i. result m, λ d. usable_introduced f (expression_of f h) (Bound x) m)
@@ -387,21 +387,21 @@ result_used f h at s t x false m =
       λ d. same ∙ ⊎_elim (λ d. (t.used h).1 d) (λ g. false_is_not_true (can_be_introduced e) m g.1) (before d),
     )
 
-tracks_result : (f : Function) (h : ℕ) (at : Point) (s : Handles) → Tracks f at s →
+tracks_result : (f : Function) (h : ℕ) (at : ScopeState) (s : Handles) → Tracks f at s →
     (x : Bytes) → Tracks f (with_introduced (AsResult h) at) (update s h (Bound x))
 tracks_result f h at s t x =
     let here = result_used f h at s t x (can_be_introduced (expression_of f h)) refl in
     tracks_introduced f (AsResult h) (Bound x) at s t here refl
 
 -- what may be given
-new_rule : (f : Function) (at : Point) (s : Handles) (h : ℕ) → Tracks f at s →
+new_rule : (f : Function) (at : ScopeState) (s : Handles) (h : ℕ) → Tracks f at s →
     (IsTrue (is_new (s h)) ↔ (¬ WasIntroduced f at h))
 new_rule f at s h t = (
   λ i g. false_is_not_true (is_new (s h)) ((t.introduced h).1 g) i,
   λ n. true_from_ne_false (is_new (s h)) (λ e. n ((t.introduced h).0 e)),
 )
 
-pub may_emit_rule : (f : Function) (at : Point) (s : Handles) (h : ℕ) → Tracks f at s →
+pub may_emit_rule : (f : Function) (at : ScopeState) (s : Handles) (h : ℕ) → Tracks f at s →
     (IsTrue (may_emit f h s) ↔ MayEmit f at h)
 may_emit_rule f at s h t =
     let e = expression_of f h in
@@ -413,7 +413,7 @@ may_emit_rule f at s h t =
       λ d. all.1 (d.new, d.kind, d.operands),
     )
 
-emits_rule : (f : Naming) (k : ℕ) (at : Point) (s : Handles) (hs : List ℕ) → Tracks f.function at s →
+emits_rule : (f : Naming) (k : ℕ) (at : ScopeState) (s : Handles) (hs : List ℕ) → Tracks f.function at s →
     (IsTrue (may_emit_all f k hs s) ↔ MayEmitEach f.function at hs)
 emits_rule f k at s [] t = (λ i. tt, λ d. refl)
 emits_rule f k at s (h ∷ hs) t =
@@ -424,16 +424,16 @@ emits_rule f k at s (h ∷ hs) t =
     (λ i. let t1 = tracks_emitted f.function h at s t (here.0 i).kind (bound_name f k h) in
     emits_rule f k1 (following_one f.function h at) s1 hs t1)
 
-result_rule : (f : Function) (at : Point) (s : Handles) (r : Option ℕ) → Tracks f at s →
+result_rule : (f : Function) (at : ScopeState) (s : Handles) (r : Option ℕ) → Tracks f at s →
     (IsTrue (may_give r s) ↔ MayResult f at r)
 result_rule f at s None t = (λ i. tt, λ d. refl)
 result_rule f at s (Some h) t = new_rule f at s h t
 
 -- after an Emit
-abbrev following_each : Function → List ℕ → Point → Point
+abbrev following_each : Function → List ℕ → ScopeState → ScopeState
 following_each f hs at = record { visible = with_emitted f hs at.visible; passed = with_emitted f hs at.passed }
 
-tracks_emit : (f : Naming) (k : ℕ) (hs : List ℕ) (at : Point) (s : Handles) → Tracks f.function at s →
+tracks_emit : (f : Naming) (k : ℕ) (hs : List ℕ) (at : ScopeState) (s : Handles) → Tracks f.function at s →
     IsTrue (may_emit_all f k hs s) →
     Tracks f.function (following_each f.function hs at) (after_emit f k hs s)
 tracks_emit f k [] at s t i = t
@@ -447,7 +447,7 @@ tracks_emit f k (h ∷ hs) at s t i =
     tracks_emit f k1 hs (following_one f.function h at) s1 t1 (and_right first rest i)
 
 -- after a statement
-pub tracks_after : (f : Naming) (k : ℕ) (st : Statement) (at : Point) (s : Handles) → Tracks f.function at s →
+pub tracks_after : (f : Naming) (k : ℕ) (st : Statement) (at : ScopeState) (s : Handles) → Tracks f.function at s →
     IsTrue (fits f k st s) → Tracks f.function (following f.function st at) (after f k st s)
 tracks_after f k (Emit first count) at s t i = tracks_emit f k (from first count) at s t i
 tracks_after f k (Act a xs (Some h)) at s t i = tracks_result f.function h at s t (f.names.numbered h)
@@ -491,9 +491,9 @@ new_forgotten now = go (is_new now)
 
 -- what is given from here to a later point of the list is forgotten, but that constant trees were
 -- given
-module _ (f : Function) (at later : Point) (s now : Handles) (t : Tracks f at s) (t1 : Tracks f later now)
+module _ (f : Function) (at later : ScopeState) (s now : Handles) (t : Tracks f at s) (t1 : Tracks f later now)
     (more : (h : ℕ) → IsAmong h at.passed → IsAmong h later.passed) where
-  abbrev Skipped : Point
+  abbrev Skipped : ScopeState
   Skipped = record { visible = at.visible; passed = later.passed }
 
   introduced_longer : (h : ℕ) → WasIntroduced f at h → WasIntroduced f Skipped h
@@ -556,14 +556,14 @@ module _ (f : Function) (at later : Point) (s now : Handles) (t : Tracks f at s)
       }
 
 -- a list whose first statement may hold a `continue`
-abbrev after_first : Function → Bool → Statement → Statements → Point → Point
+abbrev after_first : Function → Bool → Statement → Statements → ScopeState → ScopeState
 after_first f b st ss at =
     record {
       visible = with_statements f (cond b end (then st (statements_before_continue ss))) at.visible;
       passed = with_statements f (then st ss) at.passed;
     }
 
-turn_first : (f : Function) (st : Statement) (ss : Statements) (at : Point) (s now : Handles) → Tracks f at s →
+turn_first : (f : Function) (st : Statement) (ss : Statements) (at : ScopeState) (s now : Handles) → Tracks f at s →
     Tracks f (after_turn f ss (following f st at)) now → (b : Bool) →
     Tracks f (after_first f b st ss at) (forgotten_if b s now)
 turn_first f st ss at s now t t1 true =
@@ -572,7 +572,7 @@ turn_first f st ss at s now t t1 true =
 turn_first f st ss at s now t t1 false = t1
 
 -- where a loop's body, or its `continuing`, leads
-pub tracks_turn : (f : Naming) (k : ℕ) (ss : Statements) (at : Point) (s : Handles) → Tracks f.function at s →
+pub tracks_turn : (f : Naming) (k : ℕ) (ss : Statements) (at : ScopeState) (s : Handles) → Tracks f.function at s →
     IsTrue (fits_all f k ss s) → Tracks f.function (after_turn f.function ss at) (after_all f k ss s)
 tracks_turn f k end at s t i = t
 tracks_turn f k (then st ss) at s t i =
@@ -586,7 +586,7 @@ tracks_turn f k (then st ss) at s t i =
 
 -- the statements of a function
 mutual
-  statement_rule : (f : Naming) (k : ℕ) (st : Statement) (at : Point) (s : Handles) → Tracks f.function at s →
+  statement_rule : (f : Naming) (k : ℕ) (st : Statement) (at : ScopeState) (s : Handles) → Tracks f.function at s →
       (IsTrue (fits f k st s) ↔ StatementHolds f.function at st)
   statement_rule f k (Emit first count) at s t = emits_rule f k at s (from first count) t
   statement_rule f k (Store p v) at s t =
@@ -614,7 +614,7 @@ mutual
       (λ i. result_rule f.function at s r t)
   statement_rule f k _ at s t = (λ i. tt, λ d. refl)
 
-  statements_rule : (f : Naming) (k : ℕ) (ss : Statements) (at : Point) (s : Handles) → Tracks f.function at s →
+  statements_rule : (f : Naming) (k : ℕ) (ss : Statements) (at : ScopeState) (s : Handles) → Tracks f.function at s →
       (IsTrue (fits_all f k ss s) ↔ StatementsHold f.function at ss)
   statements_rule f k end at s t = (λ i. tt, λ d. refl)
   statements_rule f k (then st ss) at s t =
@@ -623,7 +623,7 @@ mutual
       both (fits f k st s) (fits_all f k1 ss s1) (statement_rule f k st at s t)
       (λ i. statements_rule f k1 ss (following f.function st at) s1 (tracks_after f k st at s t i))
 
-  cases_rule : (f : Naming) (k : ℕ) (cs : Cases) (at : Point) (s : Handles) → Tracks f.function at s →
+  cases_rule : (f : Naming) (k : ℕ) (cs : Cases) (at : ScopeState) (s : Handles) → Tracks f.function at s →
       (IsTrue (fits_cases f k cs s) ↔ CasesHold f.function at cs)
   cases_rule f k no_case at s t = (λ i. tt, λ d. refl)
   cases_rule f k (case l b falls cs) at s t =
@@ -685,11 +685,11 @@ module _ (f : Function) (ordered : (h : ℕ) → AllBelow h (operands_at f h)) w
   in_scope_at_start h (local i q l) = ap (λ e. usable_as f e (at_start f h)) q ∙ lt-ltb i (local_count f) l
   in_scope_at_start h (global held i q) = ap (λ e. usable_as f e (at_start f h)) q
 
-  nothing_introduced : (h : ℕ) → ¬ WasIntroduced f entry_point h
+  nothing_introduced : (h : ℕ) → ¬ WasIntroduced f start_state h
   nothing_introduced h (in_sight a) = a
   nothing_introduced h (as_a_tree p t a) = a
 
-  pub tracks_start : Tracks f entry_point (at_start f)
+  pub tracks_start : Tracks f start_state (at_start f)
   tracks_start =
       record {
         used = λ h. (used_at_start h (expression_of f h) refl, in_scope_at_start h);
@@ -707,7 +707,7 @@ first_values_rule f ordered i [] = (λ t. tt, λ d. refl)
 first_values_rule f ordered i (o ∷ os) =
     let here = before_local f i in
     both (usable_if here (at_start f) o) (first_values_fit f (suc i) os)
-    (if_used here entry_point (at_start f) (tracks_start here ordered) o)
+    (if_used here start_state (at_start f) (tracks_start here ordered) o)
     (λ t. first_values_rule f ordered (suc i) os)
 
 pub scope_check_is_the_rules : ScopeCheckIsTheRules
@@ -716,5 +716,5 @@ scope_check_is_the_rules f ordered =
     let t = tracks_start f.function ordered in
     let os = f.function.first_values in
     let all = both (first_values_fit f.function 0 os) (fits_all f 0 f.function.body start)
-    (first_values_rule f.function ordered 0 os) (λ i. statements_rule f 0 f.function.body entry_point start t) in
+    (first_values_rule f.function ordered 0 os) (λ i. statements_rule f 0 f.function.body start_state start t) in
     (λ i. record { first_values = (all.0 i).0; body = (all.0 i).1 }, λ d. all.1 (d.first_values, d.body))

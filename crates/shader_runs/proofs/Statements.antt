@@ -17,7 +17,7 @@ use Rattle.shader_runs.specs.Program.{Cases, no_case, case, from, holds_continue
 use Rattle.shader_runs.specs.Program.{some_case_continues, expression_of, handle_type, BarrierBits}
 use Rattle.shader_runs.specs.Program.{Function, function_numbered, Module, Jump, Jumps, is_continue}
 use Rattle.shader_runs.specs.Program.{jump_told}
-use Rattle.shader_runs.specs.ProgramRun.{Call, KeptValues, combined_value, used_value}
+use Rattle.shader_runs.specs.ProgramRun.{Call, EmittedValues, combined_value, used_value}
 use Rattle.shader_runs.specs.ProgramRun.{used_value_as}
 use Rattle.shader_runs.specs.ProgramRun.{used_values, action_answer, with_result, leave}
 use Rattle.shader_runs.specs.ProgramRun.{return_outcome, barrier_words, ask_each, same_case_value}
@@ -56,28 +56,29 @@ use Rattle.shader_runs.proofs.Scope.{among_append, first_followed_by, has_all_ca
 use Rattle.shader_runs.proofs.Scope.{extends_all, told_continues}
 
 -- both runs of a list from the scope s end alike, in the scope s2; held: it holds a `continue`
-abbrev pub Same : Call → Names → Handles → KeptValues → Handles → Bool → Outcome KeptValues → Outcome Scope → Type 0
+abbrev pub Same : Call → Names → Handles → EmittedValues → Handles → Bool → Outcome EmittedValues →
+    Outcome Scope → Type 0
 Same c n s kept s2 held =
     Alike (Returns c.environment.parts c.function) (λ k l. Related c n s2 l k × Agree s kept k)
     (λ k l. Related c n s2 l k × Agree s kept k × IsTrue held) (λ k l. Agree s kept k)
 
 -- the same for one statement, which gives no name
-abbrev pub SameLine : Call → Names → Handles → KeptValues → Bool → Outcome KeptValues → Outcome Scope → Type 0
+abbrev pub SameLine : Call → Names → Handles → EmittedValues → Bool → Outcome EmittedValues → Outcome Scope → Type 0
 SameLine c n s kept held =
     Alike (Returns c.environment.parts c.function) (λ k l. Related c n s l k × Agree s kept k)
     (λ k l. Agree s kept k × IsTrue held) (λ k l. Agree s kept k)
 
 -- the same for the body of a case, whose names are forgotten
-abbrev pub SameBody : Call → Handles → KeptValues → Bool → Outcome KeptValues → Outcome Scope → Type 0
+abbrev pub SameBody : Call → Handles → EmittedValues → Bool → Outcome EmittedValues → Outcome Scope → Type 0
 SameBody c s kept held = Alike (Returns c.environment.parts c.function) (λ k l. Agree s kept k)
     (λ k l. Agree s kept k × IsTrue held) (λ k l. Agree s kept k)
 
 -- a statement and what follows it
-row : (c : Call) (n : Names) (s : Handles) (names : Scope) (kept : KeptValues) →
+row : (c : Call) (n : Names) (s : Handles) (names : Scope) (kept : EmittedValues) →
     Related c n s names kept →
-    (held held2 : Bool) (s2 : Handles) (o : Outcome KeptValues) (o' : Outcome Scope)
-    (f : Next KeptValues) (g : Next Scope) → SameLine c n s kept held o o' →
-    ((kept1 : KeptValues) (names1 : Scope) (t : List Event) → Related c n s names1 kept1 →
+    (held held2 : Bool) (s2 : Handles) (o : Outcome EmittedValues) (o' : Outcome Scope)
+    (f : Next EmittedValues) (g : Next Scope) → SameLine c n s kept held o o' →
+    ((kept1 : EmittedValues) (names1 : Scope) (t : List Event) → Related c n s names1 kept1 →
     Agree s kept kept1 → Same c n s kept s2 held2 (f kept1 t) (g names1 t)) →
     Same c n s kept (forgotten_if held s s2) (held || held2) (and_then o f)
     (closed_if held names (and_then o' g))
@@ -108,7 +109,7 @@ or_right false b e = e
 
 module _ (p : Module) (c : Call) (n : Names) (d : Respond) (facts : Facts p c n d) (bound : ℕ) where
   -- lines whose names are forgotten
-  pub same_body : (s s1 : Handles) (kept : KeptValues) (held : Bool) (o : Outcome KeptValues) (ls : Lines)
+  pub same_body : (s s1 : Handles) (kept : EmittedValues) (held : Bool) (o : Outcome EmittedValues) (ls : Lines)
       (names : Scope) (t : List Event) →
       Same c n s kept s1 held o (follow_in_loop (words c d) bound ls names t) →
       SameBody c s kept held o (follow_all (words c d) bound ls names t)
@@ -117,14 +118,14 @@ module _ (p : Module) (c : Call) (n : Names) (d : Respond) (facts : Facts p c n 
       (weaker (λ k l p. p.1) (λ k l q. (q.1, q.2)) (λ k l b. b) same)
 
   -- a block leaves the scope as it was
-  block_line : (s : Handles) (names : Scope) (kept : KeptValues) (held : Bool)
-      (o : Outcome KeptValues) (o' : Outcome Scope) → Related c n s names kept →
+  block_line : (s : Handles) (names : Scope) (kept : EmittedValues) (held : Bool)
+      (o : Outcome EmittedValues) (o' : Outcome Scope) → Related c n s names kept →
       SameBody c s kept held o o' → SameLine c n s kept held o (closed_outcome names o')
   block_line s names kept held o o' r same =
       closed_alike names (λ k l p. (related_agree c n s names kept k p r, p)) (λ k l q. q) (λ k l b. b) same
 
-  leave_alike : (s s2 : Handles) (kept0 : KeptValues) (e : Option ℕ) →
-      IsTrue (usable_if c.function s2 e) → (kept : KeptValues) (names : Scope) (t : List Event) →
+  leave_alike : (s s2 : Handles) (kept0 : EmittedValues) (e : Option ℕ) →
+      IsTrue (usable_if c.function s2 e) → (kept : EmittedValues) (names : Scope) (t : List Event) →
       Related c n s2 names kept → Agree s kept0 kept →
       Alike (Returns c.environment.parts c.function) (λ k l. Agree s kept0 k)
       (λ k l. Agree s kept0 k) (λ k l. Agree s kept0 k) (leave c e kept t)
@@ -134,7 +135,7 @@ module _ (p : Module) (c : Call) (n : Names) (d : Respond) (facts : Facts p c n 
       used_alike _ _ (used_value c kept h) t (value_of (words c d) (value_at (naming c n) s2 h) names t)
       (value_here p c n d facts s2 names kept r h u t) (λ v. chosen_alike v t (broke a) (done a))
 
-  return_alike : (s : Handles) (names : Scope) (kept : KeptValues) (t : List Event) (e : Option ℕ) →
+  return_alike : (s : Handles) (names : Scope) (kept : EmittedValues) (t : List Event) (e : Option ℕ) →
       IsTrue (usable_if c.function s e) → ReturnFits c.function e → Related c n s names kept →
       SameLine c n s kept false (return_outcome c e kept t)
       (return_line (words c d) (value_if (naming c n) s e) names t)
@@ -150,8 +151,8 @@ module _ (p : Module) (c : Call) (n : Names) (d : Respond) (facts : Facts p c n 
       (with_value q (λ v t1. Returned (Some v) t1))) (sym there) (returned_alike typed))
 
   -- a choice, where each branch is alike
-  if_line : (s : Handles) (names : Scope) (kept : KeptValues) (t : List Event) (h : ℕ)
-      (ha hb : Bool) (a b : Outcome KeptValues) (a' b' : List Event → Outcome Scope) →
+  if_line : (s : Handles) (names : Scope) (kept : EmittedValues) (t : List Event) (h : ℕ)
+      (ha hb : Bool) (a b : Outcome EmittedValues) (a' b' : List Event → Outcome Scope) →
       Related c n s names kept → IsTrue (usable c.function s h) → SameBody c s kept ha a (a' t) →
       SameBody c s kept hb b (b' t) →
       SameLine c n s kept (ha || hb) (or_stuck (used_value c kept h) t (λ v. branch_by v t a b))
@@ -168,14 +169,14 @@ module _ (p : Module) (c : Call) (n : Names) (d : Respond) (facts : Facts p c n 
       (weaker (λ k l p. p) (λ k l q. (q.0, or_right ha hb q.1)) (λ k l b. b) same_b)))
 
   -- a loop, of which each turn starts in the loop's own scope
-  module _ (s s1 s2 : Handles) (hb hd : Bool) (body continuing : Next KeptValues)
+  module _ (s s1 s2 : Handles) (hb hd : Bool) (body continuing : Next EmittedValues)
       (body' continuing' : Next Scope) (e : Option ℕ) (x : Extends s s1)
       (u : IsTrue (usable_if c.function s2 e))
-      (same_b : (kept : KeptValues) (names : Scope) (t : List Event) → Related c n s names kept →
+      (same_b : (kept : EmittedValues) (names : Scope) (t : List Event) → Related c n s names kept →
       Same c n s kept s1 hb (body kept t) (body' names t))
-      (same_d : (kept : KeptValues) (names : Scope) (t : List Event) → Related c n s1 names kept →
+      (same_d : (kept : EmittedValues) (names : Scope) (t : List Event) → Related c n s1 names kept →
       Same c n s1 kept s2 hd (continuing kept t) (continuing' names t)) where
-    tail_alike : (k1 k2 : KeptValues) (l2 : Scope) (t2 : List Event) → Related c n s1 l2 k2 →
+    tail_alike : (k1 k2 : EmittedValues) (l2 : Scope) (t2 : List Event) → Related c n s1 l2 k2 →
         Agree s k1 k2 → Alike (Returns c.environment.parts c.function) (λ k l. Agree s k1 k)
         (λ k l. Agree s k1 k) (λ k l. Agree s k1 k)
         (and_then (within (continuing k2 t2)) (leave c e))
@@ -186,7 +187,7 @@ module _ (p : Module) (c : Call) (n : Names) (d : Respond) (facts : Facts p c n 
         (λ k l t p. leave_alike s s2 k1 e u k l t p.0 (agree_trans s s1 k1 k2 k x a p.1))
         (within_alike (same_d k2 l2 t2 r2))
 
-    turn_alike : (k1 : KeptValues) (l1 : Scope) (t1 : List Event) → Related c n s l1 k1 →
+    turn_alike : (k1 : EmittedValues) (l1 : Scope) (t1 : List Event) → Related c n s l1 k1 →
         Alike (Returns c.environment.parts c.function) (λ k l. Agree s k1 k) (λ k l. Agree s k1 k)
         (λ k l. Agree s k1 k) (turn body continuing (leave c e) k1 t1)
         (turn body' continuing' (break_line (words c d) (value_if (naming c n) s2 e)) l1 t1)
@@ -194,7 +195,7 @@ module _ (p : Module) (c : Call) (n : Names) (d : Respond) (facts : Facts p c n 
         continue_alike {P = λ k l. Related c n s1 l k × Agree s k1 k} (λ k l t p. tail_alike k1 k l t p.0 p.1)
         (weaker (λ k l p. p) (λ k l q. (q.0, q.1)) (λ k l b. b) (same_b k1 l1 t1 r1))
 
-    pub turns_keep : (kept : KeptValues) →
+    pub turns_keep : (kept : EmittedValues) →
         Steps (Returns c.environment.parts c.function) (λ k l. Related c n s l k × Agree s kept k)
         (λ k l. Related c n s l k × Agree s kept k) (λ k l. Related c n s l k × Agree s kept k)
         (λ k l. Related c n s l k × Agree s kept k) (turn body continuing (leave c e))
@@ -203,10 +204,10 @@ module _ (p : Module) (c : Call) (n : Names) (d : Respond) (facts : Facts p c n 
     turns_keep kept k1 l1 t1 i =
         closed_alike l1 (λ k l a. kept_on k a) (λ k l a. kept_on k a) (λ k l a. kept_on k a) (turn_alike k1 l1 t1 i.0)
       where
-        kept_on : (k : KeptValues) → Agree s k1 k → Related c n s l1 k × Agree s kept k
+        kept_on : (k : EmittedValues) → Agree s k1 k → Related c n s l1 k × Agree s kept k
         kept_on k a = (related_agree c n s l1 k1 k a i.0, agree_trans s s kept k1 k (extends_refl s) i.1 a)
 
-    loop_line : (names : Scope) (kept : KeptValues) (t : List Event) → Related c n s names kept →
+    loop_line : (names : Scope) (kept : EmittedValues) (t : List Event) → Related c n s names kept →
         SameLine c n s kept false (turns bound (turn body continuing (leave c e)) kept t)
         (turns bound
         (λ names1 t1. closed_outcome names1
@@ -254,9 +255,9 @@ module _ (p : Module) (c : Call) (n : Names) (d : Respond) (facts : Facts p c n 
   -- what is to be shown of a statement and what follows it
   abbrev Row : ℕ → Statement → Handles → Type 0
   Row k st s =
-      (names : Scope) (kept : KeptValues) (t : List Event) (held2 : Bool) (s2 : Handles)
-      (f : Next KeptValues) (tail : Lines) → Related c n s names kept → Fits p c n k st s →
-      ((kept1 : KeptValues) (names1 : Scope) (t1 : List Event) →
+      (names : Scope) (kept : EmittedValues) (t : List Event) (held2 : Bool) (s2 : Handles)
+      (f : Next EmittedValues) (tail : Lines) → Related c n s names kept → Fits p c n k st s →
+      ((kept1 : EmittedValues) (names1 : Scope) (t1 : List Event) →
       Related c n (after (naming c n) k st s) names1 kept1 → Agree s kept kept1 →
       Same c n s kept s2 held2 (f kept1 t1) (Follow tail names1 t1)) →
       Same c n s kept (forgotten_if (holds_continue st) s s2) (holds_continue st || held2)
@@ -280,7 +281,7 @@ module _ (p : Module) (c : Call) (n : Names) (d : Respond) (facts : Facts p c n 
   -- what is to be shown of a list
   abbrev List_row : ℕ → Statements → Handles → Type 0
   List_row k ss s =
-      (names : Scope) (kept : KeptValues) (t : List Event) → Related c n s names kept →
+      (names : Scope) (kept : EmittedValues) (t : List Event) → Related c n s names kept →
       FitsAll p c n k ss s → Same c n s kept (after_all (naming c n) k ss s) (any_continue ss)
       (run_all c bound ss kept t) (Follow (form_all (naming c n) k ss s) names t)
 
@@ -329,7 +330,7 @@ module _ (p : Module) (c : Call) (n : Names) (d : Respond) (facts : Facts p c n 
       (extends_all c n k b s) m.2 (λ kept names t r. same_b names kept t r m.0)
       (λ kept names t r. same_d names kept t r m.1) names kept t r) next
 
-  jump_alike : (k : ℕ) (j : Jump ℕ) (s : Handles) (names : Scope) (kept : KeptValues) (t : List Event) →
+  jump_alike : (k : ℕ) (j : Jump ℕ) (s : Handles) (names : Scope) (kept : EmittedValues) (t : List Event) →
       Related c n s names kept → Fits p c n k (Jumps j) s →
       SameLine c n s kept (is_continue j) (jump_outcome (return_outcome c) j kept t)
       (jump_outcome (return_line (words c d)) (jump_told (value_if (naming c n) s) j) names t)
@@ -348,8 +349,8 @@ module _ (p : Module) (c : Call) (n : Names) (d : Respond) (facts : Facts p c n 
       (row c n s names kept r (is_continue j) held2 s2 _ o' f (Follow tail) (jump_alike k j s names kept t r m) next)
 
   -- a barrier, a line for each set bit
-  asks_alike : (s s2 : Handles) (names : Scope) (kept : KeptValues) → Related c n s names kept →
-      (held2 : Bool) (f : Next KeptValues) (tail : Lines) (ws : List Bytes) →
+  asks_alike : (s s2 : Handles) (names : Scope) (kept : EmittedValues) → Related c n s names kept →
+      (held2 : Bool) (f : Next EmittedValues) (tail : Lines) (ws : List Bytes) →
       EachAsks p (naming c n) ws →
       ((t1 : List Event) → Same c n s kept s2 held2 (f kept t1) (Follow tail names t1)) →
       (t : List Event) → Same c n s kept s2 held2 (and_then (ask_each ws kept t) f)
@@ -406,7 +407,7 @@ module _ (p : Module) (c : Call) (n : Names) (d : Respond) (facts : Facts p c n 
       go None e w = absurd w
       go (Some callee) e w = facts.responds.calling g callee e
 
-  responded_written : (s : Handles) (names : Scope) (kept : KeptValues) → Related c n s names kept →
+  responded_written : (s : Handles) (names : Scope) (kept : EmittedValues) → Related c n s names kept →
       (a : Action) (xs : List ℕ) (result : Option ℕ) →
       ActionFits p c.callees (naming c n) a xs result → IsTrue (usable_all c.function s xs) →
       (vs : List Value) → used_values c kept xs ≡ Some vs →
@@ -424,14 +425,14 @@ module _ (p : Module) (c : Call) (n : Names) (d : Respond) (facts : Facts p c n 
       (sym (free p c n d facts s names kept r (word_of n a) (not_hidden a xs result m)))
       (action_responds a xs result m vs h t))
 
-  performed_same : (s : Handles) (names : Scope) (kept : KeptValues) (a : Action)
+  performed_same : (s : Handles) (names : Scope) (kept : EmittedValues) (a : Action)
       (q : ReachedOrHalted (Option Value)) → Related c n s names kept →
       SameLine c n s kept false (with_result c.environment.parts c.function a None kept q)
       (perform_outcome false names q)
   performed_same s names kept a (Gives v t) r = done (r, agree_refl s kept)
   performed_same s names kept a (Halts x t) r = stopped
 
-  performed_alike : (s : Handles) (names : Scope) (kept : KeptValues) (a : Action)
+  performed_alike : (s : Handles) (names : Scope) (kept : EmittedValues) (a : Action)
       (q q' : ReachedOrHalted (Option Value)) → Answers (ActionReturns c a) q q' →
       Related c n s names kept →
       SameLine c n s kept false (with_result c.environment.parts c.function a None kept q)
@@ -459,15 +460,15 @@ module _ (p : Module) (c : Call) (n : Names) (d : Respond) (facts : Facts p c n 
   bound_to names x g q =
       and_then (with_value (read_value c.world (as_value q)) (λ v t1. Done (bind names x (Some (IsValue v))) t1)) g
 
-  abbrev ResultNext : Handles → KeptValues → Handles → Bool → ℕ → Next KeptValues → Next Scope → Type 0
+  abbrev ResultNext : Handles → EmittedValues → Handles → Bool → ℕ → Next EmittedValues → Next Scope → Type 0
   ResultNext s kept s2 held2 h f g =
-      (kept1 : KeptValues) (names1 : Scope) (t1 : List Event) →
+      (kept1 : EmittedValues) (names1 : Scope) (t1 : List Event) →
       Related c n (update s h (Bound (n.numbered h))) names1 kept1 → Agree s kept kept1 →
       Same c n s kept s2 held2 (f kept1 t1) (g names1 t1)
 
   -- a result that is kept
-  result_kept : (s s2 : Handles) (names : Scope) (kept : KeptValues) (held2 : Bool) (h : ℕ)
-      (f : Next KeptValues) (g : Next Scope) → Related c n s names kept → MayResult c n h s →
+  result_kept : (s s2 : Handles) (names : Scope) (kept : EmittedValues) (held2 : Bool) (h : ℕ)
+      (f : Next EmittedValues) (g : Next Scope) → Related c n s names kept → MayResult c n h s →
       ResultNext s kept s2 held2 h f g → (v : Value) (t : List Event) →
       IsTrue (has_type c.environment.parts (handle_type c.function h) v) →
       Same c n s kept s2 held2 (f (update kept h (Some v)) t)
@@ -482,8 +483,8 @@ module _ (p : Module) (c : Call) (n : Names) (d : Respond) (facts : Facts p c n 
       not_there = new_event c s names kept (handle_type c.function h) (expression_of c.function h) (kept h)
           (result_combined c (expression_of c.function h) m.kind) (s h) m.new (r.availability h)
 
-  result_same : (s s2 : Handles) (names : Scope) (kept : KeptValues) (held2 : Bool) (a : Action)
-      (xs : List ℕ) (h : ℕ) (f : Next KeptValues) (g : Next Scope) → Related c n s names kept →
+  result_same : (s s2 : Handles) (names : Scope) (kept : EmittedValues) (held2 : Bool) (a : Action)
+      (xs : List ℕ) (h : ℕ) (f : Next EmittedValues) (g : Next Scope) → Related c n s names kept →
       ActionFits p c.callees (naming c n) a xs (Some h) → MayResult c n h s →
       ResultNext s kept s2 held2 h f g → (q : ReachedOrHalted (Option Value)) →
       HoldsOf (ActionReturns c a) q →
@@ -499,8 +500,8 @@ module _ (p : Module) (c : Call) (n : Names) (d : Respond) (facts : Facts p c n 
       (called_typed c.environment.parts c.function (function_numbered c.callees callee) xs h v w.2 q)
   result_same s s2 names kept held2 a xs h f g r w m next (Halts x t) q = stopped
 
-  result_alike : (s s2 : Handles) (names : Scope) (kept : KeptValues) (held2 : Bool) (a : Action)
-      (xs : List ℕ) (h : ℕ) (f : Next KeptValues) (g : Next Scope) → Related c n s names kept →
+  result_alike : (s s2 : Handles) (names : Scope) (kept : EmittedValues) (held2 : Bool) (a : Action)
+      (xs : List ℕ) (h : ℕ) (f : Next EmittedValues) (g : Next Scope) → Related c n s names kept →
       ActionFits p c.callees (naming c n) a xs (Some h) → MayResult c n h s →
       ResultNext s kept s2 held2 h f g → (q q' : ReachedOrHalted (Option Value)) →
       Answers (ActionReturns c a) q q' →
@@ -528,13 +529,13 @@ module _ (p : Module) (c : Call) (n : Names) (d : Respond) (facts : Facts p c n 
   pub record Cases_row (k : ℕ) (cs : Cases) (s : Handles) : Type 0 where
     pub entered : (labels : List CaseValue) → IsFollowed labels cs →
         (x : CaseValue) → IsTrue (among x labels) →
-        (names : Scope) (kept : KeptValues) (t : List Event) → Related c n s names kept →
+        (names : Scope) (kept : EmittedValues) (t : List Event) → Related c n s names kept →
         FitsCases p c n k cs s →
         SameBody c s kept (some_case_continues cs) (run_on c bound cs kept t)
         (follow_groups (words c d) bound (form_cases (naming c n) k labels cs s) x names t)
     pub searching : (labels : List CaseValue) → IsFollowed labels cs →
         (x : CaseValue) → among x labels ≡ false →
-        (names : Scope) (kept : KeptValues) (t : List Event) → Related c n s names kept →
+        (names : Scope) (kept : EmittedValues) (t : List Event) → Related c n s names kept →
         FitsCases p c n k cs s →
         SameBody c s kept (some_case_continues cs) (run_cases c bound cs x kept t)
         (follow_groups (words c d) bound (form_cases (naming c n) k labels cs s) x names t)
@@ -544,14 +545,14 @@ module _ (p : Module) (c : Call) (n : Names) (d : Respond) (facts : Facts p c n 
     where
       in_none : (labels : List CaseValue) → IsFollowed labels no_case →
           (x : CaseValue) → IsTrue (among x labels) →
-          (names : Scope) (kept : KeptValues) (t : List Event) → Related c n s names kept →
+          (names : Scope) (kept : EmittedValues) (t : List Event) → Related c n s names kept →
           FitsCases p c n k no_case s → SameBody c s kept false (run_on c bound no_case kept t)
           (follow_groups (words c d) bound (form_cases (naming c n) k labels no_case s) x names t)
       in_none labels w x e names kept t r m = done (agree_refl s kept)
 
       by_none : (labels : List CaseValue) → IsFollowed labels no_case →
           (x : CaseValue) → among x labels ≡ false →
-          (names : Scope) (kept : KeptValues) (t : List Event) → Related c n s names kept →
+          (names : Scope) (kept : EmittedValues) (t : List Event) → Related c n s names kept →
           FitsCases p c n k no_case s → SameBody c s kept false (run_cases c bound no_case x kept t)
           (follow_groups (words c d) bound (form_cases (naming c n) k labels no_case s) x names t)
       by_none labels w x e names kept t r m = done (agree_refl s kept)
@@ -562,7 +563,7 @@ module _ (p : Module) (c : Call) (n : Names) (d : Respond) (facts : Facts p c n 
     Groups_at labels falls x = follow_groups (words c d) bound (form_cases (naming c n) k labels
         (case l b falls cs) s) x
 
-    abbrev On_from : Bool → Next KeptValues
+    abbrev On_from : Bool → Next EmittedValues
     On_from falls kept t =
         and_then (run_all c bound b kept t) (λ kept1 t1. cond falls (run_on c bound cs kept1 t1) (Done kept1 t1))
 
@@ -570,14 +571,14 @@ module _ (p : Module) (c : Call) (n : Names) (d : Respond) (facts : Facts p c n 
     held_more falls h = or_left (any_continue b) (some_case_continues cs) h
 
     -- a case that stays
-    body_alone : (names : Scope) (kept : KeptValues) (t : List Event) → Related c n s names kept →
+    body_alone : (names : Scope) (kept : EmittedValues) (t : List Event) → Related c n s names kept →
         FitsAll p c n k b s → SameBody c s kept (any_continue b || some_case_continues cs)
         (On_from false kept t) (Inside (form_all (naming c n) k b s) names t)
     body_alone names kept t r m =
         stays (same_body p c n d facts bound s _ kept (any_continue b) _ (form_all (naming c n) k b s) names t
         (same names kept t r m))
       where
-        stays : {o : Outcome KeptValues} {o' : Outcome Scope} →
+        stays : {o : Outcome EmittedValues} {o' : Outcome Scope} →
             SameBody c s kept (any_continue b) o o' →
             SameBody c s kept (any_continue b || some_case_continues cs)
             (and_then o (λ kept1 t1. Done kept1 t1)) o'
@@ -588,7 +589,7 @@ module _ (p : Module) (c : Call) (n : Names) (d : Respond) (facts : Facts p c n 
         stays stopped = stopped
         stays mistyped = mistyped
 
-    more_held : {o : Outcome KeptValues} {o' : Outcome Scope} (kept : KeptValues) →
+    more_held : {o : Outcome EmittedValues} {o' : Outcome Scope} (kept : EmittedValues) →
         SameBody c s kept (some_case_continues cs) o o' →
         SameBody c s kept (any_continue b || some_case_continues cs) o o'
     more_held kept a =
@@ -600,7 +601,7 @@ module _ (p : Module) (c : Call) (n : Names) (d : Respond) (facts : Facts p c n 
 
     -- the case with this value, or one that waiting values came to
     pub here_stays : (labels : List CaseValue) (x : CaseValue) → IsTrue (among x (labels ++ l ∷ [])) →
-        (names : Scope) (kept : KeptValues) (t : List Event) → Related c n s names kept →
+        (names : Scope) (kept : EmittedValues) (t : List Event) → Related c n s names kept →
         FitsCases p c n k (case l b false cs) s →
         SameBody c s kept (any_continue b || some_case_continues cs) (On_from false kept t)
         (Groups_at labels false x names t)
@@ -613,7 +614,7 @@ module _ (p : Module) (c : Call) (n : Names) (d : Respond) (facts : Facts p c n 
 
     -- another case
     pub past_stays : (labels : List CaseValue) (x : CaseValue) → among x (labels ++ l ∷ []) ≡ false →
-        (names : Scope) (kept : KeptValues) (t : List Event) → Related c n s names kept →
+        (names : Scope) (kept : EmittedValues) (t : List Event) → Related c n s names kept →
         FitsCases p c n k (case l b false cs) s →
         SameBody c s kept (any_continue b || some_case_continues cs) (run_cases c bound cs x kept t)
         (Groups_at labels false x names t)
@@ -629,8 +630,8 @@ module _ (p : Module) (c : Call) (n : Names) (d : Respond) (facts : Facts p c n 
   or_second a b e = ap (λ z. z || b) e
 
   -- by the case's own value
-  by_case_value : (a : Bool) {o1 o2 : Outcome KeptValues} {o' : Outcome Scope} (s : Handles)
-      (kept : KeptValues) (held : Bool) → (a ≡ true → SameBody c s kept held o1 o') →
+  by_case_value : (a : Bool) {o1 o2 : Outcome EmittedValues} {o' : Outcome Scope} (s : Handles)
+      (kept : EmittedValues) (held : Bool) → (a ≡ true → SameBody c s kept held o1 o') →
       (a ≡ false → SameBody c s kept held o2 o') → SameBody c s kept held (cond a o1 o2) o'
   by_case_value true s kept held f g = f refl
   by_case_value false s kept held f g = g refl
@@ -668,7 +669,7 @@ module _ (p : Module) (c : Call) (n : Names) (d : Respond) (facts : Facts p c n 
       }
 
   switch_line : (k h : ℕ) (cs : Cases) (s : Handles) → Cases_row k cs s →
-      (names : Scope) (kept : KeptValues) (t : List Event) → Related c n s names kept →
+      (names : Scope) (kept : EmittedValues) (t : List Event) → Related c n s names kept →
       IsTrue (usable c.function s h) → FitsCases p c n k cs s →
       SameLine c n s kept (some_case_continues cs)
       (or_stuck (used_value c kept h) t

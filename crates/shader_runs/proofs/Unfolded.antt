@@ -21,7 +21,7 @@ use Rattle.shader_runs.specs.Program.{Block, If, Switch, Loop, Statements, end, 
 use Rattle.shader_runs.specs.Program.{no_case, case, Function, argument_count, function_numbered}
 use Rattle.shader_runs.specs.Program.{Module, constant_count, expression_of, handle_type}
 use Rattle.shader_runs.specs.Program.{operands_of}
-use Rattle.shader_runs.specs.ProgramRun.{Call, KeptValues, has_case_value, case_value_if, leave}
+use Rattle.shader_runs.specs.ProgramRun.{Call, EmittedValues, has_case_value, case_value_if, leave}
 use Rattle.shader_runs.specs.ProgramRun.{run, run_all}
 use Rattle.shader_runs.specs.ProgramRun.{run_body, run_call, run_cases, run_if_arguments_fit}
 use Rattle.shader_runs.specs.ProgramRun.{run_on}
@@ -84,11 +84,11 @@ case_values_stay x (case l b falls cs) = ap (λ c. same_case_value x l || c) (ca
 module _ (c : Call) (n : ℕ) where
   -- a case, and what it falls to
   followed_on : (falls : Bool) (b : Statements) (cs : Cases) →
-      ((kept : KeptValues) (t : List Event) →
+      ((kept : EmittedValues) (t : List Event) →
       run_all c n (unfolded_all b) kept t ≡ run_all c n b kept t) →
-      ((kept : KeptValues) (t : List Event) →
+      ((kept : EmittedValues) (t : List Event) →
       run_all c n (unfolded_on cs) kept t ≡ run_on c n cs kept t) →
-      (kept : KeptValues) (t : List Event) →
+      (kept : EmittedValues) (t : List Event) →
       run_all c n (followed falls (unfolded_all b) (unfolded_on cs)) kept t
       ≡ and_then (run_all c n b kept t)
       (λ kept1 t1. cond falls (run_on c n cs kept1 t1) (Done kept1 t1))
@@ -98,7 +98,7 @@ module _ (c : Call) (n : ℕ) where
       (λ kept1 t1. (ended (run_all c n (unfolded_on cs) kept1 t1) ∙ next kept1 t1) i)
 
   mutual
-    one_unfolded : (s : Statement) (kept : KeptValues) (t : List Event) →
+    one_unfolded : (s : Statement) (kept : EmittedValues) (t : List Event) →
         run c n (unfolded s) kept t ≡ run c n s kept t
     one_unfolded (Block b) kept t = all_unfolded b kept t
     one_unfolded (If h a b) kept t =
@@ -115,13 +115,13 @@ module _ (c : Call) (n : ℕ) where
         kept t
     one_unfolded _ kept t = refl
 
-    pub all_unfolded : (ss : Statements) (kept : KeptValues) (t : List Event) →
+    pub all_unfolded : (ss : Statements) (kept : EmittedValues) (t : List Event) →
         run_all c n (unfolded_all ss) kept t ≡ run_all c n ss kept t
     all_unfolded end kept t = refl
     all_unfolded (then s ss) kept t =
         λ i. and_then (one_unfolded s kept t i) (λ kept t. all_unfolded ss kept t i)
 
-    cases_unfolded : (cs : Cases) (x : CaseValue) (kept : KeptValues) (t : List Event) →
+    cases_unfolded : (cs : Cases) (x : CaseValue) (kept : EmittedValues) (t : List Event) →
         run_cases c n (unfolded_cases cs) x kept t ≡ run_cases c n cs x kept t
     cases_unfolded no_case x kept t = refl
     cases_unfolded (case l b falls cs) x kept t =
@@ -130,7 +130,7 @@ module _ (c : Call) (n : ℕ) where
         ∙ followed_on falls b cs (all_unfolded b) (on_unfolded cs) kept t) i)
         (cases_unfolded cs x kept t i)
 
-    on_unfolded : (cs : Cases) (kept : KeptValues) (t : List Event) →
+    on_unfolded : (cs : Cases) (kept : EmittedValues) (t : List Event) →
         run_all c n (unfolded_on cs) kept t ≡ run_on c n cs kept t
     on_unfolded no_case kept t = refl
     on_unfolded (case l b falls cs) kept t =

@@ -25,7 +25,7 @@ use Rattle.shader_runs.specs.ScopeRules.{and_tree, InScope, constant_tree, argum
 use Rattle.shader_runs.specs.ScopeRules.{bound, written_out, result, still, EachInScope, no_handle}
 use Rattle.shader_runs.specs.ScopeRules.{and_handle, InScopeIf, is_unwritten, with_one}
 use Rattle.shader_runs.specs.ScopeRules.{with_emitted, with_statement, with_statements}
-use Rattle.shader_runs.specs.ScopeRules.{statements_before_continue, Point, entry_point}
+use Rattle.shader_runs.specs.ScopeRules.{statements_before_continue, ScopeState, start_state}
 use Rattle.shader_runs.specs.ScopeRules.{following_one}
 use Rattle.shader_runs.specs.ScopeRules.{following, after_turn, WasIntroduced, in_sight, as_a_tree}
 use Rattle.shader_runs.specs.ScopeRules.{MayEmit, MayEmitEach, MayResult, StatementHolds}
@@ -176,27 +176,27 @@ module _ (f : Function) (body : Statements) where
           (statement_gives st gs)
           ∙ later (with_statement f st gs)
 
-  after_alike : (st : Statement) (at : Point) → following other (unfolded st) at ≡ following f st at
+  after_alike : (st : Statement) (at : ScopeState) → following other (unfolded st) at ≡ following f st at
   after_alike st at = λ i. record {
     visible = statement_gives st at.visible i;
     passed = statement_gives st at.passed i;
   }
 
-  turn_alike : (ss : Statements) (at : Point) →
+  turn_alike : (ss : Statements) (at : ScopeState) →
       after_turn other (unfolded_all ss) at ≡ after_turn f ss at
   turn_alike ss at = λ i. record {
     visible = first_give ss at.visible i;
     passed = statements_give ss at.passed i;
   }
 
-  one_after_alike : (h : ℕ) (at : Point) → following_one other h at ≡ following_one f h at
+  one_after_alike : (h : ℕ) (at : ScopeState) → following_one other h at ≡ following_one f h at
   one_after_alike h at = λ i. record {
     visible = one_alike h at.visible i;
     passed = one_alike h at.passed i;
   }
 
 -- what was given of the other function was given of this one
-introduced_alike : (f : Function) (body : Statements) {at : Point} {h : ℕ} →
+introduced_alike : (f : Function) (body : Statements) {at : ScopeState} {h : ℕ} →
     WasIntroduced (record f { body = body }) at h → WasIntroduced f at h
 introduced_alike f body (in_sight is) = in_sight is
 introduced_alike f body (as_a_tree pure tree is) =
@@ -204,7 +204,7 @@ introduced_alike f body (as_a_tree pure tree is) =
 
 -- ---- the rules of scope
 module _ (f : Function) (body : Statements) where
-  emit_holds : {at : Point} {h : ℕ} → MayEmit f at h → MayEmit (other f body) at h
+  emit_holds : {at : ScopeState} {h : ℕ} → MayEmit f at h → MayEmit (other f body) at h
   emit_holds {at} {h} may = record {
     kind = may.kind;
     new = λ was. may.new (introduced_alike f body was);
@@ -212,7 +212,7 @@ module _ (f : Function) (body : Statements) where
         (may.operands (subst IsTrue (sym (binds_alike f body h (expression_of f h))) is));
   }
 
-  emits_hold : (at : Point) (hs : List ℕ) → MayEmitEach f at hs → MayEmitEach (other f body) at hs
+  emits_hold : (at : ScopeState) (hs : List ℕ) → MayEmitEach f at hs → MayEmitEach (other f body) at hs
   emits_hold at [] may = tt
   emits_hold at (h ∷ hs) may = (
     emit_holds may.0,
@@ -220,12 +220,12 @@ module _ (f : Function) (body : Statements) where
         (emits_hold (following_one f h at) hs may.1),
   )
 
-  result_holds : (at : Point) (r : Option ℕ) → MayResult f at r → MayResult (other f body) at r
+  result_holds : (at : ScopeState) (r : Option ℕ) → MayResult f at r → MayResult (other f body) at r
   result_holds at None may = tt
   result_holds at (Some h) may = λ was. may (introduced_alike f body was)
 
   mutual
-    statement_holds : (at : Point) (st : Statement) → StatementHolds f at st →
+    statement_holds : (at : ScopeState) (st : Statement) → StatementHolds f at st →
         StatementHolds (other f body) at (unfolded st)
     statement_holds at (Emit first count) holds = emits_hold at (from first count) holds
     statement_holds at (Store q v) holds =
@@ -249,7 +249,7 @@ module _ (f : Function) (body : Statements) where
     statement_holds at (Act a xs r) holds = (each_alike f body holds.0, result_holds at r holds.1)
     statement_holds at _ holds = tt
 
-    statements_hold : (at : Point) (ss : Statements) → StatementsHold f at ss →
+    statements_hold : (at : ScopeState) (ss : Statements) → StatementsHold f at ss →
         StatementsHold (other f body) at (unfolded_all ss)
     statements_hold at end holds = tt
     statements_hold at (then st ss) holds = (
@@ -259,7 +259,7 @@ module _ (f : Function) (body : Statements) where
           (statements_hold (following f st at) ss holds.1),
     )
 
-    cases_hold : (at : Point) (cs : Cases) → CasesHold f at cs →
+    cases_hold : (at : ScopeState) (cs : Cases) → CasesHold f at cs →
         CasesHold (other f body) at (unfolded_cases cs)
     cases_hold at no_case holds = tt
     cases_hold at (case l b false cs) holds =
@@ -267,7 +267,7 @@ module _ (f : Function) (body : Statements) where
     cases_hold at (case l b true cs) holds =
         ((statements_hold at b holds.0, (next_holds at cs holds.1, tt)), cases_hold at cs holds.1)
 
-    next_holds : (at : Point) (cs : Cases) → CasesHold f at cs →
+    next_holds : (at : ScopeState) (cs : Cases) → CasesHold f at cs →
         StatementsHold (other f body) at (unfolded_on cs)
     next_holds at no_case holds = tt
     next_holds at (case l b false cs) holds = statements_hold at b holds.0
@@ -278,14 +278,14 @@ module _ (f : Function) (body : Statements) where
       FirstValuesHold (other f body) i os
   firsts_hold i [] holds = tt
   firsts_hold i (o ∷ os) holds = (
-    scope_alike_if (before_local f i) body entry_point.visible o holds.0,
+    scope_alike_if (before_local f i) body start_state.visible o holds.0,
     firsts_hold (suc i) os holds.1,
   )
 
 pub scope_unfolded : (f : Function) → ScopeHolds f → ScopeHolds (unfolded_function f)
 scope_unfolded f holds = record {
   first_values = firsts_hold f (unfolded_all f.body) 0 f.first_values holds.first_values;
-  body = statements_hold f (unfolded_all f.body) entry_point f.body holds.body;
+  body = statements_hold f (unfolded_all f.body) start_state f.body holds.body;
 }
 
 -- ---- statements are regular

@@ -7,7 +7,7 @@ use Rattle.shader_runs.specs.World.{Event}
 use Rattle.shader_runs.specs.Outcome.{Stop, Stuck, Unreturned, OutOfTurns, Discarded, Mistyped}
 use Rattle.shader_runs.specs.Outcome.{Outcome, Done, Continued, Broke, Returned, Stopped}
 use Rattle.shader_runs.specs.Program.{Statement, Block, If, Switch, Loop, Statements, end, then}
-use Rattle.shader_runs.specs.ProgramRun.{Call, KeptValues, run, run_all}
+use Rattle.shader_runs.specs.ProgramRun.{Call, EmittedValues, run, run_all}
 use Rattle.shader_runs.specs.Passes.{Point, here, following, statements_at, Passes}
 
 -- the point after the last statement
@@ -40,12 +40,12 @@ is_early (Returned v t) = true
 is_early (Stopped x t) = stops_early x
 
 -- the run of a list passes the point in front of a simple statement that ends it so
-pub record EndsAt (c : Call) (n : ℕ) (ss : Statements) (kept : KeptValues) (t : List Event)
-    (o : Outcome KeptValues) : Type 0 where
+pub record EndsAt (c : Call) (n : ℕ) (ss : Statements) (kept : EmittedValues) (t : List Event)
+    (o : Outcome EmittedValues) : Type 0 where
   pub point : Point
   pub statement : Statement
   pub rest : Statements
-  pub kept_there : KeptValues
+  pub kept_there : EmittedValues
   pub events_there : List Event
   pub passed : Passes c n ss point kept t kept_there events_there
   pub stands : statements_at ss point ≡ then statement rest
@@ -56,7 +56,7 @@ pub record EndsAt (c : Call) (n : ℕ) (ss : Statements) (kept : KeptValues) (t 
 -- of the statement where it does
 abbrev pub EndsArePassed : Type 0
 EndsArePassed =
-    (c : Call) (n : ℕ) (ss : Statements) (kept : KeptValues) (t : List Event) →
-    ((kept1 : KeptValues) (t1 : List Event) →
+    (c : Call) (n : ℕ) (ss : Statements) (kept : EmittedValues) (t : List Event) →
+    ((kept1 : EmittedValues) (t1 : List Event) →
     run_all c n ss kept t ≡ Done kept1 t1 → Passes c n ss (end_of ss) kept t kept1 t1)
     × (IsTrue (is_early (run_all c n ss kept t)) → EndsAt c n ss kept t (run_all c n ss kept t))

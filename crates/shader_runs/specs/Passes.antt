@@ -13,7 +13,8 @@ use Rattle.shader_runs.specs.Outcome.{closed_outcome}
 use Rattle.shader_runs.specs.Program.{CaseValue, Numbered, Statement, Emit, Block, If, Switch, Loop}
 use Rattle.shader_runs.specs.Program.{Barrier, Statements, end, then, Cases, no_case, case}
 use Rattle.shader_runs.specs.Program.{Function, binds, from}
-use Rattle.shader_runs.specs.ProgramRun.{Call, KeptValues, used_value, emit, leave, barrier_words}
+use Rattle.shader_runs.specs.ProgramRun.{Call, EmittedValues, used_value, emit, leave}
+use Rattle.shader_runs.specs.ProgramRun.{barrier_words}
 use Rattle.shader_runs.specs.ProgramRun.{same_case_value, has_case_value, case_value_if, run}
 use Rattle.shader_runs.specs.ProgramRun.{run_all}
 use Rattle.shader_runs.specs.Text.{Tree, Line, Braces, IfElse, SwitchOn, LoopOf, Lines, last}
@@ -90,73 +91,73 @@ statements_at (then (Emit first count) ss) (emitting i) = then (Emit (first + i)
 statements_at (then _ ss) (emitting i) = ss
 
 -- one turn of a module's loop
-abbrev pub module_turn : Call → ℕ → (body continuing : Statements) → Option ℕ → Next KeptValues
+abbrev pub module_turn : Call → ℕ → (body continuing : Statements) → Option ℕ → Next EmittedValues
 module_turn c n b d e = turn (run_all c n b) (run_all c n d) (leave c e)
 
 -- from its first case on, the run comes to the case with this index, by cases that fall through
 pub data FallsTo (c : Call) (n : ℕ) :
-    Cases → ℕ → KeptValues → List Event → KeptValues → List Event → Type 0 where
+    Cases → ℕ → EmittedValues → List Event → EmittedValues → List Event → Type 0 where
   this_case : {l : CaseValue} {b : Statements} {falls : Bool} {cs : Cases}
-      {kept : KeptValues} {t : List Event} →
+      {kept : EmittedValues} {t : List Event} →
       FallsTo c n (case l b falls cs) 0 kept t kept t
   next_case : {l : CaseValue} {b : Statements} {cs : Cases} {i : ℕ}
-      {kept kept1 kept2 : KeptValues} {t t1 t2 : List Event} →
+      {kept kept1 kept2 : EmittedValues} {t t1 t2 : List Event} →
       run_all c n b kept t ≡ Done kept1 t1 →
       FallsTo c n cs i kept1 t1 kept2 t2 →
       FallsTo c n (case l b true cs) (suc i) kept t kept2 t2
 
 -- with this value the run comes to the case with this index
 pub data ComesToCase (c : Call) (n : ℕ) (x : CaseValue) :
-    Cases → ℕ → KeptValues → List Event → KeptValues → List Event → Type 0 where
+    Cases → ℕ → EmittedValues → List Event → EmittedValues → List Event → Type 0 where
   own_case : {l : CaseValue} {b : Statements} {falls : Bool} {cs : Cases} {i : ℕ}
-      {kept kept1 : KeptValues} {t t1 : List Event} →
+      {kept kept1 : EmittedValues} {t t1 : List Event} →
       IsTrue (same_case_value x l) →
       FallsTo c n (case l b falls cs) i kept t kept1 t1 →
       ComesToCase c n x (case l b falls cs) i kept t kept1 t1
   other_case : {l : CaseValue} {b : Statements} {falls : Bool} {cs : Cases} {i : ℕ}
-      {kept kept1 : KeptValues} {t t1 : List Event} →
+      {kept kept1 : EmittedValues} {t t1 : List Event} →
       same_case_value x l ≡ false →
       ComesToCase c n x cs i kept t kept1 t1 →
       ComesToCase c n x (case l b falls cs) (suc i) kept t kept1 t1
 
 -- the run of a statement, begun with these kept values and events, comes to a region with those
 pub data Comes (c : Call) (n : ℕ) :
-    Statement → Region → KeptValues → List Event → KeptValues → List Event → Type 0 where
-  into_block : {b : Statements} {kept : KeptValues} {t : List Event} →
+    Statement → Region → EmittedValues → List Event → EmittedValues → List Event → Type 0 where
+  into_block : {b : Statements} {kept : EmittedValues} {t : List Event} →
       Comes c n (Block b) Inner kept t kept t
-  into_accept : {h : ℕ} {a b : Statements} {kept : KeptValues} {t : List Event} →
+  into_accept : {h : ℕ} {a b : Statements} {kept : EmittedValues} {t : List Event} →
       used_value c kept h ≡ Some (Truth true) →
       Comes c n (If h a b) Accept kept t kept t
-  into_reject : {h : ℕ} {a b : Statements} {kept : KeptValues} {t : List Event} →
+  into_reject : {h : ℕ} {a b : Statements} {kept : EmittedValues} {t : List Event} →
       used_value c kept h ≡ Some (Truth false) →
       Comes c n (If h a b) Reject kept t kept t
   into_case : {h i : ℕ} {cases : Cases} {spelling : Bytes} {z : ℤ}
-      {kept kept1 : KeptValues} {t t1 : List Event} →
+      {kept kept1 : EmittedValues} {t t1 : List Event} →
       used_value c kept h ≡ Some (Whole spelling z) →
       ComesToCase c n
       (case_value_if (has_case_value (Numbered z) cases) z) cases i kept t kept1 t1 →
       Comes c n (Switch h cases) (CaseBody i) kept t kept1 t1
   into_loop : {b d : Statements} {e : Option ℕ} {g : Region}
-      {kept kept1 : KeptValues} {t t1 : List Event} →
+      {kept kept1 : EmittedValues} {t t1 : List Event} →
       InTurn n (run_all c n b) (run_all c n d) (module_turn c n b d e) g kept t kept1 t1 →
       Comes c n (Loop b d e) g kept t kept1 t1
 
 -- the run of a list, begun with these kept values and events, passes a point with those
 pub data Passes (c : Call) (n : ℕ) :
-    Statements → Point → KeptValues → List Event → KeptValues → List Event → Type 0 where
-  is_here : {ss : Statements} {kept : KeptValues} {t : List Event} →
+    Statements → Point → EmittedValues → List Event → EmittedValues → List Event → Type 0 where
+  is_here : {ss : Statements} {kept : EmittedValues} {t : List Event} →
       Passes c n ss here kept t kept t
   goes_after : {st : Statement} {ss : Statements} {q : Point}
-      {kept kept1 kept2 : KeptValues} {t t1 t2 : List Event} →
+      {kept kept1 kept2 : EmittedValues} {t t1 t2 : List Event} →
       run c n st kept t ≡ Done kept1 t1 →
       Passes c n ss q kept1 t1 kept2 t2 →
       Passes c n (then st ss) (following q) kept t kept2 t2
   goes_inside : {st : Statement} {ss : Statements} {g : Region} {q : Point}
-      {kept kept1 kept2 : KeptValues} {t t1 t2 : List Event} →
+      {kept kept1 kept2 : EmittedValues} {t t1 t2 : List Event} →
       Comes c n st g kept t kept1 t1 →
       Passes c n (statements_in st g) q kept1 t1 kept2 t2 →
       Passes c n (then st ss) (inside g q) kept t kept2 t2
-  emits : {first count i : ℕ} {ss : Statements} {kept kept1 : KeptValues} {t t1 : List Event} →
+  emits : {first count i : ℕ} {ss : Statements} {kept kept1 : EmittedValues} {t t1 : List Event} →
       i ≤ count → emit c (from first i) kept t ≡ Done kept1 t1 →
       Passes c n (then (Emit first count) ss) (emitting i) kept t kept1 t1
 

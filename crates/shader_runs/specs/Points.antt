@@ -11,7 +11,7 @@ use Rattle.shader_runs.specs.World.{Event, entries, World, Meaning, Environment,
 use Rattle.shader_runs.specs.Outcome.{Gives}
 use Rattle.shader_runs.specs.Program.{Statement, Emit, If, Switch, Loop, Statements, end, then}
 use Rattle.shader_runs.specs.Program.{Cases, no_case, case, Function, from, Module}
-use Rattle.shader_runs.specs.ProgramRun.{Call, KeptValues, used_value, constants_kept, run_call}
+use Rattle.shader_runs.specs.ProgramRun.{Call, EmittedValues, used_value, constants_kept, run_call}
 use Rattle.shader_runs.specs.TextRun.{IsValue, Scope, Words, value_of, with_parameters}
 use Rattle.shader_runs.specs.TextRun.{with_variables, word_use, is_operation, follow_call}
 use Rattle.shader_runs.specs.Scope.{Bound, Handles, ModuleNames, Naming, usable, named_by}
@@ -28,7 +28,7 @@ use Rattle.shader_runs.specs.Passes.{lines_after, Passes, TextPasses, point_in_t
 
 -- a name in scope has the value that the module uses for its handle; and what is written for any
 -- handle in scope makes no event and gives, evaluated now, the value that the module uses
-pub record FactsHold (c : Call) (l : Words) (f : Naming) (s : Handles) (kept : KeptValues)
+pub record FactsHold (c : Call) (l : Words) (f : Naming) (s : Handles) (kept : EmittedValues)
     (names : Scope) : Type 0 where
   pub named : (h : ℕ) (x : Bytes) → s h ≡ Bound x →
       (v : Value) × (used_value c kept h ≡ Some v) × (names x ≡ Some (IsValue v))
@@ -143,7 +143,7 @@ PointsAgreeIn p n later f fs =
     let first_names = names_of outer f vs before_entry in
     let body = f.function.body in
     let start = at_start f.function in
-    (q : Point) (kept : KeptValues) (t1 : List Event) →
+    (q : Point) (kept : EmittedValues) (t1 : List Event) →
     let in_text = point_in_text f.function body q in
     Passes c turns body q (constants_kept f.function env m) t kept t1 →
     (names : Scope)

@@ -48,8 +48,8 @@ pub record Call : Type 0 where
   pub calls : ℕ → List Value → List Event → ReachedOrHalted (Option Value)
 
 -- the value kept for each handle
-abbrev pub KeptValues : Type 0
-KeptValues = ℕ → Option Value
+abbrev pub EmittedValues : Type 0
+EmittedValues = ℕ → Option Value
 
 -- one more value, if all are there
 abbrev pub also : Option Value → Option (List Value) → Option (List Value)
@@ -129,11 +129,11 @@ used_value_as c None kept = None
 used_value_as c _ kept = kept
 
 -- what a use of this handle takes
-abbrev pub used_value : Call → KeptValues → ℕ → Option Value
+abbrev pub used_value : Call → EmittedValues → ℕ → Option Value
 used_value c kept h = used_value_as c (expression_of c.function h) (kept h)
 
 -- what uses of these handles take
-abbrev pub used_values : Call → KeptValues → List ℕ → Option (List Value)
+abbrev pub used_values : Call → EmittedValues → List ℕ → Option (List Value)
 used_values c kept [] = Some []
 used_values c kept (x ∷ xs) = also (used_value c kept x) (used_values c kept xs)
 
@@ -194,7 +194,7 @@ abbrev pub gathered_value :
 gathered_value parts m e vs = option_and_then (combined_value parts m e) vs
 
 -- an expression's value now, over the kept values
-abbrev pub computed_value : Call → KeptValues → Option Expression → Option Value
+abbrev pub computed_value : Call → EmittedValues → Option Expression → Option Value
 computed_value c kept e =
     gathered_value c.environment.parts c.meaning e (used_values c kept (operands_of e))
 
@@ -204,11 +204,11 @@ if_typed true t o = o
 if_typed false t o = Stopped Mistyped t
 
 -- an answer is kept, if it has its type
-abbrev pub keep_typed : PartTypes → ValueType → ℕ → Value → Next KeptValues
+abbrev pub keep_typed : PartTypes → ValueType → ℕ → Value → Next EmittedValues
 keep_typed parts k h v kept t = if_typed (has_type parts k v) t (Done (update kept h (Some v)) t)
 
 -- a handle without its pointer's value gets none
-abbrev pub after_load : PartTypes → ValueType → World → ℕ → Option Value → Next KeptValues
+abbrev pub after_load : PartTypes → ValueType → World → ℕ → Option Value → Next EmittedValues
 after_load parts k w h None kept t = Done (update kept h None) t
 after_load parts k w h (Some v) kept t =
     or_stuck (place_in v) t (λ p. keep_typed parts k h (w t (Read p)) kept (Read p ∷ t))
@@ -221,18 +221,18 @@ joined_values (Some vs) (Some us) = Some (vs ++ us)
 
 -- a handle without its operands' values gets none
 abbrev pub after_request :
-    PartTypes → ValueType → World → ℕ → Bytes → Option (List Value) → Next KeptValues
+    PartTypes → ValueType → World → ℕ → Bytes → Option (List Value) → Next EmittedValues
 after_request parts k w h word None kept t = Done (update kept h None) t
 after_request parts k w h word (Some vs) kept t =
     keep_typed parts k h (w t (Ask word vs)) kept (Ask word vs ∷ t)
 
 -- what isn't written is no event
-abbrev pub if_counted : Bool → Next KeptValues → Next KeptValues
+abbrev pub if_counted : Bool → Next EmittedValues → Next EmittedValues
 if_counted true next kept t = next kept t
 if_counted false next kept t = Done kept t
 
 -- an emitted expression: an event is asked for, an operator computed
-abbrev pub emit_as : Call → ℕ → Option Expression → Next KeptValues
+abbrev pub emit_as : Call → ℕ → Option Expression → Next EmittedValues
 emit_as c h (Some (Load p)) kept t =
     let parts = c.environment.parts in
     let loads = after_load parts (handle_type c.function h) c.world h (used_value c kept p) in
@@ -256,7 +256,7 @@ emit_as c h (Some (Swizzle w v)) kept t =
 emit_as c h _ kept t = Done kept t
 
 -- handles are emitted in order
-abbrev pub emit : Call → List ℕ → Next KeptValues
+abbrev pub emit : Call → List ℕ → Next EmittedValues
 emit c [] kept t = Done kept t
 emit c (h ∷ hs) kept t = and_then (emit_as c h (expression_of c.function h) kept t) (emit c hs)
 
@@ -265,13 +265,13 @@ abbrev pub with_pointer : {S : Type 0} → Option Value → List Event → (Plac
 with_pointer o t go = or_stuck (option_and_then place_in o) t go
 
 -- after `continuing`: Broke where the loop is left
-abbrev pub leave : Call → Option ℕ → Next KeptValues
+abbrev pub leave : Call → Option ℕ → Next EmittedValues
 leave c None kept t = Done kept t
 leave c (Some h) kept t =
     or_stuck (used_value c kept h) t (λ v. branch_by v t (Broke kept t) (Done kept t))
 
 -- what is returned
-abbrev pub return_outcome : Call → Option ℕ → Next KeptValues
+abbrev pub return_outcome : Call → Option ℕ → Next EmittedValues
 return_outcome c None kept t = Returned None t
 return_outcome c (Some h) kept t = or_stuck (used_value c kept h) t (λ v. Returned (Some v) t)
 
@@ -282,8 +282,8 @@ action_answer c (Called g) vs t = c.calls g vs t
 
 -- an action's result is kept where one is wanted
 abbrev pub with_result :
-    PartTypes → Function → Action → Option ℕ → KeptValues → ReachedOrHalted (Option Value) →
-    Outcome KeptValues
+    PartTypes → Function → Action → Option ℕ → EmittedValues → ReachedOrHalted (Option Value) →
+    Outcome EmittedValues
 with_result parts f a None kept (Gives v t) = Done kept t
 with_result parts f a None kept (Halts x t) = Stopped x t
 with_result parts f a (Some h) kept (Gives None t) = Stopped Unreturned t
@@ -306,7 +306,7 @@ barrier_words bits =
     (word_if bits.texture (codes "textureBarrier") [])))
 
 -- one event for each word
-abbrev pub ask_each : List Bytes → Next KeptValues
+abbrev pub ask_each : List Bytes → Next EmittedValues
 ask_each [] kept t = Done kept t
 ask_each (w ∷ ws) kept t = ask_each ws kept (Ask w [] ∷ t)
 
@@ -328,7 +328,7 @@ case_value_if false z = Default
 
 abbrev mutual
   -- each loop makes at most n turns
-  pub run : Call → ℕ → Statement → Next KeptValues
+  pub run : Call → ℕ → Statement → Next EmittedValues
   run c n (Emit first count) kept t = emit c (from first count) kept t
   run c n (Store p v) kept t =
       with_pointer (used_value c kept p) t
@@ -348,21 +348,21 @@ abbrev mutual
       or_stuck (used_values c kept xs) t
       (λ vs. with_result c.environment.parts c.function a r kept (action_answer c a vs t))
 
-  pub run_all : Call → ℕ → Statements → Next KeptValues
+  pub run_all : Call → ℕ → Statements → Next EmittedValues
   run_all c n end kept t = Done kept t
   run_all c n (then s ss) kept t = and_then (run c n s kept t) (run_all c n ss)
 
   -- from the case with this value on
-  pub run_cases : Call → ℕ → Cases → CaseValue → Next KeptValues
+  pub run_cases : Call → ℕ → Cases → CaseValue → Next EmittedValues
   run_cases c n no_case x kept t = Done kept t
   run_cases c n (case l b falls cs) x kept t =
-      let falling = λ (kept1 : KeptValues) (t1 : List Event).
+      let falling = λ (kept1 : EmittedValues) (t1 : List Event).
       cond falls (run_on c n cs kept1 t1) (Done kept1 t1) in
       let own = and_then (run_all c n b kept t) falling in
       cond (same_case_value x l) own (run_cases c n cs x kept t)
 
   -- on from a case that fell through
-  pub run_on : Call → ℕ → Cases → Next KeptValues
+  pub run_on : Call → ℕ → Cases → Next EmittedValues
   run_on c n no_case kept t = Done kept t
   run_on c n (case l b falls cs) kept t =
       and_then (run_all c n b kept t)
@@ -385,12 +385,12 @@ constant_as env m value e =
     or_constant env m e (gathered_value env.parts m e (all_of value (operands_of e)))
 
 -- the values of constant trees up to a bound on their handles
-abbrev pub constant_below : Function → Environment → Meaning → ℕ → KeptValues
+abbrev pub constant_below : Function → Environment → Meaning → ℕ → EmittedValues
 constant_below f env m zero h = None
 constant_below f env m (suc n) h = constant_as env m (constant_below f env m n) (expression_of f h)
 
 -- the values of constant trees are there from the start
-abbrev pub constants_kept : Function → Environment → Meaning → KeptValues
+abbrev pub constants_kept : Function → Environment → Meaning → EmittedValues
 constants_kept f env m = constant_below f env m (length f.expressions)
 
 -- one more first value
@@ -401,12 +401,12 @@ with_first (Some v) None = None
 with_first (Some v) (Some firsts) = Some (v ∷ firsts)
 
 -- a local has no first value, or that of its initialiser
-abbrev pub first_used : Call → KeptValues → Option ℕ → Option (Option Value)
+abbrev pub first_used : Call → EmittedValues → Option ℕ → Option (Option Value)
 first_used c kept None = Some None
 first_used c kept (Some h) = option_map Some (used_value c kept h)
 
 -- the first values of all locals
-abbrev pub first_used_all : Call → KeptValues → List (Option ℕ) → Option (List (Option Value))
+abbrev pub first_used_all : Call → EmittedValues → List (Option ℕ) → Option (List (Option Value))
 first_used_all c kept [] = Some []
 first_used_all c kept (o ∷ os) = with_first (first_used c kept o) (first_used_all c kept os)
 

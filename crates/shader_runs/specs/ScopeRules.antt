@@ -123,29 +123,29 @@ statements_before_continue end = end
 statements_before_continue (then st ss) =
     cond (holds_continue st) end (then st (statements_before_continue ss))
 
--- a point of a function: what was given before it in its block and the enclosing
--- ones, the latest first. visible: with what a loop's body gave before a
+-- what was introduced before a point of a function, in its block and the enclosing
+-- ones, the latest first. visible: with what a loop's body introduced before a
 -- `continue` can skip it, if the point is in `continuing`. passed: with all that
--- the body's own list gave, since the body encloses its `continuing`
-pub record Point : Type 0 where
+-- the body's own list introduced, since the body encloses its `continuing`
+pub record ScopeState : Type 0 where
   pub visible : List IntroducedHandle
   pub passed : List IntroducedHandle
 
 -- where a function starts
-abbrev pub entry_point : Point
-entry_point = record { visible = []; passed = [] }
+abbrev pub start_state : ScopeState
+start_state = record { visible = []; passed = [] }
 
 -- after an emitted handle
-abbrev pub following_one : Function → ℕ → Point → Point
+abbrev pub following_one : Function → ℕ → ScopeState → ScopeState
 following_one f h at = record { visible = with_one f h at.visible; passed = with_one f h at.passed }
 
 -- after a statement
-abbrev pub following : Function → Statement → Point → Point
+abbrev pub following : Function → Statement → ScopeState → ScopeState
 following f st at =
     record { visible = with_statement f st at.visible; passed = with_statement f st at.passed }
 
 -- where `continuing` stands after a loop's body, and `break if` after both
-abbrev pub after_turn : Function → Statements → Point → Point
+abbrev pub after_turn : Function → Statements → ScopeState → ScopeState
 after_turn f ss at =
     record {
       visible = with_statements f (statements_before_continue ss) at.visible;
@@ -154,32 +154,32 @@ after_turn f ss at =
 
 -- the handle can't be given at this point: it was given before in this block or an enclosing one.
 -- For a constant tree that isn't a constant by itself all counts that was passed
-pub data WasIntroduced (f : Function) (at : Point) (h : ℕ) : Type 0 where
+pub data WasIntroduced (f : Function) (at : ScopeState) (h : ℕ) : Type 0 where
   in_sight : IsAmong h at.visible → WasIntroduced f at h
   as_a_tree : IsTrue (is_pure (expression_of f h)) → IsConstantTree f h →
       IsAmong h at.passed → WasIntroduced f at h
 
 -- an Emit may give the handle: it is an operator or a read, it was not given before, and if a `let`
 -- binds it its operands are in scope
-pub record MayEmit (f : Function) (at : Point) (h : ℕ) : Type 0 where
+pub record MayEmit (f : Function) (at : ScopeState) (h : ℕ) : Type 0 where
   pub kind : IsTrue (is_emittable (expression_of f h))
   pub new : ¬ WasIntroduced f at h
   pub operands : IsTrue (binds f h) → EachInScope f at.visible (operands_of (expression_of f h))
 
 -- an Emit may give these handles, one after the other
-abbrev pub MayEmitEach : Function → Point → List ℕ → Type 0
+abbrev pub MayEmitEach : Function → ScopeState → List ℕ → Type 0
 MayEmitEach f at [] = Unit {0}
 MayEmitEach f at (h ∷ hs) = MayEmit f at h × MayEmitEach f (following_one f h at) hs
 
 -- a statement may give its result, if it has one: it was not given before
-abbrev pub MayResult : Function → Point → Option ℕ → Type 0
+abbrev pub MayResult : Function → ScopeState → Option ℕ → Type 0
 MayResult f at None = Unit {0}
 MayResult f at (Some h) = ¬ WasIntroduced f at h
 
 -- each operand is in scope where it is used, and each
 -- Emit and each result may be given where it stands
 abbrev mutual
-  pub StatementHolds : Function → Point → Statement → Type 0
+  pub StatementHolds : Function → ScopeState → Statement → Type 0
   StatementHolds f at (Emit first count) = MayEmitEach f at (from first count)
   StatementHolds f at (Store p v) = InScope f at.visible p × InScope f at.visible v
   StatementHolds f at (Block b) = StatementsHold f at b
@@ -194,12 +194,12 @@ abbrev mutual
   StatementHolds f at (Act a xs r) = EachInScope f at.visible xs × MayResult f at r
   StatementHolds f at _ = Unit {0}
 
-  pub StatementsHold : Function → Point → Statements → Type 0
+  pub StatementsHold : Function → ScopeState → Statements → Type 0
   StatementsHold f at end = Unit {0}
   StatementsHold f at (then st ss) =
       StatementHolds f at st × StatementsHold f (following f st at) ss
 
-  pub CasesHold : Function → Point → Cases → Type 0
+  pub CasesHold : Function → ScopeState → Cases → Type 0
   CasesHold f at no_case = Unit {0}
   CasesHold f at (case l b falls cs) = StatementsHold f at b × CasesHold f at cs
 
@@ -208,12 +208,12 @@ abbrev mutual
 abbrev pub FirstValuesHold : Function → ℕ → List (Option ℕ) → Type 0
 FirstValuesHold f i [] = Unit {0}
 FirstValuesHold f i (o ∷ os) =
-    InScopeIf (before_local f i) entry_point.visible o × FirstValuesHold f (suc i) os
+    InScopeIf (before_local f i) start_state.visible o × FirstValuesHold f (suc i) os
 
 -- the rules of scope hold in the whole function
 pub record ScopeHolds (f : Function) : Type 0 where
   pub first_values : FirstValuesHold f 0 f.first_values
-  pub body : StatementsHold f entry_point f.body
+  pub body : StatementsHold f start_state f.body
 
 -- where operands stand before their expressions, the check
 -- of scope holds of a function exactly if these rules do

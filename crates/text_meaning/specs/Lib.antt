@@ -1,6 +1,6 @@
 pub mod Abstraction
 pub mod Attributes
-pub mod Bindings
+pub mod LetTypes
 pub mod Interface
 pub mod Layout
 pub mod Literals

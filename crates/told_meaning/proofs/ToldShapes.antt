@@ -19,7 +19,7 @@ use Rattle.naga_ir.specs.declared.types.TypeInner.TheVariants as inner
 use Rattle.naga_info.specs.declared.info.ExpressionInfo.{ExpressionInfo}
 use Rattle.naga_info.specs.declared.info.ModuleInfo.{ModuleInfo}
 use Rattle.naga_info.specs.declared.info.TypeResolution.TheVariants.{Handle, Value}
-use Rattle.module_meaning.specs.BindingCounts.{are_bound_by_uses, is_bound_by_uses, uses_of}
+use Rattle.module_meaning.specs.LetCounts.{are_bound_by_uses, is_bound_by_uses, uses_of}
 use Rattle.module_meaning.specs.ExpressionContexts.{declared, types_known}
 use Rattle.module_meaning.specs.ExpressionOperators.{applied_operator}
 use Rattle.module_meaning.specs.ExpressionShapes.{constant_tree, Declared, sample_shape, shape_of}

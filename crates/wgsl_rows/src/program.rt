@@ -4,7 +4,7 @@ use bitflags::Flags;
 use naga_wgsl_out::builder::ModuleBuilder;
 use naga_wgsl_out::info::{accepts, count};
 use naga_wgsl_out::wgsl::{WriterFlags, write_string};
-use sample_modules::Row;
+use sample_modules::SampleName;
 use std::alloc::Global;
 use std::fmt::Display;
 use std::io;
@@ -31,7 +31,7 @@ pub fn run<O: Write, E: Write>(alloc: Global, words: &[String], out: &mut O, err
 /// Builds the row's module, beginning with an empty one, and prints its text, or why there is none.
 fn build_and_answer<O: Write, E: Write>(
     alloc: Global,
-    row: Row,
+    row: SampleName,
     shader: &mut ModuleBuilder,
     flags: WriterFlags,
     out: &mut O,
@@ -44,14 +44,17 @@ fn build_and_answer<O: Write, E: Write>(
 }
 
 /// The row and the flags that the words name.
-fn request(words: &[String]) -> Option<(Row, WriterFlags)> {
+fn request(words: &[String]) -> Option<(SampleName, WriterFlags)> {
     match words {
-        [row] => Some((Row::from_name(row.as_str())?, WriterFlags::empty())),
+        [row] => Some((SampleName::from_name(row.as_str())?, WriterFlags::empty())),
         [row, second] => {
             if second.as_str() != "explicit" {
                 return None;
             }
-            Some((Row::from_name(row.as_str())?, WriterFlags::EXPLICIT_TYPES))
+            Some((
+                SampleName::from_name(row.as_str())?,
+                WriterFlags::EXPLICIT_TYPES,
+            ))
         }
         _ => None,
     }

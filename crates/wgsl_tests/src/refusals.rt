@@ -2,7 +2,7 @@
 use crate::modules::{IDENTITY, read};
 use naga_wgsl_out::ir::ItemIndex;
 use naga_wgsl_out::wgsl::{
-    Construct, FunctionPart, Refusal, RefusalPosition, ScopeFault, no_flags, unwritable,
+    Construct, FunctionRefusalPosition, Refusal, RefusalPosition, ScopeFault, no_flags, unwritable,
 };
 
 /// `return (x + x);`, where no `Emit` gave the sum.
@@ -34,7 +34,10 @@ fn a_refusal_tells_where(rt: HostRuntime) {
     };
     let wanted = Refusal {
         construct: Construct::OutOfScope,
-        place: RefusalPosition::Function(ItemIndex::from_index(0), FunctionPart::Scope(fault)),
+        place: RefusalPosition::Function(
+            ItemIndex::from_index(0),
+            FunctionRefusalPosition::Scope(fault),
+        ),
     };
     assert_eq!(rt; found.expect(&rt, "memory"), Some(wanted));
     let known = read(&rt, alloc, IDENTITY);

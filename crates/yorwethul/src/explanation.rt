@@ -2,7 +2,7 @@
 
 use crate::texts::{Style, write_in};
 use module_answers::{
-    JsonPosition, JsonRefusal, Unwritten, Written, fault_text, label_at, listed_position,
+    JsonPosition, JsonRefusal, NoOutcome, WriteOutcome, fault_text, label_at, listed_position,
     refused_position,
 };
 use naga_json::Known;
@@ -28,8 +28,8 @@ pub fn explained(
 ) -> Result<Explanation, AllocError> {
     match write_in(alloc, style, known) {
         Ok(written) => of_written(alloc, known, written),
-        Err(Unwritten::NotAccepted(fault)) => of_unaccepted(alloc, known, fault),
-        Err(Unwritten::Memory(error)) => Err(error),
+        Err(NoOutcome::NotAccepted(fault)) => of_unaccepted(alloc, known, fault),
+        Err(NoOutcome::Memory(error)) => Err(error),
         Err(reason) => not_written(format!(in alloc; "refused: {reason}\n")),
     }
 }
@@ -37,9 +37,9 @@ pub fn explained(
 fn of_written(
     alloc: Global,
     known: &Known,
-    written: Written<String>,
+    written: WriteOutcome<String>,
 ) -> Result<Explanation, AllocError> {
-    let Written {
+    let WriteOutcome {
         answer,
         refusal,
         sink: _,

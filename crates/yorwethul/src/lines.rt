@@ -4,7 +4,7 @@ use crate::failure::Failure;
 use crate::progress::{Outcome, Progress};
 use crate::texts::{Style, write_in};
 use json::Scratch;
-use module_answers::{JsonPosition, JsonRefusalPosition, Unwritten, Written, label_at};
+use module_answers::{JsonPosition, JsonRefusalPosition, NoOutcome, WriteOutcome, label_at};
 use naga_json::{Known, ReadError, known_of, parse_bytes};
 use naga_wgsl_out::info::{Unaccepted, explain};
 use naga_wgsl_out::ir::Module;
@@ -199,12 +199,12 @@ fn tell_known(
 ) -> Result<(), AllocError> {
     match write_in(alloc, style, known) {
         Ok(written) => tell_written(alloc, written, &known.module, members),
-        Err(Unwritten::NotAccepted(unaccepted)) => {
+        Err(NoOutcome::NotAccepted(unaccepted)) => {
             tell_unaccepted(alloc, known, unaccepted, members)
         }
-        Err(Unwritten::Memory(error)) => Err(error),
-        Err(Unwritten::TooDeep(nested)) => tell_limited(alloc, known, nested, members),
-        Err(Unwritten::TooLong) => tell_limited(alloc, known, Unwritten::TooLong, members),
+        Err(NoOutcome::Memory(error)) => Err(error),
+        Err(NoOutcome::TooDeep(nested)) => tell_limited(alloc, known, nested, members),
+        Err(NoOutcome::TooLong) => tell_limited(alloc, known, NoOutcome::TooLong, members),
     }
 }
 
@@ -221,11 +221,11 @@ fn tell_limited(
 
 fn tell_written(
     alloc: Global,
-    written: Written<String>,
+    written: WriteOutcome<String>,
     module: &Module,
     members: &mut Members,
 ) -> Result<(), AllocError> {
-    let Written {
+    let WriteOutcome {
         answer,
         refusal,
         sink,

@@ -8,7 +8,7 @@ use crate::progress::Progress;
 use crate::texts::write_in;
 use crate::words::{Request, Task, request_of};
 use module_answers::{
-    JsonRefusal, Unwritten, Written, check_nesting, fault_line, label_at, layout_table,
+    JsonRefusal, NoOutcome, WriteOutcome, check_nesting, fault_line, label_at, layout_table,
 };
 use naga_json::Known;
 use naga_wgsl_out::info::{Unaccepted, unaccepted};
@@ -217,12 +217,12 @@ fn tell_layouts<O: Write, E: Write>(
 }
 
 fn print_written<O: Write, E: Write>(
-    written: Written<String>,
+    written: WriteOutcome<String>,
     module: &Module,
     out: &mut O,
     err: &mut E,
 ) -> u8 {
-    let Written {
+    let WriteOutcome {
         answer,
         refusal,
         sink,
@@ -279,10 +279,10 @@ fn refuse_unaccepted<E: Write>(alloc: Global, known: &Known, fault: Unaccepted, 
 }
 
 /// Tells why the writer was not asked for a module, or was stopped at it.
-fn tell_unwritten<E: Write>(alloc: Global, known: &Known, unwritten: Unwritten, err: &mut E) -> u8 {
+fn tell_unwritten<E: Write>(alloc: Global, known: &Known, unwritten: NoOutcome, err: &mut E) -> u8 {
     match unwritten {
-        Unwritten::NotAccepted(fault) => refuse_unaccepted(alloc, known, fault, err),
-        Unwritten::Memory(_) => fail(Failure::Memory, err),
+        NoOutcome::NotAccepted(fault) => refuse_unaccepted(alloc, known, fault, err),
+        NoOutcome::Memory(_) => fail(Failure::Memory, err),
         reason => refuse(reason, err),
     }
 }

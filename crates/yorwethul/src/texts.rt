@@ -1,6 +1,6 @@
 //! How texts are written.
 
-use module_answers::{Unwritten, Written, flags_for, write_told_within, write_within};
+use module_answers::{NoOutcome, WriteOutcome, flags_for, write_told_within, write_within};
 use naga_json::Known;
 use naga_wgsl_out::wgsl::Limits;
 use std::alloc::Global;
@@ -22,7 +22,7 @@ pub fn write_in(
     alloc: Global,
     style: Style,
     known: &mut Known,
-) -> Result<Written<String>, Unwritten> {
+) -> Result<WriteOutcome<String>, NoOutcome> {
     let flags = flags_for(style.explicit_types, !style.plain);
     let limits = style.limits;
     if style.plain {

@@ -17,8 +17,8 @@ use Rattle.naga_wgsl_out.specs.Writing.{AppendsItsText}
 use Rattle.naga_acceptance.specs.FirstFaults.{IsFirstFault}
 use Rattle.naga_acceptance.specs.declared.faults.Unaccepted.{Unaccepted}
 use Rattle.module_answers.specs.Within.{IsUnwritten, TellsDepth}
-use Rattle.module_answers.specs.declared.within.Unwritten.{Unwritten}
-use Rattle.module_answers.specs.declared.within.Unwritten.TheVariants as unwritten
+use Rattle.module_answers.specs.declared.within.NoOutcome.{NoOutcome}
+use Rattle.module_answers.specs.declared.within.NoOutcome.TheVariants as unwritten
 use Rattle.yorwethul_c.specs.Answers.{IsAccepted, IsNotAccepted, IsStopped, IsTooDeep, IsTooLong}
 use Rattle.yorwethul_c.specs.Answers.{IsWritten, LacksMemory, Says, SaysOfError, SaysOfUnwritten}
 use Rattle.yorwethul_c.specs.Answers.{SaysOfWritten, deepest_nesting, longest_text}
@@ -82,7 +82,7 @@ faulty m read found fault is fails =
     record { m = m; read = read; fault = fault; fails = subst (λ r. IfSome r (IsFirstFault m read)) is fails }
 
 -- it is nested too deep, or memory was wanting for the question
-pub too_deep : (Tells : Status → List ℕ → Type 0) (m : Module) (reason : Unwritten) (told : Status) (text : List ℕ) →
+pub too_deep : (Tells : Status → List ℕ → Type 0) (m : Module) (reason : NoOutcome) (told : Status) (text : List ℕ) →
     (IsTooDeep → Tells status.TooDeep text) → Tells status.OutOfMemory [] →
     TellsDepth deepest_nesting m reason → SaysOfUnwritten reason told text → Tells told text
 too_deep Tells m (unwritten.TooDeep nested) told text deep lacks past says =
@@ -94,7 +94,7 @@ too_deep Tells m (unwritten.Memory error) told text deep lacks past says =
 
 -- the writer was not asked for it, or was stopped
 pub not_written : (json : List ℕ) (flags : ℕ) (writer : WriterFlags) (given m : Module) (read info : ModuleInfo)
-    (reason : Unwritten) (told : Status) (text : List ℕ) →
+    (reason : NoOutcome) (told : Status) (text : List ℕ) →
     flags ≤ 7 → bits_of writer ≡ flags % 4 → (reason ≡ unwritten.TooLong → IsAsAsked (tells_floats flags) given m) →
     IsUnwritten writer (record { nesting = deepest_nesting; text = longest_text }) given m read info reason →
     SaysOfUnwritten reason told text → TellsOfWriting json flags told text

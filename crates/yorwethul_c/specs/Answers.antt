@@ -12,8 +12,8 @@ use Rattle.naga_back.specs.declared.flags.WriterFlags.{WriterFlags}
 use Rattle.naga_acceptance.specs.FirstFaults.{IsFirstFault}
 use Rattle.naga_acceptance.specs.declared.faults.Unaccepted.{Unaccepted}
 use Rattle.module_meaning.specs.acceptance.Accepted.{is_accepted}
-use Rattle.module_answers.specs.declared.within.Unwritten.{Unwritten}
-use Rattle.module_answers.specs.declared.within.Unwritten.TheVariants as unwritten
+use Rattle.module_answers.specs.declared.within.NoOutcome.{NoOutcome}
+use Rattle.module_answers.specs.declared.within.NoOutcome.TheVariants as unwritten
 use Rattle.module_limits.specs.Nesting.{nested_past}
 use Rattle.module_limits.specs.declared.nesting.Nested.{Nested}
 use Rattle.naga_form.specs.Declarations.{written_program}
@@ -65,7 +65,7 @@ status_of_error (error.Memory e) = status.OutOfMemory
 status_of_error _ = status.Refused
 
 -- the status of what the writer was not asked for, or stopped at
-abbrev pub status_of_unwritten : Unwritten → Status
+abbrev pub status_of_unwritten : NoOutcome → Status
 status_of_unwritten (unwritten.TooDeep nested) = status.TooDeep
 status_of_unwritten (unwritten.NotAccepted fault) = status.NotAccepted
 status_of_unwritten unwritten.TooLong = status.TooLong
@@ -209,7 +209,7 @@ SaysOfError error told text =
     × (status_of_error error ≡ status.OutOfMemory → text ≡ [])
 
 -- what is told where the writer was not asked or was stopped
-abbrev pub SaysOfUnwritten : Unwritten → Status → (text : List ℕ) → Type 0
+abbrev pub SaysOfUnwritten : NoOutcome → Status → (text : List ℕ) → Type 0
 SaysOfUnwritten reason told text =
     Says (status_of_unwritten reason) told text
     × (status_of_unwritten reason ≡ status.OutOfMemory → text ≡ [])

@@ -10,8 +10,8 @@ use crate::nesting::nests_past;
 use crate::status::{Status, status_of};
 use bitflags::Flags;
 use module_answers::{
-    JsonRefusal, Unwritten, Written, check_nesting, fault_line, layout_table, write_told_within,
-    write_within,
+    JsonRefusal, NoOutcome, WriteOutcome, check_nesting, fault_line, layout_table,
+    write_told_within, write_within,
 };
 use naga_json::{Known, ReadError, read_known};
 use naga_wgsl_out::info::{Unaccepted, unaccepted};
@@ -168,11 +168,11 @@ fn writer_flags(flags: u32) -> WriterFlags
     WriterFlags::from_bits_retain(flags % TELL_FLOATS)
 }
 
-fn told_written(alloc: Global, module: &Module, written: Written<String>) -> Answer
+fn told_written(alloc: Global, module: &Module, written: WriteOutcome<String>) -> Answer
     ensures { SaysOfWritten written.answer (string_bytes written.sink) result.status
         (string_bytes result.text) }
 {
-    let Written {
+    let WriteOutcome {
         answer,
         refusal,
         sink,
@@ -213,14 +213,14 @@ fn told_refusal(
 }
 
 /// Tells why the writer was not asked, or was stopped.
-fn not_written(alloc: Global, known: &Known, unwritten: Unwritten) -> Answer
+fn not_written(alloc: Global, known: &Known, unwritten: NoOutcome) -> Answer
     ensures { SaysOfUnwritten unwritten result.status (string_bytes result.text) }
 {
     match unwritten {
-        Unwritten::TooDeep(nested) => told(alloc, Status::TooDeep, nested),
-        Unwritten::NotAccepted(fault) => not_accepted(alloc, known, fault),
-        Unwritten::TooLong => told(alloc, Status::TooLong, "text of more than 67108864 bytes"),
-        Unwritten::Memory(_) => out_of_memory(alloc),
+        NoOutcome::TooDeep(nested) => told(alloc, Status::TooDeep, nested),
+        NoOutcome::NotAccepted(fault) => not_accepted(alloc, known, fault),
+        NoOutcome::TooLong => told(alloc, Status::TooLong, "text of more than 67108864 bytes"),
+        NoOutcome::Memory(_) => out_of_memory(alloc),
     }
 }
 

@@ -37,15 +37,15 @@ abbrev pub is_pointer : List Type_ → TypeInner → Bool
 is_pointer types it = is_some (pointee_type types it)
 
 -- Is it a scalar or a vector?
-abbrev pub is_components : TypeInner → Bool
-is_components (inner.Scalar s) = true
-is_components (inner.Vector n s) = true
-is_components _ = false
+abbrev pub is_scalar_or_vector : TypeInner → Bool
+is_scalar_or_vector (inner.Scalar s) = true
+is_scalar_or_vector (inner.Vector n s) = true
+is_scalar_or_vector _ = false
 
 -- Is it a pointer to a scalar or a vector?
 abbrev pub points_to_components : List Type_ → TypeInner → Bool
 points_to_components types (inner.Pointer base space) =
-    option_map_or is_components (inner_at types base) false
+    option_map_or is_scalar_or_vector (inner_at types base) false
 points_to_components types (inner.ValuePointer n s space) = true
 points_to_components types _ = false
 
@@ -74,7 +74,7 @@ operands_fit types known (expression.Access base index) =
 operands_fit types known (expression.AccessIndex base index) =
     operand_is types known (λ it. is_part_number types it index) base
 operands_fit types known (expression.Splat n value) =
-    operand_is types known is_components value
+    operand_is types known is_scalar_or_vector value
 operands_fit types known (expression.Swizzle n vector pattern) =
     operand_is types known (is_swizzled n pattern) vector
 operands_fit types known (expression.Load pointer) =

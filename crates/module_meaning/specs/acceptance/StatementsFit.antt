@@ -75,8 +75,8 @@ is_unsigned kind.AbstractInt = false
 is_unsigned kind.AbstractFloat = false
 
 -- the scalar is `i32` or `u32`
-abbrev pub selects : Scalar → Bool
-selects s = (is_signed s.kind || is_unsigned s.kind) && (s.width == 4)
+abbrev pub is_selector_type : Scalar → Bool
+is_selector_type s = (is_signed s.kind || is_unsigned s.kind) && (s.width == 4)
 
 -- the case value is of the selector's type
 abbrev pub case_value_is_of : Scalar → SwitchValue → Bool
@@ -120,7 +120,7 @@ case_values_fit s cs =
 
 -- the selector is `i32` or `u32`, and the case values fit
 abbrev pub selection_fits : CaseTrees → TypeInner → Bool
-selection_fits cs (inner.Scalar s) = selects s && case_values_fit s cs
+selection_fits cs (inner.Scalar s) = is_selector_type s && case_values_fit s cs
 selection_fits cs _ = false
 
 abbrev pub is_selection : List Type_ → (known : List TypeResolution) → (h : ℕ) → CaseTrees → Bool

@@ -1,4 +1,4 @@
-//! Whether numbers are of their types: each is, since its type here is that of an integer.
+//! That numbers fit their types: always true in code, where each has the type of an integer.
 
 ghost use Rattle.std.specs.Prelude.{◌≡◌, true};
 ghost use Rattle.std.specs.List.{list_all};

@@ -11,7 +11,7 @@ ghost use Rattle.module_meaning.specs.acceptance.InfoSizes.{is_handle_space, res
 ghost use Rattle.module_meaning.specs.acceptance.InfoSizes.{type_is_fit};
 ghost use Rattle.naga_words.specs.Spelling.{is_struct};
 
-use crate::faults::{Fault, FunctionPosition, Item, Unaccepted, at};
+use crate::faults::{Fault, FaultPosition, FunctionPosition, Unaccepted, at};
 use naga_info::{FunctionInfo, ModuleInfo, TypeResolution};
 use naga_ir::{
     AddressSpace, Arena, EntryPoint, Function, Handle, ItemIndex, Module, Type_, TypeInner,
@@ -29,13 +29,13 @@ fn function_sizes_fault(functions: &Arena<Function>, infos: &[FunctionInfo]) -> 
     ensures { result ≡ function_sizes_fault functions.now infos.now }
 {
     if functions.len() != infos.len() {
-        return Some(at(Item::Module, Fault::InfoSize));
+        return Some(at(FaultPosition::Module, Fault::InfoSize));
     }
     for (index, info) in infos.iter().enumerate() {
         let handle = ItemIndex::from_index(index);
         if !function_size_fits(&functions[handle], info) {
             return Some(at(
-                Item::Function(handle, FunctionPosition::Whole),
+                FaultPosition::Function(handle, FunctionPosition::Whole),
                 Fault::InfoSize,
             ));
         }
@@ -50,12 +50,12 @@ fn entry_point_sizes_fault(
     ensures { result ≡ entry_point_sizes_fault entry_points.now infos.now }
 {
     if entry_points.len() != infos.len() {
-        return Some(at(Item::Module, Fault::InfoSize));
+        return Some(at(FaultPosition::Module, Fault::InfoSize));
     }
     for (index, info) in infos.iter().enumerate() {
         if !function_size_fits(&entry_points[index].function, info) {
             return Some(at(
-                Item::EntryPoint(index, FunctionPosition::Whole),
+                FaultPosition::EntryPoint(index, FunctionPosition::Whole),
                 Fault::InfoSize,
             ));
         }
@@ -77,7 +77,7 @@ pub(crate) fn sizes_fault(module: &Module, info: &ModuleInfo) -> Option<Unaccept
         return entry_points;
     }
     if module.global_expressions.len() != info.const_expression_types.len() {
-        return Some(at(Item::Module, Fault::InfoSize));
+        return Some(at(FaultPosition::Module, Fault::InfoSize));
     }
     None
 }

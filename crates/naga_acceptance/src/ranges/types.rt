@@ -9,7 +9,7 @@ ghost use Rattle.module_meaning.specs.acceptance.Ranges.{members_before, numbers
 ghost use Rattle.module_meaning.specs.acceptance.Ranges.{parts_before};
 ghost use Rattle.module_meaning.specs.acceptance.Ranges.{resolution_in_range, type_in_range};
 
-use crate::faults::{Fault, Item, Unaccepted, at};
+use crate::faults::{Fault, FaultPosition, Unaccepted, at};
 use crate::ranges::numbers::type_fits_32_bits;
 use naga_info::TypeResolution;
 use naga_ir::{ArraySize, Handle, Module, StructMember, Type_, TypeInner, UniqueArena};
@@ -108,10 +108,10 @@ pub(crate) fn types_range_fault(module: &Module) -> Option<Unaccepted>
     ensures { result ≡ types_range_fault «module».now }
 {
     if let Some(handle) = first_early(&module.types) {
-        return Some(at(Item::Type(handle), Fault::TypeParts));
+        return Some(at(FaultPosition::Type(handle), Fault::TypeParts));
     }
     match first_without_length(module.overrides.len(), &module.types) {
-        Some(handle) => Some(at(Item::Type(handle), Fault::TypeLength)),
+        Some(handle) => Some(at(FaultPosition::Type(handle), Fault::TypeLength)),
         None => None,
     }
 }

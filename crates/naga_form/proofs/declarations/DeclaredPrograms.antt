@@ -46,8 +46,8 @@ use Rattle.module_meaning.specs.acceptance.Ranges.{function_in_range, override_i
 use Rattle.module_meaning.specs.acceptance.Ranges.{special_types_fit, types_in_range}
 use Rattle.module_meaning.specs.Types.{type_names}
 use Rattle.module_meaning.specs.Undeclared.{is_declared}
-use Rattle.module_meaning.specs.ExpressionForms.{constant_is_written, global_is_written}
-use Rattle.module_meaning.specs.ExpressionForms.{is_written_literal}
+use Rattle.module_meaning.specs.ExpressionForms.{constant_has_form, global_has_form}
+use Rattle.module_meaning.specs.ExpressionForms.{literal_has_form}
 use Rattle.module_meaning.proofs.Lists.{list_all_at}
 use Rattle.module_meaning.proofs.ExpressionForms.{spelled_of_spellable}
 use Rattle.wgsl_text.proofs.ValueWords.{value_words}
@@ -174,7 +174,7 @@ module _ (m : Module) (info : ModuleInfo) (accepted : IsTrue (is_accepted m info
   -- literals and types that are written are of the grammar
   literal_there : (h : ℕ) (value : _) →
       slice_get m.global_expressions h ≡ Some (expression.Literal value) →
-      is_written_literal value ≡ true →
+      literal_has_form value ≡ true →
       IsExpression (tree_expressions.Constant (literal_form value))
   literal_there h value at is =
       literal_is value is (global_names_in_range m info accepted h (expression.Literal value) at)
@@ -190,11 +190,11 @@ module _ (m : Module) (info : ModuleInfo) (accepted : IsTrue (is_accepted m info
       (global_names_in_range m info accepted h (expression.Override o) at))
 
   -- each that is written is of the grammar, and so each constant
-  pub written_global : (h : ℕ) → global_is_written m h ≡ true → IsExpression (global_form m (type_names m) h)
+  pub written_global : (h : ℕ) → global_has_form m h ≡ true → IsExpression (global_form m (type_names m) h)
   written_global h is = global_is m (type_names m) literal_there (constant_identifier m) override_there
       formed_there (suc h) h is
 
-  pub written_constants : (c : ℕ) → constant_is_written m c ≡ true →
+  pub written_constants : (c : ℕ) → constant_has_form m c ≡ true →
       IsExpression (written_constant_form m (type_names m) c)
   written_constants = constant_is m (type_names m) literal_there (constant_identifier m) override_there formed_there
 

@@ -32,8 +32,8 @@ use Rattle.text_meaning.specs.Vocabulary.{vocabulary_read}
 use Rattle.module_meaning.specs.acceptance.Accepted.{is_accepted}
 use Rattle.module_meaning.specs.DeclarationForms.{ConstantsHaveForms, IsInitialiser}
 use Rattle.module_meaning.specs.ExpressionContexts.{global_tree}
-use Rattle.module_meaning.specs.ExpressionForms.{global_is_written, global_is_written_over}
-use Rattle.module_meaning.specs.ExpressionForms.{global_is_written_within}
+use Rattle.module_meaning.specs.ExpressionForms.{global_has_form, global_has_form_over}
+use Rattle.module_meaning.specs.ExpressionForms.{global_has_form_within}
 use Rattle.module_meaning.specs.Interface.{global_expression_value}
 use Rattle.module_meaning.specs.ModuleShapes.{module_shape, variable_shape}
 use Rattle.module_meaning.specs.Names.{LabelNames, module_names}
@@ -81,12 +81,12 @@ module _ (known : ℕ → Option Value) (meaning : Meaning) (P : ℕ → Type 0)
         )
 
 -- what is written is one of the module's own expressions
-written_within : (m : Module) (h : ℕ) → global_is_written m h ≡ true →
+written_within : (m : Module) (h : ℕ) → global_has_form m h ≡ true →
     h < length m.global_expressions
 written_within m h is = by (slice_get m.global_expressions h) refl is
   where
     by : (o : Option Expression) → slice_get m.global_expressions h ≡ o →
-        option_map_or (global_is_written_over m (global_is_written_within h m)) o false ≡ true →
+        option_map_or (global_has_form_over m (global_has_form_within h m)) o false ≡ true →
         h < length m.global_expressions
     by None at is = absurd cc
     by (Some e) at is = slice_get_within m.global_expressions h e at
@@ -125,7 +125,7 @@ module _ (m : Module) (info : ModuleInfo) (accepted : IsTrue (is_accepted m info
 
   -- under all settings and typed meanings
   module _ (settings : Settings) (fit : SettingsFit shape settings) (meaning : Meaning)
-      (typed : IsTyped shape meaning) (h : ℕ) (is : IsTrue (global_is_written m h)) where
+      (typed : IsTyped shape meaning) (h : ℕ) (is : IsTrue (global_has_form m h)) where
     -- what is written of it is read as its tree
     abbrev tree : ConstantTree
     tree = (written_is_read m info (declarations_are m info accepted).size h is).0
@@ -187,7 +187,7 @@ module _ (m : Module) (info : ModuleInfo) (accepted : IsTrue (is_accepted m info
         ∙ sym (ap (option_and_then (module_initialiser_value shape settings meaning)) tree_is)))))
 
   pub has_value_of : (flags : WriterFlags) (labels : LabelNames) (h : ℕ) →
-      IsTrue (global_is_written m h) →
+      IsTrue (global_has_form m h) →
       HasValueOf m info h (program_under labels m info flags) (global_form m (type_names m) h)
   has_value_of flags labels h is settings fit meaning typed =
       let value = global_has_value settings fit meaning typed h is in (
@@ -201,7 +201,7 @@ module _ (m : Module) (info : ModuleInfo) (accepted : IsTrue (is_accepted m info
 pub initialisers_have_values : (m : Module) (info : ModuleInfo) → IsTrue (is_accepted m info) →
     (settings : Settings) → SettingsFit (module_shape m info) settings →
     (meaning : Meaning) → IsTyped (module_shape m info) meaning → (h : ℕ) → IsInitialiser m h →
-    IsTrue (global_is_written m h) →
+    IsTrue (global_has_form m h) →
     (v : Value) × (global_expression_value m info settings meaning h ≡ Some v)
 initialisers_have_values m info accepted settings fit meaning typed h initial is =
     global_has_value m info accepted settings fit meaning typed h is

@@ -46,7 +46,7 @@ use Rattle.module_meaning.specs.Namings.{named_handles, outer_names}
 use Rattle.module_meaning.specs.TypeIdentity.{identity, word_of_unspelled_type}
 use Rattle.module_meaning.specs.Types.{declared_type, type_names, word_of_values}
 use Rattle.module_meaning.specs.Undeclared.{is_spellable}
-use Rattle.module_meaning.specs.ExpressionForms.{global_is_written}
+use Rattle.module_meaning.specs.ExpressionForms.{global_has_form}
 use Rattle.module_meaning.proofs.ExpressionForms.{spelled_of_spellable}
 use Rattle.naga_form.specs.ConstantForms.{global_form}
 use Rattle.naga_form.specs.Declarations.{constant_form, override_form, space_form}
@@ -103,7 +103,7 @@ variable_read m v is = by v.space
 -- what is written of the module's own expressions is read as its tree
 pub written_is_read : (m : Module) (info : ModuleInfo) →
     length m.global_expressions ≡ length info.const_expression_types.items → (h : ℕ) →
-    global_is_written m h ≡ true →
+    global_has_form m h ≡ true →
     IsReadAs (outer_names (module_names m) m) (global_tree m info h)
     (global_form m (type_names m) h)
 written_is_read m info size h is =
@@ -267,7 +267,7 @@ module _ (m : Module) where
         (have : ConstantsHaveForms m) where
       constants_read_from : (k number : ℕ) (cs : List Constant) →
           ((i : ℕ) (c : Constant) → slice_get cs i ≡ Some c → is_named c ≡ true →
-          global_is_written m c.init ≡ true) →
+          global_has_form m c.init ≡ true) →
           ((i : ℕ) → slice_get (named_handles k cs) i ≡ slice_get all (number + i)) →
           map constant_read (filter_map (constant_form names t m) (enumerate_from k cs)) ≡
           constants_from outer number (map (initialiser m info) (filter is_named cs))

@@ -24,7 +24,7 @@ use Rattle.module_meaning.specs.Resolution.{ConstantsResolve, InitialisersResolv
 use Rattle.module_meaning.specs.Resolution.{MembersResolve, TypesResolve}
 use Rattle.module_meaning.specs.Types.{type_names}
 use Rattle.module_meaning.specs.Undeclared.{is_declared, is_undeclared}
-use Rattle.module_meaning.specs.ExpressionForms.{global_is_written}
+use Rattle.module_meaning.specs.ExpressionForms.{global_has_form}
 use Rattle.module_meaning.proofs.ExpressionForms.{spellable_parts}
 use Rattle.shader_runs.specs.Resolution.{constant_targets, Lookup, text_names, tree_targets}
 use Rattle.shader_runs.specs.Text.{TextConstant}
@@ -83,7 +83,7 @@ module _ (m : Module) (info : ModuleInfo) (flags : WriterFlags) (labels : LabelN
   names = text_names (program_read program)
 
   -- ---- initialisers
-  one_resolves : (o : Option ℕ) → ((h : ℕ) → o ≡ Some h → global_is_written m h ≡ true) →
+  one_resolves : (o : Option ℕ) → ((h : ℕ) → o ≡ Some h → global_has_form m h ≡ true) →
       initialiser_targets names (option_map (global_form m (type_names m)) o)
       ≡ map Some (initialiser_meant m info o)
   one_resolves None is = refl
@@ -93,7 +93,7 @@ module _ (m : Module) (info : ModuleInfo) (flags : WriterFlags) (labels : LabelN
   -- those of constants with names, from the number k on
   constants_resolve_from : (k : ℕ) (cs : List Constant) →
       ((i : ℕ) (c : Constant) → slice_get cs i ≡ Some c → is_named c ≡ true →
-      global_is_written m c.init ≡ true) →
+      global_has_form m c.init ≡ true) →
       map (λ (c : TextConstant). tree_targets names c.initialiser)
       (map constant_read
       (filter_map (constant_form (module_names m) (type_names m) m) (enumerate_from k cs)))
@@ -138,7 +138,7 @@ module _ (m : Module) (info : ModuleInfo) (flags : WriterFlags) (labels : LabelN
       (init : X → Option ℕ) → ((k : ℕ) (x : X) →
       value (form (k, x)) ≡ option_map (global_form m (type_names m)) (init x)) → (k : ℕ)
       (xs : List X) → ((i : ℕ) (x : X) → slice_get xs i ≡ Some x → (h : ℕ) → init x ≡ Some h →
-      global_is_written m h ≡ true) →
+      global_has_form m h ≡ true) →
       map (λ y. initialiser_targets names (value y)) (map form (enumerate_from k xs))
       ≡ map (map Some) (map (λ x. initialiser_meant m info (init x)) xs)
   each_resolves form value init same k [] is = refl

@@ -17,7 +17,7 @@ use Rattle.module_meaning.specs.ModuleShapes.{module_shape, variable_shape}
 use Rattle.module_meaning.specs.Names.{global_name, LabelNames, module_names}
 use Rattle.module_meaning.specs.Namings.{outer_names}
 use Rattle.module_meaning.specs.Types.{type_names}
-use Rattle.module_meaning.specs.ExpressionForms.{global_is_written}
+use Rattle.module_meaning.specs.ExpressionForms.{global_has_form}
 use Rattle.shader_runs.specs.Correct.{ItemsFit}
 use Rattle.shader_runs.specs.Form.{constant_form, form_module_with}
 use Rattle.shader_runs.specs.Text.{TextFunction}
@@ -88,7 +88,7 @@ module _ (m : Module) (info : ModuleInfo) (flags : WriterFlags) (named : LabelNa
   spells = spelled_as_trees m (λ h. None)
 
   -- one that is written names what its tree does
-  pub initialiser_found : (h : ℕ) → global_is_written m h ≡ true →
+  pub initialiser_found : (h : ℕ) → global_has_form m h ≡ true →
       tree_targets names (expression_read (global_form m (type_names m) h))
       ≡ map Some (option_map_or constant_targets (global_tree m info h) [])
   initialiser_found h is =

@@ -93,7 +93,8 @@ module _ (m : Module) (info : ModuleInfo) where
     where
       by : (b : Bool) →
           struct_distinguished
-          (identity_by (if b then Some (level 1 (kind_number s.kind) s.width (component_count n) 0 0) else None) r) ≡ None
+          (identity_by (if b then Some (level 1 (kind_number s.kind) s.width (component_count n) 0 0) else None)
+              r) ≡ None
       by true = refl
       by false = refl
 

@@ -8,7 +8,7 @@ use Rattle.std.proofs.lemmas.Option.{same_Some, slice_get-map}
 use Rattle.naga_ir.specs.declared.expression.SwizzleComponent.TheVariants as component
 use Rattle.naga_ir.specs.declared.types.Type_.{Type_}
 use Rattle.module_meaning.specs.AlikeTypes.{is_spelled}
-use Rattle.module_meaning.specs.ExpressionForms.{converts, expression_is_written, known_passes}
+use Rattle.module_meaning.specs.ExpressionForms.{converts, expression_has_own_form, known_passes}
 use Rattle.module_meaning.specs.ExpressionForms.{loads_matrix}
 use Rattle.module_meaning.specs.acceptance.InfoSizes.{resolution_is_fit}
 use Rattle.module_meaning.specs.Names.{module_names, name_in}
@@ -180,7 +180,7 @@ abbrev pub KnownBase : Module → List ExpressionInfo → ℕ → Type 0
 KnownBase m es base = KnownOperand m es (has_parts m.types) base
 
 pub known_base : (m : Module) (es : List ExpressionInfo) (base index : ℕ) →
-    expression_is_written m es (AccessIndex base index) ≡ true → KnownBase m es base
+    expression_has_own_form m es (AccessIndex base index) ≡ true → KnownBase m es base
 known_base m es base index may =
     known_operand m es (has_parts m.types) base
     (and_parts (known_passes m.types es (has_parts m.types) base) _ may).0
@@ -270,7 +270,7 @@ module _ (m : Module) (info : ModuleInfo) (es : List ExpressionInfo) where
       (slice_get-map (λ k. k.ty) es h ∙ ap (option_map (λ k. k.ty)) at)
 
   pub conversion : (operand : ℕ) (kind : ScalarKind) (convert : Option ℕ) →
-      expression_is_written m es (As operand kind convert) ≡ true →
+      expression_has_own_form m es (As operand kind convert) ≡ true →
       Conversion m d.context operand kind convert
   conversion operand kind convert may =
       let k = known_operand m es (converts m.types kind convert) operand may in
@@ -296,7 +296,7 @@ module _ (m : Module) (info : ModuleInfo) (es : List ExpressionInfo) where
 
   pub loaded_matrix : (columns rows : CooperativeSize) (role : CooperativeRole)
       (place : CooperativeData) →
-      expression_is_written m es (CooperativeLoad columns rows role place) ≡ true →
+      expression_has_own_form m es (CooperativeLoad columns rows role place) ≡ true →
       LoadedMatrix m d.context columns rows role place.pointer
   loaded_matrix columns rows role place may =
       let k = known_operand m es (loads_matrix m.types columns rows role) place.pointer may in
@@ -325,7 +325,7 @@ module _ (m : Module) (info : ModuleInfo) (es : List ExpressionInfo) where
       ∙ ap (option_and_then (λ it. selector d (handle_of b.known.ty) it index)) b.is
 
   -- its index selects a part
-  pub selected : (base index : ℕ) → expression_is_written m es (AccessIndex base index) ≡ true →
+  pub selected : (base index : ℕ) → expression_has_own_form m es (AccessIndex base index) ≡ true →
       (x : Selector) × (part_selector d base index ≡ Some x)
   selected base index may =
       let b = known_base m es base index may in
@@ -348,7 +348,7 @@ module _ (m : Module) (info : ModuleInfo) (es : List ExpressionInfo) where
       (type_known_is base b.known b.there ∙ b.is)) ∙ part
 
   -- by a word or a number of the grammar
-  pub selected_well : (base index : ℕ) → expression_is_written m es (AccessIndex base index) ≡ true →
+  pub selected_well : (base index : ℕ) → expression_has_own_form m es (AccessIndex base index) ≡ true →
       operands_fit m.types (map (λ k. k.ty) es) (AccessIndex base index) ≡ true →
       ((h : ℕ) (k : ExpressionInfo) → slice_get es h ≡ Some k → IsFit m k.ty) → index < 2 ^ 32 →
       (x : Selector) → part_selector d base index ≡ Some x → IsWellSelected x

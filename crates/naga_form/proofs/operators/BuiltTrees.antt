@@ -1,6 +1,7 @@
 -- The tree of each of the module's own expressions that has a form is built of literals, names and
 -- values of types from parts alone: it has no index, no part and no `&&` or `||`.
-use Rattle.std.proofs.Common.{◌≡◌, ℕ, zero, suc, Bool, true, false, List, [], ◌∷◌, Option, Some, None}
+use Rattle.std.proofs.Common.{◌≡◌, ℕ, zero, suc, Bool, true, false, List, [], ◌∷◌, Option, Some}
+use Rattle.std.proofs.Common.{None}
 use Rattle.std.proofs.Common.{refl, subst, slice_get, length, if◌then◌else◌}
 use Rattle.std.specs.List.{list_all}
 use Rattle.std.specs.Prelude.{◌||◌, unwrap_or}
@@ -17,8 +18,8 @@ use Rattle.naga_ir.specs.declared.module.Module.{Module}
 use Rattle.module_meaning.specs.ExpressionContexts.{constant_number, constant_over, declared_over}
 use Rattle.module_meaning.specs.ExpressionContexts.{global_tree, global_tree_within}
 use Rattle.module_meaning.specs.ExpressionContexts.{global_types_known, zero_of_type}
-use Rattle.module_meaning.specs.ExpressionForms.{constant_is_written_over, global_is_written}
-use Rattle.module_meaning.specs.ExpressionForms.{global_is_written_over, global_is_written_within}
+use Rattle.module_meaning.specs.ExpressionForms.{constant_has_form_over, global_has_form}
+use Rattle.module_meaning.specs.ExpressionForms.{global_has_form_over, global_has_form_within}
 use Rattle.module_meaning.specs.ExpressionOperators.{constructor}
 use Rattle.module_meaning.specs.ExpressionShapes.{Declared, built, computed_over, tree_then, trees}
 use Rattle.module_meaning.specs.ExpressionShapes.{trees_of}
@@ -68,7 +69,7 @@ module _ (m : Module) (info : ModuleInfo) where
         (global_types_known info h) t e in
         subst IsBuilt parts.2 are
 
-    constant_built : (c : ℕ) → constant_is_written_over m own c ≡ true → (t : ConstantTree) →
+    constant_built : (c : ℕ) → constant_has_form_over m own c ≡ true → (t : ConstantTree) →
         constant_over m global c ≡ Some t → IsBuilt t
     constant_built c is t e = by (slice_get m.constants c) is e
       where
@@ -89,7 +90,7 @@ module _ (m : Module) (info : ModuleInfo) where
         by None is e = absurd cc
         by (Some k) is e = subst IsBuilt (same_Some _ t e) (written k (is_some k.name) is)
 
-    over_built : (h : ℕ) (e : Expression) → global_is_written_over m own e ≡ true →
+    over_built : (h : ℕ) (e : Expression) → global_has_form_over m own e ≡ true →
         (t : ConstantTree) → computed_over inside global h e ≡ Some t → IsBuilt t
     over_built h (expression.Literal value) is t e = subst IsBuilt (same_Some _ t e) tt
     over_built h (expression.Constant c) is t e = constant_built c is t e
@@ -107,24 +108,24 @@ module _ (m : Module) (info : ModuleInfo) where
         made_built h (Splat size) (one.0 ∷ []) (each value is one.0 one.1, tt) t one.2
     over_built h _ is t e = absurd cc
 
-  within_built : (levels h : ℕ) → global_is_written_within levels m h ≡ true → (t : ConstantTree) →
+  within_built : (levels h : ℕ) → global_has_form_within levels m h ≡ true → (t : ConstantTree) →
       global_tree_within levels m info h ≡ Some t → IsBuilt t
   within_built zero h is t e = absurd cc
   within_built (suc levels) h is t e =
       by (within_built levels) (slice_get m.global_expressions h) is e
     where
-      by : ((k : ℕ) → global_is_written_within levels m k ≡ true → (u : ConstantTree) →
+      by : ((k : ℕ) → global_has_form_within levels m k ≡ true → (u : ConstantTree) →
           global_tree_within levels m info k ≡ Some u → IsBuilt u) → (o : Option Expression) →
-          option_map_or (global_is_written_over m (global_is_written_within levels m)) o false ≡ true →
+          option_map_or (global_has_form_over m (global_has_form_within levels m)) o false ≡ true →
           option_and_then
           (computed_over
           (declared_over m (constant_over m (global_tree_within levels m info)) (global_types_known info))
           (global_tree_within levels m info) h) o ≡ Some t → IsBuilt t
       by each None is e = absurd cc
       by each (Some x) is e =
-          over_built (global_is_written_within levels m) (global_tree_within levels m info) each h x is
+          over_built (global_has_form_within levels m) (global_tree_within levels m info) each h x is
           t e
 
-  pub written_is_built : (h : ℕ) → global_is_written m h ≡ true → (t : ConstantTree) →
+  pub written_is_built : (h : ℕ) → global_has_form m h ≡ true → (t : ConstantTree) →
       global_tree m info h ≡ Some t → IsBuilt t
   written_is_built h is t e = within_built (suc h) h is t e

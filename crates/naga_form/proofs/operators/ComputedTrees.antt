@@ -1,7 +1,8 @@
 -- Trees of the module's own expressions, computed over those of their operands: what holds of each
 -- tree that is made of such trees holds of each of them; and what has a form is computed as it is
 -- written.
-use Rattle.std.proofs.Common.{◌≡◌, ℕ, Bool, true, false, List, [], ◌∷◌, Option, Some, None, refl, subst}
+use Rattle.std.proofs.Common.{◌≡◌, ℕ, Bool, true, false, List, [], ◌∷◌, Option, Some, None, refl}
+use Rattle.std.proofs.Common.{subst}
 use Rattle.std.specs.List.{AllByRecursion}
 use Rattle.std.specs.Prelude.{if◌then◌else◌}
 use Rattle.std.specs.Option.{option_and_then}
@@ -12,9 +13,10 @@ use Rattle.naga_ir.specs.declared.expression.Expression.{Expression}
 use Rattle.naga_ir.specs.declared.expression.Expression.TheVariants as expression
 use Rattle.naga_ir.specs.declared.operators.BinaryOperator.TheVariants as binary
 use Rattle.naga_ir.specs.declared.module.Module.{Module}
-use Rattle.module_meaning.specs.ExpressionForms.{global_is_written_over}
+use Rattle.module_meaning.specs.ExpressionForms.{global_has_form_over}
 use Rattle.module_meaning.specs.ExpressionOperators.{applied_operator, part_operator}
-use Rattle.module_meaning.specs.ExpressionShapes.{Declared, built, computed_over, has_values, indexed}
+use Rattle.module_meaning.specs.ExpressionShapes.{Declared, built, computed_over, has_values}
+use Rattle.module_meaning.specs.ExpressionShapes.{indexed}
 use Rattle.module_meaning.specs.ExpressionShapes.{operated, over_two, part_selector}
 use Rattle.module_meaning.specs.ExpressionShapes.{part_tree, picked, swizzle_letters, tree_over}
 use Rattle.module_meaning.specs.ExpressionShapes.{tree_then, trees, trees_of, typed_tree}
@@ -131,7 +133,7 @@ module _ (d : Declared) (tree_of : ℕ → Option ConstantTree) (Q : ConstantTre
 -- ---- what has a form
 -- it is computed as it is written
 pub computed_as_formed : (m : Module) (d : Declared) (tree_of : ℕ → Option ConstantTree) (h : ℕ)
-    (own : ℕ → Bool) (e : Expression) → global_is_written_over m own e ≡ true →
+    (own : ℕ → Bool) (e : Expression) → global_has_form_over m own e ≡ true →
     computed_over d tree_of h e ≡ tree_over d tree_of h e
 computed_as_formed m d tree_of h own (expression.Literal value) is = refl
 computed_as_formed m d tree_of h own (expression.Constant handle) is = refl

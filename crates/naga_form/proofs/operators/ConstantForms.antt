@@ -24,10 +24,10 @@ use Rattle.module_meaning.specs.Literals.{literal_value}
 use Rattle.module_meaning.specs.Names.{constant_name, module_names}
 use Rattle.module_meaning.specs.Namings.{outer_names}
 use Rattle.module_meaning.specs.OperatorTable.{Operator, Splat, run_word}
-use Rattle.module_meaning.specs.ExpressionForms.{constant_is_written, constant_is_written_over}
-use Rattle.module_meaning.specs.ExpressionForms.{expression_is_written}
-use Rattle.module_meaning.specs.ExpressionForms.{global_is_written, global_is_written_over}
-use Rattle.module_meaning.specs.ExpressionForms.{global_is_written_within, is_written_literal}
+use Rattle.module_meaning.specs.ExpressionForms.{constant_has_form, constant_has_form_over}
+use Rattle.module_meaning.specs.ExpressionForms.{expression_has_own_form}
+use Rattle.module_meaning.specs.ExpressionForms.{global_has_form, global_has_form_over}
+use Rattle.module_meaning.specs.ExpressionForms.{global_has_form_within, literal_has_form}
 use Rattle.module_meaning.specs.ExpressionContexts.{constant_number, constant_over, declared}
 use Rattle.module_meaning.specs.ExpressionContexts.{declared_over}
 use Rattle.module_meaning.specs.ExpressionContexts.{global_tree, global_tree_within}
@@ -126,7 +126,7 @@ module _ (outer : ModuleNames) (m : Module) (constants : ℕ → Option Constant
 
     -- what is asked of an expression that is written out
     abbrev OutOf : ir.Expression → Type 0
-    OutOf (expression.Literal value) = is_written_literal value ≡ true
+    OutOf (expression.Literal value) = literal_has_form value ≡ true
     OutOf (expression.Constant handle) = IsReadAs outer (constants handle) (constant handle)
     OutOf (expression.Override handle) =
         t.override_name handle ≡ outer.constant (override_number m handle)
@@ -186,7 +186,7 @@ module _ (outer : ModuleNames) (m : Module) (constants : ℕ → Option Constant
 module _ (outer : ModuleNames) (m : Module) (info : ModuleInfo) (es : List ExpressionInfo)
     (t : TypeNames) (spells : SpellsTypes m (expression_context m (types_known es)) t)
     (named : NamesAreRead outer m t)
-    (constants : (c : ℕ) → constant_is_written m c ≡ true →
+    (constants : (c : ℕ) → constant_has_form m c ≡ true →
     IsReadAs outer (written_constant m info c) (written_constant_form m t c))
     (W : ℕ → Type 0) (all : List ir.Expression)
     (known : (h : ℕ) (e : ir.Expression) → slice_get all h ≡ Some e →
@@ -194,7 +194,7 @@ module _ (outer : ModuleNames) (m : Module) (info : ModuleInfo) (es : List Expre
     (closed : (h : ℕ) (e : ir.Expression) → slice_get all h ≡ Some e → W h →
     AllByRecursion W (expression_operands e))
     (written : (h : ℕ) (e : ir.Expression) → slice_get all h ≡ Some e → W h →
-    expression_is_written m es e ≡ true) where
+    expression_has_own_form m es e ≡ true) where
   abbrev own : Declared
   own = declared m info (types_known es)
 
@@ -223,7 +223,7 @@ module _ (outer : ModuleNames) (m : Module) (info : ModuleInfo) (es : List Expre
 
       out_of : ((x : ℕ) → W x → may x ≡ true → IsReadAs outer (tree_of x) (out_form levels x)) →
           (e : ir.Expression) → AllByRecursion W (expression_operands e) →
-          expression_is_written m es e ≡ true → written_out_over may e ≡ true →
+          expression_has_own_form m es e ≡ true → written_out_over may e ≡ true →
           OutOf outer m (written_constant m info) (types_known es) (types_known es) t spells tree_of
           (out_form levels) (written_constant_form m t) e
       out_of each (expression.Literal value) w written is = written
@@ -257,7 +257,7 @@ module _ (outer : ModuleNames) (m : Module) (info : ModuleInfo) (t : TypeNames)
   -- a constant, over what is said of the module's own expressions
   constant_read : (own : ℕ → Bool) (tree_of : ℕ → Option ConstantTree) (part : ℕ → Expression) →
       ((x : ℕ) → own x ≡ true → IsReadAs outer (tree_of x) (part x)) → (c : ℕ) →
-      constant_is_written_over m own c ≡ true →
+      constant_has_form_over m own c ≡ true →
       IsReadAs outer (constant_over m tree_of c) (constant_form_by m part c)
   constant_read own tree_of part each c is = by (slice_get m.constants c) refl is
     where
@@ -287,13 +287,13 @@ module _ (outer : ModuleNames) (m : Module) (info : ModuleInfo) (t : TypeNames)
       by None at is = absurd cc
       by (Some k) at is = by_name k (is_some k.name) refl (named.constants c k at) is
 
-  pub global_read : (levels h : ℕ) → global_is_written_within levels m h ≡ true →
+  pub global_read : (levels h : ℕ) → global_has_form_within levels m h ≡ true →
       IsReadAs outer (global_tree_within levels m info h) (global_form_within levels m t h)
   global_read zero h is = absurd cc
   global_read (suc levels) h is = by (slice_get m.global_expressions h) refl is (global_read levels)
     where
       own : ℕ → Bool
-      own = global_is_written_within levels m
+      own = global_has_form_within levels m
 
       tree_of : ℕ → Option ConstantTree
       tree_of = global_tree_within levels m info
@@ -309,7 +309,7 @@ module _ (outer : ModuleNames) (m : Module) (info : ModuleInfo) (t : TypeNames)
           (each x both.0, all_read each xs both.1)
 
       out_of : ((x : ℕ) → own x ≡ true → IsReadAs outer (tree_of x) (part x)) →
-          (e : ir.Expression) → global_is_written_over m own e ≡ true →
+          (e : ir.Expression) → global_has_form_over m own e ≡ true →
           OutOf outer m (constant_over m tree_of) (global_types_known info) (λ h. None) t spells
           tree_of part (constant_form_by m part) e
       out_of each (expression.Literal value) is = is
@@ -331,7 +331,7 @@ module _ (outer : ModuleNames) (m : Module) (info : ModuleInfo) (t : TypeNames)
           (element info.const_expression_types.items h (subst (λ n. h < n) size lt)).1
 
       by : (o : Option ir.Expression) → slice_get m.global_expressions h ≡ o →
-          option_map_or (global_is_written_over m own) o false ≡ true →
+          option_map_or (global_has_form_over m own) o false ≡ true →
           ((x : ℕ) → own x ≡ true → IsReadAs outer (tree_of x) (part x)) →
           IsReadAs outer
           (option_and_then
@@ -351,15 +351,15 @@ module _ (outer : ModuleNames) (m : Module) (info : ModuleInfo) (t : TypeNames)
           tree_of part (constant_form_by m part) h (known e at) e (out_of each e is))
 
   -- what is written of the module's own expressions is read as its tree
-  pub globals_read : (h : ℕ) → global_is_written m h ≡ true →
+  pub globals_read : (h : ℕ) → global_has_form m h ≡ true →
       IsReadAs outer (global_tree m info h) (global_form m t h)
   globals_read h is = global_read (suc h) h is
 
   -- and so is a constant
-  pub constants_read : (c : ℕ) → constant_is_written m c ≡ true →
+  pub constants_read : (c : ℕ) → constant_has_form m c ≡ true →
       IsReadAs outer (written_constant m info c) (written_constant_form m t c)
   constants_read c is =
-      constant_read (global_is_written m) (global_tree m info) (global_form m t) globals_read c is
+      constant_read (global_has_form m) (global_tree m info) (global_form m t) globals_read c is
 
 -- ---- what is of the grammar
 module _ (a : ExpressionContext) (t : TypeNames) (constant part : ℕ → Expression) where
@@ -448,14 +448,14 @@ module _ (a : ExpressionContext) (t : TypeNames) (constant : ℕ → Expression)
 -- of a module
 module _ (m : Module) (t : TypeNames)
     (literals : (h : ℕ) (value : _) → slice_get m.global_expressions h ≡ Some (expression.Literal value) →
-    is_written_literal value ≡ true → IsExpression (Constant (literal_form value)))
+    literal_has_form value ≡ true → IsExpression (Constant (literal_form value)))
     (named : (c : ℕ) → c < length m.constants → IsIdentifier (constant_name (module_names m) c))
     (overrides : (h o : ℕ) → slice_get m.global_expressions h ≡ Some (expression.Override o) →
     IsIdentifier (t.override_name o))
     (formed : (ty : ℕ) → is_spelled m.types (Handle ty) ≡ true → HasFormAt t ty) where
   constant_is_by : (own : ℕ → Bool) (part : ℕ → Expression) →
       ((x : ℕ) → own x ≡ true → IsExpression (part x)) → (c : ℕ) →
-      constant_is_written_over m own c ≡ true → IsExpression (constant_form_by m part c)
+      constant_has_form_over m own c ≡ true → IsExpression (constant_form_by m part c)
   constant_is_by own part each c is = by (slice_get m.constants c) refl is
     where
       by_name : (k : ir_constant.Constant) (b : Bool) → c < length m.constants →
@@ -473,13 +473,13 @@ module _ (m : Module) (t : TypeNames)
       by None at is = absurd cc
       by (Some k) at is = by_name k (is_some k.name) (slice_get_within m.constants c k at) is
 
-  pub global_is : (levels h : ℕ) → global_is_written_within levels m h ≡ true →
+  pub global_is : (levels h : ℕ) → global_has_form_within levels m h ≡ true →
       IsExpression (global_form_within levels m t h)
   global_is zero h is = tt
   global_is (suc levels) h is = by (slice_get m.global_expressions h) refl is (global_is levels)
     where
       own : ℕ → Bool
-      own = global_is_written_within levels m
+      own = global_has_form_within levels m
 
       part : ℕ → Expression
       part = global_form_within levels m t
@@ -492,7 +492,7 @@ module _ (m : Module) (t : TypeNames)
           (each x both.0, all_are each xs both.1)
 
       out_of : ((x : ℕ) → own x ≡ true → IsExpression (part x)) → (e : ir.Expression) →
-          slice_get m.global_expressions h ≡ Some e → global_is_written_over m own e ≡ true →
+          slice_get m.global_expressions h ≡ Some e → global_has_form_over m own e ≡ true →
           IsOutOf (expression_context m (λ x. None)) t (constant_form_by m part) part e
       out_of each (expression.Literal value) at is = literals h value at is
       out_of each (expression.Constant handle) at is = constant_is_by own part each handle is
@@ -506,7 +506,7 @@ module _ (m : Module) (t : TypeNames)
       out_of each _ at is = tt
 
       by : (o : Option ir.Expression) → slice_get m.global_expressions h ≡ o →
-          option_map_or (global_is_written_over m own) o false ≡ true →
+          option_map_or (global_has_form_over m own) o false ≡ true →
           ((x : ℕ) → own x ≡ true → IsExpression (part x)) →
           IsExpression
           (option_map_or
@@ -518,7 +518,7 @@ module _ (m : Module) (t : TypeNames)
           (out_of each e at is)
 
   -- a constant that is written
-  pub constant_is : (c : ℕ) → constant_is_written m c ≡ true →
+  pub constant_is : (c : ℕ) → constant_has_form m c ≡ true →
       IsExpression (written_constant_form m t c)
   constant_is c is =
-      constant_is_by (global_is_written m) (global_form m t) (λ x is. global_is (suc x) x is) c is
+      constant_is_by (global_has_form m) (global_form m t) (λ x is. global_is (suc x) x is) c is

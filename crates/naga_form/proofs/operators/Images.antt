@@ -13,7 +13,7 @@ use Rattle.module_meaning.specs.ExpressionShapes.{trees, written_zero}
 use Rattle.module_meaning.specs.OperatorTable.{Gather, Level, Sample, run_word, sample_word}
 use Rattle.module_meaning.specs.OperatorTable.{Automatic, Biased, Exact, Graded, Zero}
 use Rattle.module_meaning.specs.OperatorTable.{zero_is_written}
-use Rattle.module_meaning.specs.Sampling.{sampling_is_written}
+use Rattle.module_meaning.specs.Sampling.{sampling_has_form}
 use Rattle.naga_form.proofs.operators.CalledWords.{callee_of}
 use Rattle.naga_form.proofs.operators.Operators.{AllReadLike}
 use Rattle.naga_form.proofs.statements.WrittenHandles.{all_rest}
@@ -73,7 +73,7 @@ with_number w n = ap (λ v. v ++ (codes " " ++ decimal n)) (named_text w)
 -- Of a gather the component belongs to the word that is read. What is sampled has operands, so that
 -- an argument is the first.
 gather_read : (c : SwizzleComponent) (l : SampleLevel) (compares clamped arrayed offset : Bool) →
-    sampling_is_written (Some c) l compares clamped ≡ true → (of_depths : Bool) →
+    sampling_has_form (Some c) l compares clamped ≡ true → (of_depths : Bool) →
     (e : Expression) (args : Arguments) →
     let op = sample_operator of_depths (Some c) (level_of l) compares clamped arrayed offset in
     called_word (Named (sampling_word op)) (component_then (gathered_component op) (Argument e args)) ≡
@@ -119,7 +119,7 @@ gather_read c _ compares clamped arrayed offset is of_depths e args = absurd cc
 
 word_read : (gather : Option SwizzleComponent) (l : SampleLevel)
     (compares clamped arrayed offset of_depths : Bool) →
-    sampling_is_written gather l compares clamped ≡ true → (e : Expression) (args : Arguments) →
+    sampling_has_form gather l compares clamped ≡ true → (e : Expression) (args : Arguments) →
     let op = sample_operator of_depths gather (level_of l) compares clamped arrayed offset in
     called_word (Named (sampling_word op)) (component_then (gathered_component op) (Argument e args)) ≡
     run_word op
@@ -154,7 +154,7 @@ module _ (operand : ℕ → PlainForm) (like : ℕ → runs.Plain) (outer : Modu
   -- a sampling is read as its operator over its operands and constants
   pub sampling_read : (gather : Option SwizzleComponent) (l : SampleLevel)
       (compares clamped arrayed with_offset of_depths unwritten whole : Bool) →
-      sampling_is_written gather l compares clamped ≡ true → (h : ℕ) (hs : List ℕ) →
+      sampling_has_form gather l compares clamped ≡ true → (h : ℕ) (hs : List ℕ) →
       AllReadLike operand like (h ∷ hs) → (offset : List Expression) (c : Option ConstantTree) →
       arguments_read (operands offset) ≡ constant_forms outer (trees (option_to_list c)) →
       let op = sample_operator of_depths gather (level_of l) compares clamped arrayed with_offset in
@@ -300,7 +300,7 @@ module _ (e : Expression) (es offset : List Expression) (are : Each IsExpression
   -- a sampling that has a form is of the grammar
   pub sampling_is : (gather : Option SwizzleComponent) (l : SampleLevel)
       (compares clamped arrayed with_offset of_depths whole : Bool) →
-      sampling_is_written gather l compares clamped ≡ true →
+      sampling_has_form gather l compares clamped ≡ true →
       IsExpression
       (sampling_form
       (sample_operator of_depths gather (level_of l) compares clamped arrayed with_offset)

@@ -18,7 +18,7 @@ use Rattle.naga_ir.specs.declared.expression.Literal.{Literal}
 use Rattle.naga_ir.specs.declared.expression.Literal as ir_literal
 use Rattle.naga_ir.specs.declared.expression.Literal.TheVariants as literal
 use Rattle.module_meaning.specs.Literals.{literal_is_within}
-use Rattle.module_meaning.specs.ExpressionForms.{is_written_literal}
+use Rattle.module_meaning.specs.ExpressionForms.{literal_has_form}
 use Rattle.wgsl_text.specs.Literals.{Suffixed, LeastInteger, LeastLong, IsLiteral, IsFloating}
 use Rattle.wgsl_text.specs.Token.{AreDigits, IsPower, IsPrecision}
 use Rattle.wgsl_text.specs.Token.{SuffixI, SuffixLi, Precision, Half, Single}
@@ -66,7 +66,7 @@ power_read (pos (suc n)) small = ap (integer_of_sign false) (decimal_is_IsNumera
 power_read (negsuc n) small = ap (integer_of_sign true) (decimal_is_IsNumeral (suc n) small).1
 
 -- a literal that is written is read with its value
-pub literal_read : (v : ir_literal.Literal) → is_written_literal v ≡ true → value_read (literal_form v)
+pub literal_read : (v : ir_literal.Literal) → literal_has_form v ≡ true → value_read (literal_form v)
     ≡ literal_value v
 literal_read (literal.I32 (negsuc n)) w = integer_read n (n == 2147483647) refl
 literal_read (literal.I64 (negsuc n)) w = long_read n (n == 9223372036854775807) refl
@@ -123,7 +123,7 @@ power_is (pos (suc n)) small = (let is = (decimal_is_IsNumeral (suc n) small).0 
     (decimal (suc n)) is.0 is.1)
 power_is (negsuc n) small = (let is = (decimal_is_IsNumeral (suc n) small).0 in are_digits (decimal (suc n)) is.0 is.1)
 
-pub literal_is : (v : ir_literal.Literal) → IsTrue (is_written_literal v) → IsTrue (literal_is_within v) →
+pub literal_is : (v : ir_literal.Literal) → IsTrue (literal_has_form v) → IsTrue (literal_is_within v) →
     IsLiteral (literal_form v)
 literal_is (literal.Bool b) w e = tt
 literal_is (literal.I32 (pos n)) w e = ltb-true n (2 ^ 31) e

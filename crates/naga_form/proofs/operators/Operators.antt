@@ -43,7 +43,7 @@ use Rattle.module_meaning.specs.ExpressionShapes.{applied_shape}
 use Rattle.module_meaning.specs.OperatorTable.{Operator, BinarySign, UnarySign, AtomicLoad, asks}
 use Rattle.module_meaning.specs.OperatorTable.{CooperativeLoad, MatrixLoad, run_word}
 use Rattle.module_meaning.specs.ExpressionContexts.{expression_context}
-use Rattle.module_meaning.specs.ExpressionForms.{expression_is_written}
+use Rattle.module_meaning.specs.ExpressionForms.{expression_has_own_form}
 use Rattle.module_meaning.specs.Types.{spelled_resolution, type_names}
 use Rattle.module_meaning.specs.Undeclared.{is_undeclared_struct}
 use Rattle.module_meaning.proofs.ExpressionForms.{declared_of_spellable}
@@ -204,7 +204,7 @@ untyped (Some op) = tt
 
 -- what is written is spelled by the type by which its operator is called
 pub operator_spelled : (m : Module) (a : ExpressionContext) (t : TypeNames) → SpellsTypes m a t →
-    (es : List ExpressionInfo) (e : ir.Expression) → expression_is_written m es e ≡ true →
+    (es : List ExpressionInfo) (e : ir.Expression) → expression_has_own_form m es e ≡ true →
     SpellsIf (operator_type a t e) (applied_operator a e)
 operator_spelled m a t spells es (expression.Compose ty components) is =
     constructor_spelled a (Handle ty) (length components.items) (type_tree t ty)
@@ -481,7 +481,7 @@ own_notated (Some op) hs untyped has is = table_notated op hs (untyped op refl) 
 
 -- each expression that is written and applies an operator has its operands
 pub notated : (a : ExpressionContext) (t : TypeNames) (m : Module) (es : List ExpressionInfo) →
-    (e : ir.Expression) → expression_is_written m es e ≡ true → HasNotation e → TypeIsFormed a t e →
+    (e : ir.Expression) → expression_has_own_form m es e ≡ true → HasNotation e → TypeIsFormed a t e →
     IsNotated (operator_type a t e) (expression_operands e) (applied_operator a e)
 notated a t m es (expression.Literal value) written has formed = tt
 notated a t m es (expression.Constant handle) written has formed = tt

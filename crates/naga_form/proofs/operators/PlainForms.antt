@@ -1,7 +1,7 @@
 -- The plain forms of handles that are written are of the grammar, where the names in scope are
 -- identifiers.
 use Rattle.module_meaning.specs.acceptance.OperandDemands.{are_operands_fit, operands_fit}
-use Rattle.module_meaning.specs.ExpressionForms.{constant_is_written, expression_is_written}
+use Rattle.module_meaning.specs.ExpressionForms.{constant_has_form, expression_has_own_form}
 use Rattle.module_meaning.specs.ExpressionShapes.{part_selector, Declared}
 use Rattle.module_meaning.specs.OperatorTable.{WithoutForm, PartAt, Operator}
 use Rattle.naga_form.proofs.operators.AllowedParts.{IsWellSelected, selected, selected_well}
@@ -131,7 +131,7 @@ module _ (flags : WriterFlags) (m : Module) (info : ModuleInfo) (g : ℕ) (f : i
     (types : TypesAreFit m) (fits : (h : ℕ) (k : ExpressionInfo) → slice_get es h ≡ Some k →
     IsFit m k.ty)
     (demands : are_operands_fit m.types (map (λ e. e.ty) es) f.expressions ≡ true) (named : ℕ → List ℕ)
-    (constants : (c : ℕ) → constant_is_written m c ≡ true →
+    (constants : (c : ℕ) → constant_has_form m c ≡ true →
     IsExpression (written_constant_form m (type_names m) c)) where
   abbrev own : Naming
   own = function_naming (module_names m) named m info g f es
@@ -157,7 +157,7 @@ module _ (flags : WriterFlags) (m : Module) (info : ModuleInfo) (g : ℕ) (f : i
       let t = tree_there (type_names m) (Handle ty) is in
       (t.0, t.1, tree_is m types (Handle ty) tt t.0 t.1)
 
-  type_formed : (e : ir.Expression) → expression_is_written m es e ≡ true →
+  type_formed : (e : ir.Expression) → expression_has_own_form m es e ≡ true →
       TypeIsFormed d.context (type_names m) e
   type_formed (expression.ZeroValue ty) is = type_at ty (spelled_of_spellable m (Handle ty) is)
   type_formed (expression.Compose ty components) is =
@@ -239,7 +239,7 @@ module _ (flags : WriterFlags) (m : Module) (info : ModuleInfo) (g : ℕ) (f : i
   offset_is h _ at w = tt
 
   own_is : (operand : ℕ → PlainForm) → (h : ℕ) (e : ir.Expression) →
-      slice_get f.expressions h ≡ Some e → (expression_is_written m es e ≡ true) × OffsetIs e →
+      slice_get f.expressions h ≡ Some e → (expression_has_own_form m es e ≡ true) × OffsetIs e →
       ArePlain operand (expression_operands e) → IsPlainForm (own_plain own source operand e)
   own_is operand h (expression.Literal v) at is all =
       literal_is v is.0

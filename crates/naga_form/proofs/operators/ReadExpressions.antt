@@ -52,7 +52,7 @@ use Rattle.naga_info.specs.declared.info.ExpressionInfo.{ExpressionInfo}
 use Rattle.std.specs.List.{AllByRecursion}
 use Rattle.std.specs.Option.{option_to_list}
 use Rattle.naga_form.proofs.statements.WrittenHandles.{all_map}
-use Rattle.module_meaning.specs.ExpressionForms.{expression_is_written}
+use Rattle.module_meaning.specs.ExpressionForms.{expression_has_own_form}
 use Rattle.wgsl_text.specs.Types.{TypeSpecifier}
 use Rattle.shader_runs.specs.Value.{ValueType, BooleanType, OtherType, PointerType}
 use Rattle.shader_runs.specs.Value.{Selector, ElementAt, type_at}
@@ -196,7 +196,7 @@ module _ (m : Module) (n : Naming) (code : Source)
       (all_map (λ h is. value_is (operand h) ∙ ap runs.value_form is) hs same)
 
   applies : (operand : ℕ → PlainForm) (like : ℕ → Plain) (e : ir.Expression) →
-      ArePlain operand like (expression_operands e) → expression_is_written m es e ≡ true →
+      ArePlain operand like (expression_operands e) → expression_has_own_form m es e ≡ true →
       plain_read
       (applied_plain no_form (operator_type code.declared.context code.type_names e) operand (expression_operands e)
       (applied_operator code.declared.context e)) ≡
@@ -253,7 +253,7 @@ module _ (m : Module) (n : Naming) (code : Source)
 
   own_reads : (operand : ℕ → PlainForm) (like : ℕ → Plain) (h : ℕ)
       (e : ir.Expression) → ArePlain operand like (expression_operands e) →
-      expression_is_written m es e ≡ true → IsKnown h e →
+      expression_has_own_form m es e ≡ true → IsKnown h e →
       plain_read (own_plain n code operand e) ≡ runs.own_form n like (Some (shape_of code.declared all h e))
   own_reads operand like h (expression.Literal value) same w known =
       ap (λ v. AsValue (LiteralOf v)) (literal_read value w)
@@ -366,7 +366,7 @@ module _ (m : Module) (n : Naming) (code : Source)
   pub own_if_reads : (operand : ℕ → PlainForm) (like : ℕ → Plain) (h : ℕ) →
       (e : Option ir.Expression) →
       ((x : ir.Expression) → e ≡ Some x → ArePlain operand like (expression_operands x)) →
-      ((x : ir.Expression) → e ≡ Some x → expression_is_written m es x ≡ true) →
+      ((x : ir.Expression) → e ≡ Some x → expression_has_own_form m es x ≡ true) →
       ((x : ir.Expression) → e ≡ Some x → IsKnown h x) →
       plain_read (own_if n code operand e) ≡
       runs.own_form n like (option_map (shape_of code.declared all h) e)

@@ -22,7 +22,7 @@ use Rattle.naga_form.proofs.operators.OperatorTable.{untyped_share}
 use Rattle.wgsl_text.proofs.Types.{fits_none, type_template, named_text}
 use Rattle.wgsl_text.specs.Reading.{type_layout}
 use Rattle.wgsl_text.specs.Text.{text}
-use Rattle.wgsl_text.specs.Requests.{head_word, is_request, request_words}
+use Rattle.wgsl_text.specs.Requests.{word_before_parts, is_request, request_words}
 use Rattle.wgsl_text.specs.Keywords.{builtin_words}
 use Rattle.wgsl_text.proofs.Words.{passes}
 use Rattle.module_meaning.specs.OperatorTable.{Operator, CooperativeLoad, Construct, Convert}
@@ -45,24 +45,24 @@ word_byte_goes_on b e = by (nat_eq b 60) refl (nat_eq b 32) refl
     by false is true also = absurd (false≢true (sym (ap is_word_byte (eqb-true b 32 also)) ∙ e))
     by false is false also = λ i. is i || also i
 
-head_before : (w rest : List ℕ) → all_word_bytes w ≡ true → head_word (w ++ (60 ∷ rest)) ≡ w
+head_before : (w rest : List ℕ) → all_word_bytes w ≡ true → word_before_parts (w ++ (60 ∷ rest)) ≡ w
 head_before [] rest e = refl
 head_before (b ∷ bytes) rest e =
     let parts = and_parts (is_word_byte b) (all_word_bytes bytes) e in
-    ap (λ x. if x then [] else b ∷ head_word (bytes ++ (60 ∷ rest))) (word_byte_goes_on b parts.0)
+    ap (λ x. if x then [] else b ∷ word_before_parts (bytes ++ (60 ∷ rest))) (word_byte_goes_on b parts.0)
     ∙ ap (λ bs. b ∷ bs) (head_before bytes rest parts.1)
 
-head_alone : (w : List ℕ) → all_word_bytes w ≡ true → head_word w ≡ w
+head_alone : (w : List ℕ) → all_word_bytes w ≡ true → word_before_parts w ≡ w
 head_alone [] e = refl
 head_alone (b ∷ bytes) e =
     let parts = and_parts (is_word_byte b) (all_word_bytes bytes) e in
-    ap (λ x. if x then [] else b ∷ head_word bytes) (word_byte_goes_on b parts.0)
+    ap (λ x. if x then [] else b ∷ word_before_parts bytes) (word_byte_goes_on b parts.0)
     ∙ ap (λ bs. b ∷ bs) (head_alone bytes parts.1)
 
 -- ---- no other operator's word is one of these
 -- a word with a `<` after it
 abbrev opens : List ℕ → Bool
-opens w = is_word_text (head_word w) && list_any (nat_eq 60) w
+opens w = is_word_text (word_before_parts w) && list_any (nat_eq 60) w
 
 -- a word of the language that is no type
 abbrev is_function : List ℕ → Bool
@@ -126,7 +126,7 @@ unfolding is_request is_builtin builtin_words
 no_request w is = by (stands_in request_words w) refl
   where
     by : (b : Bool) → stands_in request_words w ≡ b →
-        stands_in request_words (head_word w) ≡ false
+        stands_in request_words (word_before_parts w) ≡ false
     by false at = ap (stands_in request_words) (head_alone w (word_bytes w is.word.text)) ∙ at
     by true at = absurd (true≢false (sym (passes is_builtin request_words w refl at) ∙ is.own))
 
@@ -139,8 +139,8 @@ pub head_text : (t : TypeSpecifier) → IsTemplateArgument t → is_word_text (h
 head_text (Named w) is = is.text
 head_text (Template w parts) is = (type_template w parts is.0).word.text
 
-pub head_is : (t : TypeSpecifier) → IsTemplateArgument t → head_word (type_layout t) ≡ head_of t
-head_is (Named w) is = ap head_word (named_text w) ∙ head_alone w (word_bytes w is.text)
+pub head_is : (t : TypeSpecifier) → IsTemplateArgument t → word_before_parts (type_layout t) ≡ head_of t
+head_is (Named w) is = ap word_before_parts (named_text w) ∙ head_alone w (word_bytes w is.text)
 head_is (Template w parts) is = head_before w (text (template_pieces parts (has_gaps w)))
     (word_bytes w (head_text (Template w parts) is))
 
@@ -250,7 +250,7 @@ no_type_begins v named rule (Template w parts) is e =
 record TakesType (v : List ℕ) : Type 0 where
   pub named : is_type (Named v) ≡ false
   pub rule : rule_among type_templates v ≡ TakesNone
-  pub head : (w : List ℕ) → head_word (with_type v w) ≡ v
+  pub head : (w : List ℕ) → word_before_parts (with_type v w) ≡ v
 
 reinterpret_takes : TakesType (codes "bitcast")
 unfolding is_builtin
@@ -267,7 +267,7 @@ transposed_takes = record { named = refl; rule = refl; head = λ w. refl }
 type_is_no_call : (v : List ℕ) → TakesType v → (w x : List ℕ) → SpellsAType w → w ≡ with_type v x → ⊥
 type_is_no_call v takes w x is e =
     no_type_begins v takes.named takes.rule is.0 is.1.0
-    (sym (head_is is.0 is.1.0.part) ∙ (ap head_word (is.1.1 ∙ e) ∙ takes.head x))
+    (sym (head_is is.0 is.1.0.part) ∙ (ap word_before_parts (is.1.1 ∙ e) ∙ takes.head x))
 
 same_call : (v w x : List ℕ) → with_type v w ≡ with_type v x → w ≡ x
 same_call v w x e =
@@ -277,7 +277,7 @@ same_call v w x e =
 other_call : (v u : List ℕ) → TakesType v → TakesType u → bytes_eq v u ≡ false → (w x : List ℕ) →
     with_type v w ≡ with_type u x → ⊥
 other_call v u a b apart w x e =
-    false≢true (sym apart ∙ (bytes_eq-Decides v u).1 (sym (a.head w) ∙ (ap head_word e ∙ b.head x)))
+    false≢true (sym apart ∙ (bytes_eq-Decides v u).1 (sym (a.head w) ∙ (ap word_before_parts e ∙ b.head x)))
 
 -- ---- what no text has
 -- its word tells it
@@ -306,7 +306,7 @@ unsupported_share x y e = sym (unsupported_distinguished x)
 -- no type is spelled so
 pub no_blank : (w code : List ℕ) → SpellsAType w → w ≡ 32 ∷ code → ⊥
 no_blank w code is e =
-    false≢true (ap is_word_text (sym (ap head_word (is.1.1 ∙ e)) ∙ head_is is.0 is.1.0.part)
+    false≢true (ap is_word_text (sym (ap word_before_parts (is.1.1 ∙ e)) ∙ head_is is.0 is.1.0.part)
     ∙ head_text is.0 is.1.0.part)
 
 no_unsupported : (w : List ℕ) (x : Unsupported) → SpellsAType w → w ≡ unsupported_word x → ⊥
@@ -315,7 +315,7 @@ no_unsupported w (PartAt index) is e = no_blank w (unsupported_code (PartAt inde
 no_unsupported w (ValueOf numbers components) is e = no_blank w (unsupported_code (ValueOf numbers components)) is e
 no_unsupported w (MatrixLoad columns rows role row_major) is e =
     no_type_begins (codes "coopLoad") load_takes.named load_takes.rule is.0 is.1.0
-    (sym (head_is is.0 is.1.0.part) ∙ ap head_word (is.1.1 ∙ e))
+    (sym (head_is is.0 is.1.0.part) ∙ ap word_before_parts (is.1.1 ∙ e))
 
 -- nor a function that takes a type
 abbrev has_byte : (place byte : ℕ) → List ℕ → Bool

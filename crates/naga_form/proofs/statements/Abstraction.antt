@@ -10,7 +10,7 @@ use Rattle.naga_names.proofs.Refusal.{element}
 use Rattle.naga_info.specs.declared.info.TypeResolution.TheVariants.{Handle}
 use Rattle.naga_form.proofs.operators.Operators.{spelled_as_trees, SpellsTypes}
 use Rattle.module_meaning.proofs.ExpressionForms.{spelled_of_spellable, has_form_parts}
-use Rattle.module_meaning.specs.Sampling.{offset_is_written}
+use Rattle.module_meaning.specs.Sampling.{offset_has_form}
 use Rattle.module_meaning.specs.WrittenOut.{is_written_out}
 use Rattle.naga_form.proofs.operators.ConstantForms.{IsReadAs, constants_read, names_are_read}
 use Rattle.naga_form.proofs.operators.ConstantForms.{read_out}
@@ -47,7 +47,7 @@ use Rattle.naga_form.proofs.statements.WrittenHandles.{written_are_closed}
 use Rattle.module_meaning.specs.Written.{IsWrittenIn, OfLocal, WrittenHaveForms}
 use Rattle.naga_form.proofs.statements.WrittenHandles.{all_rest}
 use Rattle.module_meaning.specs.ExpressionForms.{expression_has_form}
-use Rattle.module_meaning.specs.ExpressionForms.{constant_is_written}
+use Rattle.module_meaning.specs.ExpressionForms.{constant_has_form}
 use Rattle.module_meaning.specs.ExpressionContexts.{types_known, written_constant}
 use Rattle.naga_names.specs.Keys.{NameMap}
 use Rattle.wgsl_text.specs.Reading.{type_layout}
@@ -160,7 +160,7 @@ AreWritten W m f es =
 -- each constant that is written is read as its tree
 abbrev pub ConstantsAreRead : Module → ModuleInfo → Type 0
 ConstantsAreRead m info =
-    (c : ℕ) → constant_is_written m c ≡ true →
+    (c : ℕ) → constant_has_form m c ≡ true →
     IsReadAs (outer_names (module_names m) m) (written_constant m info c)
     (written_constant_form m (type_names m) c)
 
@@ -231,7 +231,7 @@ module _ (flags : WriterFlags) (named : ℕ → List ℕ) (m : Module) (info : M
       (expression.ImageSample
       image sampler gather coordinate array_index offset level depth_ref clamp) at w))
     where
-      by : (o : Option ℕ) → offset_is_written f.expressions o ≡ true →
+      by : (o : Option ℕ) → offset_has_form f.expressions o ≡ true →
           AllByRecursion W (option_to_list o) →
           AllByRecursion (ReadsOut m own source types_spelled places_are f.expressions es)
           (option_to_list o)

@@ -18,7 +18,7 @@ use Rattle.module_meaning.specs.acceptance.StatementsFit.{has_case_value, is_sel
 use Rattle.module_meaning.specs.acceptance.StatementsFit.{case_values_are_of}
 use Rattle.module_meaning.specs.acceptance.StatementsFit.{case_values_differ}
 use Rattle.module_meaning.specs.acceptance.StatementsFit.{case_values_fit, last_falls_through}
-use Rattle.module_meaning.specs.acceptance.StatementsFit.{selection_fits, selects}
+use Rattle.module_meaning.specs.acceptance.StatementsFit.{selection_fits, is_selector_type}
 use Rattle.wgsl_text.specs.Functions.{Each}
 use Rattle.module_meaning.specs.FunctionShapes.{statements_shape}
 use Rattle.shader_runs.specs.Scope.{Handles, Naming, named_by_all}
@@ -89,7 +89,7 @@ module _ (types : List Type_) (known : List TypeResolution) (selector : ℕ) (cs
     where
       by : (it : TypeInner) → selection_fits cs it ≡ true → HasOneDefault cs
       by (inner.Scalar s) fits =
-          let one = and_parts (selects s) (case_values_fit s cs) fits in
+          let one = and_parts (is_selector_type s) (case_values_fit s cs) fits in
           let two =
           and_parts (case_values_are_of s cs)
           (case_values_differ cs && (has_case_value switch_value.Default cs

@@ -48,7 +48,8 @@ use Rattle.module_meaning.specs.OperatorTable.{Operator, AtomicLoad, BinarySign,
 use Rattle.module_meaning.specs.Shapes.{operator_shape}
 use Rattle.module_meaning.specs.acceptance.Soundness.{function_is_sound}
 use Rattle.module_meaning.specs.StatementShapes.{simple_shape, store_shape}
-use Rattle.module_meaning.specs.acceptance.StatementsFit.{value_has_type, is_condition, selects}
+use Rattle.module_meaning.specs.acceptance.StatementsFit.{value_has_type, is_condition}
+use Rattle.module_meaning.specs.acceptance.StatementsFit.{is_selector_type}
 use Rattle.module_meaning.specs.acceptance.StatementsFit.{case_values_fit}
 use Rattle.module_meaning.specs.acceptance.StatementsFit.{selection_fits, is_selection, is_stored}
 use Rattle.module_meaning.specs.acceptance.StatementsFit.{simple_is_sound, statement_is_sound}
@@ -169,7 +170,7 @@ integers _ w is = absurd cc
 pub selector_values : (m : Module) (r : TypeResolution) (it : TypeInner) (cs : CaseTrees) →
     inner_of r m.types ≡ Some it → selection_fits cs it ≡ true → IsInteger (type_of_values m r)
 selector_values m r (inner.Scalar s) cs is fits =
-    let one = and_parts (selects s) (case_values_fit s cs) fits in
+    let one = and_parts (is_selector_type s) (case_values_fit s cs) fits in
     let two = and_parts (is_signed s.kind || is_unsigned s.kind) (s.width == 4) one.0 in
     subst IsInteger (sym (values_are m r (inner.Scalar s) is))
     (integers s.kind (word_of_values m r) two.0)

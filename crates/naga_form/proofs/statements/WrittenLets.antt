@@ -55,9 +55,9 @@ use Rattle.module_meaning.specs.FunctionShapes.{function_shapes}
 use Rattle.module_meaning.specs.ModuleShapes.{module_shape}
 use Rattle.module_meaning.specs.Namings.{function_naming, namings_from, namings_under, outer_names}
 use Rattle.module_meaning.specs.StatementShapes.{simple_shape}
-use Rattle.text_meaning.specs.Bindings.{statement_annotations, statements_annotations}
-use Rattle.text_meaning.specs.Bindings.{optional_annotations}
-use Rattle.text_meaning.specs.Bindings.{cases_annotations}
+use Rattle.text_meaning.specs.LetTypes.{statement_annotations, statements_annotations}
+use Rattle.text_meaning.specs.LetTypes.{optional_annotations}
+use Rattle.text_meaning.specs.LetTypes.{cases_annotations}
 use Rattle.module_meaning.specs.FunctionLets.{BindsAs, BindsUnder, lets_read, module_annotations}
 use Rattle.module_meaning.specs.FunctionLets.{module_lets}
 use Rattle.module_meaning.specs.FunctionNumbers.{all_functions, all_infos}

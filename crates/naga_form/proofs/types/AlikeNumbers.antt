@@ -334,7 +334,8 @@ module _ (distinguished : List ℕ → ℕ) where
   vector_filling Bi = refl
   vector_filling _ = refl
 
-  matrix_filling : (c r : VectorSize) → filling_of (matrix_word c r) ≡ OverScalar 2 (component_count c) (component_count r)
+  matrix_filling : (c r : VectorSize) → filling_of (matrix_word c r) ≡ OverScalar 2 (component_count c)
+      (component_count r)
   unfolding filling_of
   matrix_filling Bi Bi = refl
   matrix_filling Bi Tri = refl

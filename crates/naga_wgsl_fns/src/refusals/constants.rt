@@ -2,7 +2,7 @@
 
 ghost use Rattle.std.specs.Prelude.{◌≡◌, ◌<◌, IsFalse, length, not};
 ghost use Rattle.std.specs.List.{find};
-ghost use Rattle.module_meaning.specs.ExpressionForms.{constant_is_written, global_is_written};
+ghost use Rattle.module_meaning.specs.ExpressionForms.{constant_has_form, global_has_form};
 ghost use Rattle.naga_scope.specs.Marks.{GlobalsStandInOrder};
 ghost use Rattle.naga_scope.specs.Tables.{AreTablesOf};
 ghost use Rattle.naga_wgsl_fns.specs.Carried.{CarriesOfConstant, CarriesOfGlobal};
@@ -26,7 +26,7 @@ pub(crate) fn unsupported_constant(
     requires ordered { GlobalsStandInOrder «module».now }
     requires tables { AreTablesOf «module».now tables.now }
     requires there { constant < length «module».now.constants }
-    requires unsupported { IsFalse (constant_is_written «module».now constant) }
+    requires unsupported { IsFalse (constant_has_form «module».now constant) }
     ensures names { Tells result (NamesConstant «module».now constant) }
     ensures carries { CarriesOfConstant «module».now constant result }
 {
@@ -44,7 +44,7 @@ pub(crate) fn unsupported_global(
     requires ordered { GlobalsStandInOrder «module».now }
     requires tables { AreTablesOf «module».now tables.now }
     requires there { handle < length «module».now.global_expressions }
-    requires unsupported { IsFalse (global_is_written «module».now handle) }
+    requires unsupported { IsFalse (global_has_form «module».now handle) }
     ensures names { Tells result (λ e. NamesGlobal «module».now e handle) }
     ensures carries { CarriesOfGlobal «module».now handle result }
 {
@@ -62,7 +62,7 @@ pub(crate) fn global_without_form(
     requires ordered { GlobalsStandInOrder «module».now }
     requires tables { AreTablesOf «module».now tables.now }
     requires there { handle < length «module».now.global_expressions }
-    requires unsupported { IsFalse (global_is_written «module».now handle) }
+    requires unsupported { IsFalse (global_has_form «module».now handle) }
     ensures { NamesGlobal «module».now result handle }
 {
     unsupported_global(module, tables, handle).to_error(alloc)
@@ -78,7 +78,7 @@ fn unsupported_representative(
     requires ordered { GlobalsStandInOrder «module».now }
     requires tables { AreTablesOf «module».now tables.now }
     requires there { handle < length «module».now.global_expressions }
-    requires unsupported { IsFalse (global_is_written «module».now handle) }
+    requires unsupported { IsFalse (global_has_form «module».now handle) }
     ensures names { Tells result (λ e. NamesGlobal «module».now e handle) }
     ensures carries { CarriesOfGlobal «module».now handle result }
 {
@@ -109,10 +109,10 @@ fn first_unwritten(
     handles: &[Handle<Expression>],
 ) -> Option<Handle<Expression>>
     requires tables { AreTablesOf «module».now tables.now }
-    ensures { result ≡ find (λ h. not (global_is_written «module».now h)) handles.now }
+    ensures { result ≡ find (λ h. not (global_has_form «module».now h)) handles.now }
 {
     for handle in handles {
-        if !tables.is_written(module, *handle) {
+        if !tables.has_form(module, *handle) {
             return Some(*handle);
         }
     }

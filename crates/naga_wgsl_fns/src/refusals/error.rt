@@ -61,7 +61,7 @@ impl From<AllocError> for Error {
     }
 }
 
-/// What was wanting in a text whose types all have forms.
+/// The error for what kept an output from taking a text whose types all have forms.
 pub fn error_of_want(want: TypeTextError) -> Error
     requires { want ≡ type_error.NoForm → ⊥ }
     ensures { IsErrorOf want result }

@@ -1,11 +1,11 @@
 //! The constructs for which expressions, statements and types have no form.
 
 ghost use Rattle.std.specs.Prelude.{Bool, IsFalse, List, None, ◌&&◌};
-ghost use Rattle.module_meaning.specs.ExpressionForms.{expression_has_form, is_written_literal};
+ghost use Rattle.module_meaning.specs.ExpressionForms.{expression_has_form, literal_has_form};
 ghost use Rattle.module_meaning.specs.ExpressionForms.{known_passes};
 ghost use Rattle.module_meaning.specs.ExpressionOperators.{has_parts, pointee_scalar};
 ghost use Rattle.module_meaning.specs.Conversions.{conversion_target};
-ghost use Rattle.module_meaning.specs.Sampling.{sampling_is_written};
+ghost use Rattle.module_meaning.specs.Sampling.{sampling_has_form};
 ghost use Rattle.naga_ir.specs.declared.expression.Expression.{Expression};
 ghost use Rattle.naga_scope.specs.Forms.{AreKnownIn};
 ghost use Rattle.naga_scope.specs.Marks.{GlobalsStandInOrder};
@@ -195,8 +195,8 @@ fn sampling_without_form(
     clamped: bool,
 ) -> Construct
     ensures { (offset : Bool) →
-        IsFalse (sampling_is_written gather level compares clamped && offset) →
-        Tells result (NamesSampling (sampling_is_written gather level compares clamped) offset) }
+        IsFalse (sampling_has_form gather level compares clamped && offset) →
+        Tells result (NamesSampling (sampling_has_form gather level compares clamped) offset) }
 {
     if sampling_has_form(gather, level, compares, clamped) {
         Construct::ConstantOperator
@@ -207,7 +207,7 @@ fn sampling_without_form(
 
 /// What a literal that has no form is.
 pub(crate) fn literal_without_form(literal: &Literal) -> Construct
-    requires unsupported { IsFalse (is_written_literal literal.now) }
+    requires unsupported { IsFalse (literal_has_form literal.now) }
     ensures names { Tells result (NamesLiteral literal.now) }
     ensures carries { CarriesScalar None result }
 {

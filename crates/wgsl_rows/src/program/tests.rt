@@ -2,7 +2,7 @@ use super::{answer, run};
 use bitflags::Flags;
 use naga_wgsl_out::builder::ModuleBuilder;
 use naga_wgsl_out::wgsl::WriterFlags;
-use sample_modules::Row;
+use sample_modules::SampleName;
 use std::alloc::{AllocError, Global};
 use std::io;
 use std::io::Write;
@@ -683,7 +683,7 @@ fn broken_outputs_are_told(rt: HostRuntime) -> Result<(), Fail> {
 #[test]
 fn module_that_is_not_accepted_is_told(rt: HostRuntime) -> Result<(), Fail> {
     let mut shader = ModuleBuilder::new(rt.alloc());
-    Row::Identity.build(rt.alloc(), &mut shader)?;
+    SampleName::Identity.build(rt.alloc(), &mut shader)?;
     // nothing is known of its function any more
     shader.info.functions.clear();
     let mut out = Vec::new(rt.alloc());

@@ -2,7 +2,7 @@ use Rattle.std.proofs.Common.{◌≡◌, ◌∙◌, ◌<◌, ◌≤◌, IfErr, I
 use Rattle.std.proofs.Common.{ap, is_ok, length, refl, string_bytes, subst, sym}
 use Rattle.naga_acceptance.specs.FirstFaults.{IsFirstFault}
 use Rattle.naga_wgsl_out.specs.Checked.{IsCounted}
-use Rattle.module_answers.specs.Written.{AnswersWriting}
+use Rattle.module_answers.specs.WriteOutcomes.{AnswersWriting}
 use Rattle.module_answers.proofs.Bounded.{as_kept, as_unwritten, is_too_long}
 use Rattle.module_answers.proofs.within.write_within.Goals as goal
 

@@ -1,6 +1,6 @@
 use Rattle.std.proofs.Common.{subst, sym}
 use Rattle.naga_back.specs.Flags.{annotates_types}
-use Rattle.module_answers.specs.Written.{AnswersWriting, TellsBeside}
+use Rattle.module_answers.specs.WriteOutcomes.{AnswersWriting, TellsBeside}
 use Rattle.module_answers.proofs.Wants.{answer_or_want, leaves_told}
 use Rattle.module_answers.proofs.writing.write_accepted.Goals as goal
 

@@ -5,7 +5,7 @@ use Rattle.std.specs.Option.{option_map}
 use Rattle.naga_acceptance.specs.FirstFaults.{at, at_function, function_sound_fault}
 use Rattle.naga_acceptance.specs.Searching.{first_faulty, unless}
 use Rattle.naga_acceptance.specs.declared.faults.Fault.TheVariants as fault
-use Rattle.naga_acceptance.specs.declared.faults.Item.TheVariants as item
+use Rattle.naga_acceptance.specs.declared.faults.FaultPosition.TheVariants as item
 use Rattle.naga_acceptance.proofs.Pairing.{faulty_here, faulty_next}
 use Rattle.naga_acceptance.proofs.soundness.functions_sound_fault.Goals as goal
 

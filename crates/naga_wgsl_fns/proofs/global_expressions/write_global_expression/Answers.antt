@@ -26,13 +26,13 @@ write_written_global-requires g c = record {
     named = c.requires.names;
     tables = c.in_ok-tables.ensures;
   };
-  written = sym c.is_written.ensures ∙ c.if-is_written.true;
+  written = sym c.has_form.ensures ∙ c.if-has_form.true;
 }
 
-pub returns-then-is_written : goal.returns-then-is_written
-returns-then-is_written g c =
+pub returns-then-has_form : goal.returns-then-has_form
+returns-then-has_form g c =
     global_writes c.args.«module».now c.args.handle c.requires.accepted.0 c.requires.accepted.1
-    (sym c.is_written.ensures ∙ c.if-is_written.true)
+    (sym c.has_form.ensures ∙ c.if-has_form.true)
     c.write_written_global.result (g.W.TextSink.text c.args.out.now)
     (g.W.TextSink.text c.write_written_global.new.out) (g.W.TextSink.failures c.args.out.now)
     (g.W.TextSink.failures c.write_written_global.new.out) c.write_written_global.ensures.text_ok
@@ -45,7 +45,7 @@ global_without_form-requires g c = record {
       globals_in_order c.args.«module».now c.requires.accepted.0 c.requires.accepted.1;
   tables = c.in_ok-tables.ensures;
   there = c.requires.there;
-  unsupported = sym c.is_written.ensures ∙ c.if-is_written.false;
+  unsupported = sym c.has_form.ensures ∙ c.if-has_form.false;
 }
 
 pub returns : goal.returns
@@ -55,5 +55,5 @@ returns g c =
     let before = g.W.TextSink.failures c.args.out.now in
     global_refused m c.args.handle content before _ c.global_without_form.result refl
     (global_for_form m c.args.handle content before c.global_without_form.result
-    (sym c.is_written.ensures ∙ c.if-is_written.false)
+    (sym c.has_form.ensures ∙ c.if-has_form.false)
     c.global_without_form.ensures)

@@ -9,8 +9,12 @@ of-requires c = record {
 
 pub returns-in-Some-clause-stands : goal.returns-in-Some-clause-stands
 returns-in-Some-clause-stands c =
-    let found = c.in-Some.ensures in
-    (c.in-Some.declaration, found.position, c.unsupported_construct.ensures.names, c.unsupported_construct.ensures.carries)
+    let found = c.in-Some.ensures in (
+      c.in-Some.declaration,
+      found.position,
+      c.unsupported_construct.ensures.names,
+      c.unsupported_construct.ensures.carries,
+    )
 
 pub returns-in-Some-clause-first : goal.returns-in-Some-clause-first
 returns-in-Some-clause-first c = c.in-Some.ensures.first

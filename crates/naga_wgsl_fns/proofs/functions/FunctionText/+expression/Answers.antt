@@ -5,8 +5,8 @@ use Rattle.naga_ir.specs.Operands.{expression_operands}
 use Rattle.std.specs.List.{AllByRecursion}
 use Rattle.naga_words.proofs.Writing.{leaves_as, leaves_last, leaves_more, leaves_start}
 use Rattle.naga_words.proofs.Writing.{writes_as, writes_nothing, writes_then}
-use Rattle.module_meaning.specs.Sampling.{offset_is_written, own_offset_is_written}
-use Rattle.module_meaning.specs.Sampling.{sampling_is_written}
+use Rattle.module_meaning.specs.Sampling.{offset_has_form, own_offset_has_form}
+use Rattle.module_meaning.specs.Sampling.{sampling_has_form}
 use Rattle.naga_ir.specs.Operands.{level_operands}
 use Rattle.naga_wgsl_fns.proofs.ImageRows.{furthers_none, furthers_one, furthers_two, no_offset}
 use Rattle.naga_wgsl_fns.proofs.ImageRows.{offset_row, sampling_whole}
@@ -27,7 +27,7 @@ use Rattle.naga_wgsl_fns.proofs.PartRows.{element_end, plain_row, reference_poin
 use Rattle.naga_wgsl_fns.proofs.PartRows.{reference_unpointed, selected_end, value_pointed}
 use Rattle.naga_wgsl_fns.proofs.PartRows.{value_unpointed}
 use Rattle.naga_wgsl_fns.proofs.Preconditions.{base_in, known_within_infos, no_other_part}
-use Rattle.naga_wgsl_fns.proofs.Preconditions.{part_is_written}
+use Rattle.naga_wgsl_fns.proofs.Preconditions.{part_has_form}
 use Rattle.naga_wgsl_fns.specs.Expressions.{operands_left, operands_text}
 use Rattle.naga_wgsl_fns.proofs.ExpressionRows.{operands_more, operands_none, operands_start}
 use Rattle.naga_wgsl_fns.proofs.ExpressionRows.{no_value_row, own_at, own_called, own_made, own_row}
@@ -403,7 +403,7 @@ write_part_end-write_index-requires g t c κs within =
 
 pub write_part_end-write_selector-requires-clause-written : goal.write_part_end-write_selector-requires-clause-written
 write_part_end-write_selector-requires-clause-written g t c =
-    part_is_written c.args.self.now c.requires.can c.args.handle c.args.base c.index.result.now _ _
+    part_has_form c.args.self.now c.requires.can c.args.handle c.args.base c.index.result.now _ _
     c.index.ensures c.requires.handle c.in-AccessIndex.is c.requires.part
 
 pub write_part_end-returns-in-Access : goal.write_part_end-returns-in-Access
@@ -519,7 +519,7 @@ write_offset-returns-in-Some g t c =
     let self = c.args.self.now in
     let h = c.in-Some.offset in
     let text = subst (λ o. AreInText self (option_to_list o)) c.in-Some.is c.requires.offset in
-    let is = ap (offset_is_written (expressions self)) (sym c.in-Some.is) ∙ c.requires.constant in
+    let is = ap (offset_has_form (expressions self)) (sym c.in-Some.is) ∙ c.requires.constant in
     writes_as
     (ap (λ table. next_operand_text self table false h) c.without_names.ensures
     ∙ (offset_row self c.requires.can h text.0.there is
@@ -539,7 +539,7 @@ write_sampling-write_sampling_head-requires-clause-image g t c =
 pub write_sampling-write_sampling_head-requires-clause-written : goal.write_sampling-write_sampling_head-requires-clause-written
 write_sampling-write_sampling_head-requires-clause-written g t c =
     let s = c.in-ImageSample in
-    ap (λ b. sampling_is_written s.gather s.level b s.clamp_to_edge) c.is_some-compares.ensures
+    ap (λ b. sampling_has_form s.gather s.level b s.clamp_to_edge) c.is_some-compares.ensures
     ∙ written_as c.args.self.now c.requires.can c.index.ensures c.requires.handle s.is
 
 pub write_sampling-zero_is_whole-requires-clause-image : goal.write_sampling-zero_is_whole-requires-clause-image
@@ -616,7 +616,7 @@ write_sampling-write_offset-requires g t c κs within =
     let image = s.image.0 in
     let before = highest_below self h (option_to_list e.offset) (omega (arith, image)) s.offset in
     let constant =
-    ap (own_offset_is_written (expressions self)) (sym c.in-ImageSample.is)
+    ap (own_offset_has_form (expressions self)) (sym c.in-ImageSample.is)
     ∙ offset_has_form self c.requires.can h c.index.result.now c.index.ensures c.requires.handle in (
       omega (arith, before, c.decreases),
       (within, (c.requires.can, (all_in_text self h (option_to_list e.offset) s.offset, constant))),

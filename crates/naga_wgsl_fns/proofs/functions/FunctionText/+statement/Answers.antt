@@ -11,8 +11,8 @@ use Rattle.naga_scope.specs.Changes.{block_changes, cases_changes}
 use Rattle.naga_words.proofs.Writing.{leaves_more, leaves_none, writes_as, writes_then}
 use Rattle.naga_wgsl_fns.specs.FunctionText.{CanWriteCases, context, handles_in, named_in, naming}
 use Rattle.naga_form.specs.Statements.{case_value_form}
-use Rattle.naga_wgsl_fns.specs.Positions.{PassesBlock}
-use Rattle.naga_wgsl_fns.specs.declared.lines.Position.{Position}
+use Rattle.naga_wgsl_fns.specs.BodyStates.{PassesBlock}
+use Rattle.naga_wgsl_fns.specs.declared.lines.BodyState.{BodyState}
 use Rattle.naga_wgsl_fns.specs.Statements.{after_statements, block_text, case_text, cases_text}
 use Rattle.naga_wgsl_fns.specs.Statements.{last_text, line_start, named_following}
 use Rattle.naga_wgsl_fns.specs.Statements.{named_after_cases, statement_text, turn_text}
@@ -127,7 +127,7 @@ write_lines-returns-clause-passed g t c =
 
 pub write_here-returns-clause-passed : goal.write_here-returns-clause-passed
 write_here-returns-clause-passed g t c =
-    let after : Position = record { scope = c.back_to.new.self; indent = c.write_lines.new.at.indent } in
+    let after : BodyState = record { scope = c.back_to.new.self; indent = c.write_lines.new.at.indent } in
     subst (PassesBlock c.args.self.now c.args.at.now after) c.as_slice.ensures
     (passed_back c.back_to.new.self c.write_lines.ensures.passed
     (c.back_to.ensures.restores _ c.mark-mark.ensures (reverts c.write_lines.ensures.kept)) c.back_to.ensures.named)

@@ -44,7 +44,7 @@ pub returns-in-Some-clause-after : goal.returns-in-Some-clause-after
 returns-in-Some-clause-after g c =
     let self = c.args.self.now in
     let s = handles_in self c.args.at.now.scope.table in
-    c.give.ensures.handles (module_names self.shader.now) self.shader.now (named_in self) (number self)
+    c.introduce.ensures.handles (module_names self.shader.now) self.shader.now (named_in self) (number self)
     ∙ (ap (λ o. after_result (naming self).names o s) (sym c.in-Some.is ∙ c.result.ensures)
     ∙ act_after self c.args.at.now.scope.named s (tree_of c.args.statement.now) c.requires.act)
 
@@ -53,10 +53,10 @@ returns-in-Some-clause-passed g c =
     let st = tree_of c.args.statement.now in
     let one : statement_changes st ≡ 1 = act_changes st c.requires.act ∙ ap (λ o. length (option_to_list o))
     (sym c.result.ensures ∙ c.in-Some.is) in
-    let log = c.give.ensures.counted.log in
-    let names = c.give.ensures.counted.names in
+    let log = c.introduce.ensures.counted.log in
+    let names = c.introduce.ensures.counted.names in
     record {
-      named = c.give.ensures.named ∙ sym (act_named c.args.self.now c.args.at.now.scope.named st c.requires.act);
+      named = c.introduce.ensures.named ∙ sym (act_named c.args.self.now c.args.at.now.scope.named st c.requires.act);
       counted = record { log = omega (arith, log, one); names = omega (arith, names, one) };
       indent = refl;
     }

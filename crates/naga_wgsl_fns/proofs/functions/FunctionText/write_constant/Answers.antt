@@ -1,5 +1,5 @@
 use Rattle.std.proofs.Common.{ap, ◌∙◌}
-use Rattle.module_meaning.specs.ExpressionForms.{constant_is_written}
+use Rattle.module_meaning.specs.ExpressionForms.{constant_has_form}
 use Rattle.naga_words.proofs.Writing.{writes_as}
 use Rattle.naga_wgsl_fns.proofs.ModuleTexts.{can_in}
 use Rattle.naga_wgsl_fns.specs.Constants.{constant_text}
@@ -12,7 +12,7 @@ write_constant-requires-clause-can g c =
 
 pub write_constant-requires-clause-written : goal.write_constant-requires-clause-written
 write_constant-requires-clause-written g c =
-    ap (λ m. constant_is_written m c.args.constant) c.of_module.ensures.shader ∙ c.requires.written
+    ap (λ m. constant_has_form m c.args.constant) c.of_module.ensures.shader ∙ c.requires.written
 
 pub returns : goal.returns
 returns g c =

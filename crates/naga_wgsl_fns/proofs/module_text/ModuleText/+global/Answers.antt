@@ -1,6 +1,6 @@
 use Rattle.std.proofs.Common.{[], ◌≤◌, arith, ap, ◌∙◌, subst, sym, true}
 use Rattle.std.specs.Option.{option_map_or}
-use Rattle.module_meaning.specs.ExpressionForms.{global_is_written}
+use Rattle.module_meaning.specs.ExpressionForms.{global_has_form}
 use Rattle.naga_ir.specs.Operands.{expression_operands}
 use Rattle.naga_words.proofs.Writing.{leaves_as, leaves_last, leaves_more, leaves_start, writes_as}
 use Rattle.naga_wgsl_fns.proofs.ConstantRows.{ArePartsBelow, composed_passes, composed_row}
@@ -9,7 +9,8 @@ use Rattle.naga_wgsl_fns.proofs.ConstantRows.{global_there, in_order, initialise
 use Rattle.naga_wgsl_fns.proofs.ConstantRows.{initialiser_written, literal_passes, literal_row}
 use Rattle.naga_wgsl_fns.proofs.ConstantRows.{named_constant, no_other_global, override_row}
 use Rattle.naga_wgsl_fns.proofs.ConstantRows.{override_there, unnamed_constant}
-use Rattle.naga_wgsl_fns.proofs.ConstantRows.{parts_are_written, parts_more, parts_none, parts_start}
+use Rattle.naga_wgsl_fns.proofs.ConstantRows.{parts_are_written, parts_more, parts_none}
+use Rattle.naga_wgsl_fns.proofs.ConstantRows.{parts_start}
 use Rattle.naga_wgsl_fns.proofs.ConstantRows.{splat_row, zero_passes, zero_row}
 use Rattle.naga_wgsl_fns.proofs.RepresentativeRows.{representative_is}
 use Rattle.naga_wgsl_fns.specs.Constants.{global_text, parts_left, parts_text}
@@ -24,7 +25,7 @@ write_global-write_representative-requires g t c κs within =
     let found = c.representative.ensures in
     let before : c.representative.result ≤ c.args.handle = subst (λ h. h ≤ c.args.handle) (sym found) is.before in (
       omega (arith, before, c.decreases),
-      (within, (c.requires.can, ap (global_is_written text.shader.now) found ∙ is.written)),
+      (within, (c.requires.can, ap (global_has_form text.shader.now) found ∙ is.written)),
     )
 
 pub write_global-returns : goal.write_global-returns

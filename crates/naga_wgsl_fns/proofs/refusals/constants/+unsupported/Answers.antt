@@ -1,7 +1,7 @@
 use Rattle.std.proofs.Common.{◌<◌, ◌≤◌, arith, ap, length, subst, sym, ◌∙◌, Some, None, refl}
 use Rattle.std.specs.List.{find}
 use Rattle.std.specs.Prelude.{Bool, ℕ, cond, not}
-use Rattle.module_meaning.specs.ExpressionForms.{global_is_written}
+use Rattle.module_meaning.specs.ExpressionForms.{global_has_form}
 use Rattle.naga_ir.specs.declared.expression.Expression.TheVariants as expression
 use Rattle.naga_ir.specs.declared.module.Module.{Module}
 use Rattle.naga_wgsl_fns.proofs.UnsupportedConstants as unsupported
@@ -13,7 +13,7 @@ use Rattle.naga_wgsl_fns.specs.Refusals.NamesGlobal.{OfType}
 use Rattle.naga_wgsl_fns.proofs.refusals.constants.+unsupported.Goals as goal
 
 abbrev unwritten : Module → ℕ → Bool
-unwritten m h = not (global_is_written m h)
+unwritten m h = not (global_has_form m h)
 
 -- ---- through constants without names
 pub unsupported_global-unsupported_representative-requires : goal.unsupported_global-unsupported_representative-requires
@@ -31,7 +31,7 @@ unsupported_global-unsupported_representative-requires t c =
           c.requires.tables,
           (
             subst (λ h. h < length m.global_expressions) (sym found) is.there,
-            ap (global_is_written m) found ∙ is.unsupported,
+            ap (global_has_form m) found ∙ is.unsupported,
           ),
         ),
       ),

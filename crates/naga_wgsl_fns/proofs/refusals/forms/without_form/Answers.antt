@@ -1,7 +1,7 @@
 use Rattle.std.proofs.Common.{◌&&◌, Bool, subst, sym}
 use Rattle.std.specs.Prelude.{IsFalse}
 use Rattle.module_meaning.specs.ExpressionForms.{expression_has_form}
-use Rattle.module_meaning.specs.Sampling.{sampling_is_written}
+use Rattle.module_meaning.specs.Sampling.{sampling_has_form}
 use Rattle.naga_wgsl_fns.specs.Constructs.{Tells}
 use Rattle.naga_wgsl_fns.specs.Refusals.{NamesExpression, NamesSampling}
 use Rattle.naga_wgsl_fns.proofs.refusals.forms.without_form.Goals as goal
@@ -14,9 +14,9 @@ returns-in-ImageSample-clause-names c es unsupported error told =
     let lacks = subst (λ e. IsFalse (expression_has_form m info es e)) way.is unsupported in
     let named =
     subst
-    (λ compares. (offset : Bool) → IsFalse (sampling_is_written way.gather way.level compares way.clamp_to_edge
+    (λ compares. (offset : Bool) → IsFalse (sampling_has_form way.gather way.level compares way.clamp_to_edge
     && offset) →
     Tells c.sampling_without_form.result
-    (NamesSampling (sampling_is_written way.gather way.level compares way.clamp_to_edge) offset))
+    (NamesSampling (sampling_has_form way.gather way.level compares way.clamp_to_edge) offset))
     c.is_some.ensures c.sampling_without_form.ensures in
     subst (λ e. NamesExpression m info es e error) (sym way.is) (named _ lacks error told)

@@ -12,7 +12,7 @@ use Rattle.naga_wgsl_fns.specs.FunctionText.{handles_in}
 use Rattle.naga_wgsl_fns.specs.Statements.{named_following, named_after_cases}
 use Rattle.naga_wgsl_fns.specs.Statements.{named_after_statement}
 use Rattle.naga_wgsl_fns.specs.declared.functions.FunctionText.{FunctionText}
-use Rattle.naga_wgsl_fns.specs.declared.lines.Position.{Position}
+use Rattle.naga_wgsl_fns.specs.declared.lines.BodyState.{BodyState}
 
 -- a text, by how many names stand in front of a point, and what is in scope there
 abbrev pub text_at : {A : Type 0} → (f : FunctionText) → (p : TextPoint)
@@ -27,20 +27,20 @@ pub record HasScope (f : FunctionText) (p : TextPoint) (changes : ℕ) : Type 0 
 -- ---- after a call
 -- So many names are given, no more than so many changes have been passed, and the level is that
 -- before.
-pub record Passed (before after : Position) (names changes : ℕ) : Type 0 where
+pub record LinesWritten (before after : BodyState) (names changes : ℕ) : Type 0 where
   pub named : after.scope.named ≡ names
   pub counted : Counted before.scope after.scope changes
   pub indent : after.indent ≡ before.indent
 
 -- as it is after a statement, a block, and the cases of a switch
-abbrev pub PassesStatement : FunctionText → (before after : Position) → StatementTree → Type 0
+abbrev pub PassesStatement : FunctionText → (before after : BodyState) → StatementTree → Type 0
 PassesStatement f before after st =
-    Passed before after (named_after_statement f st before.scope.named) (statement_changes st)
+    LinesWritten before after (named_after_statement f st before.scope.named) (statement_changes st)
 
-abbrev pub PassesBlock : FunctionText → (before after : Position) → BlockTree → Type 0
+abbrev pub PassesBlock : FunctionText → (before after : BodyState) → BlockTree → Type 0
 PassesBlock f before after b =
-    Passed before after (named_following f b before.scope.named) (block_changes b)
+    LinesWritten before after (named_following f b before.scope.named) (block_changes b)
 
-abbrev pub PassesCases : FunctionText → (before after : Position) → CaseTrees → Type 0
+abbrev pub PassesCases : FunctionText → (before after : BodyState) → CaseTrees → Type 0
 PassesCases f before after cases =
-    Passed before after (named_after_cases f cases before.scope.named) (cases_changes cases)
+    LinesWritten before after (named_after_cases f cases before.scope.named) (cases_changes cases)

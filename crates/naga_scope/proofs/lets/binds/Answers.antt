@@ -4,7 +4,7 @@ use Rattle.naga_ir.specs.Kinds.{kind_of}
 use Rattle.naga_ir.specs.declared.kind.ExpressionKind.TheVariants.{Result}
 use Rattle.naga_scope.specs.Availabilities.{is_emittable_kind}
 use Rattle.naga_scope.proofs.ShapeKinds.{emitted_binds, others_bind}
-use Rattle.naga_scope.proofs.binding.binds.Goals as goal
+use Rattle.naga_scope.proofs.lets.binds.Goals as goal
 
 pub returns-then-is_emittable : goal.returns-then-is_emittable
 returns-then-is_emittable c m known same =

@@ -3,7 +3,7 @@
 
 ghost use Rattle.std.specs.Prelude.{◌≡◌, ◌||◌, slice_get};
 ghost use Rattle.std.specs.Option.{is_some, option_map};
-ghost use Rattle.module_meaning.specs.BindingCounts.{is_bound_by_uses, uses_of, uses_to_bind};
+ghost use Rattle.module_meaning.specs.LetCounts.{is_bound_by_uses, uses_of, uses_to_bind};
 ghost use Rattle.module_meaning.specs.FunctionShapes.{function_shape};
 ghost use Rattle.module_meaning.specs.ExpressionLabels.{label_of};
 ghost use Rattle.naga_info.specs.declared.info.ModuleInfo.{ModuleInfo};

@@ -1,7 +1,7 @@
 use Rattle.std.proofs.Common.{ap, ◌∙◌}
 use Rattle.naga_scope.specs.Marks.{is_marked}
 use Rattle.naga_scope.specs.Tables.{Tables}
-use Rattle.naga_scope.proofs.tables.ModuleTables.is_written.Goals as goal
+use Rattle.naga_scope.proofs.tables.ModuleTables.has_form.Goals as goal
 
 pub returns : goal.returns
 returns c =

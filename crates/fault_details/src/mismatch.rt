@@ -1,4 +1,4 @@
-//! What was wanted where a module is not accepted, as it is told.
+//! The explanation of a fault as a value, with its text.
 
 ghost use Rattle.std.specs.Prelude.{Some};
 ghost use Rattle.fault_details.specs.Texts.{wanted_text};
@@ -14,7 +14,7 @@ use std::fmt;
 /// itself with that of the type that it names, as `ptr<function, S> of types[5]`, and if that
 /// tells them alike too, the second as `another`.
 #[derive(Debug, Drop)]
-pub enum Expected {
+pub enum Mismatch {
     /// A value of one type is wanted, and one of another stands there:
     /// `wanted vec4<f32>, got f32`.
     Type {
@@ -88,20 +88,20 @@ pub enum Expected {
     Need(Need),
 }
 
-impl fmt::Display for Expected {
+impl fmt::Display for Mismatch {
     ghost output = { λ w. Some (wanted_text w) };
 
     fn fmt<W: fmt::Write>(&self, f: &mut fmt::Formatter<W>) -> fmt::Result {
         match self {
-            Expected::Type { wanted, got } => write!(f, "wanted {}, got {}", wanted, got),
-            Expected::Class { class, got } => write!(f, "wanted {}, got {}", class, got),
-            Expected::Value { wanted } => write!(f, "wanted {}, got nothing", wanted),
-            Expected::Nothing { got } => write!(f, "wanted nothing, got {}", got),
-            Expected::Item { list, index, count } => {
+            Mismatch::Type { wanted, got } => write!(f, "wanted {}, got {}", wanted, got),
+            Mismatch::Class { class, got } => write!(f, "wanted {}, got {}", class, got),
+            Mismatch::Value { wanted } => write!(f, "wanted {}, got nothing", wanted),
+            Mismatch::Nothing { got } => write!(f, "wanted nothing, got {}", got),
+            Mismatch::Item { list, index, count } => {
                 let item = Numbered(*list, *index);
                 write!(f, "names {}, of which there {}", item, There(*count))
             }
-            Expected::EarlierItem {
+            Mismatch::EarlierItem {
                 list,
                 index,
                 before,
@@ -110,13 +110,13 @@ impl fmt::Display for Expected {
                 let next = Numbered(*list, *before);
                 write!(f, "names {}, wanted one before {}", item, next)
             }
-            Expected::Number { of, wanted, got } => {
+            Mismatch::Number { of, wanted, got } => {
                 write!(f, "wanted {}, got {}", Many(*wanted, *of), got)
             }
-            Expected::Part { count, got } => {
+            Mismatch::Part { count, got } => {
                 write!(f, "wanted an index below {}, got {}", count, got)
             }
-            Expected::Letter { letter, got } => {
+            Mismatch::Letter { letter, got } => {
                 write!(
                     f,
                     "names .{}, which {} does not have",
@@ -124,7 +124,7 @@ impl fmt::Display for Expected {
                     got
                 )
             }
-            Expected::Need(need) => write!(f, "wanted {}", need),
+            Mismatch::Need(need) => write!(f, "wanted {}", need),
         }
     }
 }

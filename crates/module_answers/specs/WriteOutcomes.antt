@@ -19,8 +19,8 @@ use Rattle.naga_wgsl_out.specs.Writing.{AppendsItsText}
 use Rattle.naga_wgsl_out.specs.declared.unwritable.Refusal.{Refusal}
 use Rattle.naga_wgsl_out.specs.declared.unwritable.RefusalPosition.{RefusalPosition}
 
--- the error names a construct that stands at this place, if bodies have no more statements than there
--- are numbers for them
+-- the error names a construct that stands at this position, if bodies have no more statements than
+-- there are numbers for them
 abbrev pub NamesAt : (explicit : Bool) → Module → ModuleInfo → RefusalPosition → Error → Type 0
 NamesAt explicit m info at error =
     AreNumbered m →
@@ -28,7 +28,7 @@ NamesAt explicit m info at error =
 
 -- The answer is an error that tells of the module, and a refusal is told beside it: its construct
 -- stands there, and nothing stands in front of it for which the module is refused. What the error
--- names stands at the same place.
+-- names stands at the same position.
 pub record TellsRefusal (explicit : Bool) (m : Module) (info : ModuleInfo)
     (answer : Result Unit Error) (refusal : Refusal) : Type 0 where
   pub tells : IsErrAnd answer TellsOfModule

@@ -6,7 +6,7 @@ use Rattle.std.specs.Prelude.{slice_get}
 use Rattle.std.specs.List.{enumerate_from}
 use Rattle.naga_ir.specs.declared.expression.Expression as ir
 use Rattle.naga_info.specs.declared.info.ExpressionInfo.{ExpressionInfo}
-use Rattle.module_meaning.specs.BindingCounts.{are_bound_by_uses, is_bound_by_uses, uses_of}
+use Rattle.module_meaning.specs.LetCounts.{are_bound_by_uses, is_bound_by_uses, uses_of}
 
 module _ (known : List ExpressionInfo) where
   -- the same of expressions that stand from a handle on
