@@ -16,3 +16,5 @@ pub mod StructRows
 pub mod VariableRows
 pub mod Positions
 pub mod Bounded
+pub mod FirstRefusals
+pub mod FirstParts

@@ -201,7 +201,7 @@ at_each (f ∷ fs) (suc i) each = at_each fs i each.1
 module _ (explicit : Bool) (m : Module) (info : ModuleInfo) (nothing : NothingIsRefused explicit m info)
   where
     -- each function can be written
-    each_writable : (i : ℕ) → IsWritableAt explicit m info (labels_before m i) i
+    pub each_writable : (i : ℕ) → IsWritableAt explicit m info (labels_before m i) i
     each_writable i = record {
       in_scope =
           let own = function_shapes m info (all_functions m) (all_infos info) in

@@ -70,7 +70,8 @@ module _ (explicit : Bool) (m : Module) (info : ModuleInfo) (accepted : IsTrue (
       Tells it (TellsPlanError m f known error) → CarriesOfPlan m f known error it → is_want error ≡ false →
       StandsAtPart explicit m info number f known (part_of error) it
   by_error (plan_error.OutOfScope fault) it refused told carries other = (refused, told)
-  by_error (plan_error.StatementWithoutForm n statement) it refused told carries other = (statement, refused.1, told)
+  by_error (plan_error.StatementWithoutForm n statement) it refused told carries other =
+      (statement, refused.0, refused.1, told)
   by_error (plan_error.WithoutForm line h) it refused told carries other =
       (refused.0, written (slice_get f.expressions h) refused.1 told carries)
     where

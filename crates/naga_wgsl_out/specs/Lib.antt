@@ -11,3 +11,4 @@ pub mod Structs
 pub mod Variables
 pub mod Unwritable
 pub mod Leaving
+pub mod FirstRefusals

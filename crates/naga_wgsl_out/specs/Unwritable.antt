@@ -23,7 +23,7 @@ use Rattle.naga_ir.specs.declared.module.Function.{Function}
 use Rattle.naga_ir.specs.declared.module.Module.{Module}
 use Rattle.naga_names.specs.Naming.{Names}
 use Rattle.naga_scope.specs.Declarations.{HaveFormsBefore, IsUnsupportedIn}
-use Rattle.naga_scope.specs.UnsupportedStatements.{IsUnsupportedAt}
+use Rattle.naga_scope.specs.UnsupportedStatements.{IsUnsupportedAt, unsupported_statement}
 use Rattle.naga_scope.specs.Lines.{IsWrittenAt, declared_type, lets_at}
 use Rattle.naga_scope.specs.Plans.{IsFirstToPlan}
 use Rattle.naga_scope.specs.ScopeFaults.{IsScopeFault}
@@ -73,8 +73,8 @@ StandsAtPart explicit m info number f known (part.Scope fault) it =
     IsScopeFault (function_shape m info f known) fault
     × TellsCustom it (codes "operand out of scope")
 StandsAtPart explicit m info number f known (part.Statement n) it =
-    (statement : UnsupportedStatement) × IsUnsupportedAt f.body n statement
-    × Tells it (NamesStatement statement)
+    (statement : UnsupportedStatement) × (unsupported_statement f.body ≡ Some statement)
+    × IsUnsupportedAt f.body n statement × Tells it (NamesStatement statement)
 StandsAtPart explicit m info number f known (part.Expression line h) it =
     IsWrittenAt m info f known line h
     × IsSomeAnd (slice_get f.expressions h) (λ e.

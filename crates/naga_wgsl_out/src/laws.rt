@@ -1,8 +1,23 @@
-//! Laws of texts, each on a function that does nothing: its contract says the law.
+//! Laws of texts and of refusals, each on a function that does nothing: its contract says the law.
+ghost use Rattle.naga_wgsl_out.specs.FirstRefusals.{FirstRefusalsAreAtOnePlace, RefusalsRefuse};
 ghost use Rattle.naga_wgsl_out.specs.Writing.{TextsAreEqual};
 
 /// Two calls of [`Writer::write`](crate::wgsl::Writer::write) that answer `Ok` append equal texts
 /// where module, infos and flags are the same, whatever the writers wrote or refused before.
 pub fn texts_are_equal()
     ensures { TextsAreEqual }
+{}
+
+/// Where something stands for which a module is refused, it isn't so that nothing is refused: so
+/// [`unwritable`](crate::wgsl::unwritable) answers `None` exactly where nothing stands.
+pub fn refusals_refuse()
+    ensures { RefusalsRefuse }
+{}
+
+/// What stands in a module and is the first for which it is refused stands at one place, in a module
+/// whose bodies have no more statements than there are numbers for them. So the place that
+/// [`unwritable`](crate::wgsl::unwritable) tells is the one of which
+/// [`Writer::write`](crate::wgsl::Writer::write) tells.
+pub fn first_refusals_are_at_one_place()
+    ensures { FirstRefusalsAreAtOnePlace }
 {}

@@ -51,11 +51,12 @@ pub struct Refusal {
 /// these flags.
 ///
 /// Where several stand, it is the first that the writer finds, and the error that `write` answers
-/// names this construct: first of the declarations, in the order of the text; then of the labels of
-/// items; then of the functions and the entry points, in the order of the text. In each of these its
-/// labels come first, and then the lines of its text: the signature, the locals, the statements. Of
-/// one line it is a rule of scope, then the statement itself, the written expression with the lowest
-/// handle, the type that is declared, and the one that a `let` tells.
+/// names what stands at the same position: first of the declarations, in the order of the text;
+/// then of the labels of items; then of the functions and the entry points, in the order of the
+/// text. In each of these its labels come first, and then the lines of its text: the signature, the
+/// locals, the statements. Of one line it is a rule of scope, then the statement itself, the
+/// written expression with the lowest handle, the type that is declared, and the one that a `let`
+/// tells.
 ///
 /// It takes the time of `write` without the text.
 ///
