@@ -41,11 +41,11 @@ found_beside explicit m info (Err e) (Some refusal) tells reason stands first to
   tells = tells;
   stands = stands;
   first = first;
-  named = λ numbered.
+  named =
       let own = told tells in (
         own.refusal.construct,
         subst (λ at. StandsAt explicit m info at own.refusal.construct)
-            (one_position explicit m info numbered own.refusal.position refusal.position own.refusal.construct
+            (one_position explicit m info own.refusal.position refusal.position own.refusal.construct
             refusal.construct own.stands own.first stands first) own.stands,
         own.told,
       );

@@ -11,7 +11,6 @@ use Rattle.naga_wgsl_fns.specs.Constructs.{IsToldAs}
 use Rattle.naga_wgsl_fns.specs.Refusals.{TellsOfModule}
 use Rattle.naga_wgsl_fns.specs.declared.refusals.construct.Construct.{Construct}
 use Rattle.naga_wgsl_fns.specs.declared.refusals.error.Error.{Error}
-use Rattle.naga_wgsl_out.specs.FirstRefusals.{AreNumbered}
 use Rattle.naga_wgsl_out.specs.Headline.{EachReading, FaithfulWriting, MatchesModule}
 use Rattle.naga_wgsl_out.specs.Leaving.{Leaves}
 use Rattle.naga_wgsl_out.specs.Unwritable.{IsFirst, StandsAt, StandsIn}
@@ -19,11 +18,9 @@ use Rattle.naga_wgsl_out.specs.Writing.{AppendsItsText}
 use Rattle.naga_wgsl_out.specs.declared.unwritable.Refusal.{Refusal}
 use Rattle.naga_wgsl_out.specs.declared.unwritable.RefusalPosition.{RefusalPosition}
 
--- the error names a construct that stands at this position, if bodies have no more statements than
--- there are numbers for them
+-- the error names a construct that stands at this position
 abbrev pub NamesAt : (explicit : Bool) → Module → ModuleInfo → RefusalPosition → Error → Type 0
 NamesAt explicit m info at error =
-    AreNumbered m →
     (it : Construct) × StandsAt explicit m info at it × IsToldAs it error
 
 -- The answer is an error that tells of the module, and a refusal is told beside it: its construct

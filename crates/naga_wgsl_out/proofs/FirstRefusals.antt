@@ -56,7 +56,6 @@ use Rattle.naga_wgsl_fns.specs.declared.plans.FunctionRefusalPosition.{FunctionR
 use Rattle.naga_wgsl_fns.specs.declared.refusals.construct.Construct.{Construct}
 use Rattle.naga_wgsl_out.proofs.FirstParts.{lowest, one_part, part_refuses}
 use Rattle.naga_wgsl_out.proofs.ModuleScopes.{each_writable}
-use Rattle.naga_wgsl_out.specs.FirstRefusals.{AreNumbered}
 use Rattle.naga_wgsl_out.specs.ModuleRefusals.{ItemsAreFull, KeyIsOutOfRange, NothingIsRefused}
 use Rattle.naga_wgsl_out.specs.Unwritable.{AreWritableBefore, IsFirst, LabelsGetNamesIn, StandsAt}
 use Rattle.naga_wgsl_out.specs.Unwritable.{StandsAtPart, StandsInFunction, StandsInLabels}
@@ -89,13 +88,12 @@ module _ (explicit : Bool) (m : Module) (info : ModuleInfo) (number : ℕ) where
       (writable.formed stands.function stands.known stands.stands stands.is_known) writable.nameable
 
   -- the first stands at one part
-  one_place : AreNumbered m → (found other : Construct × FunctionRefusalPosition) →
+  one_place : (found other : Construct × FunctionRefusalPosition) →
       StandsInFunction explicit m info number found → StandsInFunction explicit m info number other →
       found.1 ≡ other.1
-  one_place numbered found other stands stood =
+  one_place found other stands stood =
       stands.first.1
-      ∙ one_part explicit m info number stands.function stands.known
-      (numbered number stands.function stands.stands) stands.first.0 stood.first.0 found.0 other.0
+      ∙ one_part explicit m info number stands.function stands.known stands.first.0 stood.first.0 found.0 other.0
       (subst (λ at. StandsAtPart explicit m info number stands.function stands.known at found.0) stands.first.1
       stands.at)
       (subst (λ at. StandsAtPart explicit m info number stands.function stands.known at other.0) stood.first.1
@@ -397,59 +395,58 @@ module _ (explicit : Bool) (m : Module) (info : ModuleInfo) where
         k < n → ⊥
     not_function k at it stands less = unplanned explicit m info k (it, at) stands (before.planned k less)
 
-  module _ (numbered : AreNumbered m) where
-    -- of one function
-    one_at : (n k : ℕ) (at by : FunctionRefusalPosition) (it that : Construct) → n ≡ k →
-        StandsInFunction explicit m info n (it, at) → StandsInFunction explicit m info k (that, by) → at ≡ by
-    one_at n k at by it that same stands stood =
-        one_place explicit m info n numbered (it, at) (that, by) stands
-        (subst (λ n. StandsInFunction explicit m info n (that, by)) (sym same) stood)
+  -- of one function
+  one_at : (n k : ℕ) (at by : FunctionRefusalPosition) (it that : Construct) → n ≡ k →
+      StandsInFunction explicit m info n (it, at) → StandsInFunction explicit m info k (that, by) → at ≡ by
+  one_at n k at by it that same stands stood =
+      one_place explicit m info n (it, at) (that, by) stands
+      (subst (λ n. StandsInFunction explicit m info n (that, by)) (sym same) stood)
 
-    -- the first stands at one place
-    pub one_position : (at by : RefusalPosition) (it that : Construct) → StandsAt explicit m info at it →
-        IsFirst explicit m info at → StandsAt explicit m info by that → IsFirst explicit m info by → at ≡ by
-    one_position position.Labels position.Labels it that stands first stood second = refl
-    one_position position.Labels (position.Declaration at) it that stands first stood second =
-        absurd (none_in m first at stood.0 stood.1)
-    one_position position.Labels (position.Function h at) it that stands first stood second =
-        absurd (not_labels h second it stands)
-    one_position position.Labels (position.EntryPoint i at) it that stands first stood second =
-        absurd (not_labels (length m.functions + i) second it stands)
-    one_position (position.Declaration at) position.Labels it that stands first stood second =
-        absurd (none_in m second at stands.0 stands.1)
-    one_position (position.Declaration at) (position.Declaration by) it that stands first stood second =
-        ap position.Declaration (one_declaration m at by stands.0 stood.0 stands.1 stood.1 first second)
-    one_position (position.Declaration at) (position.Function h by) it that stands first stood second =
-        absurd (not_declaration h second at it stands)
-    one_position (position.Declaration at) (position.EntryPoint i by) it that stands first stood second =
-        absurd (not_declaration (length m.functions + i) second at it stands)
-    one_position (position.Function h at) position.Labels it that stands first stood second =
-        absurd (not_labels h first that stood)
-    one_position (position.Function h at) (position.Declaration by) it that stands first stood second =
-        absurd (not_declaration h first by that stood)
-    one_position (position.Function h at) (position.Function k by) it that stands first stood second =
-        let same =
-        lowest h k (not_function k second h at it stands.1) (not_function h first k by that stood.1) in
-        let parts = one_at h k at by it that same stands.1 stood.1 in
-        λ i. position.Function (same i) (parts i)
-    one_position (position.Function h at) (position.EntryPoint i by) it that stands first stood second =
-        let within = stands.0 in
-        absurd (not_function (length m.functions + i) second h at it stands.1 (omega (arith, within)))
-    one_position (position.EntryPoint i at) position.Labels it that stands first stood second =
-        absurd (not_labels (length m.functions + i) first that stood)
-    one_position (position.EntryPoint i at) (position.Declaration by) it that stands first stood second =
-        absurd (not_declaration (length m.functions + i) first by that stood)
-    one_position (position.EntryPoint i at) (position.Function k by) it that stands first stood second =
-        let within = stood.0 in
-        absurd (not_function (length m.functions + i) first k by that stood.1 (omega (arith, within)))
-    one_position (position.EntryPoint i at) (position.EntryPoint j by) it that stands first stood second =
-        let same =
-        lowest i j
-        (λ less. not_function (length m.functions + j) second (length m.functions + i) at it stands
-        (omega (arith, less)))
-        (λ less. not_function (length m.functions + i) first (length m.functions + j) by that stood
-        (omega (arith, less))) in
-        let parts =
-        one_at (length m.functions + i) (length m.functions + j) at by it that
-        (ap (λ i. length m.functions + i) same) stands stood in
-        λ i. position.EntryPoint (same i) (parts i)
+  -- the first stands at one place
+  pub one_position : (at by : RefusalPosition) (it that : Construct) → StandsAt explicit m info at it →
+      IsFirst explicit m info at → StandsAt explicit m info by that → IsFirst explicit m info by → at ≡ by
+  one_position position.Labels position.Labels it that stands first stood second = refl
+  one_position position.Labels (position.Declaration at) it that stands first stood second =
+      absurd (none_in m first at stood.0 stood.1)
+  one_position position.Labels (position.Function h at) it that stands first stood second =
+      absurd (not_labels h second it stands)
+  one_position position.Labels (position.EntryPoint i at) it that stands first stood second =
+      absurd (not_labels (length m.functions + i) second it stands)
+  one_position (position.Declaration at) position.Labels it that stands first stood second =
+      absurd (none_in m second at stands.0 stands.1)
+  one_position (position.Declaration at) (position.Declaration by) it that stands first stood second =
+      ap position.Declaration (one_declaration m at by stands.0 stood.0 stands.1 stood.1 first second)
+  one_position (position.Declaration at) (position.Function h by) it that stands first stood second =
+      absurd (not_declaration h second at it stands)
+  one_position (position.Declaration at) (position.EntryPoint i by) it that stands first stood second =
+      absurd (not_declaration (length m.functions + i) second at it stands)
+  one_position (position.Function h at) position.Labels it that stands first stood second =
+      absurd (not_labels h first that stood)
+  one_position (position.Function h at) (position.Declaration by) it that stands first stood second =
+      absurd (not_declaration h first by that stood)
+  one_position (position.Function h at) (position.Function k by) it that stands first stood second =
+      let same =
+      lowest h k (not_function k second h at it stands.1) (not_function h first k by that stood.1) in
+      let parts = one_at h k at by it that same stands.1 stood.1 in
+      λ i. position.Function (same i) (parts i)
+  one_position (position.Function h at) (position.EntryPoint i by) it that stands first stood second =
+      let within = stands.0 in
+      absurd (not_function (length m.functions + i) second h at it stands.1 (omega (arith, within)))
+  one_position (position.EntryPoint i at) position.Labels it that stands first stood second =
+      absurd (not_labels (length m.functions + i) first that stood)
+  one_position (position.EntryPoint i at) (position.Declaration by) it that stands first stood second =
+      absurd (not_declaration (length m.functions + i) first by that stood)
+  one_position (position.EntryPoint i at) (position.Function k by) it that stands first stood second =
+      let within = stood.0 in
+      absurd (not_function (length m.functions + i) first k by that stood.1 (omega (arith, within)))
+  one_position (position.EntryPoint i at) (position.EntryPoint j by) it that stands first stood second =
+      let same =
+      lowest i j
+      (λ less. not_function (length m.functions + j) second (length m.functions + i) at it stands
+      (omega (arith, less)))
+      (λ less. not_function (length m.functions + i) first (length m.functions + j) by that stood
+      (omega (arith, less))) in
+      let parts =
+      one_at (length m.functions + i) (length m.functions + j) at by it that
+      (ap (λ i. length m.functions + i) same) stands stood in
+      λ i. position.EntryPoint (same i) (parts i)

@@ -3,21 +3,12 @@
 --
 -- Throughout, m is the module, info what is known of it, explicit says whether `let`s tell types,
 -- and one and other are refusals.
-use Rattle.std.specs.Prelude.{◌≡◌, ◌≤◌, ◌^◌, ℕ, Bool, Some, length, slice_get}
-use Rattle.module_meaning.specs.FunctionNumbers.{all_functions}
+use Rattle.std.specs.Prelude.{◌≡◌, Bool}
 use Rattle.naga_info.specs.declared.info.ModuleInfo.{ModuleInfo}
-use Rattle.naga_ir.specs.declared.module.Function.{Function}
 use Rattle.naga_ir.specs.declared.module.Module.{Module}
-use Rattle.naga_scope.specs.InOrder.{trees_in}
 use Rattle.naga_wgsl_out.specs.ModuleRefusals.{NothingIsRefused}
 use Rattle.naga_wgsl_out.specs.Unwritable.{IsFirst, StandsIn}
 use Rattle.naga_wgsl_out.specs.declared.unwritable.Refusal.{Refusal}
-
--- Bodies have no more statements than there are numbers for them.
-abbrev pub AreNumbered : Module → Type 0
-AreNumbered m =
-    (number : ℕ) (f : Function) → slice_get (all_functions m) number ≡ Some f →
-    length (trees_in f.body) ≤ 2 ^ 64
 
 -- Where something stands for which a module is refused, it isn't so that nothing does. So `None`
 -- comes exactly where nothing stands.
@@ -31,7 +22,7 @@ RefusalsRefuse =
 -- labels of items a full namer and a key out of range may stand.
 abbrev pub FirstRefusalsAreAtOnePlace : Type 0
 FirstRefusalsAreAtOnePlace =
-    (explicit : Bool) (m : Module) (info : ModuleInfo) (one other : Refusal) → AreNumbered m →
+    (explicit : Bool) (m : Module) (info : ModuleInfo) (one other : Refusal) →
     StandsIn explicit m info one → IsFirst explicit m info one.position →
     StandsIn explicit m info other → IsFirst explicit m info other.position →
     one.position ≡ other.position

@@ -14,9 +14,8 @@ pub fn refusals_refuse()
     ensures { RefusalsRefuse }
 {}
 
-/// What stands in a module and is the first for which it is refused stands at one place, in a module
-/// whose bodies have no more statements than there are numbers for them. So the place that
-/// [`unwritable`](crate::wgsl::unwritable) tells is the one of which
+/// What stands in a module and is the first for which it is refused stands at one place. So the
+/// place that [`unwritable`](crate::wgsl::unwritable) tells is the one of which
 /// [`Writer::write`](crate::wgsl::Writer::write) tells.
 pub fn first_refusals_are_at_one_place()
     ensures { FirstRefusalsAreAtOnePlace }

@@ -3,6 +3,6 @@ use Rattle.naga_wgsl_out.proofs.laws.first_refusals_are_at_one_place.Goals as go
 
 pub returns : goal.returns
 returns c =
-    λ explicit m info one other numbered stands first stood second.
-    one_position explicit m info numbered one.position other.position one.construct other.construct stands first
+    λ explicit m info one other stands first stood second.
+    one_position explicit m info one.position other.position one.construct other.construct stands first
     stood second
