@@ -11,7 +11,8 @@
         and in 2 MB.
 
 With the last words `--nesting N` the program is asked with them: one that was compiled without a proof takes more of the
-stack for a level, and is to be asked with 1,000.
+stack for a level, and is to be asked with 1,000. It takes a hundred times as long too, so that the gate asks it for none that
+are deeper than 10,000.
 """
 
 import json
@@ -32,14 +33,16 @@ WRITTEN = ""
 WAYS = [WRITTEN, "--check", "--layout", "--explain", "--lines"]
 # Of these kinds the gate asks for each way a million deep.
 LONG = ["negations", "array types"]
+# So many blocks nest as deep as JSON may, in the 127 lists and objects in one another that it may have.
+DEEPEST_BLOCKS = 61
 TOO_LONG = "refused: text too long\n"
 
 
 def run(program, text, stack, *words):
     """The status with which the program ends in so much stack, its output and its error output."""
-    def limited():
-        resource.setrlimit(resource.RLIMIT_STACK, (stack, stack))
-    done = subprocess.run([program, *filter(None, words)], input=text.encode(), capture_output=True, preexec_fn=limited)
+    # what is begun from here has this limit too; all that run at once are asked with the same
+    resource.setrlimit(resource.RLIMIT_STACK, (stack, resource.getrlimit(resource.RLIMIT_STACK)[1]))
+    done = subprocess.run([program, *filter(None, words)], input=text.encode(), capture_output=True)
     return done.returncode, done.stdout.decode(), done.stderr.decode()
 
 
@@ -48,9 +51,17 @@ def asked(limit, is_short):
     for depth in sorted({*DEPTHS, limit, limit + 1}):
         for kind in KINDS:
             for way in WAYS:
-                is_long = depth == MILLION and kind in LONG
-                if not is_short or way == WRITTEN or depth in (limit, limit + 1) or is_long:
+                if not is_short or is_asked_in_short(limit, kind, depth, way):
                     yield kind, depth, way
+
+
+def is_asked_in_short(limit, kind, depth, way):
+    if limit < STANDARD and depth > 10_000:
+        return False
+    # their texts are long, and are made for each way but two
+    is_long_text = "compositions" in kind and depth == limit and way in ("--explain", "--lines")
+    is_at_limit = depth in (limit, limit + 1) and not is_long_text
+    return way == WRITTEN or is_at_limit or depth == MILLION and kind in LONG
 
 
 def is_written(way, status, out, err):
@@ -85,11 +96,12 @@ def is_right(kind, depth, way, limit, told):
 
 
 def is_right_of_blocks(depth, status, out, err):
-    """Whether this is what is to be answered of blocks that deep: some sixty nest as deep as JSON may."""
-    if depth < 60:
+    """Whether this is what is to be answered of blocks that deep."""
+    if depth <= DEEPEST_BLOCKS:
         return is_written(WRITTEN, status, out, err)
-    at = blocks(depth).index("[", blocks(60).index('{"Block"'))
-    return (status, out) == (2, "") and err.startswith("standard input: no JSON at line 1, column ")
+    begin = '{"Block":['
+    column = blocks(1).index(begin) + DEEPEST_BLOCKS * len(begin) + 2
+    return (status, out, err) == (2, "", f"standard input: no JSON at line 1, column {column}\n")
 
 
 def short(told):
@@ -111,7 +123,7 @@ def faults(program, words, limit, is_short=False):
         line = "refused: nested too deep: operands\n" if is_deep else TOO_LONG
         if not (is_written(WRITTEN, *told) if depth == 10 else is_refused(WRITTEN, line, *told)):
             yield f"doubled {depth} times: {short(told)}"
-    for depth in (10, 30, 100, 1_000, MILLION):
+    for depth in (10, DEEPEST_BLOCKS, DEEPEST_BLOCKS + 1, 100, 1_000, 100_000 if is_short else MILLION):
         told = run(program, blocks(depth), 8 * MEGABYTE, *words)
         if not is_right_of_blocks(depth, *told):
             yield f"blocks, {depth} deep: {short(told)}"

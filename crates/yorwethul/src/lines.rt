@@ -273,7 +273,7 @@ fn tell_unaccepted(
         &mut told,
     )?;
     tell(alloc, "fault", unaccepted.fault, &mut told)?;
-    if let Some(label) = label_of(&known.module, unaccepted.item) {
+    if let Some(label) = label_of(&known.module, &unaccepted.item) {
         tell(alloc, "function", label, &mut told)?;
     }
     if let Some(wanted) = explain(alloc, &known.module, &known.info, unaccepted)? {

@@ -1,4 +1,4 @@
-use Rattle.std.proofs.Common.{◌≡◌, ◌<◌, ◌∙◌, ap, length, arith, refl, Some, subst, sym}
+use Rattle.std.proofs.Common.{◌≡◌, ◌<◌, ◌∙◌, ap, length, arith, Some, subst, sym}
 use Rattle.std.proofs.lemmas.Option.{slice_get_within}
 use Rattle.module_meaning.specs.acceptance.AgreeingOperators.{groups_of}
 use Rattle.naga_acceptance.specs.Faults.{DisagreesAt, site_of}
@@ -13,4 +13,5 @@ returns-clause-fault c =
     in let within : c.in_ok-place.place.group < length (groups_of m info) =
     slice_get_within (groups_of m info) c.in_ok-place.place.group fails.0 fails.1
     in let site = c.use_item.ensures.site (omega (arith, within, groups_within m info))
-    in (refl, subst (DisagreesAt m info) (sym site) fails)
+    in let told = c.at.ensures
+    in (ap (λ u. u.fault) told, subst (DisagreesAt m info) (sym (ap (λ u. site_of m u.item) told ∙ site)) fails)
