@@ -12,7 +12,7 @@ use Rattle.shader_runs.specs.Program.{expression_of, operands_of}
 use Rattle.shader_runs.specs.Premises.{AllBelow}
 use Rattle.shader_runs.specs.Scope.{Naming}
 use Rattle.naga_scope.specs.ScopeFaults.{standing}
-use Rattle.shader_runs.specs.ScopeRules.{ScopeHolds, entry_point}
+use Rattle.shader_runs.specs.ScopeRules.{ScopeHolds, start_state}
 use Rattle.shader_runs.proofs.ScopeRules.{scope_check_is_the_rules}
 use Rattle.module_meaning.specs.FunctionNumbers.{all_functions, all_infos}
 use Rattle.module_meaning.specs.FunctionShapes.{function_shape, function_shapes}
@@ -52,7 +52,7 @@ module _ (m : Module) (info : ModuleInfo) (f : ir_function.Function) (es : List 
   checked_fault few fault is =
       let count = standing_count m info f es in
       let shape = function_shape m info f es in
-      let small : length (standing shape entry_point shape.body) < 2 ^ 64 = omega (arith, few, count) in
+      let small : length (standing shape start_state shape.body) < 2 ^ 64 = omega (arith, few, count) in
       check_finds unnamed operands_before small fault is
 
 -- a function that there is, with what is known of it, has a shape
