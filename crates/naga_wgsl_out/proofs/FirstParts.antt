@@ -18,9 +18,9 @@ use Rattle.naga_ir.specs.StatementTree.{has_no_statements}
 use Rattle.naga_ir.specs.declared.expression.Expression.{Expression}
 use Rattle.naga_ir.specs.declared.module.Function.{Function}
 use Rattle.naga_ir.specs.declared.module.Module.{Module}
+use Rattle.naga_scope.proofs.FaultLines.{fault_breaks}
 use Rattle.naga_scope.proofs.FormedStatements.{some_unsupported}
 use Rattle.naga_scope.proofs.LineOrder.{cases_line}
-use Rattle.naga_scope.proofs.ScopeChecks.{fault_breaks}
 use Rattle.naga_scope.proofs.WrittenLines.{in_the_function}
 use Rattle.naga_scope.specs.Earliest.{line_of}
 use Rattle.naga_scope.specs.InOrder.{own_lets}
