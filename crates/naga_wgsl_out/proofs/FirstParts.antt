@@ -29,7 +29,7 @@ use Rattle.naga_scope.specs.Plans.{ComesBefore, IsFirstInText, IsFirstOfKind, Is
 use Rattle.naga_scope.specs.Plans.{NothingAt, kind_of}
 use Rattle.naga_scope.specs.Plans.{checked_scope, kind_rank}
 use Rattle.naga_scope.specs.SpelledTypes.{declared_unsupported, own_annotated}
-use Rattle.naga_scope.specs.UnsupportedStatements.{IsUnsupportedAt, LacksForm, SomeCaseFalls}
+use Rattle.naga_scope.specs.UnsupportedStatements.{LacksForm, SomeCaseFalls}
 use Rattle.naga_scope.specs.UnsupportedStatements.{falls_unsupported, own_unsupported}
 use Rattle.naga_scope.specs.UnsupportedStatements.{unsupported_case}
 use Rattle.naga_scope.specs.declared.lines.Line.{Line}

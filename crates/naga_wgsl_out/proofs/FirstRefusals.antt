@@ -61,7 +61,6 @@ use Rattle.naga_wgsl_out.specs.Unwritable.{AreWritableBefore, IsFirst, LabelsGet
 use Rattle.naga_wgsl_out.specs.Unwritable.{StandsAtPart, StandsInFunction, StandsInLabels}
 use Rattle.naga_wgsl_out.specs.Writing.{HasPlan}
 use Rattle.wgsl_layout.specs.declared.layouts.Placed.{Placed}
-use Rattle.naga_wgsl_out.specs.declared.unwritable.Refusal.{Refusal}
 use Rattle.naga_wgsl_out.specs.declared.unwritable.RefusalPosition.{RefusalPosition}
 use Rattle.naga_wgsl_out.specs.declared.unwritable.RefusalPosition.TheVariants as position
 use Rattle.shader_runs.specs.ScopeRules.{ScopeHolds}

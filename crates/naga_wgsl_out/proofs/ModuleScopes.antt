@@ -1,6 +1,6 @@
 -- The rules of scope in the functions of a module, one by one and in all.
 use Rattle.std.proofs.Common.{◌≡◌, ◌<◌, ◌^◌, ℕ, Bool, true, zero, suc, List, [], ◌∷◌}
-use Rattle.std.proofs.Common.{Some, arith, inl, inr, length, nat_le, subst}
+use Rattle.std.proofs.Common.{Some, arith, inl, inr, length, nat_le}
 use Rattle.std.proofs.Common.{◌∙◌, sym}
 use Rattle.std.proofs.lemmas.Bool.{false≢true}
 use Rattle.std.specs.Prelude.{IfSome, IsTrue, slice_get}
