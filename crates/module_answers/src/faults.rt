@@ -25,7 +25,7 @@ pub fn fault_line(
 {
     let position = LabelledPosition::of(root, module, unaccepted.item);
     let fault = fault_text(alloc, module, info, unaccepted)?;
-    format!(in alloc; "{place}: {fault}")
+    format!(in alloc; "{position}: {fault}")
 }
 
 /// The same without the position and the label.
