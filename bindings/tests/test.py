@@ -308,8 +308,6 @@ def cut_answers(output, names):
     return answers
 
 
-# What an operand is where it is used: `operand components[2] of expressions[42]`.
-ROLE = re.compile(r", operand [a-z0-9_]+(?:\[\d+\])? of\b")
 # The label after a place: `, in "half"`.
 LABEL = re.compile(r', in "(?:[^"\\]|\\.)*"')
 
@@ -322,8 +320,8 @@ def wanted_of(answer, text):
         return NOT_ACCEPTED, (text if text and text.endswith(f": {fault}") else fault)
     if last.startswith("at: "):
         wanted = f'{front.rpartition("refused: ")[2]}: {last.removeprefix("at: ")}'
-        # The library tells the role of an operand and the label of the function too.
-        return REFUSED, (text if text and ROLE.sub(", operand of", LABEL.sub("", text, count=1)) == wanted else wanted)
+        # The library tells the label of the function too.
+        return REFUSED, (text if text and LABEL.sub("", text, count=1) == wanted else wanted)
     if last.startswith("refused: "):
         construct = last.removeprefix("refused: ")
         return REFUSED, (text if text and text.startswith(f"{construct}: module") else construct)

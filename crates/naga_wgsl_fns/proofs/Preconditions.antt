@@ -436,9 +436,9 @@ module _ (t : FunctionText) (can : CanWrite t) where
   expression_formed h e here is = (has_form_parts m es f.expressions e (can.formed.expressions h e here is.written)).0
 
   -- and so has its offset
-  pub offset_has_form : (h : ℕ) (e : Expression) → slice_get f.expressions h ≡ Some e → IsInText t h →
+  pub offset_formed : (h : ℕ) (e : Expression) → slice_get f.expressions h ≡ Some e → IsInText t h →
       IsTrue (own_offset_has_form f.expressions e)
-  offset_has_form h e here is = (has_form_parts m es f.expressions e (can.formed.expressions h e here is.written)).1
+  offset_formed h e here is = (has_form_parts m es f.expressions e (can.formed.expressions h e here is.written)).1
 
   -- so it is written as what it is: a literal of a type that is written, a constant that has a name or
   -- whose initialiser is written, a conversion or a load of a matrix that has a form, a function of

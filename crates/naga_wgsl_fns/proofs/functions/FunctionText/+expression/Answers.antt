@@ -13,7 +13,7 @@ use Rattle.naga_wgsl_fns.proofs.ImageRows.{offset_row, sampling_whole}
 use Rattle.naga_wgsl_fns.proofs.Preconditions.{all_in_text, highest_below, sampled_in}
 use Rattle.naga_wgsl_fns.proofs.ModuleTexts.{can_in}
 use Rattle.naga_wgsl_fns.proofs.VariableRows.{handle_variable_reference, kept_reference}
-use Rattle.naga_wgsl_fns.proofs.Preconditions.{global_within, offset_has_form}
+use Rattle.naga_wgsl_fns.proofs.Preconditions.{global_within, offset_formed}
 use Rattle.naga_wgsl_fns.proofs.Preconditions.{override_within}
 use Rattle.naga_wgsl_fns.specs.Names.{name_of_override}
 use Rattle.naga_wgsl_fns.specs.Expressions.{next_operand_text}
@@ -617,7 +617,7 @@ write_sampling-write_offset-requires g t c κs within =
     let before = highest_below self h (option_to_list e.offset) (omega (arith, image)) s.offset in
     let constant =
     ap (own_offset_has_form (expressions self)) (sym c.in-ImageSample.is)
-    ∙ offset_has_form self c.requires.can h c.index.result.now c.index.ensures c.requires.handle in (
+    ∙ offset_formed self c.requires.can h c.index.result.now c.index.ensures c.requires.handle in (
       omega (arith, before, c.decreases),
       (within, (c.requires.can, (all_in_text self h (option_to_list e.offset) s.offset, constant))),
     )
