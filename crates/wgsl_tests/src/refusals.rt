@@ -34,7 +34,7 @@ fn a_refusal_tells_where(rt: HostRuntime) {
     };
     let wanted = Refusal {
         construct: Construct::OutOfScope,
-        place: RefusalPosition::Function(
+        position: RefusalPosition::Function(
             ItemIndex::from_index(0),
             FunctionRefusalPosition::Scope(fault),
         ),
