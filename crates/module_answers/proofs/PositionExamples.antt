@@ -41,15 +41,15 @@ without_a_role : json_refusal_position root.Member None (refused.Function 0 (par
 unfolding digits
 without_a_role = refl
 
-labelled : labelled_position root.Module (item.Function 0 (position.Expression 3)) (Some (codes "half"))
-    ≡ Some (codes "functions[0].expressions[3], in \"half\"")
+without_a_label : labelled_position root.Module (item.Function 0 (position.Expression 3)) None
+    ≡ Some (codes "functions[0].expressions[3]")
 unfolding digits
-labelled = refl
+without_a_label = refl
 
 a_refusal :
     json_refusal root.Member construct.FloatLiteral None (refused.Function 0 (part.Expression (line.Statement 1) 3))
-    (Some (codes "half"))
-    ≡ Some (codes "float literal: module.functions[0].expressions[3], in statement 1, in \"half\"")
+    None
+    ≡ Some (codes "float literal: module.functions[0].expressions[3], in statement 1")
 unfolding digits
 a_refusal = refl
 

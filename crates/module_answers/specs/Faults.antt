@@ -13,7 +13,7 @@ use Rattle.fault_details.specs.Told.{TellsOf}
 use Rattle.fault_details.specs.declared.mismatch.Mismatch.{Mismatch}
 use Rattle.module_answers.specs.Labels.{label_of}
 use Rattle.module_answers.specs.declared.positions.JsonRoot.{JsonRoot}
-use Rattle.module_answers.specs.Positions.{labelled_position}
+use Rattle.module_answers.specs.Positions.{in_function, json_position}
 
 -- what was wanted, after the kind of fault, if more can be told than that
 abbrev pub wanted_after : Option Mismatch → List ℕ
@@ -26,10 +26,13 @@ TellsFault m info u text =
     (wanted : Option Mismatch) × TellsOf m (fault_reason m info u) wanted
     × (text ≡ fault_text u.fault ++ wanted_after wanted)
 
--- the same after its position and the label there. Nothing is said where nothing is said of the
--- label
+-- what is told of a label after a position. Nothing is said of one of whose text in quotes nothing is
+-- known, as of one past ASCII
+abbrev pub IsLabelText : (label : Option (List ℕ)) → (text : List ℕ) → Type 0
+IsLabelText label text = (known : List ℕ) → in_function label ≡ Some known → text ≡ known
+
+-- the same after its position and the label there
 abbrev pub TellsFaultAt : JsonRoot → Module → ModuleInfo → Unaccepted → (line : List ℕ) → Type 0
 TellsFaultAt from m info u line =
-    (text : List ℕ) × TellsFault m info u text
-    × ((place : List ℕ) → labelled_position from u.item (label_of m u.item) ≡ Some place →
-    line ≡ place ++ (codes ": " ++ text))
+    (text label : List ℕ) × TellsFault m info u text × IsLabelText (label_of m u.item) label
+    × (line ≡ json_position from u.item ++ (label ++ (codes ": " ++ text)))

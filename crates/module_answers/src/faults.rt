@@ -1,9 +1,10 @@
 //! Where a module is not accepted, why, and what was wanted there.
 
 ghost use Rattle.std.specs.Prelude.{IfOk, string_bytes};
-ghost use Rattle.module_answers.specs.Faults.{TellsFault, TellsFaultAt};
+ghost use Rattle.std.specs.Option.{option_map};
+ghost use Rattle.module_answers.specs.Faults.{IsLabelText, TellsFault, TellsFaultAt};
 
-use crate::positions::{JsonRoot, LabelledPosition};
+use crate::positions::{InFunction, JsonPosition, JsonRoot, label_of};
 use naga_info::ModuleInfo;
 use naga_wgsl_out::info::{Unaccepted, explain};
 use naga_wgsl_out::ir::Module;
@@ -23,9 +24,19 @@ pub fn fault_line(
     ensures { IfOk result (λ line. TellsFaultAt root «module».now info.now unaccepted
         (string_bytes line)) }
 {
-    let position = LabelledPosition::of(root, module, unaccepted.item);
+    let position = JsonPosition(root, unaccepted.item);
+    let label = label_text(alloc, label_of(module, &unaccepted.item))?;
     let fault = fault_text(alloc, module, info, unaccepted)?;
-    format!(in alloc; "{position}: {fault}")
+    format!(in alloc; "{position}{label}: {fault}")
+}
+
+/// A label, told after a position; nothing where there is none.
+fn label_text(alloc: Global, label: Option<&str>) -> Result<String, AllocError>
+    ensures { IfOk result (λ text. IsLabelText (option_map (λ label. label.now) label)
+        (string_bytes text)) }
+{
+    let label = InFunction(label);
+    format!(in alloc; "{label}")
 }
 
 /// The same without the position and the label.
