@@ -32,7 +32,7 @@ pub fn fault_line(
 
 /// A label, told after a position; nothing where there is none.
 fn label_text(alloc: Global, label: Option<&str>) -> Result<String, AllocError>
-    ensures { IfOk result (λ text. IsLabelText (option_map (λ label. label.now) label)
+    ensures { IfOk result (λ text. IsLabelText (option_map (λ label. label.now) label.entry)
         (string_bytes text)) }
 {
     let label = InFunction(label);
