@@ -207,11 +207,11 @@ fn told_refusal(
     ensures { Says status result.status (string_bytes result.text) }
 {
     match refusal {
-        Some(refusal) => told(
-            alloc,
-            status,
-            JsonRefusal::of(JsonRoot::Member, module, refusal),
-        ),
+        Some(refusal) => {
+            let refusal = JsonRefusal::of(JsonRoot::Member, module, refusal);
+            let text = format!(in alloc; "{refusal}");
+            settled(alloc, status, text)
+        }
         None => told(alloc, status, error),
     }
 }
