@@ -5,7 +5,7 @@ ghost use Rattle.module_meaning.specs.acceptance.Accepted.{is_accepted};
 
 use bitflags::Flags;
 use json::{Scratch, Value};
-use module_answers::{JsonRefusalPosition, JsonRoot};
+use module_answers::{JsonRefusalPosition, JsonRoot, role_at};
 use naga_json::{Known, known_of, parse};
 use naga_wgsl_out::info::{Unaccepted, count, explain, unaccepted};
 use naga_wgsl_out::wgsl::{Writer, WriterFlags, unwritable};
@@ -153,7 +153,12 @@ fn push_place(
     requires { IsTrue (is_accepted known.now.module known.now.info) }
 {
     if let Some(refusal) = unwritable(alloc, &known.module, &known.info, flags)? {
-        let position = JsonRefusalPosition::of(JsonRoot::Member, &known.module, refusal.position);
+        let role = role_at(&known.module, &refusal.position);
+        let position = JsonRefusalPosition {
+            root: JsonRoot::Member,
+            position: refusal.position,
+            role,
+        };
         let told = format!(in alloc; "at: {position}\n")?;
         text.push_str(told.as_str())?;
     }
