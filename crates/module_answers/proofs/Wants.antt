@@ -1,6 +1,7 @@
 -- What is so of the writer's answer is so of want of memory in its place.
-use Rattle.std.proofs.Common.{ℕ, List, inl, inr, subst, sym}
-use Rattle.std.specs.Prelude.{Err, IfSome, IsErrAnd, MatchOption, None, Ok, OnOk, Option, Result}
+use Rattle.std.proofs.Common.{◌≡◌, ℕ, List, inl, inr, subst, sym}
+use Rattle.std.specs.Prelude.{Err, IfErr, IfSome, IsErrAnd, MatchOption, None, Ok, OnOk, Option}
+use Rattle.std.specs.Prelude.{Result}
 use Rattle.std.specs.Prelude.{Bool, Some, alloc_error}
 use Rattle.naga_back.specs.Flags.{annotates_types}
 use Rattle.naga_back.specs.declared.flags.WriterFlags.{WriterFlags}
@@ -12,11 +13,12 @@ use Rattle.naga_wgsl_fns.specs.declared.refusals.error.Error.TheVariants.{Memory
 use Rattle.naga_words.specs.Sink.{IsAfter}
 use Rattle.std.specs.declared.alloc.AllocError.{AllocError}
 use Rattle.naga_wgsl_out.proofs.Faithful.{function_tells_of_module, refused}
+use Rattle.naga_wgsl_out.proofs.FirstRefusals.{one_position}
 use Rattle.naga_wgsl_out.proofs.ModuleScopes.{no_refusal}
 use Rattle.naga_wgsl_out.specs.Headline.{EachReading, FaithfulWriting, MatchesModule}
 use Rattle.naga_wgsl_out.specs.Leaving.{Leaves}
 use Rattle.naga_wgsl_out.specs.ModuleRefusals.{NothingIsRefused, RefusesOnlyFor}
-use Rattle.naga_wgsl_out.specs.Unwritable.{IsFirst, StandsIn}
+use Rattle.naga_wgsl_out.specs.Unwritable.{IsFirst, StandsAt, StandsIn, TellsFirst}
 use Rattle.naga_wgsl_out.specs.Writing.{AppendsItsText, written_text}
 use Rattle.naga_wgsl_out.specs.declared.unwritable.Refusal.{Refusal}
 use Rattle.module_answers.specs.Wants.{IsAnswerOrWant}
@@ -30,12 +32,32 @@ pub found_beside : (explicit : Bool) (m : Module) (info : ModuleInfo) (answer : 
     (before after : ℕ) × RefusesOnlyFor answer explicit m info before after →
     MatchOption found (NothingIsRefused explicit m info) (StandsIn explicit m info) →
     IfSome found (λ refusal. IsFirst explicit m info refusal.position) →
+    IfErr answer (λ e. TellsOfModule e → TellsFirst explicit m info e) →
     TellsBeside explicit m info answer found
-found_beside explicit m info (Ok x) found tells reason stands first = absurd tells
-found_beside explicit m info (Err e) None tells reason nothing first =
+found_beside explicit m info (Ok x) found tells reason stands first told = absurd tells
+found_beside explicit m info (Err e) None tells reason nothing first told =
     absurd (no_refusal explicit m info nothing reason.0 reason.1 e tells reason.2)
-found_beside explicit m info (Err e) (Some refusal) tells reason stands first =
-    record { tells = tells; stands = stands; first = first }
+found_beside explicit m info (Err e) (Some refusal) tells reason stands first told = record {
+  tells = tells;
+  stands = stands;
+  first = first;
+  named =
+      let own = told tells in (
+        own.refusal.construct,
+        subst (λ at. StandsAt explicit m info at own.refusal.construct)
+            (one_position explicit m info own.refusal.position refusal.position own.refusal.construct
+            refusal.construct own.stands own.first stands first) own.stands,
+        own.told,
+      );
+}
+
+-- what an error names, by what the writer leaves after it
+pub leaves_told : (own flags : WriterFlags) (m : Module) (info : ModuleInfo) (answer : Result Unit Error)
+    (content now : List ℕ) (before after : ℕ) → own ≡ flags → Leaves own m info answer content now before after →
+    IfErr answer (λ e. TellsOfModule e → TellsFirst (annotates_types flags) m info e)
+leaves_told own flags m info (Ok x) content now before after same leaves = tt
+leaves_told own flags m info (Err e) content now before after same leaves =
+    λ of. subst (λ flags. TellsFirst (annotates_types flags) m info e) same (leaves.told of)
 
 module _ (flags : WriterFlags) (m : Module) (info : ModuleInfo) (content now : List ℕ) (before after : ℕ) where
   -- ---- want of memory

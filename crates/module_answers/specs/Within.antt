@@ -9,7 +9,7 @@ use Rattle.module_answers.specs.declared.within.NoOutcome.TheVariants as unwritt
 use Rattle.module_limits.specs.Nesting.{nested_past}
 use Rattle.module_limits.specs.declared.limits.Limits.{Limits}
 use Rattle.module_meaning.specs.acceptance.Accepted.{is_accepted}
-use Rattle.naga_acceptance.specs.Faults.{Fails}
+use Rattle.naga_acceptance.specs.FirstFaults.{IsFirstFault}
 use Rattle.naga_back.specs.declared.flags.WriterFlags.{WriterFlags}
 use Rattle.naga_info.specs.declared.info.ModuleInfo.{ModuleInfo}
 use Rattle.naga_ir.specs.declared.module.Module.{Module}
@@ -46,7 +46,7 @@ abbrev pub IsUnwritten : WriterFlags → Limits → (given m : Module) → (old 
 IsUnwritten flags limits given m old new (unwritten.TooDeep nested) =
     (nested_past limits.nesting given ≡ Some nested) × (m ≡ given) × (new ≡ old)
 IsUnwritten flags limits given m old new (unwritten.NotAccepted fault) =
-    (nested_past limits.nesting given ≡ None) × Fails given old fault × (m ≡ given) × (new ≡ old)
+    (nested_past limits.nesting given ≡ None) × IsFirstFault given old fault × (m ≡ given) × (new ≡ old)
 IsUnwritten flags limits given m old new unwritten.TooLong =
     IsTooLong flags limits given m old new
 IsUnwritten flags limits given m old new (unwritten.Memory error) = (m ≡ given) × (new ≡ old)

@@ -18,8 +18,8 @@ use Rattle.naga_ir.specs.declared.module.Module.{Module}
 use Rattle.naga_info.specs.declared.info.ExpressionInfo.{ExpressionInfo}
 use Rattle.naga_info.specs.declared.info.ModuleInfo.{ModuleInfo}
 use Rattle.naga_acceptance.specs.Faults.{Fails, FaultIs, entry_names_fit}
-use Rattle.naga_acceptance.specs.FirstFaults.{IsDisagreement, IsFirst, IsOfTypes, Named, Wanted}
-use Rattle.naga_acceptance.specs.FirstFaults.{Disagreeing}
+use Rattle.naga_acceptance.specs.FirstFaults.{IsDisagreement, IsFirst, IsFirstFault, IsOfTypes}
+use Rattle.naga_acceptance.specs.FirstFaults.{Named, Wanted, Disagreeing}
 use Rattle.naga_acceptance.specs.FirstFaults.{at, at_entry_point, at_expression, at_function}
 use Rattle.naga_acceptance.specs.FirstFaults.{declarations_range_fault, entry_point_range_fault}
 use Rattle.naga_acceptance.specs.FirstFaults.{entry_point_sizes_fault, entry_points_range_fault}
@@ -271,3 +271,10 @@ pub disagreement_fails : (m : Module) (info : ModuleInfo) (found : Option Unacce
     IfSome found (IsDisagreement m info) → IfSome found (Fails m info)
 disagreement_fails m info None disagrees = tt
 disagreement_fails m info (Some u) disagrees = subst (FaultIs m info u.item) (sym disagrees.0) disagrees.1
+
+-- what fails, is the first and is told of types only where it may be
+pub told_first : (m : Module) (info : ModuleInfo) (found : Option Unaccepted) → IfSome found (Fails m info) →
+    IfSome found (IsFirst m info) → IfSome found (λ u. IsOfTypes u.fault → IsTrue (module_ranges_fit m info)) →
+    IfSome found (IsFirstFault m info)
+told_first m info None fails first typed = tt
+told_first m info (Some u) fails first typed = record { fails = fails; first = first; typed = typed }

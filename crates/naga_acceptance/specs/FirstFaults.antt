@@ -24,7 +24,7 @@ use Rattle.naga_ir.specs.declared.module.Module.{Module}
 use Rattle.naga_info.specs.declared.info.ExpressionInfo.{ExpressionInfo}
 use Rattle.naga_info.specs.declared.info.ModuleInfo.{ModuleInfo}
 use Rattle.naga_info.specs.declared.info.TypeResolution.{TypeResolution}
-use Rattle.naga_acceptance.specs.Faults.{OperatorFails, entry_names_fit}
+use Rattle.naga_acceptance.specs.Faults.{Fails, OperatorFails, entry_names_fit}
 use Rattle.naga_acceptance.specs.Searching.{first_faulty, first_unfit, unless}
 use Rattle.naga_acceptance.specs.TextOrder.{is_in_range, is_sound, numbered, text_order}
 use Rattle.naga_acceptance.specs.declared.faults.Fault.{Fault}
@@ -284,3 +284,10 @@ IsOfTypes fault.InitialiserType = ⊤
 IsOfTypes fault.Unsatisfied = ⊤
 IsOfTypes fault.Disagreement = ⊤
 IsOfTypes _ = ⊥
+
+-- What is told of a module that is not accepted: it fails at the place, for a fault of this kind,
+-- which is its first, and one of types is told only where all that is named is there.
+pub record IsFirstFault (m : Module) (info : ModuleInfo) (u : Unaccepted) : Type 0 where
+  pub fails : Fails m info u
+  pub first : IsFirst m info u
+  pub typed : IsOfTypes u.fault → IsTrue (module_ranges_fit m info)

@@ -2,10 +2,9 @@
 
 ghost use Rattle.std.specs.Prelude.{◌≡◌, IsTrue};
 ghost use Rattle.std.specs.Option.{IfSome, is_none};
-ghost use Rattle.naga_acceptance.specs.Faults.{Fails};
-ghost use Rattle.naga_acceptance.specs.FirstFaults.{IsFirst, IsOfTypes};
+ghost use Rattle.naga_acceptance.specs.FirstFaults.{IsFirstFault};
 ghost use Rattle.module_meaning.specs.acceptance.Accepted.{is_accepted};
-ghost use Rattle.module_meaning.specs.acceptance.Ranges.{module_ranges_fit, parts_stand_before};
+ghost use Rattle.module_meaning.specs.acceptance.Ranges.{parts_stand_before};
 
 use crate::agreeing::operators_fault;
 use crate::faults::Unaccepted;
@@ -41,10 +40,7 @@ use naga_ir::Module;
 /// ```
 pub fn unaccepted(module: &Module, info: &ModuleInfo) -> Option<Unaccepted>
     ensures accepted { is_none result ≡ is_accepted «module».now info.now }
-    ensures fault { IfSome result (Fails «module».now info.now) }
-    ensures first { IfSome result (IsFirst «module».now info.now) }
-    ensures typed { IfSome result
-        (λ u. IsOfTypes u.fault → IsTrue (module_ranges_fit «module».now info.now)) }
+    ensures fault { IfSome result (IsFirstFault «module».now info.now) }
 {
     let named = ranges_fault(module, info);
     if named.is_some() {

@@ -8,7 +8,7 @@ use Rattle.std.specs.declared.string.String.{String}
 use Rattle.module_limits.specs.Nesting.{nested_past}
 use Rattle.module_limits.specs.declared.limits.Limits.{Limits}
 use Rattle.module_meaning.specs.acceptance.Accepted.{is_accepted}
-use Rattle.naga_acceptance.specs.Faults.{Fails}
+use Rattle.naga_acceptance.specs.FirstFaults.{IsFirstFault}
 use Rattle.naga_back.specs.Flags.{annotates_types}
 use Rattle.naga_back.specs.declared.flags.WriterFlags.{WriterFlags}
 use Rattle.naga_info.specs.declared.info.ModuleInfo.{ModuleInfo}
@@ -80,7 +80,7 @@ abbrev pub AnswersWithin : {Y : Type 0} → WriterFlags → Limits → Module �
 AnswersWithin {Y} flags limits m old new (Err (limited.TooDeep nested)) =
     (nested_past limits.nesting m ≡ Some nested) × (new ≡ old)
 AnswersWithin {Y} flags limits m old new (Err (limited.NotAccepted fault)) =
-    (nested_past limits.nesting m ≡ None) × Fails m old fault × (new ≡ old)
+    (nested_past limits.nesting m ≡ None) × IsFirstFault m old fault × (new ≡ old)
 AnswersWithin {Y} flags limits m old new (Err (limited.Refused error)) =
     IsUnasked old new error
     ⊎ IsLookedInto {Y = Y} flags limits m old new (Err (limited.Refused error))

@@ -3,7 +3,7 @@
 ghost use Rattle.std.specs.Prelude.{◌≡◌, [], IfErr, OnOk};
 ghost use Rattle.std.specs.Option.{IfSome, is_none};
 ghost use Rattle.module_meaning.specs.acceptance.Accepted.{is_accepted};
-ghost use Rattle.naga_acceptance.specs.Faults.{Fails};
+ghost use Rattle.naga_acceptance.specs.FirstFaults.{IsFirstFault};
 ghost use Rattle.naga_back.specs.Flags.{annotates_types};
 ghost use Rattle.naga_wgsl_out.specs.Checked.{IsCounted, fault_of, written_of};
 ghost use Rattle.naga_wgsl_out.specs.Headline.{EachReading, FaithfulWriting, MatchesModule};
@@ -54,7 +54,7 @@ pub fn write_checked(
     flags: WriterFlags,
 ) -> Result<String, CheckedError>
     ensures accepted { is_none (fault_of result) ≡ is_accepted «module».now info.old }
-    ensures fault { IfSome (fault_of result) (Fails «module».now info.old) }
+    ensures fault { IfSome (fault_of result) (IsFirstFault «module».now info.old) }
     ensures untouched { IfSome (fault_of result) (λ _. info.new ≡ info.old) }
     ensures counted { IfSome (written_of result)
         (λ _. IsCounted «module».now info.old info.new) }

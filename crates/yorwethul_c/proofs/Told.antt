@@ -14,7 +14,7 @@ use Rattle.naga_wgsl_fns.specs.declared.refusals.error.Error.TheVariants as erro
 use Rattle.naga_wgsl_out.specs.Checked.{IsCounted}
 use Rattle.naga_wgsl_out.specs.Headline.{FaithfulWriting}
 use Rattle.naga_wgsl_out.specs.Writing.{AppendsItsText}
-use Rattle.naga_acceptance.specs.Faults.{Fails}
+use Rattle.naga_acceptance.specs.FirstFaults.{IsFirstFault}
 use Rattle.naga_acceptance.specs.declared.faults.Unaccepted.{Unaccepted}
 use Rattle.module_answers.specs.Within.{IsUnwritten, TellsDepth}
 use Rattle.module_answers.specs.declared.within.NoOutcome.{NoOutcome}
@@ -77,9 +77,9 @@ unread_laid_out json status.TooLong text tells = absurd tells
 -- ---- what was asked of the module
 
 pub faulty : (m : Module) (read : ModuleInfo) (found : Option Unaccepted) (fault : Unaccepted) →
-    found ≡ Some fault → IfSome found (Fails m read) → IsNotAccepted
+    found ≡ Some fault → IfSome found (IsFirstFault m read) → IsNotAccepted
 faulty m read found fault is fails =
-    record { m = m; read = read; fault = fault; fails = subst (λ r. IfSome r (Fails m read)) is fails }
+    record { m = m; read = read; fault = fault; fails = subst (λ r. IfSome r (IsFirstFault m read)) is fails }
 
 -- it is nested too deep, or memory was wanting for the question
 pub too_deep : (Tells : Status → List ℕ → Type 0) (m : Module) (reason : NoOutcome) (told : Status) (text : List ℕ) →

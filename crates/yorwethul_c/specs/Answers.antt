@@ -9,7 +9,7 @@ use Rattle.naga_ir.specs.declared.module.Module.{Module}
 use Rattle.naga_info.specs.declared.info.ModuleInfo.{ModuleInfo}
 use Rattle.naga_back.specs.Flags.{bits_of}
 use Rattle.naga_back.specs.declared.flags.WriterFlags.{WriterFlags}
-use Rattle.naga_acceptance.specs.Faults.{Fails}
+use Rattle.naga_acceptance.specs.FirstFaults.{IsFirstFault}
 use Rattle.naga_acceptance.specs.declared.faults.Unaccepted.{Unaccepted}
 use Rattle.module_meaning.specs.acceptance.Accepted.{is_accepted}
 use Rattle.module_answers.specs.declared.within.NoOutcome.{NoOutcome}
@@ -148,12 +148,12 @@ pub record IsAccepted : Type 0 where
   pub read : ModuleInfo
   pub accepted : IsTrue (is_accepted m read)
 
--- A module was read that is not accepted, for this fault.
+-- A module was read that is not accepted, for this fault, which is its first.
 pub record IsNotAccepted : Type 0 where
   pub m : Module
   pub read : ModuleInfo
   pub fault : Unaccepted
-  pub fails : Fails m read fault
+  pub fails : IsFirstFault m read fault
 
 -- of what is read: no module stands in the bytes, more than 127 lists and objects of them are open
 -- at once, or memory was refused, and then there is no text

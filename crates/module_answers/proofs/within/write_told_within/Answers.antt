@@ -1,6 +1,6 @@
 use Rattle.std.proofs.Common.{◌≡◌, ◌∙◌, ◌<◌, ◌≤◌, IfErr, IfNone, IfOk, IfSome}
 use Rattle.std.proofs.Common.{ap, is_ok, length, string_bytes, subst, sym}
-use Rattle.naga_acceptance.specs.Faults.{Fails}
+use Rattle.naga_acceptance.specs.FirstFaults.{IsFirstFault}
 use Rattle.naga_wgsl_out.specs.Checked.{IsCounted}
 use Rattle.told_floats.specs.Told.{IsToldModule}
 use Rattle.module_answers.specs.WriteOutcomes.{AnswersWriting}
@@ -81,7 +81,7 @@ returns-in-Err-clause-unwritten c =
     subst (λ r. IfErr r (λ _. (c.write_told.new.«module» ≡ c.args.«module».now)
     × (c.write_told.new.info ≡ c.args.info.now))) c.in-Err.is c.write_told.ensures.untouched in (
       c.in_ok-check_nesting.ensures.flat,
-      subst (λ r. IfErr r (Fails c.args.«module».now c.args.info.now)) c.in-Err.is c.write_told.ensures.fault,
+      subst (λ r. IfErr r (IsFirstFault c.args.«module».now c.args.info.now)) c.in-Err.is c.write_told.ensures.fault,
       untouched.0,
       untouched.1,
     )

@@ -1,6 +1,6 @@
 use Rattle.std.proofs.Common.{◌≡◌, ◌∙◌, ◌<◌, ◌≤◌, IfErr, IfNone, IfOk, IfSome}
 use Rattle.std.proofs.Common.{ap, is_ok, length, refl, string_bytes, subst, sym}
-use Rattle.naga_acceptance.specs.Faults.{Fails}
+use Rattle.naga_acceptance.specs.FirstFaults.{IsFirstFault}
 use Rattle.naga_wgsl_out.specs.Checked.{IsCounted}
 use Rattle.module_answers.specs.WriteOutcomes.{AnswersWriting}
 use Rattle.module_answers.proofs.Bounded.{as_kept, as_unwritten, is_too_long}
@@ -67,7 +67,7 @@ returns-in-None-clause-unwritten c =
 pub returns-in-Err-clause-unwritten : goal.returns-in-Err-clause-unwritten
 returns-in-Err-clause-unwritten c = (
   c.in_ok-check_nesting.ensures.flat,
-  subst (λ r. IfErr r (Fails c.args.«module».now c.args.info.now)) c.in-Err.is c.write.ensures.fault,
+  subst (λ r. IfErr r (IsFirstFault c.args.«module».now c.args.info.now)) c.in-Err.is c.write.ensures.fault,
   refl,
   subst (λ r. IfErr r (λ _. c.write.new.info ≡ c.args.info.now)) c.in-Err.is c.write.ensures.untouched,
 )

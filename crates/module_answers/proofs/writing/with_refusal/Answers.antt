@@ -17,3 +17,4 @@ returns-in-Ok-clause-beside c =
     c.in-Ok.is c.unwritable.ensures.stands)
     (subst (λ r. IfOk r (λ found. IfSome found (λ refusal. IsFirst explicit m info refusal.position)))
     c.in-Ok.is c.unwritable.ensures.first)
+    c.requires.told

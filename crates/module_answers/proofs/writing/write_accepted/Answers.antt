@@ -1,8 +1,14 @@
 use Rattle.std.proofs.Common.{subst, sym}
 use Rattle.naga_back.specs.Flags.{annotates_types}
 use Rattle.module_answers.specs.WriteOutcomes.{AnswersWriting, TellsBeside}
-use Rattle.module_answers.proofs.Wants.{answer_or_want}
+use Rattle.module_answers.proofs.Wants.{answer_or_want, leaves_told}
 use Rattle.module_answers.proofs.writing.write_accepted.Goals as goal
+
+-- what its error names is told by what it leaves
+pub with_refusal-answer-requires-clause-told : goal.with_refusal-answer-requires-clause-told
+with_refusal-answer-requires-clause-told g c =
+    leaves_told c.new-writer.result.flags c.args.flags c.args.«module».now c.args.info.now c.write-answer.result _ _ _ _
+    c.new-writer.ensures.flags c.write-answer.ensures.leaves
 
 -- The writer has these flags and this sink, and ends with its sink.
 pub returns : goal.returns

@@ -1,6 +1,6 @@
 use Rattle.std.proofs.Common.{sym, ◌∙◌}
 use Rattle.naga_acceptance.proofs.FaultOrder.{disagreement_fails, first_named, first_operator}
-use Rattle.naga_acceptance.proofs.FaultOrder.{first_wanted, typed_further, typed_named}
+use Rattle.naga_acceptance.proofs.FaultOrder.{first_wanted, told_first, typed_further, typed_named}
 use Rattle.naga_acceptance.proofs.FirstFaults.{accepted_named, accepted_operators, accepted_wanted}
 use Rattle.naga_acceptance.proofs.FirstFaults.{fails_named, fails_wanted}
 use Rattle.naga_acceptance.proofs.acceptance.unaccepted.Goals as goal
@@ -12,7 +12,11 @@ returns-then-is_some-clause-accepted c =
 
 pub returns-then-is_some-clause-fault : goal.returns-then-is_some-clause-fault
 returns-then-is_some-clause-fault c =
-    fails_named c.args.module.now c.args.info.now c.ranges_fault-named.result c.ranges_fault-named.ensures
+    let m = c.args.module.now in
+    let info = c.args.info.now in
+    let named = c.ranges_fault-named.result in
+    told_first m info named (fails_named m info named c.ranges_fault-named.ensures)
+    (first_named m info named c.ranges_fault-named.ensures) (typed_named m info named c.ranges_fault-named.ensures)
 
 pub returns-then-is_some-2-clause-accepted : goal.returns-then-is_some-2-clause-accepted
 returns-then-is_some-2-clause-accepted c =
@@ -22,7 +26,14 @@ returns-then-is_some-2-clause-accepted c =
 
 pub returns-then-is_some-2-clause-fault : goal.returns-then-is_some-2-clause-fault
 returns-then-is_some-2-clause-fault c =
-    fails_wanted c.args.module.now c.args.info.now c.sound_fault-wanted.result c.sound_fault-wanted.ensures
+    let m = c.args.module.now in
+    let info = c.args.info.now in
+    let named = c.ranges_fault-named.result in
+    let wanted = c.sound_fault-wanted.result in
+    let none = sym c.is_some.ensures ∙ c.if-is_some.false in
+    told_first m info wanted (fails_wanted m info wanted c.sound_fault-wanted.ensures)
+    (first_wanted m info named wanted c.ranges_fault-named.ensures none c.sound_fault-wanted.ensures)
+    (typed_further m info named wanted c.ranges_fault-named.ensures none)
 
 pub returns-clause-accepted : goal.returns-clause-accepted
 returns-clause-accepted c =
@@ -33,38 +44,13 @@ returns-clause-accepted c =
     c.operators_fault.ensures.agree
 
 pub returns-clause-fault : goal.returns-clause-fault
-returns-clause-fault c = disagreement_fails c.args.module.now c.args.info.now c.operators_fault.result
-    c.operators_fault.ensures.fault
-
-pub returns-then-is_some-clause-first : goal.returns-then-is_some-clause-first
-returns-then-is_some-clause-first c = first_named c.args.module.now c.args.info.now c.ranges_fault-named.result
-    c.ranges_fault-named.ensures
-
-pub returns-then-is_some-clause-typed : goal.returns-then-is_some-clause-typed
-returns-then-is_some-clause-typed c = typed_named c.args.module.now c.args.info.now c.ranges_fault-named.result
-    c.ranges_fault-named.ensures
-
-pub returns-then-is_some-2-clause-first : goal.returns-then-is_some-2-clause-first
-returns-then-is_some-2-clause-first c =
-    first_wanted c.args.module.now c.args.info.now c.ranges_fault-named.result c.sound_fault-wanted.result
-    c.ranges_fault-named.ensures
-    (sym c.is_some.ensures ∙ c.if-is_some.false) c.sound_fault-wanted.ensures
-
-pub returns-then-is_some-2-clause-typed : goal.returns-then-is_some-2-clause-typed
-returns-then-is_some-2-clause-typed c =
-    typed_further c.args.module.now c.args.info.now c.ranges_fault-named.result c.sound_fault-wanted.result
-    c.ranges_fault-named.ensures
-    (sym c.is_some.ensures ∙ c.if-is_some.false)
-
-pub returns-clause-first : goal.returns-clause-first
-returns-clause-first c =
-    first_operator c.args.module.now c.args.info.now c.ranges_fault-named.result c.sound_fault-wanted.result
-    c.operators_fault.result
-    c.ranges_fault-named.ensures (sym c.is_some.ensures ∙ c.if-is_some.false)
-    c.sound_fault-wanted.ensures (sym c.is_some-2.ensures ∙ c.if-is_some-2.false) c.operators_fault.ensures.fault
-
-pub returns-clause-typed : goal.returns-clause-typed
-returns-clause-typed c =
-    typed_further c.args.module.now c.args.info.now c.ranges_fault-named.result c.operators_fault.result
-    c.ranges_fault-named.ensures
-    (sym c.is_some.ensures ∙ c.if-is_some.false)
+returns-clause-fault c =
+    let m = c.args.module.now in
+    let info = c.args.info.now in
+    let named = c.ranges_fault-named.result in
+    let found = c.operators_fault.result in
+    let none = sym c.is_some.ensures ∙ c.if-is_some.false in
+    told_first m info found (disagreement_fails m info found c.operators_fault.ensures.fault)
+    (first_operator m info named c.sound_fault-wanted.result found c.ranges_fault-named.ensures none
+    c.sound_fault-wanted.ensures (sym c.is_some-2.ensures ∙ c.if-is_some-2.false) c.operators_fault.ensures.fault)
+    (typed_further m info named found c.ranges_fault-named.ensures none)
