@@ -250,7 +250,7 @@ def test_lines(folder, _):
             wanted = (DONE, answer["text"])
         elif "not_accepted" in answer:
             told = answer["not_accepted"]
-            reason = ": ".join(told[name] for name in ("fault", "wanted") if name in told)
+            reason = ": ".join(told[name] for name in ("fault", "reason") if name in told)
             wanted = (NOT_ACCEPTED, told["place"] + in_function(told) + ": " + reason)
         else:
             wanted = (NO_MODULE, answer["error"])

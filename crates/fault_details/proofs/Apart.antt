@@ -13,11 +13,11 @@ another_differs text other is same =
     let longer : length other ≡ 8 + length text = ap length is ∙ length-append (codes "another ") text in
     omega (arith, longer, ap length same)
 
-both_apart : (m : Module) (wanted got : TypeResolution) (text other : List ℕ) →
-    TellsBoth m wanted got text other → text ≢ other
-both_apart m wanted got text other (inl told) = told.2
-both_apart m wanted got text other (inr (inl placed, alike)) = placed.2
-both_apart m wanted got text other (inr (inr placed, alike)) = another_differs text other placed.2
+both_apart : (m : Module) (expected got : TypeResolution) (text other : List ℕ) →
+    TellsBoth m expected got text other → text ≢ other
+both_apart m expected got text other (inl told) = told.2
+both_apart m expected got text other (inr (inl placed, alike)) = placed.2
+both_apart m expected got text other (inr (inr placed, alike)) = another_differs text other placed.2
 
 pub told_apart : TypesAreToldApart
 told_apart = both_apart

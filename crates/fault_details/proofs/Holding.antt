@@ -129,10 +129,10 @@ module _ (m : Module) where
       by false b true t = ltb-false h here b
       by false b false t = ltb-false h count t
 
-  number_holds : (of : Counted) (wanted got : ℕ) → Holds (number_reason of wanted got)
-  number_holds of wanted got =
-      unless_holds (IsReason m) (wanted == got) (OtherNumber of wanted got)
-      (λ fails same. true≢false (sym (eq-eqb wanted got same) ∙ fails))
+  number_holds : (of : Counted) (expected got : ℕ) → Holds (number_reason of expected got)
+  number_holds of expected got =
+      unless_holds (IsReason m) (expected == got) (OtherNumber of expected got)
+      (λ fails same. true≢false (sym (eq-eqb expected got same) ∙ fails))
 
   need_holds : (test : Bool) (it : Need) → Holds (need_unless test it)
   need_holds true it = tt
@@ -251,13 +251,13 @@ module _ (m : Module) where
       (λ r. unless_holds (IsReason m) (option_map_or (is_in_class m.types it) (inner_of r m.types) false)
       (OtherClass it r) (λ fails. fails)) (slice_get known h)
 
-  unlike_holds : (wanted got : TypeResolution) → Holds (unlike m.types wanted got)
-  unlike_holds wanted got = unless_holds (IsReason m) (are_alike m.types got wanted) (OtherType wanted got)
+  unlike_holds : (expected got : TypeResolution) → Holds (unlike m.types expected got)
+  unlike_holds expected got = unless_holds (IsReason m) (are_alike m.types got expected) (OtherType expected got)
       (λ fails. fails)
 
-  type_holds : (known : List TypeResolution) (wanted : TypeResolution) (h : ℕ) →
-      Holds (type_reason m.types known wanted h)
-  type_holds known wanted h = then_holds (IsReason m) (unlike m.types wanted) (unlike_holds wanted) (slice_get known h)
+  type_holds : (known : List TypeResolution) (expected : TypeResolution) (h : ℕ) →
+      Holds (type_reason m.types known expected h)
+  type_holds known expected h = then_holds (IsReason m) (unlike m.types expected) (unlike_holds expected) (slice_get known h)
 
   typeless_holds : (known : List TypeResolution) (own : TypeResolution) (e : Expression) →
       Holds (typeless_reason m.types known own e)
@@ -268,9 +268,9 @@ module _ (m : Module) where
   typeless_holds known own (expression.CallResult function) = tt
   typeless_holds known own _ = tt
 
-  wanted_holds : (known : List TypeResolution) (own : TypeResolution) (e : Expression) (wanted : ExpectedType) →
-      Holds (expected_reason m.types known own e wanted)
-  wanted_holds known own e (LikeThis wanted) = unlike_holds wanted own
+  wanted_holds : (known : List TypeResolution) (own : TypeResolution) (e : Expression) (expected : ExpectedType) →
+      Holds (expected_reason m.types known own e expected)
+  wanted_holds known own e (LikeThis expected) = unlike_holds expected own
   wanted_holds known own e Anything = tt
   wanted_holds known own e Nothing = typeless_holds known own e
 
@@ -330,10 +330,10 @@ module _ (m : Module) where
       (not (last_falls_through false cs)) need.DistinctCaseValues need.Default need.End)
   case_value_holds cs _ = tt
 
-  stored_holds : (known : List TypeResolution) (value pointer : ℕ) (wanted : Option TypeResolution) →
-      Holds (stored_reason m.types known value pointer wanted)
+  stored_holds : (known : List TypeResolution) (value pointer : ℕ) (expected : Option TypeResolution) →
+      Holds (stored_reason m.types known value pointer expected)
   stored_holds known value pointer None = class_holds known class.Pointer pointer
-  stored_holds known value pointer (Some wanted) = type_holds known wanted value
+  stored_holds known value pointer (Some expected) = type_holds known expected value
 
   return_holds : (known : List TypeResolution) (answer : Option FunctionResult) (value : Option ℕ) →
       Holds (return_reason m.types known answer value)

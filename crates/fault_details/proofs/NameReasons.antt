@@ -113,8 +113,8 @@ before_told name here count h fails = by (nat_lt h here) fails
     by true e = absurd (true≢false e)
     by false e = either (nat_lt h count) (Later name h here) (Absent name h count)
 
-number_told : (of : Counted) (wanted got : ℕ) → (wanted == got) ≡ false → IsSome (number_reason of wanted got)
-number_told of wanted got fails = some_unless (wanted == got) (OtherNumber of wanted got) fails
+number_told : (of : Counted) (expected got : ℕ) → (expected == got) ≡ false → IsSome (number_reason of expected got)
+number_told of expected got fails = some_unless (expected == got) (OtherNumber of expected got) fails
 
 -- the handles of a list, and one that may be missing
 all_told : (name : ListName) (count : ℕ) (xs : List ℕ) → all_below count xs ≡ false →

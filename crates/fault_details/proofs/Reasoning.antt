@@ -96,12 +96,12 @@ module _ (types : List Type_) (known : List TypeResolution) where
       (sym (seen (is_in_class types it) h k) ∙ fails))
 
   -- a value of another type
-  pub type_told : (wanted : TypeResolution) (h : ℕ) → IsKnown h → value_has_type types known h wanted ≡ false →
-      IsSome (type_reason types known wanted h)
-  type_told wanted h k fails =
-      some_then (unlike types wanted) (slice_get known h) k.0 k.1
-      (some_unless (are_alike types k.0 wanted) (OtherType wanted k.0)
-      (sym (ap (λ o. option_map_or (λ r. are_alike types r wanted) o false) k.1) ∙ fails))
+  pub type_told : (expected : TypeResolution) (h : ℕ) → IsKnown h → value_has_type types known h expected ≡ false →
+      IsSome (type_reason types known expected h)
+  type_told expected h k fails =
+      some_then (unlike types expected) (slice_get known h) k.0 k.1
+      (some_unless (are_alike types k.0 expected) (OtherType expected k.0)
+      (sym (ap (λ o. option_map_or (λ r. are_alike types r expected) o false) k.1) ∙ fails))
 
   -- ---- values that are stored, returned and passed
 
@@ -110,11 +110,11 @@ module _ (types : List Type_) (known : List TypeResolution) where
   store_told pointer value k v fails = by (known_pointee types known pointer) refl fails
     where
       by : (o : Option TypeResolution) → known_pointee types known pointer ≡ o →
-          option_map_or (λ wanted. value_has_type types known value wanted) o false ≡ false →
+          option_map_or (λ expected. value_has_type types known value expected) o false ≡ false →
           IsSome (stored_reason types known value pointer o)
       by None e unread = class_told class.Pointer pointer k (none_is (is_pointer types) (pointee_type types)
           (λ it. refl) (known_inner types known pointer) e)
-      by (Some wanted) e other = type_told wanted value v other
+      by (Some expected) e other = type_told expected value v other
 
   pub return_told : (answer : Option FunctionResult) (value : Option ℕ) → ((h : ℕ) → value ≡ Some h → IsKnown h) →
       is_returned types known answer value ≡ false → IsSome (return_reason types known answer value)

@@ -1,7 +1,7 @@
 -- What it means that a reason is one: types that are told are not alike, a class has not the type
 -- that is told, or this has not the letter; the number of an item is not below how many there are,
 -- or not below that of the item before which it is to stand; numbers that are told differ. Of a
--- value that is not there or not wanted, and of what a statement needs, nothing is said. And that
+-- value that is not there or not expected, and of what a statement needs, nothing is said. And that
 -- each reason is one.
 --
 -- Throughout, m is a module, info what is known of it, and u a position with a kind of fault.
@@ -17,18 +17,18 @@ use Rattle.fault_details.specs.Reasons.{Later, OtherNumber, OtherUse, PastParts,
 use Rattle.fault_details.specs.Reasons.{fault_reason, has_letter, is_in_class}
 
 abbrev pub IsReason : Module → Reason → Type 0
-IsReason m (OtherType wanted got) = are_alike m.types got wanted ≡ false
+IsReason m (OtherType expected got) = are_alike m.types got expected ≡ false
 IsReason m (OtherClass class got) =
     option_map_or (is_in_class m.types class) (inner_of got m.types) false ≡ false
-IsReason m (NoValue wanted) = ⊤
+IsReason m (NoValue expected) = ⊤
 IsReason m (Unexpected got) = ⊤
 IsReason m (Absent name index count) = count ≤ index
 IsReason m (Later name index before) = before ≤ index
-IsReason m (OtherNumber of wanted got) = wanted ≢ got
+IsReason m (OtherNumber of expected got) = expected ≢ got
 IsReason m (PastParts count got) = count ≤ got
 IsReason m (LacksLetter letter got) =
     option_map_or (has_letter letter) (inner_of got m.types) false ≡ false
-IsReason m (OtherUse at wanted got) = are_alike m.types got wanted ≡ false
+IsReason m (OtherUse at expected got) = are_alike m.types got expected ≡ false
 IsReason m (Needs need) = ⊤
 
 abbrev pub ReasonsHold : Type 0

@@ -1,10 +1,10 @@
--- What was wanted where a module is not accepted, and what stands there: by the clause of
+-- What was expected where a module is not accepted, and what stands there: by the clause of
 -- acceptance that a fault is of, and the item at its position; of an operator that does not agree, by
 -- the first use of it in the module that is over operands of types alike and has another type. A
 -- kind of fault of which no more can be told than its name has no reason.
 --
 -- Throughout, m is a module, info what is known of it, f a function, p an entry point, e an
--- expression, s a statement, it a type by itself, r a type that is known or wanted, known are the
+-- expression, s a statement, it a type by itself, r a type that is known or expected, known are the
 -- types of expressions by handle, h is a handle, xs are several items, here is the handle of an
 -- item that names others, and count is how many items a list has. Of the functions of a module a
 -- function may call those before it, and an entry point all: those before callees.
@@ -88,26 +88,26 @@ use Rattle.fault_details.specs.declared.words.TypeClass.TheVariants as class
 
 -- why a module is not accepted at a position
 pub data Reason : Type 0 where
-  -- a value of one type is wanted, and one of another stands there
-  OtherType : (wanted got : TypeResolution) → Reason
-  -- a type of a class is wanted, and another stands there
+  -- a value of one type is expected, and one of another stands there
+  OtherType : (expected got : TypeResolution) → Reason
+  -- a type of a class is expected, and another stands there
   OtherClass : TypeClass → (got : TypeResolution) → Reason
-  -- a value is wanted, and there is none
-  NoValue : (wanted : TypeResolution) → Reason
-  -- no value is wanted, and there is one
+  -- a value is expected, and there is none
+  NoValue : (expected : TypeResolution) → Reason
+  -- no value is expected, and there is one
   Unexpected : (got : TypeResolution) → Reason
   -- an item is named that is not there: its list has so many
   Absent : ListName → (index count : ℕ) → Reason
   -- an item is named that does not stand before the one of this number
   Later : ListName → (index before : ℕ) → Reason
-  -- so many are wanted, and so many stand there
-  OtherNumber : Counted → (wanted got : ℕ) → Reason
+  -- so many are expected, and so many stand there
+  OtherNumber : Counted → (expected got : ℕ) → Reason
   -- a part is named of which there are so many
   PastParts : (count got : ℕ) → Reason
   -- a letter is named for which a type has no component
   LacksLetter : SwizzleComponent → (got : TypeResolution) → Reason
   -- the operator has another type where it is used at this position, over operands of types alike
-  OtherUse : FaultPosition → (wanted got : TypeResolution) → Reason
+  OtherUse : FaultPosition → (expected got : TypeResolution) → Reason
   -- what else a statement needs
   Needs : Need → Reason
 
@@ -238,14 +238,14 @@ class_reason types known it h =
     option_and_then (λ r. if option_map_or (is_in_class types it) (inner_of r types) false
     then None else Some (OtherClass it r)) (slice_get known h)
 
--- a type is not like the one that is wanted
-abbrev pub unlike : List Type_ → (wanted got : TypeResolution) → Option Reason
-unlike types wanted got = if are_alike types got wanted then None else Some (OtherType wanted got)
+-- a type is not like the one that is expected
+abbrev pub unlike : List Type_ → (expected got : TypeResolution) → Option Reason
+unlike types expected got = if are_alike types got expected then None else Some (OtherType expected got)
 
 -- the expression is of another type
 abbrev pub type_reason :
-    List Type_ → (known : List TypeResolution) → (wanted : TypeResolution) → (h : ℕ) → Option Reason
-type_reason types known wanted h = option_and_then (unlike types wanted) (slice_get known h)
+    List Type_ → (known : List TypeResolution) → (expected : TypeResolution) → (h : ℕ) → Option Reason
+type_reason types known expected h = option_and_then (unlike types expected) (slice_get known h)
 
 -- an expression stands for nothing that has a type: by its operand, or since a call gives nothing
 abbrev pub typeless_reason :
@@ -265,7 +265,7 @@ abbrev pub expected_reason :
     List Type_ → (known : List TypeResolution) → (own : TypeResolution) → Expression →
     ExpectedType →
     Option Reason
-expected_reason types known own e (LikeThis wanted) = unlike types wanted own
+expected_reason types known own e (LikeThis expected) = unlike types expected own
 expected_reason types known own e Anything = None
 expected_reason types known own e Nothing = typeless_reason types known own e
 
@@ -327,10 +327,10 @@ abbrev pub need_unless : (test : Bool) → Need → Option Reason
 need_unless test it = if test then None else Some (Needs it)
 
 -- a case value is of another scalar than the selector
-abbrev pub scalar_unless : (test : Bool) → (wanted got : Scalar) → Option Reason
-scalar_unless test wanted got =
+abbrev pub scalar_unless : (test : Bool) → (expected got : Scalar) → Option Reason
+scalar_unless test expected got =
     if test then None
-    else Some (OtherType (Value (inner.Scalar wanted)) (Value (inner.Scalar got)))
+    else Some (OtherType (Value (inner.Scalar expected)) (Value (inner.Scalar got)))
 
 abbrev pub case_value_type_reason : Scalar → SwitchValue → Option Reason
 case_value_type_reason s (switch_value.I32 number) =
@@ -363,16 +363,16 @@ switch_reason types known selector cs =
 -- a value is stored of another type than what is read there, or through no pointer
 abbrev pub stored_reason :
     List Type_ → (known : List TypeResolution) → (value pointer : ℕ) →
-    (wanted : Option TypeResolution) → Option Reason
+    (expected : Option TypeResolution) → Option Reason
 stored_reason types known value pointer None = class_reason types known class.Pointer pointer
-stored_reason types known value pointer (Some wanted) = type_reason types known wanted value
+stored_reason types known value pointer (Some expected) = type_reason types known expected value
 
 abbrev pub store_reason :
     List Type_ → (known : List TypeResolution) → (pointer value : ℕ) → Option Reason
 store_reason types known pointer value =
     stored_reason types known value pointer (known_pointee types known pointer)
 
--- what is returned is of another type, is missing, or is not wanted
+-- what is returned is of another type, is missing, or is not expected
 abbrev pub return_reason :
     List Type_ → (known : List TypeResolution) → Option FunctionResult → Option ℕ → Option Reason
 return_reason types known (Some answer) (Some value) =
@@ -391,10 +391,10 @@ passed_reason types known (a ∷ arguments) [] = None
 passed_reason types known (a ∷ arguments) (x ∷ xs) =
     option_or (type_reason types known (Handle a.ty) x) (passed_reason types known arguments xs)
 
--- so many are wanted, and another number is there
-abbrev pub number_reason : Counted → (wanted got : ℕ) → Option Reason
-number_reason of wanted got =
-    if wanted == got then None else Some (OtherNumber of wanted got)
+-- so many are expected, and another number is there
+abbrev pub number_reason : Counted → (expected got : ℕ) → Option Reason
+number_reason of expected got =
+    if expected == got then None else Some (OtherNumber of expected got)
 
 -- the callee gives nothing, or the result is of no call of it
 abbrev pub answer_reason :
@@ -442,7 +442,7 @@ simple_reason m f known breaks continues
 simple_reason m f known breaks continues s =
     option_and_then (class_reason m.types known class.ComponentsPointer) (components_pointer s)
 
--- a statement by itself, its blocks left out, does not get what it wants
+-- a statement by itself, its blocks left out, does not get what it needs
 abbrev pub own_reason :
     Module → Function → (known : List TypeResolution) → (breaks continues : Bool) →
     StatementTree → Option Reason

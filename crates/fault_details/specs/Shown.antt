@@ -14,18 +14,18 @@ use Rattle.fault_details.specs.declared.walk.StatementAt.{StatementAt}
 
 -- a reason, with its types themselves
 abbrev pub shown : Reason → Told
-shown (code.OtherType wanted got) = OtherType (inferred wanted) got.now
-shown (code.OtherScalar wanted got) =
-    OtherType (Value (inner.Scalar wanted)) (Value (inner.Scalar got))
+shown (code.OtherType expected got) = OtherType (inferred expected) got.now
+shown (code.OtherScalar expected got) =
+    OtherType (Value (inner.Scalar expected)) (Value (inner.Scalar got))
 shown (code.OtherClass class got) = OtherClass class got.now
-shown (code.NoValue wanted) = NoValue (inferred wanted)
+shown (code.NoValue expected) = NoValue (inferred expected)
 shown (code.Unexpected got) = Unexpected got.now
 shown (code.Absent name index count) = Absent name index count
 shown (code.Later name index before) = Later name index before
-shown (code.OtherNumber of wanted got) = OtherNumber of wanted got
+shown (code.OtherNumber of expected got) = OtherNumber of expected got
 shown (code.PastParts count got) = PastParts count got
 shown (code.LacksLetter letter got) = LacksLetter letter got.now
-shown (code.OtherUse at wanted got) = OtherUse at wanted.now got.now
+shown (code.OtherUse at expected got) = OtherUse at expected.now got.now
 shown (code.Needs need) = Needs need
 
 -- a statement where it stands

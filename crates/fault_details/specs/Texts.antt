@@ -1,4 +1,4 @@
--- What is displayed of what was wanted, and of what stands there instead.
+-- What is displayed of what was expected, and of what stands there instead.
 --
 -- Throughout, h is the number of an item in its list, e that of an expression, and n counts several
 -- things.
@@ -10,7 +10,7 @@ use Rattle.naga_acceptance.specs.declared.faults.FaultPosition.TheVariants as it
 use Rattle.naga_acceptance.specs.declared.faults.FunctionPosition.{FunctionPosition}
 use Rattle.naga_acceptance.specs.declared.faults.FunctionPosition.TheVariants as part
 use Rattle.fault_details.specs.declared.mismatch.Mismatch.{Mismatch}
-use Rattle.fault_details.specs.declared.mismatch.Mismatch.TheVariants as wanted
+use Rattle.fault_details.specs.declared.mismatch.Mismatch.TheVariants as mismatch
 use Rattle.fault_details.specs.declared.words.Counted.{Counted}
 use Rattle.fault_details.specs.declared.words.Counted.TheVariants as counted
 use Rattle.fault_details.specs.declared.words.ListName.{ListName}
@@ -88,8 +88,8 @@ use_text _ = codes "module"
 abbrev pub need_text : Need → List ℕ
 need_text need.LoopOrSwitch = codes "a loop or a switch to leave"
 need_text need.Loop = codes "a loop to go on with"
-need_text need.DistinctCaseValues = codes "labels that differ"
-need_text need.Default = codes "a default label"
+need_text need.DistinctCaseValues = codes "case values that differ"
+need_text need.Default = codes "a default case"
 need_text need.End = codes "a last case that does not fall through"
 need_text need.CalleeResult = codes "a callee with a result"
 need_text need.OwnResult = codes "an expression that is its result"
@@ -98,26 +98,26 @@ need_text need.OwnResult = codes "an expression that is its result"
 abbrev pub count_text : (n : ℕ) → List ℕ
 count_text n = (if n == 1 then codes "is" else codes "are") ++ codes " " ++ decimal n
 
--- what was wanted and what stands there: `wanted vec4<f32>, got f32`
-abbrev pub wanted_text : Mismatch → List ℕ
-wanted_text (wanted.Type ty got) =
-    codes "wanted " ++ string_bytes ty ++ codes ", got " ++ string_bytes got
-wanted_text (wanted.Class any got) =
-    codes "wanted " ++ class_text any ++ codes ", got " ++ string_bytes got
-wanted_text (wanted.Value ty) = codes "wanted " ++ string_bytes ty ++ codes ", got nothing"
-wanted_text (wanted.Nothing got) = codes "wanted nothing, got " ++ string_bytes got
-wanted_text (wanted.Item name h n) =
+-- what was expected and what stands there: `expected vec4<f32>, got f32`
+abbrev pub mismatch_text : Mismatch → List ℕ
+mismatch_text (mismatch.Type ty got) =
+    codes "expected " ++ string_bytes ty ++ codes ", got " ++ string_bytes got
+mismatch_text (mismatch.Class any got) =
+    codes "expected " ++ class_text any ++ codes ", got " ++ string_bytes got
+mismatch_text (mismatch.Value ty) = codes "expected " ++ string_bytes ty ++ codes ", got nothing"
+mismatch_text (mismatch.Nothing got) = codes "expected nothing, got " ++ string_bytes got
+mismatch_text (mismatch.Item name h n) =
     codes "names " ++ (item_text name h ++ (codes ", of which there " ++ count_text n))
-wanted_text (wanted.EarlierItem name h before) =
-    codes "names " ++ (item_text name h ++ (codes ", wanted one before " ++ item_text name before))
-wanted_text (wanted.Number of n got) =
-    codes "wanted " ++ many_text n of ++ codes ", got " ++ decimal got
-wanted_text (wanted.Part n got) =
-    codes "wanted an index below " ++ decimal n ++ codes ", got " ++ decimal got
-wanted_text (wanted.Letter letter got) =
+mismatch_text (mismatch.EarlierItem name h before) =
+    codes "names " ++ (item_text name h ++ (codes ", expected one before " ++ item_text name before))
+mismatch_text (mismatch.Number of n got) =
+    codes "expected " ++ many_text n of ++ codes ", got " ++ decimal got
+mismatch_text (mismatch.Part n got) =
+    codes "expected an index below " ++ decimal n ++ codes ", got " ++ decimal got
+mismatch_text (mismatch.Letter letter got) =
     codes "names ." ++ (letter_text letter ++ (codes ", which " ++ (string_bytes got ++
     codes " does not have")))
-wanted_text (wanted.Use at ty got) =
-    codes "wanted " ++ (string_bytes ty ++ (codes " as at " ++ (use_text at ++ (codes ", got " ++
+mismatch_text (mismatch.Use at ty got) =
+    codes "expected " ++ (string_bytes ty ++ (codes " as at " ++ (use_text at ++ (codes ", got " ++
     string_bytes got))))
-wanted_text (wanted.Need it) = codes "wanted " ++ need_text it
+mismatch_text (mismatch.Need it) = codes "expected " ++ need_text it

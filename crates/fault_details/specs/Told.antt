@@ -1,6 +1,6 @@
 -- What is told of a reason.
 --
--- Throughout, m is a module, r a type that is wanted or known, it a type by itself, and h is a
+-- Throughout, m is a module, r a type that is expected or known, it a type by itself, and h is a
 -- handle.
 use Rattle.std.specs.Prelude.{◌≡◌, ◌≢◌, ⊤, ℕ, ◌⊎◌, List, ◌++◌, Option, Some, None}
 use Rattle.std.specs.Prelude.{codes, string_bytes}
@@ -77,40 +77,40 @@ IsPlaced m (Value it) text =
     (alone : List ℕ) × IsTold m (Value it) alone × (text ≡ with_place alone (named_type it))
 
 -- Two types are told by their positions; where these are told alike too, as one type and another.
-abbrev pub PlacesBoth : Module → (wanted got : TypeResolution) → (text other : List ℕ) → Type 0
-PlacesBoth m wanted got text other =
-    (IsPlaced m wanted text × IsPlaced m got other × (text ≢ other))
-    ⊎ (IsPlaced m wanted text × IsPlaced m got text × (other ≡ codes "another " ++ text))
+abbrev pub PlacesBoth : Module → (expected got : TypeResolution) → (text other : List ℕ) → Type 0
+PlacesBoth m expected got text other =
+    (IsPlaced m expected text × IsPlaced m got other × (text ≢ other))
+    ⊎ (IsPlaced m expected text × IsPlaced m got text × (other ≡ codes "another " ++ text))
 
 -- Two types are told by texts that differ, or by their positions where one text would tell both.
-abbrev pub TellsBoth : Module → (wanted got : TypeResolution) → (text other : List ℕ) → Type 0
-TellsBoth m wanted got text other =
-    (IsTold m wanted text × IsTold m got other × (text ≢ other))
-    ⊎ (PlacesBoth m wanted got text other
-    × ((both : List ℕ) × IsTold m wanted both × IsTold m got both))
+abbrev pub TellsBoth : Module → (expected got : TypeResolution) → (text other : List ℕ) → Type 0
+TellsBoth m expected got text other =
+    (IsTold m expected text × IsTold m got other × (text ≢ other))
+    ⊎ (PlacesBoth m expected got text other
+    × ((both : List ℕ) × IsTold m expected both × IsTold m got both))
 
 -- No text tells two types.
 abbrev pub TypesAreToldApart : Type 0
-TypesAreToldApart = (m : Module) (wanted got : TypeResolution) (text other : List ℕ) →
-    TellsBoth m wanted got text other → text ≢ other
+TypesAreToldApart = (m : Module) (expected got : TypeResolution) (text other : List ℕ) →
+    TellsBoth m expected got text other → text ≢ other
 
 -- the reason is told, with its types and its numbers
 abbrev pub Tells : Module → Reason → Mismatch → Type 0
-Tells m (OtherType wanted got) (told.Type wanted_text got_text) =
-    TellsBoth m wanted got (string_bytes wanted_text) (string_bytes got_text)
+Tells m (OtherType expected got) (told.Type mismatch_text got_text) =
+    TellsBoth m expected got (string_bytes mismatch_text) (string_bytes got_text)
 Tells m (OtherClass class got) (told.Class told_class text) =
     (told_class ≡ class) × IsTold m got (string_bytes text)
-Tells m (NoValue wanted) (told.Value text) = IsTold m wanted (string_bytes text)
+Tells m (NoValue expected) (told.Value text) = IsTold m expected (string_bytes text)
 Tells m (Unexpected got) (told.Nothing text) = IsTold m got (string_bytes text)
 Tells m (Absent name index count) w = w ≡ told.Item name index count
 Tells m (Later name index before) w = w ≡ told.EarlierItem name index before
-Tells m (OtherNumber of wanted got) w = w ≡ told.Number of wanted got
+Tells m (OtherNumber of expected got) w = w ≡ told.Number of expected got
 Tells m (PastParts count got) w = w ≡ told.Part count got
 Tells m (LacksLetter letter got) (told.Letter told_letter text) =
     (told_letter ≡ letter) × IsTold m got (string_bytes text)
-Tells m (OtherUse at wanted got) (told.Use told_at wanted_text got_text) =
+Tells m (OtherUse at expected got) (told.Use told_at mismatch_text got_text) =
     (told_at ≡ at)
-    × TellsBoth m wanted got (string_bytes wanted_text) (string_bytes got_text)
+    × TellsBoth m expected got (string_bytes mismatch_text) (string_bytes got_text)
 Tells m (Needs need) w = w ≡ told.Need need
 Tells m _ w = ⊥
 

@@ -1,5 +1,5 @@
 -- Which faults have a reason: each that says that a type is wrong, that a statement does not get
--- what it wants, or that an operator does not agree with an earlier one; and each that says that
+-- what it needs, or that an operator does not agree with an earlier one; and each that says that
 -- something is not there, or not before what names it.
 --
 -- Throughout, m is a module, info what is known of it, u a position with a kind of fault, f a

@@ -201,8 +201,8 @@ fn whole_reason<'a>(
 {
     match fault {
         Fault::InfoSize => {
-            let wanted = function.expressions.len();
-            number_reason(Counted::Expressions, wanted, known_count(known))
+            let expected = function.expressions.len();
+            number_reason(Counted::Expressions, expected, known_count(known))
         }
         Fault::Signature => signature_reason(module.types.len(), function),
         Fault::NamedExpressions => named_reason(function),
@@ -490,7 +490,7 @@ fn use_reason<'a>(
     match other_use(module, info, item) {
         Some(found) => Some(Reason::OtherUse {
             item: found.item,
-            wanted: found.there,
+            expected: found.there,
             got: found.here,
         }),
         None => None,

@@ -7,7 +7,7 @@ ghost use Rattle.fault_details.specs.WithReason.{NameFaultsHaveReasons, TypeFaul
 /// Each reason that [`explain`](crate::explain) tells is one, whatever fault it is asked of: of two
 /// types, also of two uses of an operator, they are not alike; of a class or a letter, the type has
 /// it not; of an item, its number is not below how many there are, or not below that of the item
-/// before which it is to stand; of numbers, they differ. Of a value that is not there or not wanted,
+/// before which it is to stand; of numbers, they differ. Of a value that is not there or not expected,
 /// and of what a statement needs, this says nothing.
 pub fn reasons_hold()
     ensures { ReasonsHold }
@@ -30,7 +30,7 @@ pub fn name_faults_have_reasons()
     ensures { NameFaultsHaveReasons }
 {}
 
-/// No text tells two types: where [`explain`](crate::explain) tells one that is wanted and another
+/// No text tells two types: where [`explain`](crate::explain) tells one that is expected and another
 /// that stands there, it tells them by texts that differ.
 pub fn types_are_told_apart()
     ensures { TypesAreToldApart }

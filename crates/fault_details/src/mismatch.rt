@@ -1,7 +1,7 @@
 //! The explanation of a fault as a value, with its text.
 
 ghost use Rattle.std.specs.Prelude.{Some};
-ghost use Rattle.fault_details.specs.Texts.{wanted_text};
+ghost use Rattle.fault_details.specs.Texts.{mismatch_text};
 
 use crate::words::{
     Counted, ListName, Many, Need, Numbered, There, TypeClass, UsePosition, letter_str,
@@ -10,7 +10,7 @@ use naga_acceptance::FaultPosition;
 use naga_ir::SwizzleComponent;
 use std::fmt;
 
-/// What was wanted where a module is not accepted, and what stands there. A type is told as WGSL
+/// What was expected where a module is not accepted, and what stands there. A type is told as WGSL
 /// spells it, structs and overrides by their labels, with line breaks escaped; or, if it is one of
 /// the module, as `types[5]`, by its handle, where it has no such spelling or one with braces. Where
 /// two types are spelled alike, one of the module is told by its handle, a pointer or an array by
@@ -18,28 +18,28 @@ use std::fmt;
 /// tells them alike too, the second as `another`.
 #[derive(Debug, Drop)]
 pub enum Mismatch {
-    /// A value of one type is wanted, and one of another stands there:
-    /// `wanted vec4<f32>, got f32`.
+    /// A value of one type is expected, and one of another stands there:
+    /// `expected vec4<f32>, got f32`.
     Type {
-        /// The type that is wanted.
-        wanted: String,
+        /// The type that is expected.
+        expected: String,
         /// The type that stands there.
         got: String,
     },
-    /// A type of a class is wanted, and another stands there:
-    /// `wanted a scalar or a vector, got mat2x2<f32>`.
+    /// A type of a class is expected, and another stands there:
+    /// `expected a scalar or a vector, got mat2x2<f32>`.
     Class {
-        /// The types of which any is wanted.
+        /// The types of which any is expected.
         class: TypeClass,
         /// The type that stands there.
         got: String,
     },
-    /// A value is wanted, and there is none: `wanted i32, got nothing`.
+    /// A value is expected, and there is none: `expected i32, got nothing`.
     Value {
-        /// The type that is wanted.
-        wanted: String,
+        /// The type that is expected.
+        expected: String,
     },
-    /// No value is wanted, and there is one: `wanted nothing, got i32`.
+    /// No value is expected, and there is one: `expected nothing, got i32`.
     Nothing {
         /// The type that stands there.
         got: String,
@@ -54,7 +54,7 @@ pub enum Mismatch {
         count: usize,
     },
     /// An item is named that is there, but not before the one that it has to stand before:
-    /// `names expressions[7], wanted one before expressions[3]`.
+    /// `names expressions[7], expected one before expressions[3]`.
     EarlierItem {
         /// The list that it stands in.
         list: ListName,
@@ -63,16 +63,16 @@ pub enum Mismatch {
         /// The number of the item that it has to stand before.
         before: usize,
     },
-    /// So many are wanted, and so many stand there: `wanted 2 arguments, got 3`.
+    /// So many are expected, and so many stand there: `expected 2 arguments, got 3`.
     Number {
         /// What is counted.
         of: Counted,
-        /// How many are wanted.
-        wanted: usize,
+        /// How many are expected.
+        expected: usize,
         /// How many stand there.
         got: usize,
     },
-    /// A part is named that is not there: `wanted an index below 3, got 5`.
+    /// A part is named that is not there: `expected an index below 3, got 5`.
     Part {
         /// How many parts there are.
         count: usize,
@@ -88,29 +88,29 @@ pub enum Mismatch {
         got: String,
     },
     /// The first use of the operator that is over operands of types alike and has another type:
-    /// `wanted i32 as at functions[0].expressions[1], got f32`.
+    /// `expected i32 as at functions[0].expressions[1], got f32`.
     Use {
         /// The position of that use: an expression of a function, of an entry point or of the
         /// module itself.
         item: FaultPosition,
         /// The type that it has.
-        wanted: String,
+        expected: String,
         /// The type that stands here.
         got: String,
     },
-    /// What else a statement needs: `wanted a loop to go on with`.
+    /// What else a statement needs: `expected a loop to go on with`.
     Need(Need),
 }
 
 impl fmt::Display for Mismatch {
-    ghost output = { λ w. Some (wanted_text w) };
+    ghost output = { λ w. Some (mismatch_text w) };
 
     fn fmt<W: fmt::Write>(&self, f: &mut fmt::Formatter<W>) -> fmt::Result {
         match self {
-            Mismatch::Type { wanted, got } => write!(f, "wanted {}, got {}", wanted, got),
-            Mismatch::Class { class, got } => write!(f, "wanted {}, got {}", class, got),
-            Mismatch::Value { wanted } => write!(f, "wanted {}, got nothing", wanted),
-            Mismatch::Nothing { got } => write!(f, "wanted nothing, got {}", got),
+            Mismatch::Type { expected, got } => write!(f, "expected {}, got {}", expected, got),
+            Mismatch::Class { class, got } => write!(f, "expected {}, got {}", class, got),
+            Mismatch::Value { expected } => write!(f, "expected {}, got nothing", expected),
+            Mismatch::Nothing { got } => write!(f, "expected nothing, got {}", got),
             Mismatch::Item { list, index, count } => {
                 let item = Numbered(*list, *index);
                 write!(f, "names {}, of which there {}", item, There(*count))
@@ -122,13 +122,13 @@ impl fmt::Display for Mismatch {
             } => {
                 let item = Numbered(*list, *index);
                 let next = Numbered(*list, *before);
-                write!(f, "names {}, wanted one before {}", item, next)
+                write!(f, "names {}, expected one before {}", item, next)
             }
-            Mismatch::Number { of, wanted, got } => {
-                write!(f, "wanted {}, got {}", Many(*wanted, *of), got)
+            Mismatch::Number { of, expected, got } => {
+                write!(f, "expected {}, got {}", Many(*expected, *of), got)
             }
             Mismatch::Part { count, got } => {
-                write!(f, "wanted an index below {}, got {}", count, got)
+                write!(f, "expected an index below {}, got {}", count, got)
             }
             Mismatch::Letter { letter, got } => {
                 write!(
@@ -138,16 +138,20 @@ impl fmt::Display for Mismatch {
                     got
                 )
             }
-            Mismatch::Use { item, wanted, got } => {
+            Mismatch::Use {
+                item,
+                expected,
+                got,
+            } => {
                 write!(
                     f,
-                    "wanted {} as at {}, got {}",
-                    wanted,
+                    "expected {} as at {}, got {}",
+                    expected,
                     UsePosition(*item),
                     got
                 )
             }
-            Mismatch::Need(need) => write!(f, "wanted {}", need),
+            Mismatch::Need(need) => write!(f, "expected {}", need),
         }
     }
 }

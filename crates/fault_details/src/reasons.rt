@@ -11,29 +11,29 @@ use naga_acceptance::parts::InferredType;
 use naga_info::TypeResolution;
 use naga_ir::{Scalar, SwizzleComponent};
 
-/// What was wanted at a position, and what stands there.
+/// What was expected at a position, and what stands there.
 #[derive(Debug, Clone, Copy)]
 pub(crate) enum Reason<'a> {
-    /// A value of one type is wanted, and one of another stands there.
+    /// A value of one type is expected, and one of another stands there.
     OtherType {
-        wanted: InferredType,
+        expected: InferredType,
         got: &'a TypeResolution,
     },
     /// The same of two scalars, of which none is known of an expression.
     OtherScalar {
-        wanted: Scalar,
+        expected: Scalar,
         got: Scalar,
     },
-    /// A type of a class is wanted, and another stands there.
+    /// A type of a class is expected, and another stands there.
     OtherClass {
         class: TypeClass,
         got: &'a TypeResolution,
     },
-    /// A value is wanted, and there is none.
+    /// A value is expected, and there is none.
     NoValue {
-        wanted: InferredType,
+        expected: InferredType,
     },
-    /// No value is wanted, and there is one.
+    /// No value is expected, and there is one.
     Unexpected {
         got: &'a TypeResolution,
     },
@@ -49,10 +49,10 @@ pub(crate) enum Reason<'a> {
         index: usize,
         before: usize,
     },
-    /// So many are wanted, and so many stand there.
+    /// So many are expected, and so many stand there.
     OtherNumber {
         of: Counted,
-        wanted: usize,
+        expected: usize,
         got: usize,
     },
     /// A part is named of which there are so many.
@@ -68,7 +68,7 @@ pub(crate) enum Reason<'a> {
     /// The operator has another type where it is used at this position, over operands of types alike.
     OtherUse {
         item: FaultPosition,
-        wanted: &'a TypeResolution,
+        expected: &'a TypeResolution,
         got: &'a TypeResolution,
     },
     /// What else a statement needs.
@@ -110,14 +110,14 @@ pub(crate) fn not_before<'a>(
     }
 }
 
-/// Another number than is wanted.
-pub(crate) fn number_reason<'a>(of: Counted, wanted: usize, got: usize) -> Option<Reason<'a>>
-    ensures { option_map shown result ≡ number_reason of wanted got }
+/// Another number than is expected.
+pub(crate) fn number_reason<'a>(of: Counted, expected: usize, got: usize) -> Option<Reason<'a>>
+    ensures { option_map shown result ≡ number_reason of expected got }
 {
-    if wanted == got {
+    if expected == got {
         None
     } else {
-        Some(Reason::OtherNumber { of, wanted, got })
+        Some(Reason::OtherNumber { of, expected, got })
     }
 }
 

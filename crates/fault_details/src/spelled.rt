@@ -31,7 +31,7 @@ use std::alloc::{AllocError, Global};
 /// Two types, as they are told.
 #[derive(Drop)]
 pub(crate) struct TwoTypes {
-    wanted: String,
+    expected: String,
     got: String,
 }
 
@@ -146,23 +146,23 @@ fn placed(alloc: Global, module: &Module, ty: &TypeResolution) -> Result<String,
 fn placed_types(
     alloc: Global,
     module: &Module,
-    wanted: &TypeResolution,
+    expected: &TypeResolution,
     got: &TypeResolution,
 ) -> Result<TwoTypes, AllocError>
-    ensures { IfOk result (λ t. PlacesBoth «module».now wanted.now got.now (string_bytes t.wanted)
+    ensures { IfOk result (λ t. PlacesBoth «module».now expected.now got.now (string_bytes t.expected)
         (string_bytes t.got)) }
 {
-    let wanted = placed(alloc, module, wanted)?;
+    let expected = placed(alloc, module, expected)?;
     let placed_got = placed(alloc, module, got)?;
-    if wanted.as_str() == placed_got.as_str() {
-        let another = format!(in alloc; "another {}", wanted)?;
+    if expected.as_str() == placed_got.as_str() {
+        let another = format!(in alloc; "another {}", expected)?;
         return Ok(TwoTypes {
-            wanted,
+            expected,
             got: another,
         });
     }
     Ok(TwoTypes {
-        wanted,
+        expected,
         got: placed_got,
     })
 }
@@ -171,19 +171,19 @@ fn placed_types(
 fn told_types(
     alloc: Global,
     module: &Module,
-    wanted: &TypeResolution,
+    expected: &TypeResolution,
     got: &TypeResolution,
 ) -> Result<TwoTypes, AllocError>
-    ensures { IfOk result (λ t. TellsBoth «module».now wanted.now got.now (string_bytes t.wanted)
+    ensures { IfOk result (λ t. TellsBoth «module».now expected.now got.now (string_bytes t.expected)
         (string_bytes t.got)) }
 {
-    let told_wanted = told(alloc, module, wanted)?;
+    let told_expected = told(alloc, module, expected)?;
     let told_got = told(alloc, module, got)?;
-    if told_wanted.as_str() == told_got.as_str() {
-        return placed_types(alloc, module, wanted, got);
+    if told_expected.as_str() == told_got.as_str() {
+        return placed_types(alloc, module, expected, got);
     }
     Ok(TwoTypes {
-        wanted: told_wanted,
+        expected: told_expected,
         got: told_got,
     })
 }
@@ -225,41 +225,41 @@ fn resolution_of(ty: InferredType) -> TypeResolution
 fn other_type(
     alloc: Global,
     module: &Module,
-    wanted: InferredType,
+    expected: InferredType,
     got: &TypeResolution,
 ) -> Result<Mismatch, AllocError>
-    ensures { IfOk result (Tells «module».now (OtherType (inferred wanted) got.now)) }
+    ensures { IfOk result (Tells «module».now (OtherType (inferred expected) got.now)) }
 {
-    let wanted = resolution_of(wanted);
-    let TwoTypes { wanted, got } = told_types(alloc, module, &wanted, got)?;
-    Ok(Mismatch::Type { wanted, got })
+    let expected = resolution_of(expected);
+    let TwoTypes { expected, got } = told_types(alloc, module, &expected, got)?;
+    Ok(Mismatch::Type { expected, got })
 }
 
 /// Two scalars.
 fn other_scalar(
     alloc: Global,
     module: &Module,
-    wanted: Scalar,
+    expected: Scalar,
     got: Scalar,
 ) -> Result<Mismatch, AllocError>
-    ensures { IfOk result (Tells «module».now (OtherType (Value (TypeInner.Scalar wanted))
+    ensures { IfOk result (Tells «module».now (OtherType (Value (TypeInner.Scalar expected))
         (Value (TypeInner.Scalar got)))) }
 {
     let got = TypeResolution::Value(TypeInner::Scalar(got));
-    other_type(alloc, module, InferredType::Scalar(wanted), &got)
+    other_type(alloc, module, InferredType::Scalar(expected), &got)
 }
 
 /// A type of which there is no value.
-fn no_value(alloc: Global, module: &Module, wanted: InferredType) -> Result<Mismatch, AllocError>
-    ensures { IfOk result (Tells «module».now (NoValue (inferred wanted))) }
+fn no_value(alloc: Global, module: &Module, expected: InferredType) -> Result<Mismatch, AllocError>
+    ensures { IfOk result (Tells «module».now (NoValue (inferred expected))) }
 {
-    let wanted = resolution_of(wanted);
+    let expected = resolution_of(expected);
     Ok(Mismatch::Value {
-        wanted: told(alloc, module, &wanted)?,
+        expected: told(alloc, module, &expected)?,
     })
 }
 
-/// A type where none is wanted.
+/// A type where none is expected.
 fn unexpected(alloc: Global, module: &Module, got: &TypeResolution) -> Result<Mismatch, AllocError>
     ensures { IfOk result (Tells «module».now (Unexpected got.now)) }
 {
@@ -303,13 +303,17 @@ fn other_use(
     alloc: Global,
     module: &Module,
     item: FaultPosition,
-    wanted: &TypeResolution,
+    expected: &TypeResolution,
     got: &TypeResolution,
 ) -> Result<Mismatch, AllocError>
-    ensures { IfOk result (Tells «module».now (OtherUse item wanted.now got.now)) }
+    ensures { IfOk result (Tells «module».now (OtherUse item expected.now got.now)) }
 {
-    let TwoTypes { wanted, got } = told_types(alloc, module, wanted, got)?;
-    Ok(Mismatch::Use { item, wanted, got })
+    let TwoTypes { expected, got } = told_types(alloc, module, expected, got)?;
+    Ok(Mismatch::Use {
+        item,
+        expected,
+        got,
+    })
 }
 
 /// A reason, as it is told.
@@ -317,10 +321,10 @@ fn told_reason(alloc: Global, module: &Module, reason: &Reason<'_>) -> Result<Mi
     ensures { IfOk result (Tells «module».now (shown reason.now)) }
 {
     match reason {
-        Reason::OtherType { wanted, got } => other_type(alloc, module, *wanted, *got),
-        Reason::OtherScalar { wanted, got } => other_scalar(alloc, module, *wanted, *got),
+        Reason::OtherType { expected, got } => other_type(alloc, module, *expected, *got),
+        Reason::OtherScalar { expected, got } => other_scalar(alloc, module, *expected, *got),
         Reason::OtherClass { class, got } => other_class(alloc, module, *class, *got),
-        Reason::NoValue { wanted } => no_value(alloc, module, *wanted),
+        Reason::NoValue { expected } => no_value(alloc, module, *expected),
         Reason::Unexpected { got } => unexpected(alloc, module, *got),
         Reason::Absent { list, index, count } => Ok(Mismatch::Item {
             list: *list,
@@ -336,9 +340,9 @@ fn told_reason(alloc: Global, module: &Module, reason: &Reason<'_>) -> Result<Mi
             index: *index,
             before: *before,
         }),
-        Reason::OtherNumber { of, wanted, got } => Ok(Mismatch::Number {
+        Reason::OtherNumber { of, expected, got } => Ok(Mismatch::Number {
             of: *of,
-            wanted: *wanted,
+            expected: *expected,
             got: *got,
         }),
         Reason::PastParts { count, got } => Ok(Mismatch::Part {
@@ -346,21 +350,25 @@ fn told_reason(alloc: Global, module: &Module, reason: &Reason<'_>) -> Result<Mi
             got: *got,
         }),
         Reason::LacksLetter { letter, got } => lacking(alloc, module, *letter, *got),
-        Reason::OtherUse { item, wanted, got } => other_use(alloc, module, *item, *wanted, *got),
+        Reason::OtherUse {
+            item,
+            expected,
+            got,
+        } => other_use(alloc, module, *item, *expected, *got),
         Reason::Needs { need } => Ok(Mismatch::Need(*need)),
     }
 }
 
-/// What was wanted at a position where the module is not accepted, and what stands there, by the
+/// What was expected at a position where the module is not accepted, and what stands there, by the
 /// fault that [`unaccepted`](naga_acceptance::unaccepted) gives; none where no more can be told
 /// than the kind of the fault.
 ///
-/// - Of a type: the one that is wanted, or the class of those of which any is, and the one that is
+/// - Of a type: the one that is expected, or the class of those of which any is, and the one that is
 ///   known.
 /// - Of what is named and is not there: its list, its number, and how many items the list has; of
 ///   what is there, but not before what names it, the position of that.
 /// - Of a swizzle: the first letter for which its vector has no component, and the vector's type.
-/// - Of a number, as of the arguments of a call: the one that is wanted, and the one that is there.
+/// - Of a number, as of the arguments of a call: the one that is expected, and the one that is there.
 /// - Of an operator that does not agree: the first use of it in the module that is over operands of
 ///   types alike and has another type, and the types of both.
 /// - Of a statement that stands where it may not, or a switch whose labels do not fit: what it
@@ -372,8 +380,8 @@ fn told_reason(alloc: Global, module: &Module, reason: &Reason<'_>) -> Result<Mi
 /// ```text
 /// if let Some(fault) = unaccepted(&shader.module, &shader.info) {
 ///     println!(rt; "not accepted: {fault}")?;
-///     if let Some(wanted) = explain(alloc, &shader.module, &shader.info, fault)? {
-///         println!(rt; "{wanted}")?; // wanted vec4<f32>, got f32
+///     if let Some(expected) = explain(alloc, &shader.module, &shader.info, fault)? {
+///         println!(rt; "{expected}")?; // expected vec4<f32>, got f32
 ///     }
 /// }
 /// ```

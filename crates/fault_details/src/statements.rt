@@ -1,4 +1,4 @@
-//! Why a statement does not get what it wants.
+//! Why a statement does not get what it needs.
 
 ghost use Rattle.std.specs.Prelude.{◌≡◌, length, slice_get};
 ghost use Rattle.std.specs.Option.{option_and_then, option_map, option_or};
@@ -60,7 +60,7 @@ fn case_value_type_reason<'a>(scalar: Scalar, case_value: SwitchValue) -> Option
         (SwitchValue::U32(_), _) => ScalarKind::Uint,
     };
     Some(Reason::OtherScalar {
-        wanted: scalar,
+        expected: scalar,
         got: Scalar { kind, width: 4 },
     })
 }
@@ -138,7 +138,7 @@ fn store_reason<'a>(
         ≡ store_reason types.now (known_types known.entry) pointer value }
 {
     match pointee_at(types, known, pointer) {
-        Some(wanted) => type_reason(types, known, wanted, value),
+        Some(expected) => type_reason(types, known, expected, value),
         None => class_reason(types, known, TypeClass::Pointer, pointer),
     }
 }
@@ -157,7 +157,7 @@ fn return_reason<'a>(
             type_reason(types, known, InferredType::Handle(answer.ty), value)
         }
         (Some(answer), None) => Some(Reason::NoValue {
-            wanted: InferredType::Handle(answer.ty),
+            expected: InferredType::Handle(answer.ty),
         }),
         (None, Some(value)) => match known_type(known, value) {
             Some(got) => Some(Reason::Unexpected { got }),
@@ -179,8 +179,8 @@ fn passed_reason<'a>(
         ≡ passed_reason types.now (known_types known.entry) arguments.now values.now }
 {
     for index in 0..values.len() {
-        let wanted = InferredType::Handle(arguments[index].ty);
-        let found = type_reason(types, known, wanted, values[index]);
+        let expected = InferredType::Handle(arguments[index].ty);
+        let found = type_reason(types, known, expected, values[index]);
         if found.is_some() {
             return found;
         }
@@ -221,9 +221,9 @@ fn call_reason<'a>(
     ensures { option_map shown result ≡ call_reason types.now (known_types known.entry)
         function.now callee_handle arguments.now outcome callee.now }
 {
-    let wanted = callee.arguments.len();
-    if wanted != arguments.len() {
-        return number_reason(Counted::Arguments, wanted, arguments.len());
+    let expected = callee.arguments.len();
+    if expected != arguments.len() {
+        return number_reason(Counted::Arguments, expected, arguments.len());
     }
     let found = passed_reason(types, known, &callee.arguments, arguments);
     if found.is_some() {
@@ -306,7 +306,7 @@ fn uniform_load_reason<'a>(function: &Function, outcome: Handle<Expression>) -> 
 
 // ---- statements
 
-/// Why a statement by itself, its blocks left out, does not get what it wants, where it may leave
+/// Why a statement by itself, its blocks left out, does not get what it needs, where it may leave
 /// the nearest loop or switch if it `breaks`, and go on with the nearest loop's `continuing` if it
 /// `continues`.
 fn own_reason<'a>(

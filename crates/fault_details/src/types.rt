@@ -5,7 +5,7 @@ ghost use Rattle.std.specs.Option.{option_and_then, option_copied, option_map, o
 ghost use Rattle.std.specs.Option.{option_or};
 ghost use Rattle.module_meaning.specs.TypeIdentity.{component_count};
 ghost use Rattle.module_meaning.specs.TypeParts.{known_inner, part_count};
-ghost use Rattle.naga_acceptance.specs.KnownTypes.{inferred, known_types, wanted};
+ghost use Rattle.naga_acceptance.specs.KnownTypes.{inferred, known_types, allowed};
 ghost use Rattle.naga_info.specs.Resolution.{inner_of};
 ghost use Rattle.fault_details.specs.Reasons.{class_reason, first_reason, has_letter};
 ghost use Rattle.fault_details.specs.Reasons.{index_reason, is_in_class, letter_reason};
@@ -89,33 +89,33 @@ pub(crate) fn class_reason<'a>(
     }
 }
 
-/// A type, if it is not like the one that is wanted.
+/// A type, if it is not like the one that is expected.
 fn unlike<'a>(
     types: &UniqueArena<Type_>,
-    wanted: InferredType,
+    expected: InferredType,
     got: &'a TypeResolution,
 ) -> Option<Reason<'a>>
-    ensures { option_map shown result ≡ unlike types.now (inferred wanted) got.now }
+    ensures { option_map shown result ≡ unlike types.now (inferred expected) got.now }
 {
-    if is_like(types, got, &wanted) {
+    if is_like(types, got, &expected) {
         None
     } else {
-        Some(Reason::OtherType { wanted, got })
+        Some(Reason::OtherType { expected, got })
     }
 }
 
-/// The type of an expression, if it is another than the one that is wanted.
+/// The type of an expression, if it is another than the one that is expected.
 pub(crate) fn type_reason<'a>(
     types: &'a UniqueArena<Type_>,
     known: Known<'a>,
-    wanted: InferredType,
+    expected: InferredType,
     handle: Handle<Expression>,
 ) -> Option<Reason<'a>>
     ensures { option_map shown result
-        ≡ type_reason types.now (known_types known.entry) (inferred wanted) handle }
+        ≡ type_reason types.now (known_types known.entry) (inferred expected) handle }
 {
     match known_type(known, handle) {
-        Some(got) => unlike(types, wanted, got),
+        Some(got) => unlike(types, expected, got),
         None => None,
     }
 }
@@ -154,10 +154,10 @@ fn expected_reason<'a>(
     demand: AllowedType,
 ) -> Option<Reason<'a>>
     ensures { option_map shown result ≡ expected_reason types.now (known_types known.entry) own.now
-        expression.now (wanted demand) }
+        expression.now (allowed demand) }
 {
     match demand {
-        AllowedType::LikeThis(wanted) => unlike(types, wanted, own),
+        AllowedType::LikeThis(expected) => unlike(types, expected, own),
         AllowedType::Anything => None,
         AllowedType::Nothing => typeless_reason(types, known, own, expression),
     }

@@ -218,8 +218,8 @@ impl fmt::Display for Need {
         f.write_str(match self {
             Need::LoopOrSwitch => "a loop or a switch to leave",
             Need::Loop => "a loop to go on with",
-            Need::DistinctCaseValues => "labels that differ",
-            Need::Default => "a default label",
+            Need::DistinctCaseValues => "case values that differ",
+            Need::Default => "a default case",
             Need::End => "a last case that does not fall through",
             Need::CalleeResult => "a callee with a result",
             Need::OwnResult => "an expression that is its result",

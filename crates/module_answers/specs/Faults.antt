@@ -8,23 +8,23 @@ use Rattle.naga_info.specs.declared.info.ModuleInfo.{ModuleInfo}
 use Rattle.naga_acceptance.specs.FaultTexts.{fault_text}
 use Rattle.naga_acceptance.specs.declared.faults.Unaccepted.{Unaccepted}
 use Rattle.fault_details.specs.Reasons.{fault_reason}
-use Rattle.fault_details.specs.Texts.{wanted_text}
+use Rattle.fault_details.specs.Texts.{mismatch_text}
 use Rattle.fault_details.specs.Told.{TellsOf}
 use Rattle.fault_details.specs.declared.mismatch.Mismatch.{Mismatch}
 use Rattle.module_answers.specs.Labels.{label_of}
 use Rattle.module_answers.specs.declared.positions.JsonRoot.{JsonRoot}
 use Rattle.module_answers.specs.Positions.{in_function, json_position}
 
--- what was wanted, after the kind of fault, if more can be told than that
-abbrev pub wanted_after : Option Mismatch → List ℕ
-wanted_after None = []
-wanted_after (Some wanted) = codes ": " ++ wanted_text wanted
+-- what was expected, after the kind of fault, if more can be told than that
+abbrev pub mismatch_after : Option Mismatch → List ℕ
+mismatch_after None = []
+mismatch_after (Some expected) = codes ": " ++ mismatch_text expected
 
--- the kind of fault and what was wanted: `the known type is another: wanted vec4<f32>, got f32`
+-- the kind of fault and what was expected: `the known type is another: expected vec4<f32>, got f32`
 abbrev pub TellsFault : Module → ModuleInfo → Unaccepted → (text : List ℕ) → Type 0
 TellsFault m info u text =
-    (wanted : Option Mismatch) × TellsOf m (fault_reason m info u) wanted
-    × (text ≡ fault_text u.fault ++ wanted_after wanted)
+    (expected : Option Mismatch) × TellsOf m (fault_reason m info u) expected
+    × (text ≡ fault_text u.fault ++ mismatch_after expected)
 
 -- what is told of a label after a position. Nothing is said of one of whose text in quotes nothing is
 -- known, as of one past ASCII

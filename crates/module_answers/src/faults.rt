@@ -1,4 +1,4 @@
-//! Where a module is not accepted, why, and what was wanted there.
+//! Where a module is not accepted, why, and what was expected there.
 
 ghost use Rattle.std.specs.Prelude.{IfOk, string_bytes};
 ghost use Rattle.std.specs.Option.{option_map};
@@ -11,9 +11,9 @@ use naga_wgsl_out::ir::Module;
 use std::alloc::{AllocError, Global};
 
 /// A fault of the module as one line: its position in the JSON, with the label of the function or
-/// the entry point there, its kind, and what was wanted, if more can be told than the kind.
+/// the entry point there, its kind, and what was expected, if more can be told than the kind.
 ///
-/// `module.functions[0].expressions[3], in "half": the known type is another: wanted i32, got f32`
+/// `module.functions[0].expressions[3], in "half": the known type is another: expected i32, got f32`
 pub fn fault_line(
     alloc: Global,
     module: &Module,
@@ -51,7 +51,7 @@ pub fn fault_text(
 {
     let fault = unaccepted.fault;
     match explain(alloc, module, info, unaccepted)? {
-        Some(wanted) => format!(in alloc; "{fault}: {wanted}"),
+        Some(expected) => format!(in alloc; "{fault}: {expected}"),
         None => format!(in alloc; "{fault}"),
     }
 }

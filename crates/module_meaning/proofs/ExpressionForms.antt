@@ -14,7 +14,7 @@ use Rattle.module_meaning.specs.AlikeTypes.{is_spelled}
 use Rattle.module_meaning.specs.ExpressionForms.{expression_has_form, expression_has_own_form}
 use Rattle.module_meaning.specs.Sampling.{own_offset_has_form}
 use Rattle.module_meaning.specs.Types.{called_spelling, spelled_resolution, type_names}
-use Rattle.module_meaning.specs.LackingScalars.{over}
+use Rattle.module_meaning.specs.LackingScalars.{base_type}
 use Rattle.module_meaning.specs.Undeclared.{is_spellable, is_undeclared, is_undeclared_struct}
 use Rattle.module_meaning.specs.Undeclared.{names_undeclared, names_undeclared_by}
 use Rattle.module_meaning.specs.Undeclared.{names_undeclared_within}
@@ -47,7 +47,7 @@ declared_of_spellable m (Value it) is = refl
 declared_of_spellable m (Handle h) is = by (slice_get m.types h) (spellable_parts m (Handle h) is).1
   where
     own : Type_ → Bool
-    own t = option_map_or (names_undeclared_within h m) (over t.inner) false
+    own t = option_map_or (names_undeclared_within h m) (base_type t.inner) false
 
     by : (o : Option Type_) →
         option_map_or

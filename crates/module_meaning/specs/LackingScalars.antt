@@ -26,11 +26,11 @@ image_lacks (class.Sampled kind multi) = wordless (record { kind = kind; width =
 image_lacks _ = None
 
 -- the type that a pointer or an array is over
-abbrev pub over : TypeInner → Option ℕ
-over (inner.Pointer base space) = Some base
-over (inner.Array base size stride) = Some base
-over (inner.BindingArray base size) = Some base
-over _ = None
+abbrev pub base_type : TypeInner → Option ℕ
+base_type (inner.Pointer base space) = Some base
+base_type (inner.Array base size stride) = Some base
+base_type (inner.BindingArray base size) = Some base
+base_type _ = None
 
 -- what a type lacks that is over none
 abbrev pub own_unwritable_scalar : TypeInner → Option Scalar
@@ -45,7 +45,7 @@ own_unwritable_scalar _ = None
 
 -- what a type by itself lacks, with what the types that it is over lack
 abbrev pub inner_lacks_by : (ℕ → Option Scalar) → TypeInner → Option Scalar
-inner_lacks_by f it = option_map_or f (over it) (own_unwritable_scalar it)
+inner_lacks_by f it = option_map_or f (base_type it) (own_unwritable_scalar it)
 
 -- the type at a handle, at most so many levels deep
 abbrev pub lacks_within : (levels : ℕ) → List Type_ → (handle : ℕ) → Option Scalar

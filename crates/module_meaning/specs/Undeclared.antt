@@ -28,7 +28,7 @@ use Rattle.naga_names.specs.declared.key.NameKey.TheVariants as key
 use Rattle.naga_words.specs.Spelling.{is_struct}
 use Rattle.wgsl_text.specs.Words.{stands_in}
 use Rattle.module_meaning.specs.AlikeTypes.{is_spelled}
-use Rattle.module_meaning.specs.LackingScalars.{over}
+use Rattle.module_meaning.specs.LackingScalars.{base_type}
 use Rattle.module_meaning.specs.Names.{module_names, name_in}
 
 -- ---- types
@@ -63,7 +63,7 @@ declared_struct_names names m =
 -- before it.
 abbrev pub names_undeclared_by : SpecialTypes → (own : ℕ → Bool) → (h : ℕ) → TypeInner → Bool
 names_undeclared_by s own h it =
-    if is_struct it then is_undeclared s h else option_map_or own (over it) false
+    if is_struct it then is_undeclared s h else option_map_or own (base_type it) false
 
 -- the same, at most so many levels deep
 abbrev pub names_undeclared_within : (levels : ℕ) → Module → (h : ℕ) → Bool
@@ -79,7 +79,7 @@ handle_names_undeclared m h = names_undeclared_within (suc h) m h
 -- a type's spelling would name a struct that no text declares
 abbrev pub names_undeclared : Module → TypeResolution → Bool
 names_undeclared m (Handle h) = handle_names_undeclared m h
-names_undeclared m (Value it) = option_map_or (handle_names_undeclared m) (over it) false
+names_undeclared m (Value it) = option_map_or (handle_names_undeclared m) (base_type it) false
 
 -- a text can spell the type
 abbrev pub is_spellable : Module → TypeResolution → Bool

@@ -19,7 +19,7 @@ use Rattle.naga_info.specs.declared.info.ExpressionInfo.{ExpressionInfo}
 use Rattle.naga_info.specs.declared.info.ModuleInfo.{ModuleInfo}
 use Rattle.naga_acceptance.specs.Faults.{Fails, FaultIs, entry_names_fit}
 use Rattle.naga_acceptance.specs.FirstFaults.{IsDisagreement, IsFirst, IsFirstFault, IsOfTypes}
-use Rattle.naga_acceptance.specs.FirstFaults.{Named, Wanted, Disagreeing}
+use Rattle.naga_acceptance.specs.FirstFaults.{Named, Needed, Disagreeing}
 use Rattle.naga_acceptance.specs.FirstFaults.{at, at_entry_point, at_expression, at_function}
 use Rattle.naga_acceptance.specs.FirstFaults.{declarations_range_fault, entry_point_range_fault}
 use Rattle.naga_acceptance.specs.FirstFaults.{entry_point_sizes_fault, entry_points_range_fault}
@@ -250,7 +250,7 @@ module _ (m : Module) (info : ModuleInfo) where
   pub first_wanted : (named wanted : Option Unaccepted) → named ≡ ranges_fault m info → is_some named ≡ false →
       wanted ≡ sound_fault m info → IfSome wanted (IsFirst m info)
   first_wanted named None is none next = tt
-  first_wanted named (Some u) is none next = Wanted (ranges_pass named is none) (sym next)
+  first_wanted named (Some u) is none next = Needed (ranges_pass named is none) (sym next)
 
   -- one of operators, where there are none of both
   pub first_operator : (named wanted found : Option Unaccepted) → named ≡ ranges_fault m info → is_some named ≡ false →

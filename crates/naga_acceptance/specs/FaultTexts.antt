@@ -28,7 +28,7 @@ fault_text fault.KnownType = codes "the known type may not be there"
 fault_text fault.OtherType = codes "the known type is another"
 fault_text fault.OperandTypes = codes "the operands are of types that it does not take"
 fault_text fault.InitialiserType = codes "the initialiser is of another type"
-fault_text fault.Unsatisfied = codes "the statement does not get what it wants"
+fault_text fault.Unsatisfied = codes "the statement does not get what it needs"
 fault_text fault.Disagreement = codes "the operator does not agree with an earlier one"
 
 -- a part of a function, after the function, as `, expression 41`; nothing of the whole

@@ -1,5 +1,5 @@
 -- The first place at which a module is not accepted, in the order in which its clauses are asked:
--- first whether all that is named is there, then whether all gets what it wants. Operators that
+-- first whether all that is named is there, then whether all gets what it needs. Operators that
 -- disagree are looked for after that.
 --
 -- A fault of types is one of the second clause, and is told only where the first holds.
@@ -200,7 +200,7 @@ ranges_fault m info =
     (first_unfit (λ _. type_is_fit) (enumerate_from 0 m.types)))
     (option_or (module_range_fault m) (info_fault m info)))
 
--- ---- what is wanted
+-- ---- what is needed
 
 abbrev pub expression_sound_fault :
     Module → Option Function → (known : List TypeResolution) → (h : ℕ) → Expression → Option Fault
@@ -269,13 +269,13 @@ IsDisagreement m info u = (u.fault ≡ fault.Disagreement) × OperatorFails m in
 pub data IsFirst (m : Module) (info : ModuleInfo) (u : Unaccepted) : Type 0 where
   -- of what is named
   Named : ranges_fault m info ≡ Some u → IsFirst m info u
-  -- of what is wanted, where all that is named is there
-  Wanted : IsTrue (module_ranges_fit m info) → sound_fault m info ≡ Some u → IsFirst m info u
-  -- of an operator, where all gets what it wants too
+  -- of what is needed, where all that is named is there
+  Needed : IsTrue (module_ranges_fit m info) → sound_fault m info ≡ Some u → IsFirst m info u
+  -- of an operator, where all gets what it needs too
   Disagreeing : IsTrue (module_ranges_fit m info) → IsTrue (module_is_sound m info) →
       IsDisagreement m info u → IsFirst m info u
 
--- a kind of fault that says that a type is wrong, or what a statement wants, or that an operator
+-- a kind of fault that says that a type is wrong, or what a statement needs, or that an operator
 -- does not agree with an earlier one
 abbrev pub IsOfTypes : Fault → Type 0
 IsOfTypes fault.OtherType = ⊤

@@ -22,10 +22,10 @@ inferred (inferred_type.Pointer base space) = Value (inner.Pointer base space)
 inferred (inferred_type.ValuePointer size s space) = Value (inner.ValuePointer size s space)
 
 -- what an expression's type may be
-abbrev pub wanted : AllowedType → ExpectedType
-wanted (code.LikeThis one) = LikeThis (inferred one)
-wanted code.Anything = Anything
-wanted code.Nothing = Nothing
+abbrev pub allowed : AllowedType → ExpectedType
+allowed (code.LikeThis one) = LikeThis (inferred one)
+allowed code.Anything = Anything
+allowed code.Nothing = Nothing
 
 -- the types of expressions, by handle
 abbrev pub known_types : Known → List TypeResolution

@@ -23,11 +23,11 @@ use naga_ir::Module;
 ///   the module's own expressions, functions and entry points; in a function by the whole, its
 ///   locals, its expressions and its statements.
 /// - Whether the types that are known may be there.
-/// - Whether all gets what it wants: the module's own expressions, the initialisers, the functions
+/// - Whether all gets what it needs: the module's own expressions, the initialisers, the functions
 ///   and the entry points; in a function its expressions, its locals and its statements.
 /// - Whether operators agree.
 ///
-/// So it tells of types, of what a statement wants and of operators only where all that is named is
+/// So it tells of types, of what a statement needs and of operators only where all that is named is
 /// there.
 ///
 /// It takes no memory, and answers whatever numbers a module holds, in the time that `accepts`
@@ -58,7 +58,7 @@ pub fn unaccepted(module: &Module, info: &ModuleInfo) -> Option<Unaccepted>
 /// - All that they name is there and stands where it may be named, and one thing is known of each
 ///   function, entry point and expression ([`ranges_fit`](crate::ranges::ranges_fit)).
 /// - Each expression has its type and operands that it takes, initialisers have the types of their
-///   items, and statements get what they want
+///   items, and statements get what they need
 ///   ([`module_is_sound`](crate::soundness::module_is_sound)).
 /// - Operators that are spelled alike, over operands of types alike, have types alike, across the
 ///   module ([`operators_agree`](crate::agreeing::operators_agree)).

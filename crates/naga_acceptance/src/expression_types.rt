@@ -2,7 +2,7 @@
 
 ghost use Rattle.std.specs.Prelude.{◌≡◌, Option};
 ghost use Rattle.std.specs.Option.{option_and_then, option_copied, option_map};
-ghost use Rattle.naga_acceptance.specs.KnownTypes.{inferred, known_types, wanted};
+ghost use Rattle.naga_acceptance.specs.KnownTypes.{inferred, known_types, allowed};
 ghost use Rattle.module_meaning.specs.acceptance.ExpressionTypes.{argument_type, binary_type};
 ghost use Rattle.module_meaning.specs.acceptance.ExpressionTypes.{constant_type};
 ghost use Rattle.module_meaning.specs.acceptance.ExpressionTypes.{global_type, has_its_type};
@@ -37,7 +37,7 @@ pub enum AllowedType {
 }
 
 fn only(ty: Option<InferredType>) -> AllowedType
-    ensures { wanted result ≡ only (option_map inferred ty) }
+    ensures { allowed result ≡ only (option_map inferred ty) }
 {
     match ty {
         Some(ty) => AllowedType::LikeThis(ty),
@@ -46,7 +46,7 @@ fn only(ty: Option<InferredType>) -> AllowedType
 }
 
 fn if_any(ty: Option<InferredType>) -> AllowedType
-    ensures { wanted result ≡ if_any (option_map inferred ty) }
+    ensures { allowed result ≡ if_any (option_map inferred ty) }
 {
     match ty {
         Some(ty) => AllowedType::LikeThis(ty),
@@ -172,7 +172,7 @@ pub fn is_bool(inner: &TypeInner) -> bool
 }
 
 fn logical_type(left: Option<&TypeInner>) -> AllowedType
-    ensures { wanted result ≡ logical_type (option_copied left.entry) }
+    ensures { allowed result ≡ logical_type (option_copied left.entry) }
 {
     match left {
         Some(left) if is_bool(left) => AllowedType::LikeThis(InferredType::Scalar(Scalar::BOOL)),
@@ -181,7 +181,7 @@ fn logical_type(left: Option<&TypeInner>) -> AllowedType
 }
 
 fn binary_type(op: BinaryOperator, left: Option<&TypeInner>) -> AllowedType
-    ensures { wanted result ≡ binary_type op (option_copied left.entry) }
+    ensures { allowed result ≡ binary_type op (option_copied left.entry) }
 {
     match op {
         BinaryOperator::LogicalAnd | BinaryOperator::LogicalOr => logical_type(left),
@@ -242,7 +242,7 @@ pub fn expected_type(
     known: Known<'_>,
     expression: &Expression,
 ) -> AllowedType
-    ensures { wanted result ≡ expected_type «module».now (option_copied function.entry)
+    ensures { allowed result ≡ expected_type «module».now (option_copied function.entry)
         (known_types known.entry) expression.now }
 {
     let types = &module.types;
@@ -281,9 +281,9 @@ pub fn expected_type(
     }
 }
 
-/// Whether a type is what is wanted.
+/// Whether a type is one that is allowed.
 fn is_expected(types: &UniqueArena<Type_>, demand: AllowedType, own: &TypeResolution) -> bool
-    ensures { result ≡ is_expected types.now (wanted demand) own.now }
+    ensures { result ≡ is_expected types.now (allowed demand) own.now }
 {
     match demand {
         AllowedType::LikeThis(ty) => is_like(types, own, &ty),

@@ -80,7 +80,7 @@ pub enum Fault {
     OperandTypes,
     /// The initialiser has another type.
     InitialiserType,
-    /// A statement does not get what it wants.
+    /// A statement does not get what it needs.
     Unsatisfied,
     /// An operator's type is not like that of the same operator, over operands of types alike,
     /// which stands before it.
@@ -185,7 +185,7 @@ impl fmt::Display for Fault {
             Fault::OtherType => "the known type is another",
             Fault::OperandTypes => "the operands are of types that it does not take",
             Fault::InitialiserType => "the initialiser is of another type",
-            Fault::Unsatisfied => "the statement does not get what it wants",
+            Fault::Unsatisfied => "the statement does not get what it needs",
             Fault::Disagreement => "the operator does not agree with an earlier one",
         })
     }

@@ -62,7 +62,7 @@ fn expressions_sound_fault(
     None
 }
 
-/// The first part of a function that does not get what it wants.
+/// The first part of a function that does not get what it needs.
 fn function_sound_fault(
     module: &Module,
     function: &Function,
@@ -123,7 +123,7 @@ fn entry_points_sound_fault(
 }
 
 /// The first of the module's own expressions, or else the first of its initialisers, that does not
-/// get what it wants.
+/// get what it needs.
 fn declarations_sound_fault(module: &Module, types: &[TypeResolution]) -> Option<Unaccepted>
     ensures { result ≡ declarations_sound_fault «module».now types.now }
 {
@@ -135,7 +135,7 @@ fn declarations_sound_fault(module: &Module, types: &[TypeResolution]) -> Option
     initialisers_fault(module, known)
 }
 
-/// The first place where what stands in a module does not get what it wants ([`module_is_sound`]).
+/// The first place where what stands in a module does not get what it needs ([`module_is_sound`]).
 pub(crate) fn sound_fault(module: &Module, info: &ModuleInfo) -> Option<Unaccepted>
     ensures { result ≡ sound_fault «module».now info.now }
 {
@@ -150,7 +150,7 @@ pub(crate) fn sound_fault(module: &Module, info: &ModuleInfo) -> Option<Unaccept
     entry_points_sound_fault(module, &module.entry_points, info.entry_points.as_slice())
 }
 
-/// Whether all that stands in a module gets what it wants by what is known of it: each expression
+/// Whether all that stands in a module gets what it needs by what is known of it: each expression
 /// of its functions, its entry points and its own has its type
 /// ([`expected_type`](crate::expression_types::expected_type)) and operands that it takes
 /// ([`operands_fit`]), initialisers have the types of their items, and statements get what they

@@ -453,7 +453,7 @@ fn is_answered(
     }
 }
 
-/// Whether a call passes what the callee wants, and its result is what it gives.
+/// Whether a call passes what the callee takes, and its result is what it gives.
 pub(crate) fn is_call(
     module: &Module,
     function: &Function,
@@ -475,7 +475,7 @@ pub(crate) fn is_call(
 
 // ---- statements
 
-/// The pointer to a scalar or a vector that a statement by itself wants, if it wants that alone.
+/// The pointer to a scalar or a vector that a statement by itself needs, if it needs that alone.
 pub fn components_pointer(statement: &Statement) -> Option<Handle<Expression>>
     ensures { result ≡ own_components_pointer (tree_of statement.now) }
 {
@@ -485,7 +485,7 @@ pub fn components_pointer(statement: &Statement) -> Option<Handle<Expression>>
     }
 }
 
-/// Whether a statement by itself, its blocks left out, gets what it wants. It may leave the nearest
+/// Whether a statement by itself, its blocks left out, gets what it needs. It may leave the nearest
 /// loop or switch where it `breaks`, and go on with the nearest loop's `continuing` where it
 /// `continues`.
 pub(crate) fn own_is_sound(
@@ -545,7 +545,7 @@ pub(crate) fn own_is_sound(
 }
 
 /// The number of the first statement of a function, in the order of the text, that does not get
-/// what it wants. Those in blocks are counted too, from 0, and modulo 2^64.
+/// what it needs. Those in blocks are counted too, from 0, and modulo 2^64.
 pub(crate) fn first_unsound(module: &Module, function: &Function, known: Known<'_>) -> Option<usize>
     ensures { result ≡ result_err (numbered
         (is_sound «module».now function.now (known_types known.entry)) 0
@@ -554,7 +554,7 @@ pub(crate) fn first_unsound(module: &Module, function: &Function, known: Known<'
     first_unmet(sound_demand(module, function, known), &function.body)
 }
 
-/// Whether the statements of a function get what they want, `known` being the types of its
+/// Whether the statements of a function get what they need, `known` being the types of its
 /// expressions. What names nothing that is there is answered `false` where a type or a result is
 /// asked of it. It goes as deep as blocks are nested, and takes no memory.
 ///

@@ -22,7 +22,7 @@ pub(crate) enum Demand<'a> {
         callees: usize,
         expressions: usize,
     },
-    /// That it gets what it wants.
+    /// That it gets what it needs.
     Sound {
         module: &'a Module,
         function: &'a Function,

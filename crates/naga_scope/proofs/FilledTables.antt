@@ -17,7 +17,7 @@ use Rattle.indexmap.specs.IndexMap.{values}
 use Rattle.module_meaning.specs.acceptance.Accepted.{is_accepted}
 use Rattle.module_meaning.specs.AlikeTypes.{found_key_by, handle_key, inner_key_by, is_spelled}
 use Rattle.module_meaning.specs.AlikeTypes.{key_within, value_key}
-use Rattle.module_meaning.specs.LackingScalars.{over, wordless}
+use Rattle.module_meaning.specs.LackingScalars.{base_type, wordless}
 use Rattle.module_meaning.specs.acceptance.Ranges.{is_below, parts_before, parts_stand_before}
 use Rattle.module_meaning.specs.acceptance.Ranges.{special_types_fit, types_in_range}
 use Rattle.module_meaning.specs.TypeIdentity.{level}
@@ -144,7 +144,7 @@ undeclared_marked m fit first marks none are h =
     by false below = refl
 
 -- ---- order of types
-over_before : (it : TypeInner) (h base : ℕ) → parts_before h it ≡ true → over it ≡ Some base →
+over_before : (it : TypeInner) (h base : ℕ) → parts_before h it ≡ true → base_type it ≡ Some base →
     base < h
 over_before (inner.Pointer b space) h base before is =
     ltb-true base h (ap (λ n. nat_lt n h) (same_Some base b (sym is)) ∙ before)
@@ -156,7 +156,7 @@ over_before _ h base before is = absurd cc
 
 -- what a type is over stands before it
 base_before : (m : Module) → IsTrue (parts_stand_before m.types) → (h base : ℕ) (t : Type_) →
-    slice_get m.types h ≡ Some t → over t.inner ≡ Some base → base < h
+    slice_get m.types h ≡ Some t → base_type t.inner ≡ Some base → base < h
 base_before m stand h base t at is = over_before t.inner h base (parts_stand m stand h t at) is
 
 -- ---- types that name one
@@ -168,9 +168,9 @@ module _ (m : Module) (stand : IsTrue (parts_stand_before m.types)) where
       names_undeclared_by m.special_types b h t.inner
   by_alike h t at a b same =
       ap (λ w. if is_struct t.inner then is_undeclared m.special_types h else w)
-      (by (over t.inner) refl)
+      (by (base_type t.inner) refl)
     where
-      by : (o : Option ℕ) → over t.inner ≡ o → option_map_or a o false ≡ option_map_or b o false
+      by : (o : Option ℕ) → base_type t.inner ≡ o → option_map_or a o false ≡ option_map_or b o false
       by None is = refl
       by (Some base) is = same base (base_before m stand h base t at is)
 
@@ -219,7 +219,7 @@ no_type_beyond m h le =
 pub type_marked : (m : Module) (marks : List Bool) → MarksNaming m marks → (r : TypeResolution) →
     is_marked_type marks r ≡ names_undeclared m r
 type_marked m marks are (Handle h) = are h
-type_marked m marks are (Value it) = by (over it)
+type_marked m marks are (Value it) = by (base_type it)
   where
     by : (o : Option ℕ) →
         option_map_or (is_marked marks) o false ≡ option_map_or (handle_names_undeclared m) o false
@@ -228,7 +228,7 @@ type_marked m marks are (Value it) = by (over it)
 
 -- ---- types that are spelled
 -- a type that is over one is spelled where that one is
-spelled_as_base : (f : ℕ → Option (List ℕ)) (it : TypeInner) (base : ℕ) → over it ≡ Some base →
+spelled_as_base : (f : ℕ → Option (List ℕ)) (it : TypeInner) (base : ℕ) → base_type it ≡ Some base →
     is_some (inner_key_by f it) ≡ is_some (f base)
 spelled_as_base f (inner.Pointer b at) base is =
     some_kept _ (f b) ∙ ap (λ x. is_some (f x)) (same_Some b base is)
@@ -255,7 +255,7 @@ value_decided : (n : Option VectorSize) (s : Scalar) →
 value_decided None s = decided (is_some (scalar_word s)) _ s
 value_decided (Some n) s = decided (is_some (scalar_word s)) _ s
 
-spelled_alone : (f : ℕ → Option (List ℕ)) (it : TypeInner) → over it ≡ None →
+spelled_alone : (f : ℕ → Option (List ℕ)) (it : TypeInner) → base_type it ≡ None →
     is_some (inner_key_by f it) ≡ is_spelled_alone it
 spelled_alone f (inner.Scalar s) none = decided (is_some (scalar_word s)) _ s
 spelled_alone f (inner.Vector n s) none = decided (is_some (scalar_word s)) _ s
@@ -286,10 +286,10 @@ module _ (m : Module) (stand : IsTrue (parts_stand_before m.types)) where
   unfolding handle_key
   spelled_by h t at marks below =
       named_decided (is_struct t.inner) (spelled_over marks t.inner) (Some (level 8 h 0 0 0 0))
-      (inner_key_by (key_within h m.types) t.inner) refl (by (over t.inner) refl)
+      (inner_key_by (key_within h m.types) t.inner) refl (by (base_type t.inner) refl)
       ∙ sym (ap (λ o. is_some (found_key_by (key_within h m.types) h o)) at)
     where
-      by : (o : Option ℕ) → over t.inner ≡ o →
+      by : (o : Option ℕ) → base_type t.inner ≡ o →
           option_map_or (is_marked marks) o (is_spelled_alone t.inner) ≡
           is_some (inner_key_by (key_within h m.types) t.inner)
       by None is = sym (spelled_alone (key_within h m.types) t.inner is)
@@ -310,9 +310,9 @@ no_spelled_beyond m h le =
 pub spelled_marked : (m : Module) (marks : List Bool) → MarksSpelled m marks → (r : TypeResolution) →
     type_is_spelled marks r ≡ is_spelled m.types r
 spelled_marked m marks are (Handle h) = are h
-spelled_marked m marks are (Value it) = by (over it) refl
+spelled_marked m marks are (Value it) = by (base_type it) refl
   where
-    by : (o : Option ℕ) → over it ≡ o →
+    by : (o : Option ℕ) → base_type it ≡ o →
         option_map_or (is_marked marks) o (is_spelled_alone it) ≡ is_spelled m.types (Value it)
     by None is = sym (spelled_alone (handle_key m.types) it is)
     by (Some base) is = are base ∙ sym (spelled_as_base (handle_key m.types) it base is)

@@ -9,7 +9,7 @@ use Rattle.std.specs.Option.{is_none, is_some, option_and_then, option_map, opti
 use Rattle.std.specs.Option.{option_to_list}
 use Rattle.indexmap.specs.IndexMap.{values}
 use Rattle.module_meaning.specs.AlikeTypes.{is_spelled}
-use Rattle.module_meaning.specs.LackingScalars.{over, own_unwritable_scalar}
+use Rattle.module_meaning.specs.LackingScalars.{base_type, own_unwritable_scalar}
 use Rattle.module_meaning.specs.Layouts.{layout_in, module_rule}
 use Rattle.module_meaning.specs.acceptance.Ranges.{parts_stand_before, special_types_fit}
 use Rattle.module_meaning.specs.Undeclared.{handle_names_undeclared, is_undeclared}
@@ -60,7 +60,7 @@ MarksNaming m marks = (h : ℕ) → is_marked marks h ≡ handle_names_undeclare
 
 -- the type that a pointer or an array is over has a mark
 abbrev pub is_marked_over : List Bool → TypeInner → Bool
-is_marked_over marks it = option_map_or (is_marked marks) (over it) false
+is_marked_over marks it = option_map_or (is_marked marks) (base_type it) false
 
 -- a type of the module has a mark, or the one that a type by itself is over
 abbrev pub is_marked_type : List Bool → TypeResolution → Bool
@@ -88,7 +88,7 @@ is_spelled_alone it = stands_alone it && is_none (own_unwritable_scalar it)
 
 -- what a type by itself is over has a mark, or it is over none and spelled
 abbrev pub spelled_over : List Bool → TypeInner → Bool
-spelled_over marks it = option_map_or (is_marked marks) (over it) (is_spelled_alone it)
+spelled_over marks it = option_map_or (is_marked marks) (base_type it) (is_spelled_alone it)
 
 -- the same of a type of the module: a struct is spelled
 abbrev pub item_is_spelled : List Bool → TypeInner → Bool

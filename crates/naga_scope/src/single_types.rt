@@ -2,7 +2,7 @@
 
 ghost use Rattle.std.specs.Prelude.{◌≡◌};
 ghost use Rattle.std.specs.Option.{is_some};
-ghost use Rattle.module_meaning.specs.LackingScalars.{image_lacks, over, own_unwritable_scalar};
+ghost use Rattle.module_meaning.specs.LackingScalars.{image_lacks, base_type, own_unwritable_scalar};
 ghost use Rattle.module_meaning.specs.LackingScalars.{wordless};
 ghost use Rattle.naga_scope.specs.Tables.{is_spelled_alone, stands_alone};
 ghost use Rattle.wgsl_words.specs.Words.{space_word};
@@ -12,8 +12,8 @@ use naga_ir::{AddressSpace, Handle, ImageClass, Scalar, Type_, TypeInner};
 use wgsl_words::space_str;
 
 /// The type that a pointer or an array is over.
-pub fn over(inner: &TypeInner) -> Option<Handle<Type_>>
-    ensures { result ≡ over inner.now }
+pub fn base_type(inner: &TypeInner) -> Option<Handle<Type_>>
+    ensures { result ≡ base_type inner.now }
 {
     match inner {
         TypeInner::Pointer { base, .. }

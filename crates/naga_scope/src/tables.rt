@@ -27,7 +27,7 @@ ghost use Rattle.wgsl_layout.specs.Capped.{IsAlignment, capped};
 ghost use Rattle.wgsl_layout.specs.Faults.{first_fault};
 
 use crate::forms::literal_has_form;
-use crate::single_types::{is_spelled_alone, over};
+use crate::single_types::{base_type, is_spelled_alone};
 use crate::written::{are_marked, is_marked, mark, mark_present, no_marks};
 use naga_info::TypeResolution;
 use naga_ir::{
@@ -340,7 +340,7 @@ fn names_by(marks: &[bool], undeclared: &[bool], handle: Handle<Type_>, inner: &
 fn is_marked_over(marks: &[bool], inner: &TypeInner) -> bool
     ensures { result ≡ is_marked_over marks.now inner.now }
 {
-    match over(inner) {
+    match base_type(inner) {
         Some(base) => is_marked(marks, base),
         None => false,
     }
@@ -393,7 +393,7 @@ fn item_is_spelled(marks: &[bool], inner: &TypeInner) -> bool
 fn spelled_over(marks: &[bool], inner: &TypeInner) -> bool
     ensures { result ≡ spelled_over marks.now inner.now }
 {
-    match over(inner) {
+    match base_type(inner) {
         Some(under) => is_marked(marks, under),
         None => is_spelled_alone(inner),
     }

@@ -20,7 +20,7 @@ use Rattle.naga_ir.specs.declared.types.Type_.{Type_}
 use Rattle.naga_names.specs.Keys.{NameMap}
 use Rattle.naga_words.specs.Spelling.{is_struct}
 use Rattle.module_meaning.specs.acceptance.Accepted.{is_accepted}
-use Rattle.module_meaning.specs.LackingScalars.{over}
+use Rattle.module_meaning.specs.LackingScalars.{base_type}
 use Rattle.module_meaning.specs.Names.{AreLabelNames, LabelNames, item_labels, module_names}
 use Rattle.module_meaning.specs.Undeclared.{is_undeclared, names_undeclared_by}
 use Rattle.module_meaning.specs.Undeclared.{names_undeclared_within}
@@ -228,8 +228,8 @@ module _ (m : Module) (none : HasNoSpecialTypes m) where
       by None before = refl
       by (Some t) before =
           either (is_struct t.inner) (is_undeclared m.special_types h)
-          (option_map_or (names_undeclared_within levels m) (over t.inner) false) (declared h)
-          (none_over (names_undeclared_within levels m) before (over t.inner))
+          (option_map_or (names_undeclared_within levels m) (base_type t.inner) false) (declared h)
+          (none_over (names_undeclared_within levels m) before (base_type t.inner))
 
 pub all_of_items_shown : AnswersShowAllOfItems
 all_of_items_shown m none constants variables =

@@ -24,7 +24,7 @@ use Rattle.naga_form.specs.TypeTrees.{resolution_tree}
 use Rattle.naga_words.specs.declared.error.TypeTextError.{TypeTextError}
 use Rattle.wgsl_text.specs.Reading.{type_layout}
 use Rattle.module_meaning.specs.Names.{HasNamesOf, module_names}
-use Rattle.naga_words.specs.Output.{Follows, Goes, Lies, SegmentsFollow, SegmentsGo, SegmentsLie}
+use Rattle.naga_words.specs.Output.{AppendsUnlessFailed, Appends, HasAppended, AppendsSegmentsUnlessFailed, AppendsSegments, HasAppendedSegments}
 use Rattle.naga_words.specs.Output.{OutputView}
 use Rattle.naga_words.specs.Output.{SpelledSegments, Wrote, joined_texts}
 use Rattle.naga_wgsl_fns.specs.declared.functions.FunctionText.{FunctionText}
@@ -63,8 +63,8 @@ module _ (ps : List Segment) (t : List ℕ) (known : known_text ps ≡ Some t) w
   lacks_nothing lack = let none : Some t ≡ None = sym known ∙ lacks_unknown ps lack in cc
 
   module _ (refuses : Bool) (before after : OutputView) where
-    known_lies : (want : Option TypeTextError) → SegmentsLie refuses ps before after want
-        → Lies before.content before.failures t after.content after.failures want
+    known_lies : (want : Option TypeTextError) → HasAppendedSegments refuses ps before after want
+        → HasAppended before.content before.failures t after.content after.failures want
     known_lies None lies =
         let only = only_text ps lies.0.text t lies.0.is_text known in
         (lies.0.following ∙ ap (λ u. before.content ++ u) only, lies.1)
@@ -75,14 +75,14 @@ module _ (ps : List Segment) (t : List ℕ) (known : known_text ps ≡ Some t) w
           reason_as (λ refused. lacks_nothing refused.1) before.failures after.failures want lies.1,
         )
 
-    known_follows : (want : Option TypeTextError) → SegmentsFollow want refuses ps before after
-        → Follows want before t after
+    known_follows : (want : Option TypeTextError) → AppendsSegmentsUnlessFailed want refuses ps before after
+        → AppendsUnlessFailed want before t after
     known_follows None follow = known_lies after.want follow
     known_follows (Some want) follow = follow
 
   pub known_wrote : {refuses : Bool} {before after : OutputView} → SpelledSegments refuses before after ps
       → Wrote before after t
-  unfolding SegmentsGo Goes
+  unfolding AppendsSegments Appends
   known_wrote {refuses} {before} {after} w =
       record { goes = (known_follows refuses before after before.want w.goes.0, w.goes.1) }
 

@@ -3,8 +3,8 @@ use Rattle.std.proofs.Common.{◌≡◌, ℕ, ◌<◌, true, false, Bool, List, 
 use Rattle.std.proofs.Common.{Option, Some, None, append_assoc, refl, sym, ap, subst, ◌∙◌}
 use Rattle.std.specs.Option.{is_some}
 use Rattle.std.proofs.lemmas.List.{append-nil}
-use Rattle.naga_words.specs.Output.{Follows, Goes, IsReason, Lies, SegmentsFollow, SegmentsGo}
-use Rattle.naga_words.specs.Output.{SegmentsLie}
+use Rattle.naga_words.specs.Output.{AppendsUnlessFailed, Appends, IsReason, HasAppended, AppendsSegmentsUnlessFailed, AppendsSegments}
+use Rattle.naga_words.specs.Output.{HasAppendedSegments}
 use Rattle.naga_words.specs.Output.{OutputView, SpelledSegments}
 use Rattle.naga_words.specs.Output.{Wrote}
 use Rattle.naga_words.proofs.Writing.{after_first, after_then}
@@ -115,8 +115,8 @@ module _ (refuses : Bool) (before after : OutputView) where
   module _ (middle : OutputView) (ps qs : List Segment) where
     -- the second segments, where the first stand whole
     after_whole : (want : Option TypeTextError) → HasWritten ps before.content middle.content
-        → middle.failures ≡ before.failures → SegmentsLie refuses qs middle after want
-        → SegmentsLie refuses (ps ++ qs) before after want
+        → middle.failures ≡ before.failures → HasAppendedSegments refuses qs middle after want
+        → HasAppendedSegments refuses (ps ++ qs) before after want
     after_whole None w kept stand =
         (segments_then ps qs before.content middle.content after.content w stand.0, stand.1 ∙ kept)
     after_whole (Some want) w kept stand = (
@@ -126,29 +126,29 @@ module _ (refuses : Bool) (before after : OutputView) where
     )
 
     -- and where a beginning of the first does
-    after_segment : (want : TypeTextError) → SegmentsLie refuses ps before middle (Some want)
-        → SegmentsLie refuses (ps ++ qs) before middle (Some want)
+    after_segment : (want : TypeTextError) → HasAppendedSegments refuses ps before middle (Some want)
+        → HasAppendedSegments refuses (ps ++ qs) before middle (Some want)
     after_segment want stand = (
       segments_fail ps qs before.content middle.content stand.0,
       reason_as (λ r. (r.0, lacks_before ps qs r.1)) before.failures middle.failures want stand.1,
     )
 
     after_middle : (want : Option TypeTextError) → want ≡ middle.want
-        → SegmentsLie refuses ps before middle want → SegmentsFollow want refuses qs middle after
-        → SegmentsLie refuses (ps ++ qs) before after after.want
+        → HasAppendedSegments refuses ps before middle want → AppendsSegmentsUnlessFailed want refuses qs middle after
+        → HasAppendedSegments refuses (ps ++ qs) before after after.want
     after_middle None is stand follow = after_whole after.want stand.0 stand.1 follow
     after_middle (Some want) is stand follow =
-        subst (λ (s : OutputView). SegmentsLie refuses (ps ++ qs) before s s.want) (sym follow)
-        (subst (λ o. SegmentsLie refuses (ps ++ qs) before middle o) is (after_segment want stand))
+        subst (λ (s : OutputView). HasAppendedSegments refuses (ps ++ qs) before s s.want) (sym follow)
+        (subst (λ o. HasAppendedSegments refuses (ps ++ qs) before middle o) is (after_segment want stand))
 
     follow_then : (want : Option TypeTextError) → want ≡ before.want
-        → SegmentsFollow want refuses ps before middle
-        → SegmentsFollow middle.want refuses qs middle after
-        → SegmentsFollow want refuses (ps ++ qs) before after
+        → AppendsSegmentsUnlessFailed want refuses ps before middle
+        → AppendsSegmentsUnlessFailed middle.want refuses qs middle after
+        → AppendsSegmentsUnlessFailed want refuses (ps ++ qs) before after
     follow_then None is first more = after_middle middle.want refl first more
     follow_then (Some want) is first more =
-        let stays : SegmentsFollow (Some want) refuses qs middle after =
-        subst (λ o. SegmentsFollow o refuses qs middle after)
+        let stays : AppendsSegmentsUnlessFailed (Some want) refuses qs middle after =
+        subst (λ o. AppendsSegmentsUnlessFailed o refuses qs middle after)
         (ap (λ (s : OutputView). s.want) first ∙ sym is)
         more in
         stays ∙ first
@@ -157,8 +157,8 @@ module _ (refuses : Bool) (before after : OutputView) where
   module _ (segment : Segment) (text : List ℕ) (is_text : IsText (segment ∷ []) (text ++ []))
       (known : before_missing (segment ∷ []) ≡ segment ∷ []) where
     stands : (want : Option TypeTextError)
-        → Lies before.content before.failures text after.content after.failures want
-        → SegmentsLie refuses (segment ∷ []) before after want
+        → HasAppended before.content before.failures text after.content after.failures want
+        → HasAppendedSegments refuses (segment ∷ []) before after want
     stands None lies = (
       record {
         text = text ++ [];
@@ -176,15 +176,15 @@ module _ (refuses : Bool) (before after : OutputView) where
       reason_as (λ none. absurd none) before.failures after.failures want lies.1,
     )
 
-    follow_one : (want : Option TypeTextError) → Follows want before text after
-        → SegmentsFollow want refuses (segment ∷ []) before after
+    follow_one : (want : Option TypeTextError) → AppendsUnlessFailed want before text after
+        → AppendsSegmentsUnlessFailed want refuses (segment ∷ []) before after
     follow_one None follows = stands after.want follows
     follow_one (Some want) follows = follows
 
 pub spells_then : {refuses : Bool} {before middle after : OutputView} {ps qs : List Segment}
     → SpelledSegments refuses before middle ps → SpelledSegments refuses middle after qs
     → SpelledSegments refuses before after (ps ++ qs)
-unfolding SegmentsGo
+unfolding AppendsSegments
 spells_then {refuses} {before} {middle} {after} {ps} {qs} w v = record {
   goes = (
     follow_then refuses before after middle ps qs before.want refl w.goes.0 v.goes.0,
@@ -195,12 +195,12 @@ spells_then {refuses} {before} {middle} {after} {ps} {qs} w v = record {
 -- what is never refused
 pub spells_any : {refuses : Bool} {before after : OutputView} {segments : List Segment}
     → SpelledSegments false before after segments → SpelledSegments refuses before after segments
-unfolding SegmentsGo
+unfolding AppendsSegments
 spells_any {refuses} {before} {after} {segments} w =
     record { goes = (by before.want w.goes.0, w.goes.1) }
   where
-    on : (want : Option TypeTextError) → SegmentsLie false segments before after want
-        → SegmentsLie refuses segments before after want
+    on : (want : Option TypeTextError) → HasAppendedSegments false segments before after want
+        → HasAppendedSegments refuses segments before after want
     on None stand = stand
     on (Some want) stand = (
       stand.0,
@@ -210,15 +210,15 @@ spells_any {refuses} {before} {after} {segments} w =
         none : false ≡ true → ⊥
         none e = cc
 
-    by : (want : Option TypeTextError) → SegmentsFollow want false segments before after
-        → SegmentsFollow want refuses segments before after
+    by : (want : Option TypeTextError) → AppendsSegmentsUnlessFailed want false segments before after
+        → AppendsSegmentsUnlessFailed want refuses segments before after
     by None follow = on after.want follow
     by (Some want) follow = follow
 
 -- a word, or a debug text
 pub spells_word : {refuses : Bool} {before after : OutputView} {word : List ℕ} → Wrote before after word
     → SpelledSegments refuses before after (Word word ∷ [])
-unfolding SegmentsGo Goes
+unfolding AppendsSegments Appends
 spells_word {refuses} {before} {after} {word} w = record {
   goes = (
     follow_one refuses before after (Word word) word (WordThen word NoSegments) refl before.want
@@ -229,7 +229,7 @@ spells_word {refuses} {before} {after} {word} w = record {
 
 pub spells_shown : {refuses : Bool} {before after : OutputView} {debug : List ℕ}
     → Wrote before after debug → SpelledSegments refuses before after (Shown ∷ [])
-unfolding SegmentsGo Goes
+unfolding AppendsSegments Appends
 spells_shown {refuses} {before} {after} {debug} w = record {
   goes = (
     follow_one refuses before after Shown debug (ShownThen debug NoSegments) refl before.want
@@ -258,37 +258,37 @@ spells_shown_then {refuses} {before} {middle} {after} w v =
 -- nothing is written
 pub spells_nothing : {refuses : Bool} (before : OutputView) →
     SpelledSegments refuses before before []
-unfolding SegmentsGo
+unfolding AppendsSegments
 spells_nothing {refuses} before = record { goes = (by before.want refl, refl) }
   where
     by : (want : Option TypeTextError) → want ≡ before.want
-        → SegmentsFollow want refuses [] before before
-    by None is = subst (λ o. SegmentsLie refuses [] before before o) is
+        → AppendsSegmentsUnlessFailed want refuses [] before before
+    by None is = subst (λ o. HasAppendedSegments refuses [] before before o) is
         (record { text = []; is_text = NoSegments; following = sym (append-nil before.content) }, refl)
     by (Some want) is = refl
 
 -- after a want all segments are written
 pub spells_no_more : {refuses : Bool} (before : OutputView) (segments : List Segment)
     → is_some before.want ≡ true → SpelledSegments refuses before before segments
-unfolding SegmentsGo
+unfolding AppendsSegments
 spells_no_more {refuses} before segments some = record { goes = (by before.want some, refl) }
   where
     by : (want : Option TypeTextError) → is_some want ≡ true
-        → SegmentsFollow want refuses segments before before
+        → AppendsSegmentsUnlessFailed want refuses segments before before
     by None some = absurd (cc)
     by (Some want) some = refl
 
 -- ---- a call that writes to the sink of an output without a want
 stands_so : (refuses : Bool) (before after : OutputView) (segments : List Segment)
     → is_some before.want ≡ false → after.sink ≡ before.sink
-    → SegmentsLie refuses segments before after after.want →
+    → HasAppendedSegments refuses segments before after after.want →
     SpelledSegments refuses before after segments
-unfolding SegmentsGo
+unfolding AppendsSegments
 stands_so refuses before after segments fresh same stand =
     record { goes = (by before.want fresh, same) }
   where
     by : (want : Option TypeTextError) → is_some want ≡ false
-        → SegmentsFollow want refuses segments before after
+        → AppendsSegmentsUnlessFailed want refuses segments before after
     by None none = stand
     by (Some want) none = absurd (cc)
 
@@ -298,7 +298,7 @@ pub spells_answered : {refuses : Bool} {before after : OutputView} {segments : L
     → after.want ≡ before.want → SpelledSegments refuses before after segments
 spells_answered {refuses} {before} {after} {segments} fresh same w kept want =
     stands_so refuses before after segments fresh same
-    (subst (λ o. SegmentsLie refuses segments before after o) (sym (want ∙ none before.want fresh))
+    (subst (λ o. HasAppendedSegments refuses segments before after o) (sym (want ∙ none before.want fresh))
     (w, kept))
   where
     none : (o : Option TypeTextError) → is_some o ≡ false → o ≡ None
@@ -313,7 +313,7 @@ pub spells_wanting : {refuses : Bool} {before after : OutputView} {segments : Li
     SpelledSegments refuses before after segments
 spells_wanting {refuses} {before} {after} {segments} e fresh same is begun form failure =
     stands_so refuses before after segments fresh same
-    (subst (λ o. SegmentsLie refuses segments before after o) (sym is) (begun, by e form failure))
+    (subst (λ o. HasAppendedSegments refuses segments before after o) (sym is) (begun, by e form failure))
   where
     by : (e : TypeTextError) → (e ≡ NoForm → IsRefused refuses segments)
         → (e ≡ Sink Failed → before.failures < after.failures)
@@ -327,12 +327,12 @@ spells_wanting {refuses} {before} {after} {segments} e fresh same is begun form 
 from_fresh : (refuses : Bool) (start now : OutputView) (segments : List Segment)
     → SpelledSegments refuses start now segments → start.want ≡ None → (want : Option TypeTextError)
     → now.want ≡ want
-    → SegmentsLie refuses segments start now want
-unfolding SegmentsGo
+    → HasAppendedSegments refuses segments start now want
+unfolding AppendsSegments
 from_fresh refuses start now segments w fresh want is =
-    let follow : SegmentsFollow None refuses segments start now =
-    subst (λ o. SegmentsFollow o refuses segments start now) fresh w.goes.0 in
-    subst (λ o. SegmentsLie refuses segments start now o) is follow
+    let follow : AppendsSegmentsUnlessFailed None refuses segments start now =
+    subst (λ o. AppendsSegmentsUnlessFailed o refuses segments start now) fresh w.goes.0 in
+    subst (λ o. HasAppendedSegments refuses segments start now o) is follow
 
 module _ {refuses : Bool} {start now : OutputView} {segments : List Segment} where
   pub spelled_whole : SpelledSegments refuses start now segments → start.want ≡ None →
@@ -345,7 +345,7 @@ module _ {refuses : Bool} {start now : OutputView} {segments : List Segment} whe
   spelled_segment w fresh =
       by now.want (from_fresh refuses start now segments w fresh now.want refl)
     where
-      by : (want : Option TypeTextError) → SegmentsLie refuses segments start now want
+      by : (want : Option TypeTextError) → HasAppendedSegments refuses segments start now want
           → HasBegun segments start.content now.content
       by None stand = begun_all segments start.content now.content stand.0
       by (Some want) stand = stand.0
@@ -366,7 +366,7 @@ module _ {refuses : Bool} {start now : OutputView} {segments : List Segment} whe
       (from_fresh refuses start now segments w fresh (Some (Sink Failed)) some).1
 
   pub spelled_sink : SpelledSegments refuses start now segments → now.sink ≡ start.sink
-  unfolding SegmentsGo
+  unfolding AppendsSegments
   spelled_sink w = w.goes.1
 
 pub ruleset rows =

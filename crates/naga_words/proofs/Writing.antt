@@ -7,7 +7,7 @@ use Rattle.std.proofs.lemmas.List.{append-nil}
 use Rattle.naga_words.specs.Sink.{IsAfter}
 use Rattle.naga_words.specs.declared.error.TypeTextError.{TypeTextError}
 use Rattle.naga_words.specs.declared.error.TypeTextError.TheVariants.{NoForm}
-use Rattle.naga_words.specs.Output.{OutputView, IsReason, Lies, Follows, Goes, Wrote, joined_texts}
+use Rattle.naga_words.specs.Output.{OutputView, IsReason, HasAppended, AppendsUnlessFailed, Appends, Wrote, joined_texts}
 
 -- ---- rows
 -- a beginning of the first text is a beginning of both
@@ -28,8 +28,8 @@ after_then content text middle more now at (taken, rest, whole, is) = (
 -- the second text, where the first stands whole
 after_whole : (content : List ℕ) (failed : ℕ) (text middle more now : List ℕ) (among failures : ℕ)
     (want : Option TypeTextError) → middle ≡ content ++ text → among ≡ failed
-    → Lies middle among more now failures want →
-    Lies content failed (text ++ more) now failures want
+    → HasAppended middle among more now failures want →
+    HasAppended content failed (text ++ more) now failures want
 after_whole content failed text middle more now among failures None at kept lies =
     (lies.0 ∙ ap (λ t. t ++ more) at ∙ append_assoc content text more, lies.1 ∙ kept)
 after_whole content failed text middle more now among failures (Some want) at kept lies =
@@ -37,24 +37,24 @@ after_whole content failed text middle more now among failures (Some want) at ke
 
 -- and where a beginning of the first does
 after_segment : (content : List ℕ) (failed : ℕ) (text more : List ℕ) (middle after : OutputView)
-    (want : TypeTextError) → Lies content failed text middle.content middle.failures (Some want) →
+    (want : TypeTextError) → HasAppended content failed text middle.content middle.failures (Some want) →
     middle.want ≡ Some want → after ≡ middle
-    → Lies content failed (text ++ more) after.content after.failures after.want
+    → HasAppended content failed (text ++ more) after.content after.failures after.want
 after_segment content failed text more middle after want lies is same =
-    subst (λ (s : OutputView). Lies content failed (text ++ more) s.content s.failures s.want)
+    subst (λ (s : OutputView). HasAppended content failed (text ++ more) s.content s.failures s.want)
     (sym same)
-    (subst (λ w. Lies content failed (text ++ more) middle.content middle.failures w) (sym is)
+    (subst (λ w. HasAppended content failed (text ++ more) middle.content middle.failures w) (sym is)
     (after_first content text middle.content more lies.0, lies.1))
 
 pub writes_then : {before middle after : OutputView} {first more : List ℕ} → Wrote before middle first →
     Wrote middle after more → Wrote before after (joined_texts first more)
-unfolding joined_texts Goes
+unfolding joined_texts Appends
 writes_then {before} {middle} {after} {first} {more} w v =
     record { goes = (by before.want refl w.goes.0, v.goes.1 ∙ w.goes.1) }
   where
     on : (want : Option TypeTextError) → want ≡ middle.want →
-        Lies before.content before.failures first middle.content middle.failures want → Follows want middle more after
-        → Lies before.content before.failures (first ++ more) after.content after.failures
+        HasAppended before.content before.failures first middle.content middle.failures want → AppendsUnlessFailed want middle more after
+        → HasAppended before.content before.failures (first ++ more) after.content after.failures
         after.want
     on None is lies follows =
         after_whole before.content before.failures first middle.content more after.content middle.failures
@@ -62,30 +62,30 @@ writes_then {before} {middle} {after} {first} {more} w v =
     on (Some want) is lies follows = after_segment before.content before.failures first more middle after want
         lies (sym is) follows
 
-    by : (want : Option TypeTextError) → want ≡ before.want → Follows want before first middle →
-        Follows want before (first ++ more) after
+    by : (want : Option TypeTextError) → want ≡ before.want → AppendsUnlessFailed want before first middle →
+        AppendsUnlessFailed want before (first ++ more) after
     by None is follows = on middle.want refl follows v.goes.0
     by (Some want) is follows =
-        let stays : Follows (Some want) middle more after =
-        subst (λ o. Follows o middle more after) (ap (λ (s : OutputView). s.want) follows ∙ sym is) v.goes.0 in
+        let stays : AppendsUnlessFailed (Some want) middle more after =
+        subst (λ o. AppendsUnlessFailed o middle more after) (ap (λ (s : OutputView). s.want) follows ∙ sym is) v.goes.0 in
         stays ∙ follows
 
 -- nothing is written
 pub writes_nothing : (before : OutputView) → Wrote before before []
-unfolding Goes
+unfolding Appends
 writes_nothing before = record { goes = (by before.want refl, refl) }
   where
-    by : (want : Option TypeTextError) → want ≡ before.want → Follows want before [] before
-    by None is = subst (λ o. Lies before.content before.failures [] before.content before.failures o) is
+    by : (want : Option TypeTextError) → want ≡ before.want → AppendsUnlessFailed want before [] before
+    by None is = subst (λ o. HasAppended before.content before.failures [] before.content before.failures o) is
         (sym (append-nil before.content), refl)
     by (Some want) is = refl
 
 -- after a want every text is written
 pub writes_no_more : (before : OutputView) (text : List ℕ) → is_some before.want ≡ true → Wrote before before text
-unfolding Goes
+unfolding Appends
 writes_no_more before text some = record { goes = (by before.want some, refl) }
   where
-    by : (want : Option TypeTextError) → is_some want ≡ true → Follows want before text before
+    by : (want : Option TypeTextError) → is_some want ≡ true → AppendsUnlessFailed want before text before
     by None some = absurd (cc)
     by (Some want) some = refl
 
@@ -131,14 +131,14 @@ pub ruleset loop_writes = (leaves_start, leaves_more, leaves_none, leaves_wantin
 -- ---- an output that had no want at first
 from_fresh : (start now : OutputView) (text : List ℕ) → Wrote start now text → start.want ≡ None →
     (want : Option TypeTextError) → now.want ≡ want
-    → Lies start.content start.failures text now.content now.failures want
-unfolding Goes
+    → HasAppended start.content start.failures text now.content now.failures want
+unfolding Appends
 from_fresh start now text w fresh want is =
-    let follows : Follows None start text now = subst (λ o. Follows o start text now) fresh w.goes.0 in
-    subst (λ o. Lies start.content start.failures text now.content now.failures o) is follows
+    let follows : AppendsUnlessFailed None start text now = subst (λ o. AppendsUnlessFailed o start text now) fresh w.goes.0 in
+    subst (λ o. HasAppended start.content start.failures text now.content now.failures o) is follows
 
 pub same_sink : (start now : OutputView) (text : List ℕ) → Wrote start now text → now.sink ≡ start.sink
-unfolding Goes
+unfolding Appends
 same_sink start now text w = w.goes.1
 
 pub content_whole : (start now : OutputView) (text : List ℕ) → Wrote start now text → start.want ≡ None →

@@ -33,26 +33,26 @@ IsReason may_refuse failed failures (Memory error) = ⊤
 IsReason may_refuse failed failures NoForm = may_refuse
 
 -- with no want the text stands after what was held; with one, a beginning of it
-abbrev pub Lies : (content : List ℕ) (failed : ℕ) (text now : List ℕ) (failures : ℕ)
+abbrev pub HasAppended : (content : List ℕ) (failed : ℕ) (text now : List ℕ) (failures : ℕ)
     → Option TypeTextError → Type 0
-Lies content failed text now failures None = (now ≡ content ++ text) × (failures ≡ failed)
-Lies content failed text now failures (Some want) =
+HasAppended content failed text now failures None = (now ≡ content ++ text) × (failures ≡ failed)
+HasAppended content failed text now failures (Some want) =
     IsAfter content text now × IsReason ⊥ failed failures want
 
 -- after a want nothing is done
-abbrev pub Follows : Option TypeTextError →
+abbrev pub AppendsUnlessFailed : Option TypeTextError →
     (before : OutputView) (text : List ℕ) (after : OutputView) → Type 0
-Follows None before text after =
-    Lies before.content before.failures text after.content after.failures after.want
-Follows (Some want) before text after = after ≡ before
+AppendsUnlessFailed None before text after =
+    HasAppended before.content before.failures text after.content after.failures after.want
+AppendsUnlessFailed (Some want) before text after = after ≡ before
 
 -- and the sink is the same
-unfoldable pub Goes : (before : OutputView) (text : List ℕ) (after : OutputView) → Type 0
-Goes before text after = Follows before.want before text after × (after.sink ≡ before.sink)
+unfoldable pub Appends : (before : OutputView) (text : List ℕ) (after : OutputView) → Type 0
+Appends before text after = AppendsUnlessFailed before.want before text after × (after.sink ≡ before.sink)
 
 -- A record of one opaque field: a search takes it whole, also where a call gives it of every text.
 pub record Wrote (before after : OutputView) (text : List ℕ) : Type 0 where
-  pub goes : Goes before text after
+  pub goes : Appends before text after
 
 -- The text is written to an output, or a beginning of it, up to a want, by what the output's sink
 -- shows of itself.
@@ -68,30 +68,30 @@ joined_texts first more = first ++ more
 
 -- ---- the same of a text in segments, of which a context that refuses may refuse one
 -- with no want a text of the segments stands after what was held; with one, a beginning of one
-abbrev pub SegmentsLie : (refuses : Bool) (segments : List Segment) (before after : OutputView)
+abbrev pub HasAppendedSegments : (refuses : Bool) (segments : List Segment) (before after : OutputView)
     → Option TypeTextError → Type 0
-SegmentsLie refuses segments before after None =
+HasAppendedSegments refuses segments before after None =
     HasWritten segments before.content after.content × (after.failures ≡ before.failures)
-SegmentsLie refuses segments before after (Some want) =
+HasAppendedSegments refuses segments before after (Some want) =
     HasBegun segments before.content after.content ×
     IsReason (IsRefused refuses segments) before.failures after.failures want
 
 -- after a want nothing is done
-abbrev pub SegmentsFollow : Option TypeTextError → (refuses : Bool) (segments : List Segment)
+abbrev pub AppendsSegmentsUnlessFailed : Option TypeTextError → (refuses : Bool) (segments : List Segment)
     → (before after : OutputView) → Type 0
-SegmentsFollow None refuses segments before after =
-    SegmentsLie refuses segments before after after.want
-SegmentsFollow (Some want) refuses segments before after = after ≡ before
+AppendsSegmentsUnlessFailed None refuses segments before after =
+    HasAppendedSegments refuses segments before after after.want
+AppendsSegmentsUnlessFailed (Some want) refuses segments before after = after ≡ before
 
 -- and the sink is the same
-unfoldable pub SegmentsGo : (refuses : Bool) (segments : List Segment) (before after : OutputView) →
+unfoldable pub AppendsSegments : (refuses : Bool) (segments : List Segment) (before after : OutputView) →
     Type 0
-SegmentsGo refuses segments before after =
-    SegmentsFollow before.want refuses segments before after × (after.sink ≡ before.sink)
+AppendsSegments refuses segments before after =
+    AppendsSegmentsUnlessFailed before.want refuses segments before after × (after.sink ≡ before.sink)
 
 pub record SpelledSegments (refuses : Bool) (before after : OutputView)
     (segments : List Segment) : Type 0 where
-  pub goes : SegmentsGo refuses segments before after
+  pub goes : AppendsSegments refuses segments before after
 
 -- The segments are written to an output, or a beginning of them, up to a want, which is a refusal
 -- only where the context refuses and a segment is missing.

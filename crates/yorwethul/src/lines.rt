@@ -276,8 +276,8 @@ fn tell_unaccepted(
     if let Some(label) = label_of(&known.module, &unaccepted.item) {
         tell(alloc, "function", label, &mut told)?;
     }
-    if let Some(wanted) = explain(alloc, &known.module, &known.info, unaccepted)? {
-        tell(alloc, "wanted", wanted, &mut told)?;
+    if let Some(reason) = explain(alloc, &known.module, &known.info, unaccepted)? {
+        tell(alloc, "reason", reason, &mut told)?;
     }
     put(alloc, "not_accepted", Value::Object(told), members)
 }

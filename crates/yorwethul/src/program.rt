@@ -255,7 +255,7 @@ fn write_and_flush<O: Write>(text: impl Display + Drop, out: &mut O) -> io::Resu
     out.flush()
 }
 
-/// Tells where and why the module is not accepted, and what was wanted there.
+/// Tells where and why the module is not accepted, and what was expected there.
 fn refuse_unaccepted<E: Write>(
     alloc: Global,
     request: Request<'_>,

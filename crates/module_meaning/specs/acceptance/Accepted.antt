@@ -1,6 +1,6 @@
 -- Which modules are accepted, with what is known of them: all that a module names is there and
 -- stands where it may be named, and numbers are of their types (Ranges); expressions have their
--- types and operands that they take, statements and initialisers get what they want (Soundness);
+-- types and operands that they take, statements and initialisers get what they need (Soundness);
 -- and operators that are spelled alike have types alike where their operands have
 -- (AgreeingOperators). How often expressions are used is not asked.
 --

@@ -1,5 +1,5 @@
--- Whether what stands in a module gets what it wants: each expression has its type and operands
--- that it takes, initialisers have the types of their items, and statements get what they want; in
+-- Whether what stands in a module gets what it needs: each expression has its type and operands
+-- that it takes, initialisers have the types of their items, and statements get what they need; in
 -- functions, entry points and global expressions. Whether what they name is there is asked
 -- elsewhere.
 --

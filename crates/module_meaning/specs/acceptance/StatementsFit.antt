@@ -1,4 +1,4 @@
--- Whether the statements of a function get what they want: conditions and selectors of the right
+-- Whether the statements of a function get what they need: conditions and selectors of the right
 -- types, case values that are told apart, jumps that lead somewhere, values of the types of what
 -- they are stored in, returned as or passed as, and results of their own kinds. Whether what they
 -- name is there is asked elsewhere; what is not there has no type here.
@@ -190,7 +190,7 @@ is_answered callee function f None = true
 is_answered callee function f (Some outcome) =
     is_some callee.result && is_result (is_result_of function) f outcome
 
--- the call passes what the callee wants, and its result is what it gives
+-- the call passes what the callee takes, and its result is what it gives
 abbrev pub calls :
     List Type_ → (known : List TypeResolution) → Function → (function : ℕ) → (arguments : List ℕ) →
     (outcome : Option ℕ) → (callee : Function) → Bool
@@ -206,7 +206,7 @@ is_call m f known function arguments outcome =
 
 -- ---- statements
 
--- the pointer to a scalar or a vector that a statement without blocks wants, if it wants that alone
+-- the pointer to a scalar or a vector that a statement without blocks wants, if it needs that alone
 abbrev pub components_pointer : SimpleStatement → Option ℕ
 components_pointer (cooperative_store target data_) = Some data_.pointer
 components_pointer _ = None
@@ -273,6 +273,6 @@ abbrev mutual
       block_is_sound m f known breaks continues b &&
       cases_are_sound m f known breaks continues cs
 
--- the statements of a function get what they want
+-- the statements of a function get what they need
 abbrev pub body_is_sound : Module → Function → (known : List TypeResolution) → Bool
 body_is_sound m f known = block_is_sound m f known false false f.body

@@ -5,7 +5,7 @@ ghost use Rattle.module_meaning.specs.LackingScalars.{handle_lacks, lacking_scal
 
 use naga_info::TypeResolution;
 use naga_ir::{Handle, Scalar, Type_, UniqueArena};
-use naga_scope::single_types::{over, own_unwritable_scalar};
+use naga_scope::single_types::{base_type, own_unwritable_scalar};
 
 /// What the type with this handle lacks, by the types before it that it is over.
 fn handle_lacks(types: &UniqueArena<Type_>, handle: Handle<Type_>) -> Option<Scalar>
@@ -22,7 +22,7 @@ fn handle_lacks(types: &UniqueArena<Type_>, handle: Handle<Type_>) -> Option<Sca
             return None;
         }
         let inner = &types[at].inner;
-        match over(inner) {
+        match base_type(inner) {
             Some(base) => at = base,
             None => return own_unwritable_scalar(inner),
         }
@@ -36,7 +36,7 @@ pub(crate) fn lacking_scalar(types: &UniqueArena<Type_>, ty: &TypeResolution) ->
 {
     match ty {
         TypeResolution::Handle(handle) => handle_lacks(types, *handle),
-        TypeResolution::Value(inner) => match over(inner) {
+        TypeResolution::Value(inner) => match base_type(inner) {
             Some(base) => handle_lacks(types, base),
             None => own_unwritable_scalar(inner),
         },

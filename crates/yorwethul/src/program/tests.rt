@@ -313,18 +313,18 @@ struct Out: no layout
 
 const OPERAND_FAULT: &str = "not accepted: module.functions[0].expressions[1], in \"double\": \
     an operand does not stand before the expression: \
-    names expressions[1], wanted one before expressions[1]\n";
+    names expressions[1], expected one before expressions[1]\n";
 
 const OPERAND_LISTING: &str = "\
 not accepted: module.functions[0].expressions[1], in \"double\": an operand does not stand before the expression: \
-    names expressions[1], wanted one before expressions[1]
+    names expressions[1], expected one before expressions[1]
 
 function 0 \"double\"(\"x\": i32) -> i32
   expressions
      0  FunctionArgument 0 \"x\"                        i32
      1  Binary Add left: [1], right: [0]              i32
         ^ an operand does not stand before the expression: \
-    names expressions[1], wanted one before expressions[1]
+    names expressions[1], expected one before expressions[1]
   statements
      0  Emit 1..2
      1  Return value: [1]

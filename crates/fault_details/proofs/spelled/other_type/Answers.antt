@@ -4,6 +4,6 @@ use Rattle.fault_details.proofs.spelled.other_type.Goals as goal
 
 pub returns : goal.returns
 returns c =
-    subst (λ r. TellsBoth c.args.«module».now r c.args.got.now (string_bytes c.in_ok-wanted.field-0.wanted)
-    (string_bytes c.in_ok-wanted.field-0.got))
-    c.resolution_of-wanted.ensures c.in_ok-wanted.ensures
+    subst (λ r. TellsBoth c.args.«module».now r c.args.got.now (string_bytes c.in_ok-expected.field-0.expected)
+    (string_bytes c.in_ok-expected.field-0.got))
+    c.resolution_of-expected.ensures c.in_ok-expected.ensures

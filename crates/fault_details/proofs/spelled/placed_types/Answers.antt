@@ -7,9 +7,9 @@ use Rattle.fault_details.proofs.spelled.placed_types.Goals as goal
 pub returns-then-eq : goal.returns-then-eq
 returns-then-eq c =
     let m = c.args.«module».now in
-    let same : string_bytes c.in_ok-wanted.wanted ≡ string_bytes c.in_ok-placed_got.placed_got = search rules in
+    let same : string_bytes c.in_ok-expected.expected ≡ string_bytes c.in_ok-placed_got.placed_got = search rules in
     inr (
-      c.in_ok-wanted.ensures,
+      c.in_ok-expected.ensures,
       subst (IsPlaced m c.args.got.now) (sym same) c.in_ok-placed_got.ensures,
       search rules,
     )
@@ -17,7 +17,7 @@ returns-then-eq c =
 pub returns : goal.returns
 returns c =
     inl (
-      c.in_ok-wanted.ensures,
+      c.in_ok-expected.ensures,
       c.in_ok-placed_got.ensures,
       λ same.
           let texts = c.as_str.ensures.value ∙ (same ∙ sym c.as_str-2.ensures.value) in

@@ -8,13 +8,13 @@ use Rattle.fault_details.proofs.spelled.told_types.Goals as goal
 pub returns-then-eq : goal.returns-then-eq
 returns-then-eq c =
     let m = c.args.«module».now in
-    let same : string_bytes c.in_ok-told_wanted.told_wanted ≡ string_bytes c.in_ok-told_got.told_got = search rules in
+    let same : string_bytes c.in_ok-told_expected.told_expected ≡ string_bytes c.in_ok-told_got.told_got = search rules in
     ok_then c.placed_types.result
     (λ t placed. inr (
       placed,
       (
-        string_bytes c.in_ok-told_wanted.told_wanted,
-        c.in_ok-told_wanted.ensures,
+        string_bytes c.in_ok-told_expected.told_expected,
+        c.in_ok-told_expected.ensures,
         subst (IsTold m c.args.got.now) (sym same) c.in_ok-told_got.ensures,
       ),
     ))
@@ -23,7 +23,7 @@ returns-then-eq c =
 pub returns : goal.returns
 returns c =
     inl (
-      c.in_ok-told_wanted.ensures,
+      c.in_ok-told_expected.ensures,
       c.in_ok-told_got.ensures,
       λ same.
           let texts = c.as_str.ensures.value ∙ (same ∙ sym c.as_str-2.ensures.value) in
