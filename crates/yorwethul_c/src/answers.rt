@@ -276,7 +276,7 @@ fn laid_out_flat(alloc: Global, known: &Known) -> Answer
     }
 }
 
-/// Tells where and why the module is not accepted, and what was wanted there.
+/// Tells where and why the module is not accepted, and what was expected there.
 fn not_accepted(alloc: Global, known: &Known, fault: Unaccepted) -> Answer
     ensures { Says Status.NotAccepted result.status (string_bytes result.text) }
 {
