@@ -77,7 +77,7 @@ fn answer_known<W: Write>(
     Ok(())
 }
 
-/// Prints where and why a module is not accepted, and what was wanted there.
+/// Prints where and why a module is not accepted, and what was expected there.
 fn print_fault<W: Write>(
     alloc: Global,
     name: &str,
