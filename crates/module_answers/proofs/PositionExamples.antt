@@ -55,14 +55,14 @@ a_refusal = refl
 
 in_a_break_if :
     json_refusal root.Member construct.FloatLiteral None
-        (refused.Function 0 (part.Expression (line.BreakIf 1 4) 3)) None
+    (refused.Function 0 (part.Expression (line.BreakIf 1 4) 3)) None
     ≡ Some (codes "float literal: module.functions[0].expressions[3], in break if of statement 1")
 unfolding digits
 in_a_break_if = refl
 
 of_a_break_if :
     json_refusal_position root.Member (Some (codes "break_if", None))
-        (refused.Function 0 (part.Scope (scope.BreakIf 1 4 41)))
+    (refused.Function 0 (part.Scope (scope.BreakIf 1 4 41)))
     ≡ codes "module.functions[0].expressions[41], operand break_if of statement 1"
 unfolding digits
 of_a_break_if = refl

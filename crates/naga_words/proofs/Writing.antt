@@ -55,7 +55,7 @@ writes_then {before} {middle} {after} {first} {more} w v =
   where
     on : (want : Option TypeTextError) → want ≡ middle.want →
         HasAppended before.content before.failures first middle.content middle.failures want →
-            AppendsUnlessWanting want middle more after
+        AppendsUnlessWanting want middle more after
         → HasAppended before.content before.failures (first ++ more) after.content after.failures
         after.want
     on None is lies follows =
@@ -70,7 +70,7 @@ writes_then {before} {middle} {after} {first} {more} w v =
     by (Some want) is follows =
         let stays : AppendsUnlessWanting (Some want) middle more after =
         subst (λ o. AppendsUnlessWanting o middle more after) (ap (λ (s : OutputView). s.want) follows ∙ sym is)
-            v.appends.0 in
+        v.appends.0 in
         stays ∙ follows
 
 -- nothing is written
@@ -138,7 +138,7 @@ from_fresh : (start now : OutputView) (text : List ℕ) → Wrote start now text
 unfolding AppendsText
 from_fresh start now text w fresh want is =
     let follows : AppendsUnlessWanting None start text now =
-        subst (λ o. AppendsUnlessWanting o start text now) fresh w.appends.0 in
+    subst (λ o. AppendsUnlessWanting o start text now) fresh w.appends.0 in
     subst (λ o. HasAppended start.content start.failures text now.content now.failures o) is follows
 
 pub same_sink : (start now : OutputView) (text : List ℕ) → Wrote start now text → now.sink ≡ start.sink
