@@ -44,7 +44,7 @@ pub(crate) struct Expressions<'a> {
 const SLOTS: usize = 509;
 
 /// How many slots it has for a module with few expressions.
-const FEW_SLOTS: usize = 61;
+const FEW_SLOTS: usize = 41;
 
 /// How many remainders hashes have. It is a prime, so that hashes that differ by a multiple of a
 /// power of two have different ones.
