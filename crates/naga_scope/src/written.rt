@@ -196,7 +196,6 @@ fn note_emitted(lines: &mut [Option<Line>], known: &KnownFunction<'_>, range: Ra
 }
 
 /// Notes that this line writes both expressions.
-#[tactic(auto, using(crate::proofs::FirstLines::writes_then))]
 fn note_two(
     lines: &mut [Option<Line>],
     first: Handle<Expression>,
