@@ -5,7 +5,7 @@
 -- expressions that stand together (gs are several), v and w are uses (os are several), here and
 -- there their types, at is a position, f gives what there is of a number, n is a bound or a number
 -- below it, and i and k are places in lists.
-use Rattle.std.proofs.Common.{◌≡◌, ◌∙◌, ◌<◌, ◌+◌, ◌-◌, ◌==◌, ◌&&◌, ◌⊎◌, inl, inr, ℕ, zero, suc}
+use Rattle.std.proofs.Common.{◌≡◌, ◌∙◌, ◌<◌, ◌+◌, ◌-◌, ◌==◌, ◌&&◌, ◌⊎◌, ℕ, zero, suc}
 use Rattle.std.proofs.Common.{Bool, true, false, List, [], ◌∷◌, ◌++◌, length, map, Option, Some, None}
 use Rattle.std.proofs.Common.{IsSome, append-nil, arith, ap, is_some, option_and_then, option_map}
 use Rattle.std.proofs.Common.{option_to_list, refl, slice_get, subst, sym, true≢false, zip, ⊎_elim}
@@ -37,6 +37,7 @@ use Rattle.naga_acceptance.specs.Uses.{joined_below, use_in}
 use Rattle.naga_acceptance.specs.declared.faults.FaultPosition.{FaultPosition}
 use Rattle.naga_acceptance.proofs.Agreement.{agree_after, other_agrees, same_agrees}
 use Rattle.naga_acceptance.proofs.Groups.{all_uses, one_more}
+use Rattle.module_meaning.proofs.Lists.{in_row}
 use Rattle.module_meaning.specs.AlikeTypes.{are_alike, type_identity}
 use Rattle.module_meaning.specs.acceptance.AgreeingOperators.{Group, expression_use, function_group}
 use Rattle.module_meaning.specs.acceptance.AgreeingOperators.{function_groups, further_groups_of}
@@ -52,14 +53,6 @@ use Rattle.fault_details.proofs.Reasoning.{some_unless}
 
 -- ---- lists
 
--- an item of two lists, one after the other, is of one of them
-of_either : {X : Type 0} (xs ys : List X) (i : ℕ) (x : X) → slice_get (xs ++ ys) i ≡ Some x →
-    ((k : ℕ) × (slice_get xs k ≡ Some x)) ⊎ ((k : ℕ) × (slice_get ys k ≡ Some x))
-of_either [] ys i x is = inr (i, is)
-of_either (y ∷ xs) ys zero x is = inl (0, is)
-of_either (y ∷ xs) ys (suc i) x is =
-    ⊎_elim (λ front. inl (suc front.0, front.1)) (λ back. inr back) (of_either xs ys i x is)
-
 -- an item of lists that belong to numbers is of one of them
 of_number : {X : Type 0} (f : ℕ → List X) (n i : ℕ) (x : X) → slice_get (joined_below f n) i ≡ Some x →
     (number : ℕ) × (k : ℕ) × (slice_get (f number) k ≡ Some x) × (number < n)
@@ -67,7 +60,7 @@ of_number f zero i x is = absurd (true≢false (sym (ap is_some is)))
 of_number f (suc n) i x is =
     ⊎_elim (λ front. let found = of_number f n front.0 x front.1 in
     (found.0, found.1, found.2, omega (arith, found.3))) (λ back. (n, back.0, back.1, omega arith))
-    (of_either (joined_below f n) (f n) i x is)
+    (in_row (joined_below f n) (f n) i x is)
 
 -- the item of a value that may be missing
 of_option : {X : Type 0} (o : Option X) (i : ℕ) (x : X) → slice_get (option_to_list o) i ≡ Some x → o ≡ Some x
@@ -163,7 +156,7 @@ module _ (types : List Type_) where
       ⊎_elim (λ front. before front.0 front.1)
       (λ back. let found = of_first g index back.0 w back.1 in
       (number, g, found.0, at, found.1, inr (refl, found.2)))
-      (of_either (group_uses types gs number) (first_uses types g index) i w is)
+      (in_row (group_uses types gs number) (first_uses types g index) i w is)
     where
       before : (k : ℕ) → slice_get (group_uses types gs number) k ≡ Some w → IsUse gs number index w
       before k front =
@@ -346,8 +339,8 @@ module _ (m : Module) (info : ModuleInfo)
       (and_parts (length m.entry_points.items == length info.entry_points.items)
       (list_all (λ p. entry_point_size_fits p.0 p.1) (zip m.entry_points.items info.entry_points.items))
       entry_points).1) front.0 g front.1) (λ own. own_sized own.0 g own.1)
-      (of_either (function_groups entries info.entry_points.items) (own_group ∷ []) back.0 g back.1))
-      (of_either (function_groups m.functions info.functions.items) (further_groups_of m info) n g at)
+      (in_row (function_groups entries info.entry_points.items) (own_group ∷ []) back.0 g back.1))
+      (in_row (function_groups m.functions info.functions.items) (further_groups_of m info) n g at)
 
   -- an operator that does not agree is told with a use
   pub disagreement_told : (at : FaultPosition) → OperatorFails m info at → IsSome (option_map use_reason (other_use m info at))

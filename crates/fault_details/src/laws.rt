@@ -17,7 +17,7 @@ pub fn reasons_hold()
 /// Each fault of types has a reason, where all that the module names is there and no body has more
 /// than 2^64 statements: an expression has another type than what it stands for, or takes no
 /// operands of these types; an initialiser has another type; a statement does not get what it
-/// wants; an operator does not agree with an earlier one.
+/// needs; an operator does not agree with an earlier one.
 /// [`unaccepted`](naga_acceptance::unaccepted) tells such a fault only where all that is named is
 /// there, so that [`explain`](crate::explain) tells a reason of each.
 pub fn type_faults_have_reasons()

@@ -1,6 +1,6 @@
--- Lists whose items all pass a test.
+-- Lists whose items all pass a test, and what stands in two lists in a row.
 use Rattle.std.proofs.Common.{◌≡◌, ℕ, zero, suc, ◌+◌, Bool, true, List, [], ◌∷◌, refl, sym, ap, ◌∙◌}
-use Rattle.std.proofs.Common.{Option, Some, None, slice_get, arith}
+use Rattle.std.proofs.Common.{Option, Some, None, slice_get, arith, ◌++◌, ◌⊎◌, inl, inr}
 use Rattle.std.specs.List.{list_all, enumerate_from}
 use Rattle.std.specs.Option.{is_some}
 use Rattle.std.proofs.lemmas.Bool.{and_from, and_parts}
@@ -41,3 +41,15 @@ placed_at test n (y ∷ xs) (suc h) x all here =
 pub some_word : (o : Option (List ℕ)) → is_some o ≡ true → (w : List ℕ) × (o ≡ Some w)
 some_word (Some w) is = (w, refl)
 some_word None is = absurd cc
+
+-- what stands in two lists in a row stands in one of them
+pub in_row : {X : Type 0} (xs ys : List X) (i : ℕ) (x : X) → slice_get (xs ++ ys) i ≡ Some x →
+    ((k : ℕ) × (slice_get xs k ≡ Some x)) ⊎ ((k : ℕ) × (slice_get ys k ≡ Some x))
+in_row [] ys i x there = inr (i, there)
+in_row (y ∷ xs) ys zero x there = inl (0, there)
+in_row (y ∷ xs) ys (suc i) x there = go (in_row xs ys i x there)
+  where
+    go : ((k : ℕ) × (slice_get xs k ≡ Some x)) ⊎ ((k : ℕ) × (slice_get ys k ≡ Some x)) →
+        ((k : ℕ) × (slice_get (y ∷ xs) k ≡ Some x)) ⊎ ((k : ℕ) × (slice_get ys k ≡ Some x))
+    go (inl found) = inl (suc found.0, found.1)
+    go (inr found) = inr found

@@ -1,9 +1,8 @@
 -- Where the first of several numbers is of which there is something.
 --
 -- Throughout, f gives what there is of a number, n and m are bounds, and k is how far these are apart.
-use Rattle.std.proofs.Common.{◌≡◌, ◌∙◌, ◌+◌, ◌-◌, ◌<◌, ◌≤◌, ◌⊎◌, ℕ, zero, suc, List, length, Option, Some, None, ap}
-use Rattle.std.proofs.Common.{arith, get_or, inl, inr, refl, slice_get, sym}
-use Rattle.std.proofs.lemmas.Option.{slice_get_cases}
+use Rattle.std.proofs.Common.{◌≡◌, ◌∙◌, ◌+◌, ◌-◌, ◌<◌, ℕ, zero, suc, Option, Some, None, ap}
+use Rattle.std.proofs.Common.{arith, refl}
 use Rattle.std.specs.Option.{option_map, option_or}
 use Rattle.naga_acceptance.specs.FirstUses.{first_below}
 
@@ -30,12 +29,3 @@ module _ {F : Type 0} (f : ℕ → Option F) where
   pub found_within : (n m : ℕ) (x : F) → n < m → first_below f n ≡ None → f n ≡ Some x →
       first_below f m ≡ Some (n, x)
   found_within n m x within before here = found_below n m (m - suc n) x (omega (arith, within)) before here
-
--- where there is no item, the list has ended
-pub past_end : {X : Type 0} (xs : List X) (n : ℕ) → slice_get xs n ≡ None → length xs ≤ n
-past_end {X} xs n none = by_place (slice_get_cases xs n).1
-  where
-    by_place : ((x : X) × (n < length xs) × (slice_get xs n ≡ Some x) × (get_or xs n x ≡ x))
-        ⊎ ((length xs ≤ n) × (slice_get xs n ≡ None)) → length xs ≤ n
-    by_place (inl within) = absurd cc
-    by_place (inr past) = past.0

@@ -1,4 +1,4 @@
--- What is displayed of a place at which a module is not accepted and of the kind of fault there, as
+-- What is displayed of a position at which a module is not accepted and of the kind of fault there, as
 -- `function 3, expression 41: the known type is another`.
 --
 -- Throughout, h is a handle or an index, and n the number of a statement.
@@ -49,6 +49,6 @@ item_text (item.GlobalExpression h) = codes "global expression " ++ decimal h
 item_text (item.Function h position) = codes "function " ++ decimal h ++ part_text position
 item_text (item.EntryPoint h position) = codes "entry point " ++ decimal h ++ part_text position
 
--- the place, and after a colon the fault
+-- the position, and after a colon the fault
 abbrev pub unaccepted_text : Unaccepted → List ℕ
 unaccepted_text u = item_text u.item ++ codes ": " ++ fault_text u.fault

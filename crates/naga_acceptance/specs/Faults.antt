@@ -1,4 +1,4 @@
--- What it says that a module is not accepted at a place, for a fault of some kind: the item is
+-- What it means that a module is not accepted at a position, for a fault of some kind: the item is
 -- there, and a clause of what makes a module accepted fails of it. A clause may ask of numbers too
 -- that they are of their types; those of a module that is checked always are.
 --
@@ -245,6 +245,6 @@ abbrev pub FaultIs : Module → ModuleInfo → FaultPosition → Fault → Type 
 FaultIs m info at fault.Disagreement = OperatorFails m info at
 FaultIs m info at fault = ItemFails m info at fault
 
--- the module is not accepted at this place, for this kind of fault
+-- the module is not accepted at this position, for this kind of fault
 abbrev pub Fails : Module → ModuleInfo → Unaccepted → Type 0
 Fails m info u = FaultIs m info u.item u.fault

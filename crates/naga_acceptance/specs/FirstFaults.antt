@@ -1,4 +1,4 @@
--- The first place at which a module is not accepted, in the order in which its clauses are asked:
+-- The first position at which a module is not accepted, in the order in which its clauses are asked:
 -- first whether all that is named is there, then whether all gets what it needs. Operators that
 -- disagree are looked for after that.
 --
@@ -9,7 +9,7 @@
 -- several) or its handle, known are the types of expressions by handle, k is what is known of an
 -- expression, ks of a function's expressions and kss of those of several functions, found is what
 -- was found, callees is how many functions may be called, h is a handle or an index, and n the
--- number of a statement, and u a place with a kind of fault.
+-- number of a statement, and u a position with a kind of fault.
 use Rattle.std.specs.Prelude.{◌≡◌, ◌==◌, ⊤, ℕ, List, length, map, Option, Some, None}
 use Rattle.std.specs.Prelude.{IsTrue}
 use Rattle.std.specs.List.{enumerate_from, zip}
@@ -261,7 +261,7 @@ sound_fault m info =
 
 -- ---- the first of all
 
--- the place is the first use of an operator that does not agree with all uses before it
+-- the position is the first use of an operator that does not agree with all uses before it
 abbrev pub IsDisagreement : Module → ModuleInfo → Unaccepted → Type 0
 IsDisagreement m info u = (u.fault ≡ fault.Disagreement) × OperatorFails m info u.item
 
@@ -285,7 +285,7 @@ IsOfTypes fault.Unsatisfied = ⊤
 IsOfTypes fault.Disagreement = ⊤
 IsOfTypes _ = ⊥
 
--- What is told of a module that is not accepted: it fails at the place, for a fault of this kind,
+-- What is told of a module that is not accepted: it fails at the position, for a fault of this kind,
 -- which is its first, and one of types is told only where all that is named is there.
 pub record IsFirstFault (m : Module) (info : ModuleInfo) (u : Unaccepted) : Type 0 where
   pub fails : Fails m info u

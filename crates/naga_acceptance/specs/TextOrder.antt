@@ -73,7 +73,7 @@ own_in_range callees expressions (switch selector cs) =
     nat_lt selector expressions && case_values_fit_32_bits cs
 own_in_range callees expressions (loop body continuing break_if) = is_below expressions break_if
 
--- the pointer to a scalar or a vector that it wants, if it needs that alone
+-- the pointer to a scalar or a vector that it needs, if it needs that alone
 abbrev pub own_components_pointer : StatementTree → Option ℕ
 own_components_pointer (simple s) = components_pointer s
 own_components_pointer _ = None

@@ -13,7 +13,7 @@ use crate::soundness::sound_fault;
 use naga_info::ModuleInfo;
 use naga_ir::Module;
 
-/// The first place at which the module is not accepted, with what is known of it, and the kind of
+/// The first position at which the module is not accepted, with what is known of it, and the kind of
 /// fault there; none if it is accepted ([`accepts`]).
 ///
 /// It is the first in the order in which the clauses are asked:
@@ -46,9 +46,9 @@ pub fn unaccepted(module: &Module, info: &ModuleInfo) -> Option<Unaccepted>
     if named.is_some() {
         return named;
     }
-    let wanted = sound_fault(module, info);
-    if wanted.is_some() {
-        return wanted;
+    let unsound = sound_fault(module, info);
+    if unsound.is_some() {
+        return unsound;
     }
     operators_fault(module, info)
 }

@@ -686,23 +686,23 @@ pub(crate) fn are_known_alike(
 }
 
 /// Whether a known type is the given one by its handle.
-fn is_inferred_handle(own: &TypeResolution, wanted: &InferredType) -> bool
-    ensures { result ≡ true → own.now ≡ inferred wanted.now }
+fn is_inferred_handle(own: &TypeResolution, expected: &InferredType) -> bool
+    ensures { result ≡ true → own.now ≡ inferred expected.now }
 {
-    match (own, wanted) {
+    match (own, expected) {
         (TypeResolution::Handle(x), InferredType::Handle(y)) => x == y,
         _ => false,
     }
 }
 
 /// Whether a known type is like a given one.
-pub fn is_like(types: &UniqueArena<Type_>, own: &TypeResolution, wanted: &InferredType) -> bool
-    ensures { result ≡ types_alike types.now own.now (inferred wanted.now) }
+pub fn is_like(types: &UniqueArena<Type_>, own: &TypeResolution, expected: &InferredType) -> bool
+    ensures { result ≡ types_alike types.now own.now (inferred expected.now) }
 {
-    is_inferred_handle(own, wanted)
+    is_inferred_handle(own, expected)
         || are_alike(
             types,
             identity_of(types, own),
-            inferred_identity(types, wanted),
+            inferred_identity(types, expected),
         )
 }

@@ -10,7 +10,7 @@ use naga_ir::{
 };
 use std::fmt;
 
-/// A place at which a module is not accepted, and the kind of fault.
+/// A position at which a module is not accepted, and the kind of fault.
 #[derive(Debug, Clone, Copy, PartialEq, Eq)]
 pub struct Unaccepted {
     pub item: FaultPosition,

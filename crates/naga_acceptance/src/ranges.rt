@@ -415,7 +415,7 @@ fn info_fault(module: &Module, info: &ModuleInfo) -> Option<Unaccepted>
     }
 }
 
-/// The first place where the module or what is known of it names what is not there, or does not
+/// The first position where the module or what is known of it names what is not there, or does not
 /// stand where it may be named ([`ranges_fit`]).
 pub(crate) fn ranges_fault(module: &Module, info: &ModuleInfo) -> Option<Unaccepted>
     ensures { result ≡ ranges_fault «module».now info.now }

@@ -135,7 +135,7 @@ fn declarations_sound_fault(module: &Module, types: &[TypeResolution]) -> Option
     initialisers_fault(module, known)
 }
 
-/// The first place where what stands in a module does not get what it needs ([`module_is_sound`]).
+/// The first position where what stands in a module does not get what it needs ([`module_is_sound`]).
 pub(crate) fn sound_fault(module: &Module, info: &ModuleInfo) -> Option<Unaccepted>
     ensures { result ≡ sound_fault «module».now info.now }
 {
@@ -154,7 +154,7 @@ pub(crate) fn sound_fault(module: &Module, info: &ModuleInfo) -> Option<Unaccept
 /// of its functions, its entry points and its own has its type
 /// ([`expected_type`](crate::expression_types::expected_type)) and operands that it takes
 /// ([`operands_fit`]), initialisers have the types of their items, and statements get what they
-/// want ([`body_is_sound`](crate::statements::body_is_sound)). Of each function and entry point one
+/// need ([`body_is_sound`](crate::statements::body_is_sound)). Of each function and entry point one
 /// thing has to be known. It takes no memory.
 pub fn module_is_sound(module: &Module, info: &ModuleInfo) -> bool
     ensures { result ≡ module_is_sound «module».now info.now }

@@ -43,17 +43,17 @@ use naga_ir::{
 
 // ---- what is known of values
 
-/// Whether the value is of a type like the wanted one.
+/// Whether the value is of a type like the expected one.
 pub(crate) fn value_has_type(
     types: &UniqueArena<Type_>,
     known: Known<'_>,
     value: Handle<Expression>,
-    wanted: InferredType,
+    expected: InferredType,
 ) -> bool
-    ensures { result ≡ value_has_type types.now (known_types known.entry) value (inferred wanted) }
+    ensures { result ≡ value_has_type types.now (known_types known.entry) value (inferred expected) }
 {
     match known_type(known, value) {
-        Some(ty) => is_like(types, ty, &wanted),
+        Some(ty) => is_like(types, ty, &expected),
         None => false,
     }
 }
@@ -312,7 +312,7 @@ pub(crate) fn is_stored(
     ensures { result ≡ is_stored types.now (known_types known.entry) pointer value }
 {
     match pointee_at(types, known, pointer) {
-        Some(wanted) => value_has_type(types, known, value, wanted),
+        Some(expected) => value_has_type(types, known, value, expected),
         None => false,
     }
 }
@@ -353,8 +353,8 @@ pub(crate) fn are_passed(
         return false;
     }
     for index in 0..values.len() {
-        let wanted = InferredType::Handle(arguments[index].ty);
-        if !value_has_type(types, known, values[index], wanted) {
+        let expected = InferredType::Handle(arguments[index].ty);
+        if !value_has_type(types, known, values[index], expected) {
             return false;
         }
     }
@@ -563,7 +563,7 @@ pub(crate) fn first_unsound(module: &Module, function: &Function, known: Known<'
 ///   the default, and the last case does not fall through.
 /// - A `Break` stands in a loop's body or a case, a `Continue` in a loop's body, and neither leaves a
 ///   `continuing`.
-/// - What is stored, returned and passed has a type like what is wanted, and as many arguments are
+/// - What is stored, returned and passed has a type like the expected one, and as many arguments are
 ///   passed as there are. A function without a result returns nothing.
 /// - An atomic's pointer points at an atomic, and a cooperative store's at a scalar or a vector.
 /// - The result of a statement is of its kind, and that of a call is one of the same callee, which

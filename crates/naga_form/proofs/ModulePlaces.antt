@@ -1,7 +1,7 @@
 -- Where each function of the program of shapes of an accepted module comes from, and what stands at
 -- its handles: the shapes of the expressions, and the types of their values.
 use Rattle.module_meaning.specs.Names.{TypesAreDistinguished}
-use Rattle.std.proofs.Common.{◌≡◌, ℕ, zero, suc, ◌+◌, List, [], ◌∷◌, ◌++◌, refl, sym, ap, ◌∙◌, map}
+use Rattle.std.proofs.Common.{◌≡◌, ℕ, zero, suc, ◌+◌, List, [], ◌∷◌, refl, sym, ap, ◌∙◌, map}
 use Rattle.std.proofs.Common.{length}
 use Rattle.std.proofs.Common.{Some, None, slice_get, arith, ◌⊎◌, inl, inr}
 use Rattle.std.specs.Prelude.{IsTrue, reverse}
@@ -50,18 +50,6 @@ in_reversed xs i x there = go (in_either xs [] i x there)
         (k : ℕ) × (slice_get xs k ≡ Some x)
     go (inl found) = found
     go (inr found) = absurd (cc)
-
--- what stands in two lists in a row stands in one of them
-pub in_row : {X : Type 0} (xs ys : List X) (i : ℕ) (x : X) → slice_get (xs ++ ys) i ≡ Some x →
-    ((k : ℕ) × (slice_get xs k ≡ Some x)) ⊎ ((k : ℕ) × (slice_get ys k ≡ Some x))
-in_row [] ys i x there = inr (i, there)
-in_row (y ∷ xs) ys zero x there = inl (0, there)
-in_row (y ∷ xs) ys (suc i) x there = go (in_row xs ys i x there)
-  where
-    go : ((k : ℕ) × (slice_get xs k ≡ Some x)) ⊎ ((k : ℕ) × (slice_get ys k ≡ Some x)) →
-        ((k : ℕ) × (slice_get (y ∷ xs) k ≡ Some x)) ⊎ ((k : ℕ) × (slice_get ys k ≡ Some x))
-    go (inl found) = inl (suc found.0, found.1)
-    go (inr found) = inr found
 
 -- what stands in a list that is made from another is made from what stands there
 pub in_image : {X Y : Type 0} (f : X → Y) (xs : List X) (i : ℕ) (y : Y) →

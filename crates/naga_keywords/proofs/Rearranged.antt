@@ -1,5 +1,5 @@
 -- Lists of words in the order of their bytes.
-use Rattle.std.proofs.Common.{◌≡◌, ℕ, Bool, true, false, List, [], ◌∷◌, cond, IfOk, Result, Ok, Err}
+use Rattle.std.proofs.Common.{◌≡◌, ℕ, Bool, true, false, List, [], ◌∷◌, cond}
 use Rattle.std.proofs.Common.{sym, ◌∙◌, subst}
 use Rattle.std.specs.Cmp.Lexicographic.{nat_list_cmp_total}
 use Rattle.std.specs.FinSet as set
@@ -14,7 +14,7 @@ use Rattle.std.proofs.lemmas.List.Sorted.{IsPermutation-cons, IsPermutation-refl
 use Rattle.std.proofs.lemmas.List.Sorted.{IsPermutation-trans, IsPermutation-middle}
 use Rattle.std.proofs.lemmas.List.Sorted.{list_any-IsPermutation}
 use Rattle.naga_keywords.specs.SortedWords.{word_cmp}
-use Rattle.naga_keywords.specs.Words.{Words, alike_words}
+use Rattle.naga_keywords.specs.Words.{alike_words}
 
 -- the words with one more, in front of the first that it is below
 abbrev put : List ℕ → List (List ℕ) → List (List ℕ)
@@ -55,12 +55,6 @@ same_set ks ls moved =
     set.contains-from_list nat_list_cmp_total ls q
     ∙ sym (list_any-IsPermutation (eq_by_cmp word_cmp q) ks ls moved)
     ∙ sym (set.contains-from_list nat_list_cmp_total ks q))
-
--- an answer that is this set, if it is one, is that one
-pub when_ok : {E : Type 0} {s t : Words} (answer : Result Words E) → s ≡ t →
-    IfOk answer (λ found. found ≡ s) → IfOk answer (λ found. found ≡ t)
-when_ok (Ok found) same is = is ∙ same
-when_ok (Err e) same is = tt
 
 -- Does each word come before the next?
 abbrev pub do_ascend : List (List ℕ) → Bool

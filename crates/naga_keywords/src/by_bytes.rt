@@ -1,12 +1,12 @@
-//! The words of WGSL in the order of their bytes, in which sets of them are made at the least cost.
+//! The words of WGSL in the order of their bytes, as which sets of them need no memory.
 
-ghost use Rattle.std.specs.Prelude.{◌≡◌, IfOk, map};
+ghost use Rattle.std.specs.Prelude.{◌≡◌, map};
 ghost use Rattle.std.specs.FinSet as set;
 ghost use Rattle.std.specs.List.Sorted.{IsPermutation};
 
 use crate::keyword_set::KeywordSet;
 use crate::keywords::{BUILTIN_IDENTIFIERS, RESERVED};
-use std::alloc::{AllocError, Global};
+use std::alloc::Global;
 
 /// The words of [`RESERVED`] in the order of their bytes.
 pub const RESERVED_BY_BYTES: &[&str] = &[
@@ -489,17 +489,17 @@ pub fn tables_are_rearranged()
         (map (λ word. word.now) BUILTIN_IDENTIFIERS_BY_BYTES.now) }
 {}
 
-/// The set of the words of [`RESERVED`].
-pub fn reserved_words(alloc: Global) -> Result<KeywordSet, AllocError>
-    ensures { IfOk result (λ s. s ≡ set.from_list (map (λ word. word.now) RESERVED.now)) }
+/// The set of the words of [`RESERVED`], which stand in the program. It takes no memory; the
+/// allocator is for words that are added.
+pub fn reserved_words(alloc: Global) -> KeywordSet
+    ensures { result ≡ set.from_list (map (λ word. word.now) RESERVED.now) }
 {
-    KeywordSet::from_ascending(alloc, RESERVED_BY_BYTES)
+    KeywordSet::from_table(alloc, RESERVED_BY_BYTES)
 }
 
-/// The set of the words of [`BUILTIN_IDENTIFIERS`].
-pub fn builtin_words(alloc: Global) -> Result<KeywordSet, AllocError>
-    ensures { IfOk result (λ s.
-        s ≡ set.from_list (map (λ word. word.now) BUILTIN_IDENTIFIERS.now)) }
+/// The set of the words of [`BUILTIN_IDENTIFIERS`], as [`reserved_words`].
+pub fn builtin_words(alloc: Global) -> KeywordSet
+    ensures { result ≡ set.from_list (map (λ word. word.now) BUILTIN_IDENTIFIERS.now) }
 {
-    KeywordSet::from_ascending(alloc, BUILTIN_IDENTIFIERS_BY_BYTES)
+    KeywordSet::from_table(alloc, BUILTIN_IDENTIFIERS_BY_BYTES)
 }

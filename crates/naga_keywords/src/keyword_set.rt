@@ -96,17 +96,20 @@ impl KeywordSet {
         Ok(Self { words })
     }
 
-    /// The set of words that come in ascending order. It takes no comparison, and memory once.
-    pub(crate) fn from_ascending(alloc: Global, words: &[&'static str]) -> Result<Self, AllocError>
+    /// The set of the words of a table, which come in ascending order. It takes neither memory nor a
+    /// comparison.
+    pub(crate) fn from_table(alloc: Global, words: &'static [&'static str]) -> Self
         requires sorted { IsStrictlySortedBy word_cmp (map (λ w. w.now) words.now) }
-        ensures { IfOk result (λ s. s ≡ set.from_list (map (λ w. w.now) words.now)) }
+        ensures { result ≡ set.from_list (map (λ w. w.now) words.now) }
     {
-        let words = SortedWords::from_ascending(alloc, Case::Sensitive, words)?;
-        Ok(Self { words })
+        Self {
+            words: SortedWords::from_table(alloc, Case::Sensitive, words),
+        }
     }
 
     /// Adds the words that the iterator gives. Memory is taken once where the iterator says how
-    /// many there are. Where memory runs out, the set has got the words of some beginning of them.
+    /// many there are and the set's words are not WGSL's own table. Where memory runs out, the set
+    /// has got the words of some beginning of them.
     pub fn extend<I: Iterator<Item = &'static str> + Drop>(
         &mut self,
         words: I,

@@ -1,6 +1,8 @@
 //! Words in ascending order, among which one is found by halving.
 
-ghost use Rattle.std.specs.Prelude.{◌≡◌, ◌+◌, ◌<◌, ◌^◌, IfOk, IsTrue, OnErr, OnOk, length, map};
+ghost use Rattle.std.specs.Cow.{cow_slice_items};
+ghost use Rattle.std.specs.Prelude.{◌≡◌, ◌+◌, ◌<◌, ◌≤◌, ◌^◌, IfOk, IsTrue, OnErr, OnOk, insert};
+ghost use Rattle.std.specs.Prelude.{if◌then◌else◌, is_ok, length, map};
 ghost use Rattle.std.specs.FinSet as set;
 ghost use Rattle.std.specs.Iterator.{IsFinite};
 ghost use Rattle.std.specs.List.Sorted.{IsStrictlySortedBy};
@@ -10,6 +12,7 @@ ghost use Rattle.naga_keywords.specs.SortedWords.{view_of_words, word_cmp};
 ghost use Rattle.naga_keywords.specs.Words.{AddsAll, AddsSome, in_lower_case, same_words};
 
 use std::alloc::{AllocError, Global};
+use std::borrow::CowSlice;
 use std::cmp::Ordering;
 use std::marker::Model;
 
@@ -128,11 +131,37 @@ fn place(case: Case, members: &[&'static str], word: &str) -> Option<usize>
     }
 }
 
-/// A set of words, which keeps them in ascending order and without repeats.
+/// Puts a word in front of the one at the index. Words that stand in a table are copied first. An
+/// error leaves them as they were.
+fn put_among(
+    alloc: Global,
+    members: &mut CowSlice<'static, &'static str, Global>,
+    index: usize,
+    word: &'static str,
+) -> Result<(), AllocError>
+    requires within { index ≤ length (cow_slice_items members.old) }
+    ensures { cow_slice_items members.new ≡ (if is_ok result
+        then insert (cow_slice_items members.old) index word.entry
+        else cow_slice_items members.old) }
+{
+    match members {
+        CowSlice::Owned(list) => list.insert(index, word)?,
+        CowSlice::Borrowed(table) => {
+            let mut list = Vec::from_slice(alloc, table)?;
+            list.insert(index, word)?;
+            *members = CowSlice::Owned(list);
+        }
+    }
+    Ok(())
+}
+
+/// A set of words, which keeps them in ascending order and without repeats. They stand in a table
+/// of the program, or in memory of the set's own.
 #[derive(Drop)]
 pub(crate) struct SortedWords {
+    alloc: Global,
     case: Case,
-    members: Vec<&'static str>,
+    members: CowSlice<'static, &'static str, Global>,
 }
 
 impl Model for SortedWords {
@@ -140,9 +169,10 @@ impl Model for SortedWords {
 
     ghost coded = { view_code };
 
-    ghost view = { λ s. view_of_words s.case s.members.items };
+    ghost view = { λ s. view_of_words s.case (cow_slice_items s.members) };
 
-    ghost invariant = { λ s. IsStrictlySortedBy word_cmp (keys_of s.case s.members.items) };
+    ghost invariant = { λ s.
+        IsStrictlySortedBy word_cmp (keys_of s.case (cow_slice_items s.members)) };
 }
 
 impl SortedWords {
@@ -152,8 +182,9 @@ impl SortedWords {
         ensures words { result.words ≡ set.empty }
     {
         Self {
+            alloc,
             case,
-            members: Vec::new(alloc),
+            members: CowSlice::Owned(Vec::new(alloc)),
         }
     }
 
@@ -164,15 +195,17 @@ impl SortedWords {
         ensures probes { IsWithinDigits result.1 (set.len self.now.words) }
     {
         let mut counter = Counter::new(self.case, word);
-        let found = search(&self.members, &mut counter);
+        let found = search(self.members.as_slice(), &mut counter);
         (found.is_ok(), counter.comparisons)
     }
 
-    /// Takes memory for so many words more.
+    /// Takes memory for so many words more, where those that it has are in memory of its own.
     fn reserve(&mut self, more: usize) -> Result<(), AllocError>
         ensures { self.new ≡ self.old }
     {
-        self.members.reserve(more)?;
+        if let CowSlice::Owned(list) = &mut self.members {
+            list.reserve(more)?;
+        }
         Ok(())
     }
 
@@ -182,25 +215,40 @@ impl SortedWords {
             ≡ set.insert self.old.words (comparison_key self.old.case word.now)) }
         ensures err { OnErr result (self.new.words ≡ self.old.words) }
     {
-        if let Some(index) = place(self.case, &self.members, word) {
-            self.members.insert(index, word)?;
+        if let Some(index) = place(self.case, self.members.as_slice(), word) {
+            put_among(self.alloc, &mut self.members, index, word)?;
         }
         Ok(())
     }
 
+    /// The set of the words of a table, which come in ascending order. It takes neither memory nor a
+    /// comparison.
+    pub(crate) fn from_table(alloc: Global, case: Case, table: &'static [&'static str]) -> Self
+        requires sorted { IsStrictlySortedBy word_cmp (keys_of case table.now) }
+        ensures case { result.case ≡ case }
+        ensures words { result.words
+            ≡ set.from_list (map (λ word. comparison_key case word.now) table.now) }
+    {
+        Self {
+            alloc,
+            case,
+            members: CowSlice::Borrowed(table),
+        }
+    }
+
     /// The set of words that come in ascending order. It takes no comparison, and memory once.
-    pub(crate) fn from_ascending(
-        alloc: Global,
-        case: Case,
-        words: &[&'static str],
-    ) -> Result<Self, AllocError>
+    fn from_ascending(alloc: Global, case: Case, words: &[&'static str]) -> Result<Self, AllocError>
         requires sorted { IsStrictlySortedBy word_cmp (keys_of case words.now) }
         ensures case { IfOk result (λ s. s.case ≡ case) }
         ensures words { IfOk result (λ s. s.words
             ≡ set.from_list (map (λ word. comparison_key case word.now) words.now)) }
     {
-        let members = Vec::from_slice(alloc, words)?;
-        Ok(Self { case, members })
+        let members = CowSlice::Owned(Vec::from_slice(alloc, words)?);
+        Ok(Self {
+            alloc,
+            case,
+            members,
+        })
     }
 
     /// The set of the words of a slice. Words that come in ascending order take one comparison
@@ -227,8 +275,12 @@ impl SortedWords {
         ensures words { IfOk result (λ s. s.words
             ≡ set.from_list (map (λ word. comparison_key case word.now) words.now)) }
     {
-        let members = Vec::with_capacity(alloc, words.len())?;
-        let mut sorted = Self { case, members };
+        let members = CowSlice::Owned(Vec::with_capacity(alloc, words.len())?);
+        let mut sorted = Self {
+            alloc,
+            case,
+            members,
+        };
         for word in words {
             sorted.insert(word)?;
         }
@@ -264,7 +316,10 @@ impl SortedWords {
         requires { self.now.case ≡ other.now.case }
         ensures { result ≡ set.is_subset self.now.words other.now.words }
     {
-        self.members.iter().all(|word| other.probe(word).0)
+        self.members
+            .as_slice()
+            .iter()
+            .all(|word| other.probe(word).0)
     }
 
     /// Whether the two sets, which regard case alike, have the same words.
@@ -280,8 +335,12 @@ impl Clone for SortedWords {
     ghost is_clone = { λ s copy. copy ≡ s };
 
     fn clone(&self) -> Result<Self, AllocError> {
-        let members = self.members.clone()?;
+        let members = match &self.members {
+            CowSlice::Borrowed(table) => CowSlice::Borrowed(*table),
+            CowSlice::Owned(list) => CowSlice::Owned(list.clone()?),
+        };
         Ok(Self {
+            alloc: self.alloc,
             case: self.case,
             members,
         })

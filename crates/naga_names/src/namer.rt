@@ -98,8 +98,8 @@ impl Namer {
         Ok(Self {
             alloc,
             uses: Uses::new(alloc),
-            keywords: reserved_words(alloc)?,
-            builtin_identifiers: builtin_words(alloc)?,
+            keywords: reserved_words(alloc),
+            builtin_identifiers: builtin_words(alloc),
             keywords_case_insensitive: CaseInsensitiveKeywordSet::new(alloc),
             reserved_prefixes: Vec::from_slice(alloc, RESERVED_PREFIXES)?,
         })

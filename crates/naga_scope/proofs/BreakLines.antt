@@ -3,13 +3,13 @@
 -- Throughout, h is a handle that is written on a line, n the number of the first of several statements,
 -- j that of one.
 use Rattle.std.proofs.Common.{◌≡◌, ◌⊎◌, inl, inr, ⊎_elim, ℕ, suc, zero, ◌+◌, true, List, [], ◌∷◌, ◌++◌, Some, refl}
-use Rattle.std.proofs.Common.{sym, ap, arith, length, slice_get, subst}
+use Rattle.std.proofs.Common.{sym, arith, length, slice_get, subst}
 use Rattle.std.proofs.lemmas.Bool.{false≢true}
 use Rattle.std.proofs.lemmas.Option.{same_Some}
 use Rattle.std.specs.Option.{option_to_list}
 use Rattle.naga_ir.specs.StatementTree.{StatementTree, simple, block, branch, switch, loop, BlockTree}
 use Rattle.naga_ir.specs.StatementTree.{no_statements, statement, CaseTrees, no_cases, case}
-use Rattle.naga_scope.proofs.FaultLines.{split}
+use Rattle.module_meaning.proofs.FunctionNumbers.{in_append}
 use Rattle.naga_scope.proofs.LineWrites.{In, in_either, in_left, in_right, of_line, on_line}
 use Rattle.naga_scope.specs.FirstLines.{block_breaks, case_breaks, statement_breaks, writes_at}
 use Rattle.naga_ir.specs.InOrder.{case_trees, trees_in, trees_inside}
@@ -52,7 +52,7 @@ module _ (h : ℕ) (line : Line) where
       (held_right (suc n) xs ys (renumbered (n + suc (length xs)) (suc n + length xs) ys (omega arith) x))
 
   held_either : (n : ℕ) (xs ys : List StatementTree) → Held n (xs ++ ys) → Held n xs ⊎ Held (n + length xs) ys
-  held_either n xs ys x = by (split xs ys x.0 x.2 x.4)
+  held_either n xs ys x = by (in_append xs ys x.0 x.2 x.4)
     where
       by : (slice_get xs x.0 ≡ Some x.2) ⊎ ((i : ℕ) × (x.0 ≡ length xs + i) × (slice_get ys i ≡ Some x.2)) →
           Held n xs ⊎ Held (n + length xs) ys

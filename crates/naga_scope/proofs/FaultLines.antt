@@ -6,6 +6,7 @@ use Rattle.std.proofs.Common.{length-append}
 use Rattle.std.proofs.lemmas.Bool.{false≢true, leb-true, ltb-true}
 use Rattle.std.proofs.lemmas.Option.{same_Some}
 use Rattle.std.specs.Prelude.{IsTrue, IsFalse, slice_get}
+use Rattle.module_meaning.proofs.FunctionNumbers.{in_append}
 use Rattle.naga_scope.specs.Earliest.{line_of_fault}
 use Rattle.naga_scope.specs.Lines.{is_before}
 use Rattle.naga_scope.specs.declared.lines.Line.{Line}
@@ -172,19 +173,12 @@ module _ (f : Function) (s : Standing) (n : ℕ) where
       let c = breaks.1 in absurd (gives_nothing f s.at s.statement c.0 (Emitted h) c.1 loops)
 
 -- ---- a statement is followed by those in its blocks
-pub split : {X : Type 0} (xs ys : List X) (i : ℕ) (x : X) → slice_get (xs ++ ys) i ≡ Some x →
-    (slice_get xs i ≡ Some x) ⊎ ((j : ℕ) × (i ≡ length xs + j) × (slice_get ys j ≡ Some x))
-split [] ys i x is = inr (i, omega arith, is)
-split (y ∷ xs) ys zero x is = inl is
-split (y ∷ xs) ys (suc i) x is =
-    ⊎_elim inl (λ p. let same = p.1 in inr (p.0, omega (arith, same), p.2)) (split xs ys i x is)
-
 abbrev Nested : Function → List Standing → Type 0
 Nested f xs =
     (i : ℕ) (s : Standing) → slice_get xs i ≡ Some s → suc i + length (inside f s.at s.statement) ≤ length xs
 
 nested_both : (f : Function) (xs ys : List Standing) → Nested f xs → Nested f ys → Nested f (xs ++ ys)
-nested_both f xs ys first second i s is = by (split xs ys i s is)
+nested_both f xs ys first second i s is = by (in_append xs ys i s is)
   where
     by : (slice_get xs i ≡ Some s) ⊎ ((j : ℕ) × (i ≡ length xs + j) × (slice_get ys j ≡ Some s)) →
         suc i + length (inside f s.at s.statement) ≤ length (xs ++ ys)
@@ -281,7 +275,7 @@ module _ (f : Function) (e : ScopeFault) where
   pub first_left : (m : ℕ) (xs ys : List Standing) → Nested f xs → FirstAmong f m xs e → FirstAmong f m (xs ++ ys) e
   first_left m xs ys nested x = record {
     there = among_left m xs ys x.there;
-    first = λ i s c is breaks. by i s c breaks (split xs ys i s is);
+    first = λ i s c is breaks. by i s c breaks (in_append xs ys i s is);
   }
     where
       by : (i : ℕ) (s : Standing) (c : ScopeFault) → BreaksWith f s (m + i) c →
@@ -299,7 +293,7 @@ module _ (f : Function) (e : ScopeFault) where
       FirstAmong f m (xs ++ ys) e
   first_right m xs ys hold x = record {
     there = among_right m xs ys x.there;
-    first = λ i s c is breaks. by i s c breaks (split xs ys i s is);
+    first = λ i s c is breaks. by i s c breaks (in_append xs ys i s is);
   }
     where
       by : (i : ℕ) (s : Standing) (c : ScopeFault) → BreaksWith f s (m + i) c →
@@ -390,19 +384,19 @@ mutual
       (same_Some (record { at = at; statement = st }) s is) stands_first
   stands_in f at (then st ss) (suc i) s is =
       ⊎_elim (inside_in f at st ss i s) (λ p. later (stands_in f (following f st at) ss p.0 s p.2))
-      (split (inside f at st) (standing f (following f st at) ss) i s is)
+      (in_append (inside f at st) (standing f (following f st at) ss) i s is)
 
   inside_in : (f : Function) (at : ScopeState) (st : Statement) (ss : Statements) (i : ℕ) (s : Standing) →
       slice_get (inside f at st) i ≡ Some s → StandsIn f at (then st ss) s.at s.statement
   inside_in f at (Block b) ss i s is = in_block (stands_in f at b i s is)
   inside_in f at (If c a b) ss i s is =
       ⊎_elim (λ is. in_accept (stands_in f at a i s is)) (λ p. in_reject (stands_in f at b p.0 s p.2))
-      (split (standing f at a) (standing f at b) i s is)
+      (in_append (standing f at a) (standing f at b) i s is)
   inside_in f at (Switch h cs) ss i s is = let x = case_in f at cs i s is in in_case x.1 x.2
   inside_in f at (Loop b d e) ss i s is =
       ⊎_elim (λ is. in_loop (stands_in f at b i s is))
       (λ p. in_continuing (stands_in f (after_turn f b at) d p.0 s p.2))
-      (split (standing f at b) (standing f (after_turn f b at) d) i s is)
+      (in_append (standing f at b) (standing f (after_turn f b at) d) i s is)
   inside_in f at _ ss i s is = absurd cc
 
   case_in : (f : Function) (at : ScopeState) (cs : Cases) (i : ℕ) (s : Standing) →
@@ -412,7 +406,7 @@ mutual
   case_in f at (case l b falls cs) i s is =
       ⊎_elim (λ is. (b, this_case, stands_in f at b i s is))
       (λ p. let x = case_in f at cs p.0 s p.2 in (x.0, later_case x.1, x.2))
-      (split (standing f at b) (case_standing f at cs) i s is)
+      (in_append (standing f at b) (case_standing f at cs) i s is)
 
 in_the_body : (f : Function) (e : ScopeFault) →
     ((n : ℕ) × (s : Standing) × (slice_get (standing f start_state f.body) n ≡ Some s)

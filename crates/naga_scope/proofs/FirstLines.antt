@@ -1,25 +1,25 @@
 -- Tables of the first lines that write expressions, one write after another.
 use Rattle.std.proofs.Common.{◌≡◌, ◌<◌, ◌≤◌, ◌⊎◌, inl, inr, ℕ, suc, zero, ◌+◌, Bool, true, false}
 use Rattle.std.proofs.Common.{List, [], ◌∷◌, ◌++◌, ◌&&◌, ◌||◌, Option, Some, None, refl, sym, ap, ◌∙◌}
-use Rattle.std.proofs.Common.{append-nil, append_assoc, arith, drop, length, map, nat_eq, nat_lt}
+use Rattle.std.proofs.Common.{append-nil, append_assoc, arith, length, map, nat_eq, nat_lt}
 use Rattle.std.proofs.Common.{eqb-true, replicate, subst, ap₂}
-use Rattle.std.proofs.lemmas.Bool.{cases_order, eqb-false, lt-ltb, ltb-true}
+use Rattle.std.proofs.lemmas.Bool.{cases_order, eq-eqb, lt-ltb, ltb-true}
 use Rattle.std.proofs.Math.Bool.{or-false}
 use Rattle.std.proofs.lemmas.Grind.{get_or-set_at}
-use Rattle.std.proofs.lemmas.List.{get_or_past, get_or-set_other, length-map, length-set, map-append}
+use Rattle.std.proofs.lemmas.List.{get_or-set_other, length-map, length-set, map-append}
 use Rattle.std.proofs.lemmas.List.Elements.{filter-append}
 use Rattle.std.specs.List.{enumerate_from, filter, flat_map}
 use Rattle.std.specs.Option.{option_to_list}
-use Rattle.std.specs.Prelude.{get_or, if◌then◌else◌, not, slice_set}
+use Rattle.std.specs.Prelude.{get_or, if◌then◌else◌, slice_set}
 use Rattle.naga_ir.specs.StatementTree.{StatementTree}
 use Rattle.naga_ir.specs.declared.module.LocalVariable.{LocalVariable}
-use Rattle.naga_scope.proofs.LineOrder.{first_up_to, not_before_itself}
-use Rattle.naga_scope.proofs.Marking.{just_marked, marks_none, marks_then, unmarked}
+use Rattle.naga_scope.proofs.LineOrder.{first_up_to}
+use Rattle.naga_scope.proofs.Marking.{just_marked, marks_none, marks_then}
 use Rattle.naga_scope.specs.FirstLines.{WritesAlso, WritesJust, first_line, handles_to, has_line_to}
 use Rattle.naga_scope.specs.FirstLines.{marks_to, writes_at}
 use Rattle.naga_scope.specs.InOrder.{line_roots}
-use Rattle.naga_scope.specs.Lines.{is_before, is_up_to}
-use Rattle.naga_scope.specs.Marks.{MarksAlso, MarksJust, is_marked, is_one_of, marked_with}
+use Rattle.naga_scope.specs.Lines.{is_up_to}
+use Rattle.naga_scope.specs.Marks.{MarksAlso, is_marked, is_one_of, marked_with}
 use Rattle.naga_scope.specs.declared.lines.Line.{Line}
 use Rattle.naga_scope.specs.declared.lines.Line.TheVariants.{Signature, Local, Statement}
 
@@ -92,13 +92,6 @@ module _ (last : Line) where
       marks = λ h. by h (cases_order h i);
     }
       where
-        same_index : (h : ℕ) → h ≡ i → nat_eq h i ≡ true
-        same_index h same = by (nat_eq h i) refl
-          where
-            by : (b : Bool) → nat_eq h i ≡ b → nat_eq h i ≡ true
-            by true is = is
-            by false is = absurd (eqb-false h i is same)
-
         both : (a b : Bool) → (a || ((b && true) && true)) ≡ (a || b)
         both a true = refl
         both a false = refl
@@ -132,7 +125,7 @@ module _ (last : Line) where
             ∙ ap (λ o. o || is_up_to last line) (ap (λ k. has_line_to last (get_or lines k None)) (sym same)
             ∙ sym (marked_is lines h))
             ∙ sym (ap₂ (λ b c. is_marked (marks_to last lines) h || (b && c))
-            (marks_of_one line i h ∙ ap (λ b. is_up_to last line && b) (same_index h same))
+            (marks_of_one line i h ∙ ap (λ b. is_up_to last line && b) (eq-eqb h i same))
             (lt-ltb h (length (marks_to last lines)) lt)
             ∙ both (is_marked (marks_to last lines) h) (is_up_to last line))
         by h (inr (inl lt)) = unlike h (λ same. omega (arith, lt, same))

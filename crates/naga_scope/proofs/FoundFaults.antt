@@ -43,11 +43,11 @@ use Rattle.shader_runs.specs.Scope.{after_all, named_after, named_by, named_by_a
 use Rattle.shader_runs.specs.Premises.{AllBelow}
 use Rattle.shader_runs.specs.ScopeRules.{IntroducedHandle, Emitted, AsResult, ScopeState, start_state}
 use Rattle.shader_runs.specs.ScopeRules.{following_one, following, after_turn, WasIntroduced}
-use Rattle.shader_runs.specs.ScopeRules.{handle_of}
-use Rattle.shader_runs.specs.ScopeFaults.{IsOutOfScopeAt, after_some, UsesAt}
+use Rattle.shader_runs.specs.ScopeFaults.{IsOutOfScopeAt, UsesAt}
 use Rattle.shader_runs.specs.ScopeFaults.{stored_pointer, stored_value, condition, selector}
 use Rattle.shader_runs.specs.ScopeFaults.{break_if, returned, operand, IntroducesAt, emitted}
 use Rattle.shader_runs.specs.ScopeFaults.{as_result}
+use Rattle.shader_runs.proofs.ScopeFaults.{gives_emitted}
 use Rattle.shader_runs.proofs.ScopeRules.{Tracks, false_is_not_true, tracks_emitted, may_emit_rule}
 use Rattle.shader_runs.proofs.ScopeRules.{tracks_after, tracks_turn, tracks_start}
 
@@ -67,11 +67,6 @@ emits_breaks f at st n (BreakIf k next h) breaks = elim breaks [ ]
 emits_breaks f at st n (EmittedOperand k x h) breaks = breaks
 emits_breaks f at st n (IntroducedBefore k h) breaks = breaks
 emits_breaks f at st n (NeedsNoEmit k h) breaks = breaks
-
-gives_emitted : (f : Function) (at : ScopeState) (first count i j : ℕ) → first + i ≡ j → i < count →
-    IntroducesAt f at (Emit first count) (after_some f first i at) (Emitted j)
-gives_emitted f at first count i j q l =
-    subst (λ j. IntroducesAt f at (Emit first count) (after_some f first i at) (Emitted j)) q (emitted i l)
 
 -- what the rest of an Emit gives and breaks
 module _ (f : Function) (at : ScopeState) (first count : ℕ) where

@@ -1,16 +1,16 @@
 -- Where a check of scope finds nothing in statements, none of them breaks a rule.
-use Rattle.std.proofs.Common.{◌≡◌, ⊎_elim, ℕ, zero, suc, ◌+◌, ◌<◌, List, [], ◌∷◌, ◌++◌, Option}
+use Rattle.std.proofs.Common.{◌≡◌, ℕ, zero, suc, ◌+◌, List, [], ◌∷◌, ◌++◌, Option}
 use Rattle.std.proofs.Common.{Some, None}
-use Rattle.std.proofs.Common.{refl, sym, subst, ap, ◌∙◌, arith}
+use Rattle.std.proofs.Common.{sym, subst, ◌∙◌}
 use Rattle.std.proofs.lemmas.Bool.{and_parts, false≢true}
 use Rattle.std.proofs.lemmas.Option.{same_Some}
-use Rattle.std.specs.Prelude.{IsFalse, IsTrue, slice_get}
+use Rattle.std.specs.Prelude.{IsTrue, slice_get}
 use Rattle.shader_runs.specs.Program.{Statement, Emit, Store, Block, If, Switch, Loop, Return, Act}
 use Rattle.shader_runs.specs.Program.{Jumps, Statements, end, then, Cases, no_case, case, Function}
 use Rattle.shader_runs.specs.Program.{expression_of, operands_of, from, is_emittable}
 use Rattle.shader_runs.specs.Scope.{Handles, Naming, after, after_all, after_one, bound_name, fits}
 use Rattle.shader_runs.specs.Scope.{fits_all}
-use Rattle.shader_runs.specs.Scope.{fits_cases, is_new, may_emit, may_emit_all, may_give}
+use Rattle.shader_runs.specs.Scope.{fits_cases, may_emit, may_emit_all, may_give}
 use Rattle.shader_runs.specs.Scope.{named_after, named_by}
 use Rattle.shader_runs.specs.Scope.{named_by_all, usable, usable_all, usable_if}
 use Rattle.shader_runs.specs.ScopeFaults.{BreaksScope, IntroducesAt, UsesAt, after_some, as_result}
@@ -20,10 +20,10 @@ use Rattle.shader_runs.specs.ScopeFaults.{not_emittable}
 use Rattle.shader_runs.specs.ScopeFaults.{operand, out_of_scope, returned, selector, stored_pointer}
 use Rattle.shader_runs.specs.ScopeFaults.{stored_value}
 use Rattle.shader_runs.specs.ScopeRules.{EachInScope, Emitted, InScope, InScopeIf, IntroducedHandle}
-use Rattle.shader_runs.specs.ScopeRules.{MayEmit}
 use Rattle.shader_runs.specs.ScopeRules.{MayEmitEach, MayResult, ScopeState, WasIntroduced, after_turn}
 use Rattle.shader_runs.specs.ScopeRules.{and_handle}
 use Rattle.shader_runs.specs.ScopeRules.{following, following_one, handle_of, no_handle}
+use Rattle.shader_runs.proofs.ScopeFaults.{each_at, emit_at}
 use Rattle.shader_runs.proofs.ScopeRules.{Tracks, may_emit_rule, tracks_after, tracks_emitted}
 use Rattle.shader_runs.proofs.ScopeRules.{tracks_turn}
 use Rattle.naga_scope.specs.ScopeFaults.{Standing, case_standing, inside, standing}
@@ -39,24 +39,6 @@ OwnHolds f at (Loop b d e) = InScopeIf f (after_turn f d (after_turn f b at)).vi
 OwnHolds f at (Jumps (Return v)) = InScopeIf f at.visible v
 OwnHolds f at (Act a xs r) = EachInScope f at.visible xs × MayResult f at r
 OwnHolds f at _ = Unit {0}
-
-each_at : (f : Function) (v : List IntroducedHandle) (xs : List ℕ) → EachInScope f v xs → (k h : ℕ) →
-    slice_get xs k ≡ Some h → InScope f v h
-each_at f v [] no_handle k h e = absurd cc
-each_at f v (x ∷ xs) (and_handle d ds) zero h e = subst (InScope f v) (same_Some x h e) d
-each_at f v (x ∷ xs) (and_handle d ds) (suc k) h e = each_at f v xs ds k h e
-
--- an Emit may give each of its handles after those in front of it
-emit_at : (f : Function) (first count i : ℕ) (at : ScopeState) → i < count → MayEmitEach f at (from first count) →
-    MayEmit f (after_some f first i at) (first + i)
-emit_at f first zero i at l holds = absurd (omega (arith, l))
-emit_at f first (suc count) zero at l holds =
-    let same : first ≡ first + 0 = omega arith in
-    subst (λ h. MayEmit f at h) same holds.0
-emit_at f first (suc count) (suc i) at l holds =
-    let same : suc first + i ≡ first + suc i = omega arith in
-    subst (λ h. MayEmit f (after_some f first (suc i) at) h) same
-    (emit_at f (suc first) count i (following_one f first at) (omega (arith, l)) holds.1)
 
 own_uses : (f : Function) (at : ScopeState) (st : Statement) (there : ScopeState) (h : ℕ) →
     UsesAt f at st there h → OwnHolds f at st → InScope f there.visible h

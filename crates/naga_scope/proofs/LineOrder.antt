@@ -1,7 +1,7 @@
 -- The order of the lines of a function's text.
-use Rattle.std.proofs.Common.{◌≡◌, ◌<◌, ◌≤◌, ◌⊎◌, inl, inr, Bool, true, false, ℕ, ap, ap₂, arith, refl}
+use Rattle.std.proofs.Common.{◌≡◌, ◌<◌, ◌⊎◌, inl, inr, Bool, true, false, ℕ, ap, ap₂, arith, refl}
 use Rattle.std.proofs.Common.{sym, ◌∙◌, nat_eq, nat_lt, ◌&&◌, ◌||◌, eqb-true}
-use Rattle.std.proofs.lemmas.Bool.{and_parts, eqb-false, false≢true, le-leb, leb-false, leb-true, lt-ltb}
+use Rattle.std.proofs.lemmas.Bool.{and_parts, eq-eqb, false≢true, le-leb, leb-false, leb-true, lt-ltb}
 use Rattle.std.proofs.lemmas.Bool.{ltb-false, ltb-true, or_cases, or_left, or_right}
 use Rattle.std.specs.Prelude.{if◌then◌else◌, not}
 use Rattle.naga_scope.specs.Lines.{is_before, is_up_to}
@@ -28,13 +28,6 @@ same_below i j first second =
     omega (arith, a, b)
 
 -- ---- two `break if`s
-same_index : (h i : ℕ) → h ≡ i → nat_eq h i ≡ true
-same_index h i same = by (nat_eq h i) refl
-  where
-    by : (b : Bool) → nat_eq h i ≡ b → nat_eq h i ≡ true
-    by true is = is
-    by false is = absurd (eqb-false h i is same)
-
 abbrev pub Ends : (n end k stop : ℕ) → Type 0
 Ends n end k stop = (end < stop) ⊎ ((end ≡ stop) × (k < n))
 
@@ -50,7 +43,7 @@ ends_of n end k stop is = by (or_cases (nat_lt end stop) (nat_eq end stop && nat
 of_ends : (n end k stop : ℕ) → Ends n end k stop → is_before (BreakIf n end) (BreakIf k stop) ≡ true
 of_ends n end k stop (inl lt) = or_left (nat_lt end stop) _ (lt-ltb end stop lt)
 of_ends n end k stop (inr (same, lt)) =
-    or_right (nat_lt end stop) _ (ap₂ (λ a b. a && b) (same_index end stop same) (lt-ltb k n lt))
+    or_right (nat_lt end stop) _ (ap₂ (λ a b. a && b) (eq-eqb end stop same) (lt-ltb k n lt))
 
 -- no line stands before itself
 pub not_before_itself : (a : Line) → is_before a a ≡ false

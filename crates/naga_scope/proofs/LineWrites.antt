@@ -1,7 +1,7 @@
 -- What numbered lists and single lines write.
-use Rattle.std.proofs.Common.{◌≡◌, ◌⊎◌, inl, inr, ℕ, suc, zero, ◌+◌, Bool, true, false, List, [], ◌∷◌, ◌++◌}
+use Rattle.std.proofs.Common.{◌≡◌, ◌⊎◌, inl, inr, ℕ, suc, zero, ◌+◌, true, List, [], ◌∷◌, ◌++◌}
 use Rattle.std.proofs.Common.{Some, sym, ap, arith, eqb-true, refl, nat_eq, slice_get, subst}
-use Rattle.std.proofs.lemmas.Bool.{eqb-false, or_cases, or_left, or_right}
+use Rattle.std.proofs.lemmas.Bool.{eq-eqb, or_cases, or_left, or_right}
 use Rattle.std.specs.List.{enumerate_from, flat_map}
 use Rattle.naga_scope.specs.FirstLines.{writes_at}
 use Rattle.naga_scope.specs.Marks.{is_one_of}
@@ -62,13 +62,6 @@ module _ {X Y : Type 0} (g : ℕ × X → List Y) (y : Y) where
       (one_in (n + 1) xs k x at (subst (λ k. In (g (k, x)) y) more is))
 
 -- ---- handles that lines write
-pub itself : (h x : ℕ) → h ≡ x → nat_eq h x ≡ true
-itself h x same = by (nat_eq h x) refl
-  where
-    by : (b : Bool) → nat_eq h x ≡ b → nat_eq h x ≡ true
-    by true is = is
-    by false is = absurd (eqb-false h x is same)
-
 module _ (h : ℕ) where
   -- on one line
   pub of_line : (line l : Line) (hs : List ℕ) → In (writes_at line hs) (l, h) → (line ≡ l) × (is_one_of hs h ≡ true)
@@ -76,7 +69,7 @@ module _ (h : ℕ) where
   of_line line l (x ∷ hs) (inl same) =
       let here : line ≡ l = ap (λ w. w.0) same in
       let one : x ≡ h = ap (λ w. w.1) same in
-      (here, or_left _ _ (itself h x (sym one)))
+      (here, or_left _ _ (eq-eqb h x (sym one)))
   of_line line l (x ∷ hs) (inr is) = let rest = of_line line l hs is in (rest.0, or_right _ _ rest.1)
 
   pub on_line : (line : Line) (hs : List ℕ) → is_one_of hs h ≡ true → In (writes_at line hs) (line, h)

@@ -1,13 +1,13 @@
 -- What lines write by themselves, and what is written up to a line.
 use Rattle.std.proofs.Common.{◌≡◌, ◌⊎◌, inl, inr, ℕ, suc, zero, ◌+◌, Bool, true, false, List, [], ◌∷◌, ◌++◌}
-use Rattle.std.proofs.Common.{◌||◌, Option, Some, None, refl, sym, ap, ap₂, ◌∙◌, arith, eqb-true}
+use Rattle.std.proofs.Common.{◌||◌, Option, Some, None, refl, sym, ap, ◌∙◌, arith, eqb-true}
 use Rattle.std.proofs.Common.{length, nat_eq, slice_get, subst}
-use Rattle.std.proofs.lemmas.Bool.{eqb-false, false≢true, or_cases, or_left, or_right}
+use Rattle.std.proofs.lemmas.Bool.{eq-eqb, or_cases, or_left, or_right}
 use Rattle.std.proofs.Math.Bool.{or-false}
 use Rattle.std.proofs.lemmas.List.Folds.{list_any-append}
-use Rattle.std.specs.List.{IsAmong, enumerate_from, filter, flat_map, list_any}
+use Rattle.std.specs.List.{filter, flat_map}
 use Rattle.std.specs.Option.{option_and_then, option_map_or, option_to_list}
-use Rattle.std.specs.Prelude.{if◌then◌else◌, map, not}
+use Rattle.std.specs.Prelude.{if◌then◌else◌, map}
 use Rattle.module_meaning.specs.Written.{IsWritten, OperandOf, Root, function_roots}
 use Rattle.naga_ir.specs.StatementTree.{StatementTree, simple, block, branch, switch, loop}
 use Rattle.naga_ir.specs.declared.expression.Expression.{Expression}
@@ -15,8 +15,7 @@ use Rattle.naga_ir.specs.declared.module.Function.{Function}
 use Rattle.naga_ir.specs.declared.module.LocalVariable.{LocalVariable}
 use Rattle.naga_scope.proofs.InOrder.{same_roots}
 use Rattle.naga_scope.proofs.BreakLines.{Held, in_block, of_block}
-use Rattle.naga_scope.proofs.LineOrder.{not_before_itself}
-use Rattle.naga_scope.proofs.LineWrites.{In, in_either, in_left, in_one, in_right, itself, of_line, on_line, one_in}
+use Rattle.naga_scope.proofs.LineWrites.{In, in_either, in_left, in_one, in_right, of_line, on_line, one_in}
 use Rattle.naga_scope.proofs.Sweeping.{among_one, one_among}
 use Rattle.naga_scope.specs.FirstLines.{block_breaks, function_writes, handles_to, local_writes}
 use Rattle.naga_scope.specs.FirstLines.{statement_writes, writes_at}
@@ -56,7 +55,7 @@ module _ (h : ℕ) where
         ap (λ b. is_one_of (map {A = Line × ℕ} (λ w. w.1)
         (if b then w ∷ filter (λ w. is_up_to last w.0) ws else filter (λ w. is_up_to last w.0) ws)) h)
         (ap (λ w. is_up_to last w.0) same ∙ there)
-        ∙ or_left _ _ (itself h w.1 (sym (ap (λ w. w.1) same)))
+        ∙ or_left _ _ (eq-eqb h w.1 (sym (ap (λ w. w.1) same)))
     in_writes (w ∷ ws) line (inr is) there = by (is_up_to last w.0) (in_writes ws line is there)
       where
         by : (b : Bool) → is_one_of (handles_to last ws) h ≡ true →
@@ -91,7 +90,7 @@ module _ (bound : ℕ → Bool) (f : Function) where
           is_one_of (break_root st) h ≡ true → is_one_of (break_at n end st) h ≡ true
       ending n end st same one =
           ap (λ b. is_one_of (if b then break_root st else []) h)
-          (itself (suc n + length (trees_inside st)) end (sym same)) ∙ one
+          (eq-eqb (suc n + length (trees_inside st)) end (sym same)) ∙ one
 
       of_break : Held h line 0 (trees_in f.body) → is_one_of (roots_at bound f line) h ≡ true
       of_break (k, j, st, same, at, (there, one)) =
@@ -249,7 +248,7 @@ module _ (bound : ℕ → Bool) (f : Function) where
               BreakIf n end,
               Root h (one_among (roots_at bound f (BreakIf n end)) h
                   (ap (λ o. is_one_of (option_map_or (break_at n end) o []) h) at
-                  ∙ (ap (λ b. is_one_of (if b then break_root st else []) h) (itself end end refl) ∙ is))),
+                  ∙ (ap (λ b. is_one_of (if b then break_root st else []) h) (eq-eqb end end refl) ∙ is))),
             )
 
         at_number : (n : ℕ) (o : Option StatementTree) → slice_get (trees_in f.body) n ≡ o →

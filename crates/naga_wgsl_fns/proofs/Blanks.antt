@@ -50,7 +50,7 @@ wants_after before after any = by before.want refl
     none None at fresh =
         let lies = λ (text : List ℕ). subst (λ o. HasAppended before.content before.failures text after.content
         after.failures o) at
-        (subst (λ o. AppendsUnlessFailed o before text after) fresh (any text).goes.0) in
+        (subst (λ o. AppendsUnlessFailed o before text after) fresh (any text).appends.0) in
         absurd (other before.content (sym (lies []).0 ∙ (lies (0 ∷ [])).0))
       where
         other : (content : List ℕ) → content ++ [] ≡ content ++ (0 ∷ []) → ⊥
@@ -63,14 +63,14 @@ wants_after before after any = by before.want refl
     by : (want : Option TypeTextError) → want ≡ before.want → is_some after.want ≡ true
     by None is = none after.want refl (sym is)
     by (Some want) is =
-        let same : after ≡ before = subst (λ o. AppendsUnlessFailed o before [] after) (sym is) (any []).goes.0 in
+        let same : after ≡ before = subst (λ o. AppendsUnlessFailed o before [] after) (sym is) (any []).appends.0 in
         ap (λ (o : OutputView). is_some o.want) same ∙ ap is_some (sym is)
 
 -- after a want nothing changes
 pub wanting_stays : (before after : OutputView) (text : List ℕ) → is_some before.want ≡ true →
     Wrote before after text → after ≡ before
 unfolding Appends
-wanting_stays before after text some w = by before.want some w.goes.0
+wanting_stays before after text some w = by before.want some w.appends.0
   where
     by : (want : Option TypeTextError) → is_some want ≡ true → AppendsUnlessFailed want before text after → after ≡ before
     by None some follows = absurd (cc)

@@ -84,7 +84,7 @@ module _ (ps : List Segment) (t : List ℕ) (known : known_text ps ≡ Some t) w
       → Wrote before after t
   unfolding AppendsSegments Appends
   known_wrote {refuses} {before} {after} w =
-      record { goes = (known_follows refuses before after before.want w.goes.0, w.goes.1) }
+      record { appends = (known_follows refuses before after before.want w.appends.0, w.appends.1) }
 
 -- a type that is told
 pub annotation_row : (f : FunctionText) (ty : TypeResolution) → annotation_text f ty

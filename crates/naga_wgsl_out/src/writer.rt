@@ -332,8 +332,8 @@ fn reset_for_wgsl(
     ensures namer { OnOk result (HasNamedBefore «module».now 0 namer.new) }
     ensures err { IfErr result (IsResetRefusal wgsl_names «module».now) }
 {
-    let reserved = reserved_words(alloc)?;
-    let builtin = builtin_words(alloc)?;
+    let reserved = reserved_words(alloc);
+    let builtin = builtin_words(alloc);
     namer.reset(
         module,
         reserved,

@@ -186,9 +186,9 @@ pub spells_then : {refuses : Bool} {before middle after : OutputView} {ps qs : L
     → SpelledSegments refuses before after (ps ++ qs)
 unfolding AppendsSegments
 spells_then {refuses} {before} {middle} {after} {ps} {qs} w v = record {
-  goes = (
-    follow_then refuses before after middle ps qs before.want refl w.goes.0 v.goes.0,
-    v.goes.1 ∙ w.goes.1,
+  appends = (
+    follow_then refuses before after middle ps qs before.want refl w.appends.0 v.appends.0,
+    v.appends.1 ∙ w.appends.1,
   );
 }
 
@@ -197,7 +197,7 @@ pub spells_any : {refuses : Bool} {before after : OutputView} {segments : List S
     → SpelledSegments false before after segments → SpelledSegments refuses before after segments
 unfolding AppendsSegments
 spells_any {refuses} {before} {after} {segments} w =
-    record { goes = (by before.want w.goes.0, w.goes.1) }
+    record { appends = (by before.want w.appends.0, w.appends.1) }
   where
     on : (want : Option TypeTextError) → HasAppendedSegments false segments before after want
         → HasAppendedSegments refuses segments before after want
@@ -220,10 +220,10 @@ pub spells_word : {refuses : Bool} {before after : OutputView} {word : List ℕ}
     → SpelledSegments refuses before after (Word word ∷ [])
 unfolding AppendsSegments Appends
 spells_word {refuses} {before} {after} {word} w = record {
-  goes = (
+  appends = (
     follow_one refuses before after (Word word) word (WordThen word NoSegments) refl before.want
-        w.goes.0,
-    w.goes.1,
+        w.appends.0,
+    w.appends.1,
   );
 }
 
@@ -231,10 +231,10 @@ pub spells_shown : {refuses : Bool} {before after : OutputView} {debug : List �
     → Wrote before after debug → SpelledSegments refuses before after (Shown ∷ [])
 unfolding AppendsSegments Appends
 spells_shown {refuses} {before} {after} {debug} w = record {
-  goes = (
+  appends = (
     follow_one refuses before after Shown debug (ShownThen debug NoSegments) refl before.want
-        w.goes.0,
-    w.goes.1,
+        w.appends.0,
+    w.appends.1,
   );
 }
 
@@ -259,7 +259,7 @@ spells_shown_then {refuses} {before} {middle} {after} w v =
 pub spells_nothing : {refuses : Bool} (before : OutputView) →
     SpelledSegments refuses before before []
 unfolding AppendsSegments
-spells_nothing {refuses} before = record { goes = (by before.want refl, refl) }
+spells_nothing {refuses} before = record { appends = (by before.want refl, refl) }
   where
     by : (want : Option TypeTextError) → want ≡ before.want
         → AppendsSegmentsUnlessFailed want refuses [] before before
@@ -271,7 +271,7 @@ spells_nothing {refuses} before = record { goes = (by before.want refl, refl) }
 pub spells_no_more : {refuses : Bool} (before : OutputView) (segments : List Segment)
     → is_some before.want ≡ true → SpelledSegments refuses before before segments
 unfolding AppendsSegments
-spells_no_more {refuses} before segments some = record { goes = (by before.want some, refl) }
+spells_no_more {refuses} before segments some = record { appends = (by before.want some, refl) }
   where
     by : (want : Option TypeTextError) → is_some want ≡ true
         → AppendsSegmentsUnlessFailed want refuses segments before before
@@ -285,7 +285,7 @@ stands_so : (refuses : Bool) (before after : OutputView) (segments : List Segmen
     SpelledSegments refuses before after segments
 unfolding AppendsSegments
 stands_so refuses before after segments fresh same stand =
-    record { goes = (by before.want fresh, same) }
+    record { appends = (by before.want fresh, same) }
   where
     by : (want : Option TypeTextError) → is_some want ≡ false
         → AppendsSegmentsUnlessFailed want refuses segments before after
@@ -331,7 +331,7 @@ from_fresh : (refuses : Bool) (start now : OutputView) (segments : List Segment)
 unfolding AppendsSegments
 from_fresh refuses start now segments w fresh want is =
     let follow : AppendsSegmentsUnlessFailed None refuses segments start now =
-    subst (λ o. AppendsSegmentsUnlessFailed o refuses segments start now) fresh w.goes.0 in
+    subst (λ o. AppendsSegmentsUnlessFailed o refuses segments start now) fresh w.appends.0 in
     subst (λ o. HasAppendedSegments refuses segments start now o) is follow
 
 module _ {refuses : Bool} {start now : OutputView} {segments : List Segment} where
@@ -367,7 +367,7 @@ module _ {refuses : Bool} {start now : OutputView} {segments : List Segment} whe
 
   pub spelled_sink : SpelledSegments refuses start now segments → now.sink ≡ start.sink
   unfolding AppendsSegments
-  spelled_sink w = w.goes.1
+  spelled_sink w = w.appends.1
 
 pub ruleset rows =
     (spells_then, spells_word_then, spells_shown_then, spells_word, spells_shown, spells_any)

@@ -50,7 +50,7 @@ pub writes_then : {before middle after : OutputView} {first more : List ℕ} →
     Wrote middle after more → Wrote before after (joined_texts first more)
 unfolding joined_texts Appends
 writes_then {before} {middle} {after} {first} {more} w v =
-    record { goes = (by before.want refl w.goes.0, v.goes.1 ∙ w.goes.1) }
+    record { appends = (by before.want refl w.appends.0, v.appends.1 ∙ w.appends.1) }
   where
     on : (want : Option TypeTextError) → want ≡ middle.want →
         HasAppended before.content before.failures first middle.content middle.failures want → AppendsUnlessFailed want middle more after
@@ -64,16 +64,16 @@ writes_then {before} {middle} {after} {first} {more} w v =
 
     by : (want : Option TypeTextError) → want ≡ before.want → AppendsUnlessFailed want before first middle →
         AppendsUnlessFailed want before (first ++ more) after
-    by None is follows = on middle.want refl follows v.goes.0
+    by None is follows = on middle.want refl follows v.appends.0
     by (Some want) is follows =
         let stays : AppendsUnlessFailed (Some want) middle more after =
-        subst (λ o. AppendsUnlessFailed o middle more after) (ap (λ (s : OutputView). s.want) follows ∙ sym is) v.goes.0 in
+        subst (λ o. AppendsUnlessFailed o middle more after) (ap (λ (s : OutputView). s.want) follows ∙ sym is) v.appends.0 in
         stays ∙ follows
 
 -- nothing is written
 pub writes_nothing : (before : OutputView) → Wrote before before []
 unfolding Appends
-writes_nothing before = record { goes = (by before.want refl, refl) }
+writes_nothing before = record { appends = (by before.want refl, refl) }
   where
     by : (want : Option TypeTextError) → want ≡ before.want → AppendsUnlessFailed want before [] before
     by None is = subst (λ o. HasAppended before.content before.failures [] before.content before.failures o) is
@@ -83,7 +83,7 @@ writes_nothing before = record { goes = (by before.want refl, refl) }
 -- after a want every text is written
 pub writes_no_more : (before : OutputView) (text : List ℕ) → is_some before.want ≡ true → Wrote before before text
 unfolding Appends
-writes_no_more before text some = record { goes = (by before.want some, refl) }
+writes_no_more before text some = record { appends = (by before.want some, refl) }
   where
     by : (want : Option TypeTextError) → is_some want ≡ true → AppendsUnlessFailed want before text before
     by None some = absurd (cc)
@@ -134,12 +134,12 @@ from_fresh : (start now : OutputView) (text : List ℕ) → Wrote start now text
     → HasAppended start.content start.failures text now.content now.failures want
 unfolding Appends
 from_fresh start now text w fresh want is =
-    let follows : AppendsUnlessFailed None start text now = subst (λ o. AppendsUnlessFailed o start text now) fresh w.goes.0 in
+    let follows : AppendsUnlessFailed None start text now = subst (λ o. AppendsUnlessFailed o start text now) fresh w.appends.0 in
     subst (λ o. HasAppended start.content start.failures text now.content now.failures o) is follows
 
 pub same_sink : (start now : OutputView) (text : List ℕ) → Wrote start now text → now.sink ≡ start.sink
 unfolding Appends
-same_sink start now text w = w.goes.1
+same_sink start now text w = w.appends.1
 
 pub content_whole : (start now : OutputView) (text : List ℕ) → Wrote start now text → start.want ≡ None →
     now.want ≡ None → now.content ≡ start.content ++ text

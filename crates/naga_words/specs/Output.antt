@@ -25,7 +25,8 @@ output_view text failures out = record {
   want = out.want;
 }
 
--- a failure of the sink has been counted, and there was a refusal only where there may be one
+-- the want fits: the sink is said to have failed only where a failure was counted, and a type to have
+-- no form only where that may be refused
 abbrev pub IsReason : (may_refuse : Type 0) (failed failures : ℕ) → TypeTextError → Type 0
 IsReason may_refuse failed failures (Sink Failed) = failed < failures
 IsReason may_refuse failed failures (Sink (SinkMemory error)) = ⊤
@@ -46,13 +47,15 @@ AppendsUnlessFailed None before text after =
     HasAppended before.content before.failures text after.content after.failures after.want
 AppendsUnlessFailed (Some want) before text after = after ≡ before
 
--- and the sink is the same
+-- What a call does that appends this text to an output: nothing after a want; else the sink holds the
+-- text, or a beginning of it with a want. The sink stays the same one.
 unfoldable pub Appends : (before : OutputView) (text : List ℕ) (after : OutputView) → Type 0
 Appends before text after = AppendsUnlessFailed before.want before text after × (after.sink ≡ before.sink)
 
--- A record of one opaque field: a search takes it whole, also where a call gives it of every text.
+-- The same as a record, so that the prover's search takes it whole, also where a call promises it of
+-- every text.
 pub record Wrote (before after : OutputView) (text : List ℕ) : Type 0 where
-  pub goes : Appends before text after
+  pub appends : Appends before text after
 
 -- The text is written to an output, or a beginning of it, up to a want, by what the output's sink
 -- shows of itself.
@@ -91,7 +94,7 @@ AppendsSegments refuses segments before after =
 
 pub record SpelledSegments (refuses : Bool) (before after : OutputView)
     (segments : List Segment) : Type 0 where
-  pub goes : AppendsSegments refuses segments before after
+  pub appends : AppendsSegments refuses segments before after
 
 -- The segments are written to an output, or a beginning of them, up to a want, which is a refusal
 -- only where the context refuses and a segment is missing.

@@ -64,7 +64,7 @@ impl<'a, W: TextSink> Output<'a, W> {
     }
 
     /// Remembers that there was no memory for what was to be written, whatever that is.
-    #[tactic(auto, using(crate::proofs::SegmentWriting::begun_at_once), unfolding(crate::specs::Output::SegmentsGo))]
+    #[tactic(auto, using(crate::proofs::SegmentWriting::begun_at_once), unfolding(crate::specs::Output::AppendsSegments))]
     pub fn remember(&mut self, error: AllocError)
         ensures text { (text : List ℕ) → Writes W.text W.failures self.old self.new text }
         ensures segments { (segments : List Segment) →
@@ -76,7 +76,7 @@ impl<'a, W: TextSink> Output<'a, W> {
     }
 
     /// Remembers that a segment was refused.
-    #[tactic(auto, using(crate::proofs::SegmentWriting::begun_at_once), unfolding(crate::specs::Output::SegmentsGo))]
+    #[tactic(auto, using(crate::proofs::SegmentWriting::begun_at_once), unfolding(crate::specs::Output::AppendsSegments))]
     pub(crate) fn refuse(&mut self)
         ensures { Spells W.text W.failures true self.old self.new (Missing ∷ []) }
     {

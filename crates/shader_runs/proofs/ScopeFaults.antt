@@ -36,14 +36,14 @@ use Rattle.shader_runs.proofs.ScopeRules.{tracks_after, tracks_turn, tracks_star
 use Rattle.shader_runs.proofs.ScopeRules.{scope_check_is_the_rules}
 
 -- ---- a fault breaks the rules
-each_at : (f : Function) (v : List IntroducedHandle) (xs : List ℕ) → EachInScope f v xs → (k h : ℕ) →
+pub each_at : (f : Function) (v : List IntroducedHandle) (xs : List ℕ) → EachInScope f v xs → (k h : ℕ) →
     slice_get xs k ≡ Some h → InScope f v h
 each_at f v [] no_handle k h e = absurd cc
 each_at f v (x ∷ xs) (and_handle d ds) zero h e = subst (InScope f v) (same_Some x h e) d
 each_at f v (x ∷ xs) (and_handle d ds) (suc k) h e = each_at f v xs ds k h e
 
 -- an Emit may give each of its handles after those in front of it
-emit_at : (f : Function) (first count i : ℕ) (at : ScopeState) → i < count → MayEmitEach f at (from first count) →
+pub emit_at : (f : Function) (first count i : ℕ) (at : ScopeState) → i < count → MayEmitEach f at (from first count) →
     MayEmit f (after_some f first i at) (first + i)
 emit_at f first zero i at l holds = absurd (omega (arith, l))
 emit_at f first (suc count) zero at l holds =
@@ -158,7 +158,7 @@ uses_emitted f at first count i j k h q l b e =
     emitted_operand i k l (subst (λ j. IsTrue (binds f j)) (sym q) b)
     (subst (λ j. slice_get (operands_of (expression_of f j)) k ≡ Some h) (sym q) e)
 
-gives_emitted : (f : Function) (at : ScopeState) (first count i j : ℕ) → first + i ≡ j → i < count →
+pub gives_emitted : (f : Function) (at : ScopeState) (first count i j : ℕ) → first + i ≡ j → i < count →
     IntroducesAt f at (Emit first count) (after_some f first i at) (Emitted j)
 gives_emitted f at first count i j q l =
     subst (λ j. IntroducesAt f at (Emit first count) (after_some f first i at) (Emitted j)) q (emitted i l)

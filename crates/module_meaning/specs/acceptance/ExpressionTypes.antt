@@ -141,7 +141,7 @@ expected_type m f known (expression.WorkGroupUniformLoadResult ty) = LikeThis (H
 expected_type m f known (expression.SubgroupOperationResult ty) = LikeThis (Handle ty)
 expected_type m f known _ = Anything
 
--- Is a type what is wanted?
+-- Is a type the expected one?
 abbrev pub is_expected : List Type_ → ExpectedType → TypeResolution → Bool
 is_expected types (LikeThis r) own = are_alike types own r
 is_expected types Anything own = true

@@ -4,7 +4,7 @@
 -- name is there is asked elsewhere; what is not there has no type here.
 --
 -- Throughout, types are the types of the module m, f is the function, known are the types of its
--- expressions by handle; r is what is known of an expression, wanted the type that is wanted, h a
+-- expressions by handle; r is what is known of an expression, expected the type that is expected, h a
 -- handle, x a value (xs are several), it a type by itself, a an argument, s a scalar or a
 -- statement, v and w values, cs the further cases and b the rest of a block. A statement may leave
 -- the nearest loop or switch by `break` if it breaks, and go on with the nearest loop's
@@ -44,11 +44,11 @@ use Rattle.module_meaning.specs.TypeParts.{known_pointee, points_to_atomic}
 
 -- ---- what is known of values
 
--- the expression's type is like the wanted one
+-- the expression's type is like the expected one
 abbrev pub value_has_type :
-    List Type_ → (known : List TypeResolution) → (h : ℕ) → (wanted : TypeResolution) → Bool
-value_has_type types known h wanted =
-    option_map_or (λ r. are_alike types r wanted) (slice_get known h) false
+    List Type_ → (known : List TypeResolution) → (h : ℕ) → (expected : TypeResolution) → Bool
+value_has_type types known h expected =
+    option_map_or (λ r. are_alike types r expected) (slice_get known h) false
 
 -- ---- conditions
 
@@ -131,7 +131,7 @@ is_selection types known h cs = operand_is types known (selection_fits cs) h
 -- the stored value is of the type of what is read there
 abbrev pub is_stored : List Type_ → (known : List TypeResolution) → (pointer value : ℕ) → Bool
 is_stored types known pointer value =
-    option_map_or (λ wanted. value_has_type types known value wanted)
+    option_map_or (λ expected. value_has_type types known value expected)
     (known_pointee types known pointer) false
 
 -- what is returned is of the result's type, and nothing is where there is no result

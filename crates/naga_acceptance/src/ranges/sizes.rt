@@ -63,7 +63,7 @@ fn entry_point_sizes_fault(
     None
 }
 
-/// The first place where there is not one entry for each function, entry point, expression and
+/// The first position where there is not one entry for each function, entry point, expression and
 /// global expression.
 pub(crate) fn sizes_fault(module: &Module, info: &ModuleInfo) -> Option<Unaccepted>
     ensures { result ≡ sizes_fault «module».now info.now }

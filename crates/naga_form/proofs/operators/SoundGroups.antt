@@ -16,7 +16,8 @@ use Rattle.naga_form.proofs.declarations.AcceptedGroups.{IsSoundGroup, functions
 use Rattle.naga_form.proofs.declarations.AcceptedGroups.{entry_points_are, declarations_are}
 use Rattle.naga_form.proofs.declarations.AcceptedGroups.{own_group}
 use Rattle.naga_form.proofs.operators.AgreeingUses.{IsIn}
-use Rattle.naga_form.proofs.ModulePlaces.{in_row, in_image}
+use Rattle.module_meaning.proofs.Lists.{in_row}
+use Rattle.naga_form.proofs.ModulePlaces.{in_image}
 
 -- where a group of functions comes from
 record IsOfFunctions (fs : List Function) (ess : List (List ExpressionInfo)) (g : Group) : Type 0 where

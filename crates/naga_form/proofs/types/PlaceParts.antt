@@ -52,7 +52,8 @@ use Rattle.naga_form.proofs.types.AlikeParts.{part_fits, FitPart, PartKind, NoKi
 use Rattle.naga_form.proofs.types.AlikeParts.{ComponentKind, MemberKind, kind_at, pointee_kind}
 use Rattle.naga_form.proofs.types.AlikeParts.{has_members, AlikePlaces, Same, OneKind, OneStruct}
 use Rattle.naga_form.proofs.types.AlikeParts.{alike_places}
-use Rattle.naga_form.proofs.ModulePlaces.{in_row, in_image}
+use Rattle.module_meaning.proofs.Lists.{in_row}
+use Rattle.naga_form.proofs.ModulePlaces.{in_image}
 use Rattle.naga_form.proofs.types.PointerParts.{points_as, own_word, part_points, are_elements}
 use Rattle.naga_form.proofs.types.PointerParts.{parts_of_kind, HasElements, has_elements, IsMember}
 use Rattle.naga_form.proofs.types.SameValues.{TypesAreCounted, IsFit, numbers_by_values}

@@ -30,7 +30,7 @@ use Rattle.module_meaning.specs.Types.{type_of_values}
 use Rattle.naga_form.proofs.declarations.AcceptedGroups.{IsSoundGroup}
 use Rattle.naga_form.proofs.operators.AgreeingSignatures.{signatures_agree}
 use Rattle.naga_form.proofs.operators.AgreeingUses.{IsIn, in_flat_map, value_at, value_is}
-use Rattle.naga_form.proofs.ModulePlaces.{in_row}
+use Rattle.module_meaning.proofs.Lists.{in_row}
 use Rattle.naga_form.proofs.operators.Signatures.{declared_for, by_part}
 use Rattle.naga_form.proofs.operators.SoundGroups.{groups_are}
 

@@ -74,9 +74,9 @@ fn probes_are_counted(rt: HostRuntime) {
 #[test]
 fn tables_make_their_sets(rt: HostRuntime) {
     let alloc = rt.alloc();
-    let reserved = reserved_words(alloc).expect(&rt, "memory");
+    let reserved = reserved_words(alloc);
     assert!(rt; reserved == set_of(&rt, alloc, RESERVED));
-    let builtin = builtin_words(alloc).expect(&rt, "memory");
+    let builtin = builtin_words(alloc);
     assert!(rt; builtin == set_of(&rt, alloc, BUILTIN_IDENTIFIERS));
     for word in RESERVED {
         assert!(rt; reserved.contains(*word));

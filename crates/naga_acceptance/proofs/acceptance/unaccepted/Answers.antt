@@ -20,27 +20,27 @@ returns-then-is_some-clause-fault c =
 
 pub returns-then-is_some-2-clause-accepted : goal.returns-then-is_some-2-clause-accepted
 returns-then-is_some-2-clause-accepted c =
-    accepted_wanted c.args.module.now c.args.info.now c.ranges_fault-named.result c.sound_fault-wanted.result
+    accepted_wanted c.args.module.now c.args.info.now c.ranges_fault-named.result c.sound_fault-unsound.result
     c.ranges_fault-named.ensures (sym c.is_some.ensures ∙ c.if-is_some.false)
-    c.sound_fault-wanted.ensures (sym c.is_some-2.ensures ∙ c.if-is_some-2.true)
+    c.sound_fault-unsound.ensures (sym c.is_some-2.ensures ∙ c.if-is_some-2.true)
 
 pub returns-then-is_some-2-clause-fault : goal.returns-then-is_some-2-clause-fault
 returns-then-is_some-2-clause-fault c =
     let m = c.args.module.now in
     let info = c.args.info.now in
     let named = c.ranges_fault-named.result in
-    let wanted = c.sound_fault-wanted.result in
+    let wanted = c.sound_fault-unsound.result in
     let none = sym c.is_some.ensures ∙ c.if-is_some.false in
-    told_first m info wanted (fails_wanted m info wanted c.sound_fault-wanted.ensures)
-    (first_wanted m info named wanted c.ranges_fault-named.ensures none c.sound_fault-wanted.ensures)
+    told_first m info wanted (fails_wanted m info wanted c.sound_fault-unsound.ensures)
+    (first_wanted m info named wanted c.ranges_fault-named.ensures none c.sound_fault-unsound.ensures)
     (typed_further m info named wanted c.ranges_fault-named.ensures none)
 
 pub returns-clause-accepted : goal.returns-clause-accepted
 returns-clause-accepted c =
-    accepted_operators c.args.module.now c.args.info.now c.ranges_fault-named.result c.sound_fault-wanted.result
+    accepted_operators c.args.module.now c.args.info.now c.ranges_fault-named.result c.sound_fault-unsound.result
     c.operators_fault.result
     c.ranges_fault-named.ensures (sym c.is_some.ensures ∙ c.if-is_some.false)
-    c.sound_fault-wanted.ensures (sym c.is_some-2.ensures ∙ c.if-is_some-2.false)
+    c.sound_fault-unsound.ensures (sym c.is_some-2.ensures ∙ c.if-is_some-2.false)
     c.operators_fault.ensures.agree
 
 pub returns-clause-fault : goal.returns-clause-fault
@@ -51,6 +51,6 @@ returns-clause-fault c =
     let found = c.operators_fault.result in
     let none = sym c.is_some.ensures ∙ c.if-is_some.false in
     told_first m info found (disagreement_fails m info found c.operators_fault.ensures.fault)
-    (first_operator m info named c.sound_fault-wanted.result found c.ranges_fault-named.ensures none
-    c.sound_fault-wanted.ensures (sym c.is_some-2.ensures ∙ c.if-is_some-2.false) c.operators_fault.ensures.fault)
+    (first_operator m info named c.sound_fault-unsound.result found c.ranges_fault-named.ensures none
+    c.sound_fault-unsound.ensures (sym c.is_some-2.ensures ∙ c.if-is_some-2.false) c.operators_fault.ensures.fault)
     (typed_further m info named found c.ranges_fault-named.ensures none)

@@ -6,7 +6,7 @@ use Rattle.module_meaning.specs.acceptance.AgreeingOperators.{groups_of}
 use Rattle.module_meaning.specs.acceptance.Operations.{all_agree}
 use Rattle.naga_acceptance.specs.declared.agreeing.TheConstants.{SLOTS}
 use Rattle.naga_acceptance.specs.Uses.{group_of, group_uses, part_uses}
-use Rattle.naga_acceptance.proofs.FirstUses.{past_end}
+use Rattle.naga_ir.proofs.Listed.{past_end}
 use Rattle.naga_acceptance.proofs.Remembering.{none_remembered, remembers_same}
 use Rattle.naga_acceptance.proofs.agreeing.part_disagreement.Goals as goal
 

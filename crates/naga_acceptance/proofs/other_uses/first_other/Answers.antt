@@ -5,7 +5,8 @@ use Rattle.module_meaning.specs.acceptance.AgreeingOperators.{groups_of}
 use Rattle.naga_acceptance.specs.FirstUses.{first_below, first_other_at, first_other_in}
 use Rattle.naga_acceptance.specs.OtherUses.{seen}
 use Rattle.naga_acceptance.specs.Uses.{group_of, operation}
-use Rattle.naga_acceptance.proofs.FirstUses.{found_within, none_next, past_end}
+use Rattle.naga_acceptance.proofs.FirstUses.{found_within, none_next}
+use Rattle.naga_ir.proofs.Listed.{past_end}
 use Rattle.naga_acceptance.proofs.other_uses.first_other.Goals as goal
 
 pub loop-group-init : goal.loop-group-init

@@ -2,6 +2,7 @@ use Rattle.std.proofs.Common.{◌≡◌, ◌∙◌, ◌++◌, ℕ, List, [], ◌
 use Rattle.std.proofs.lemmas.Iterator.{YieldsList-from_chars}
 use Rattle.std.proofs.lemmas.Iterator.Consumers.{YieldsList-at, YieldsList-end}
 use Rattle.std.proofs.lemmas.List.Concat.{flat_map-append}
+use Rattle.naga_names.proofs.Label.{same_items}
 use Rattle.naga_listing.specs.OneLine.{shown_char}
 use Rattle.naga_listing.proofs.one_line.on_one_line.Goals as goal
 
@@ -10,10 +11,6 @@ loop-c-preserved c =
     c.in_ok-push_shown.ensures ∙ (ap (λ bytes. bytes ++ shown_char c.in-Some.c) c.loop-c.invariant
     ∙ (ap (λ bytes. flat_map shown_char c.loop-c.yielded ++ bytes) (sym (append-nil (shown_char c.in-Some.c)))
     ∙ sym (flat_map-append shown_char c.loop-c.yielded (c.in-Some.c ∷ []))))
-
-same_items : (xs : List ℕ) → map (λ c. c) xs ≡ xs
-same_items [] = refl
-same_items (x ∷ xs) = ap (λ t. x ∷ t) (same_items xs)
 
 pub returns : goal.returns
 returns c =

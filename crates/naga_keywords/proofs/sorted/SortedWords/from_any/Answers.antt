@@ -6,7 +6,7 @@ use Rattle.naga_keywords.proofs.SetLemmas.{texts_of-take}
 use Rattle.naga_keywords.proofs.sorted.SortedWords.from_any.Goals as goal
 
 pub invariant_of-sorted : goal.invariant_of-sorted
-invariant_of-sorted c = none_sorted c.args.case _ c.in_ok-members.ensures.items
+invariant_of-sorted c = none_sorted c.args.case _ c.in_ok-with_capacity.ensures.items
 
 pub loop-word-preserved : goal.loop-word-preserved
 loop-word-preserved c =
