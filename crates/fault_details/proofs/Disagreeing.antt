@@ -5,7 +5,7 @@
 -- expressions that stand together (gs are several), v and w are uses (os are several), here and
 -- there their types, at is a position, f gives what there is of a number, n is a bound or a number
 -- below it, and i and k are places in lists.
-use Rattle.std.proofs.Common.{◌≡◌, ◌∙◌, ◌<◌, ◌+◌, ◌-◌, ◌==◌, ◌&&◌, ◌⊎◌, ℕ, zero, suc}
+use Rattle.std.proofs.Common.{◌≡◌, ◌∙◌, ◌<◌, ◌+◌, ◌-◌, ◌==◌, ◌&&◌, inl, inr, ◌⊎◌, ℕ, zero, suc}
 use Rattle.std.proofs.Common.{Bool, true, false, List, [], ◌∷◌, ◌++◌, length, map, Option, Some, None}
 use Rattle.std.proofs.Common.{IsSome, append-nil, arith, ap, is_some, option_and_then, option_map}
 use Rattle.std.proofs.Common.{option_to_list, refl, slice_get, subst, sym, true≢false, zip, ⊎_elim}
@@ -272,8 +272,7 @@ module _ (m : Module) (gs : List Group) (sized : (n : ℕ) (g : Group) → slice
           let found = one_fails (λ o. agrees o v) uses
           (sym (ap (λ b. b && list_all (λ o. agrees o v) uses) before) ∙ sym (agree_after uses v) ∙ fails) in (
             v,
-            is,
-            (found.1, of_earlier m.types gs number g index at found.0 found.1 found.2, found.3),
+            (is, (found.1, of_earlier m.types gs number g index at found.0 found.1 found.2, found.3)),
           )
 
   use_told : IsSome (other_use_in m gs g index)

@@ -40,14 +40,14 @@ use Rattle.fault_details.proofs.Disagreeing.{own_use, some_below, use_answer, us
 
 -- ---- the first of several
 
-module _ {X Y : Type 0} where
-  weaker : (P Q : X → Type 0) → ((x : X) → P x → Q x) → (o : Option X) → IfSome o P → IfSome o Q
-  weaker P Q gives None holds = tt
-  weaker P Q gives (Some x) holds = gives x holds
+weaker : {X : Type 0} (P Q : X → Type 0) → ((x : X) → P x → Q x) → (o : Option X) → IfSome o P → IfSome o Q
+weaker P Q gives None holds = tt
+weaker P Q gives (Some x) holds = gives x holds
 
-  of_mapped : (f : X → Y) (P : Y → Type 0) (o : Option X) → IfSome o (λ x. P (f x)) → IfSome (option_map f o) P
-  of_mapped f P None holds = tt
-  of_mapped f P (Some x) holds = holds
+of_mapped : {X Y : Type 0} (f : X → Y) (P : Y → Type 0) (o : Option X) → IfSome o (λ x. P (f x)) →
+    IfSome (option_map f o) P
+of_mapped f P None holds = tt
+of_mapped f P (Some x) holds = holds
 
 -- what is found below a bound is of a number below it, and nothing is of one before that
 abbrev IsLeast : {F : Type 0} → (ℕ → Option F) → (bound : ℕ) → (found : ℕ × F) → Type 0
@@ -202,15 +202,17 @@ module _ (m : Module) (info : ModuleInfo)
 
   -- what there is of an earlier use that does not agree
   earlier : IsSome (first_other_at m.types here.0 gs own.0 own.3.0)
+  unfolding here
   earlier =
       other_there m.types gs sized own.0 here.0 (use_answer m.types g (sized number g of) index own.0 own.1)
       number index own.2 own.3 own.4
 
-  IsOtherIn : Group → (k : ℕ) → Type 0
+  abbrev IsOtherIn : Group → (k : ℕ) → Type 0
   IsOtherIn g k = (e : Expression) × (slice_get g.expressions k ≡ Some e)
       × IsSome (other_type m.types here.0 g own.0 (0 + k) e)
 
   earlier_in : IsOtherIn own.3.1 own.3.2
+  unfolding here
   earlier_in =
       other_expression m.types gs sized own.0 here.0 (use_answer m.types g (sized number g of) index own.0 own.1)
       own.3.1 (sized own.3.0 own.3.1 own.3.3) own.3.2 own.2 own.3.4 own.4
