@@ -116,9 +116,30 @@ def lines_of(page):
             yield number, line
 
 
+# A line of a grammar, and after at least two blanks the definitions that have it.
+DEFINED = re.compile(r"\S.*?  +((?:[A-Za-z_]\w*)(?:, [A-Za-z_]\w*)*)$")
+
+
+def definitions_of(page):
+    """The names in the right column of a page's blocks of grammar, with the numbers of their lines."""
+    is_block = False
+    for number, line in enumerate(page.read_text().splitlines(), 1):
+        if line.startswith("```"):
+            is_block = not is_block
+        elif is_block and (found := DEFINED.match(line)):
+            yield from ((number, name) for name in found[1].split(", "))
+
+
 def main(pages):
     tree = Tree()
-    faults = [
+    of_grammar = [
+        (page, number, name)
+        for page in pages
+        if page.stem == "GRAMMAR"
+        for number, name in definitions_of(page)
+        if name not in tree.of_crate["wgsl_text"]
+    ]
+    faults = of_grammar + [
         (page, number, fault)
         for page in pages
         for number, line in lines_of(page)

@@ -33,7 +33,7 @@ LAYERS = [
         ("naga_names", "the namer"),
         ("naga_words", "sinks, spellings"),
         ("naga_back", "naga's helpers"),
-        ("naga_listing", "pictures of places"),
+        ("naga_listing", "lines around positions"),
     ]),
     ("numbers", CODE, [
         ("wgsl_layout", "WGSL's rules, by numbers"),
@@ -53,7 +53,7 @@ LAYERS = [
     ("the form", LAWS, [("naga_form", "which syntax tree is written for a module, and the laws of the square")]),
     ("the writer", CODE, [
         ("naga_acceptance", "accepts, count"),
-        ("fault_details", "what was wanted"),
+        ("fault_details", "what was expected"),
         ("naga_scope", "scope, plans"),
         ("naga_wgsl_fns", "texts of functions"),
         ("naga_wgsl_out", "texts of modules"),

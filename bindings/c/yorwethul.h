@@ -32,7 +32,7 @@ enum yorwethul_status {
 #define YORWETHUL_DEEPEST_NESTING 4000u
 
 /* flags */
-#define YORWETHUL_EXPLICIT_TYPES 1u /* each `let` tells its type */
+#define YORWETHUL_EXPLICIT_TYPES 1u /* each `let` states its type */
 #define YORWETHUL_PORTABLE 2u       /* the text has what standard compilers ask for, as `enable subgroups;` */
 #define YORWETHUL_TELL_FLOATS 4u    /* floats are written, by the digits that Rust gives them; else they are refused */
 

@@ -342,7 +342,8 @@ module _ (m : Module) (info : ModuleInfo)
       (in_row (function_groups m.functions info.functions.items) (further_groups_of m info) n g at)
 
   -- an operator that does not agree is told with a use
-  pub disagreement_told : (at : FaultPosition) → OperatorFails m info at → IsSome (option_map use_reason (other_use m info at))
+  pub disagreement_told : (at : FaultPosition) → OperatorFails m info at →
+      IsSome (option_map use_reason (other_use m info at))
   disagreement_told at fails = mapped use_reason (other_use m info at) (by (site_of m at) refl fails)
     where
       by : (site : Option (ℕ × ℕ)) → site_of m at ≡ site → DisagreesAt m info site → IsSome (other_use m info at)

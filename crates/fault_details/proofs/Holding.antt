@@ -258,7 +258,8 @@ module _ (m : Module) where
 
   type_holds : (known : List TypeResolution) (expected : TypeResolution) (h : ℕ) →
       Holds (type_reason m.types known expected h)
-  type_holds known expected h = then_holds (IsReason m) (unlike m.types expected) (unlike_holds expected) (slice_get known h)
+  type_holds known expected h = then_holds (IsReason m) (unlike m.types expected) (unlike_holds expected)
+      (slice_get known h)
 
   typeless_holds : (known : List TypeResolution) (own : TypeResolution) (e : Expression) →
       Holds (typeless_reason m.types known own e)
@@ -550,7 +551,8 @@ module _ (m : Module) where
         by None other = tt
         by (Some x) other = other
 
-    other_type_holds : (g : Group) (v : Operation) (h : ℕ) (e : Expression) → IfSome (other_type m.types here g v h e) IsOther
+    other_type_holds : (g : Group) (v : Operation) (h : ℕ) (e : Expression) →
+        IfSome (other_type m.types here g v h e) IsOther
     other_type_holds g v h e = by (option_map_or (λ w. is_same_operator w v) (expression_use m.types g.known h e) false)
       where
         by : (same : Bool) → IfSome (if same then option_and_then (unless_alike m.types here) (slice_get g.known h)

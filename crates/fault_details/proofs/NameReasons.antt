@@ -515,7 +515,8 @@ module _ (m : Module) (info : ModuleInfo) (fit : AreOfTheirTypes m) (numbered : 
   item_told (item.Function h place) kind of fails = function_at_told h place kind of fails
   item_told (item.EntryPoint h place) kind of fails = entry_point_told h place kind of fails
 
-  by_kind : (at : FaultPosition) (kind : Fault) → IsOfNames kind → FaultIs m info at kind → IsSome (reason_at m info kind at)
+  by_kind : (at : FaultPosition) (kind : Fault) → IsOfNames kind → FaultIs m info at kind →
+      IsSome (reason_at m info kind at)
   by_kind at fault.Disagreement of fails = absurd of
   by_kind at kind of fails = item_told at kind of fails
 

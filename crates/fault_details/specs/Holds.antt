@@ -1,6 +1,6 @@
--- What it means that a reason is one: types that are told are not alike, a class has not the type
--- that is told, or this has not the letter; the number of an item is not below how many there are,
--- or it is, and not below that of the item before which it is to stand; numbers that are told differ. Of a
+-- When a reason is right: the two types are not alike; the type is not of the class; the type has no
+-- component for the letter; the number of an item is not below how many there are, or it is, and is
+-- not below that of the item before which it is to stand; numbers that are told differ. Of a
 -- value that is not there or not expected, and of what a statement needs, nothing is said. And that
 -- each reason is one.
 --

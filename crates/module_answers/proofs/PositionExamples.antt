@@ -57,7 +57,8 @@ unfolding digits
 in_a_break_if = refl
 
 of_a_break_if :
-    json_refusal_position root.Member (Some (codes "break_if", None)) (refused.Function 0 (part.Scope (scope.BreakIf 1 4 41)))
+    json_refusal_position root.Member (Some (codes "break_if", None))
+    (refused.Function 0 (part.Scope (scope.BreakIf 1 4 41)))
     ≡ codes "module.functions[0].expressions[41], operand break_if of statement 1"
 unfolding digits
 of_a_break_if = refl

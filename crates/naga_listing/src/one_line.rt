@@ -5,8 +5,8 @@ ghost use Rattle.naga_listing.specs.OneLine.{escaped, on_one_line, shown_char};
 
 use std::alloc::{AllocError, Global};
 
-/// The text with each character escaped that controls, as a line break: `\n`, or where it has no
-/// letter by its number, `\u{7f}`. A label may have any character.
+/// The text with its control characters escaped: a line break as `\n`, and one without a letter by its
+/// number, as `\u{7f}`. A label may have any character.
 pub fn on_one_line(alloc: Global, text: &str) -> Result<String, AllocError>
     ensures { IfOk result (λ line. string_bytes line ≡ on_one_line text.now) }
 {

@@ -94,7 +94,8 @@ module _ (f : Function) (at : ScopeState) (first count : ℕ) where
       let c = b.1 in
       (b.0, (c.0, introduces_further c.0 (Emitted h) c.1, c.2))
 
-module _ (f : Function) (at : ScopeState) (s : Handles) (t : Tracks f at s) (st : Statement) (n : ℕ) (e : ScopeFault) where
+module _ (f : Function) (at : ScopeState) (s : Handles) (t : Tracks f at s) (st : Statement) (n : ℕ)
+    (e : ScopeFault) where
   abbrev Breaks : Type 0
   Breaks = BreaksWith f (record { at = at; statement = st }) n e
 
@@ -183,7 +184,8 @@ module _ (f : Naming) (e : ScopeFault) where
   exact n m j num small = num ∙ mod-eq_of_lt {n = m} {m = 2 ^ 64} (omega (arith, small))
 
   mutual
-    statement_breaks : (k n m : ℕ) (st : Statement) (at : ScopeState) (s : Handles) → Tracks f.function at s → IsNumber n m →
+    statement_breaks : (k n m : ℕ) (st : Statement) (at : ScopeState) (s : Handles) → Tracks f.function at s →
+        IsNumber n m →
         m + suc (length (inside f.function at st)) < 2 ^ 64 → check_statement f k n st s ≡ Err e →
         FirstAmong f.function m (record { at = at; statement = st } ∷ inside f.function at st) e
     statement_breaks k n m (Emit first count) at s t num small is =

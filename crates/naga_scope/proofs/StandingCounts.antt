@@ -41,7 +41,8 @@ module _ (f : Function) (a : ExpressionContext) where
         ∙ (ap₂ (λ i j. i + j) (block_count x at) (block_count y there)
         ∙ sym (length-append (trees_in x) (trees_in y)))
 
-    block_count : (b : BlockTree) (at : ScopeState) → length (standing f at (statements_shape a b)) ≡ length (trees_in b)
+    block_count : (b : BlockTree) (at : ScopeState) → length (standing f at (statements_shape a b))
+        ≡ length (trees_in b)
     block_count no_statements at = refl
     block_count (statement st b) at =
         let there = following f (statement_shape a st) at in

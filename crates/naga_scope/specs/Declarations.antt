@@ -72,7 +72,8 @@ Each {X} xs HasForm = (i : ℕ) (x : X) → slice_get xs i ≡ Some x → HasFor
 abbrev pub EachBefore : {X : Type 0} → List X → (n : ℕ) → (HasForm : (i : ℕ) → X → Type 0) → Type 0
 EachBefore {X} xs n HasForm = (i : ℕ) (x : X) → i < n → slice_get xs i ≡ Some x → HasForm i x
 
--- Each item of a list has a form, or the first that has none is told so, by its place.
+-- What a search finds in a list: nothing where each item has a form, else what has none in the first
+-- item without one, by that item's index.
 abbrev pub Finds : {X F : Type 0} → List X → (HasForm : (i : ℕ) → X → Type 0) →
     (IsUnsupportedItem : (i : ℕ) → X → F → Type 0) → Option F → Type 0
 Finds xs HasForm IsUnsupportedItem None = Each xs HasForm

@@ -186,9 +186,9 @@ pub record IsFirstInText (explicit : Bool) (m : Module) (info : ModuleInfo) (f :
       ComesBefore line kind (line_of error) (kind_of error) →
       NothingAt explicit m info f es kind line
 
--- A function is looked at by the labels that front ends gave in it, and then in the order of its
--- text. All that is looked at before this error is found is without one; of the labels Labelled says
--- it. In front of a label without a name, and of want of memory, nothing is told.
+-- Of a function first the labels are looked at that front ends gave in it, then its lines in the order
+-- of the text. Nothing that is looked at before this error has one; that the labels have none is the
+-- premise Labelled. Where the error is a label's or memory's, nothing is said of what comes before it.
 abbrev pub IsFirstToPlan : (Labelled : Type 0) → (explicit : Bool) → Module → ModuleInfo →
     ir.Function → List ExpressionInfo → PlanError → Type 0
 IsFirstToPlan Labelled explicit m info f es (Unnamed error) = ⊤

@@ -64,7 +64,8 @@ fn is_before_number(number: usize, other: Line) -> bool
 }
 
 /// Whether the `break if` of the loop with this number, after which the statement with the number
-/// `next` would stand, stands before the line. Of two at one place that of the inner loop does.
+/// `next` would stand, stands before the line. Of two with the same `next` the one of the inner
+/// loop does.
 fn is_next_before(number: usize, next: usize, other: Line) -> bool
     ensures { result ≡ is_before (BreakIf number next) other }
 {

@@ -6,7 +6,7 @@ use Rattle.std.specs.Option.{is_some}
 use Rattle.std.specs.String.Boundary.{IsSplitPoint}
 use Rattle.naga_back.specs.Indentation.{indentation}
 use Rattle.naga_words.specs.declared.error.TypeTextError.{TypeTextError}
-use Rattle.naga_words.specs.Output.{AppendsUnlessFailed, Appends, HasAppended, OutputView, Wrote}
+use Rattle.naga_words.specs.Output.{AppendsUnlessWanting, AppendsText, HasAppended, OutputView, Wrote}
 
 pub indentation_length : (n : ℕ) → length (indentation n) ≡ 4 * n
 indentation_length zero = refl
@@ -42,7 +42,7 @@ cut_within n m le =
 
 -- what wrote any text wants something
 pub wants_after : (before after : OutputView) → ((text : List ℕ) → Wrote before after text) → is_some after.want ≡ true
-unfolding Appends
+unfolding AppendsText
 wants_after before after any = by before.want refl
   where
     none : (want : Option TypeTextError) → after.want ≡ want → before.want ≡ None → is_some want ≡ true
@@ -50,7 +50,7 @@ wants_after before after any = by before.want refl
     none None at fresh =
         let lies = λ (text : List ℕ). subst (λ o. HasAppended before.content before.failures text after.content
         after.failures o) at
-        (subst (λ o. AppendsUnlessFailed o before text after) fresh (any text).appends.0) in
+        (subst (λ o. AppendsUnlessWanting o before text after) fresh (any text).appends.0) in
         absurd (other before.content (sym (lies []).0 ∙ (lies (0 ∷ [])).0))
       where
         other : (content : List ℕ) → content ++ [] ≡ content ++ (0 ∷ []) → ⊥
@@ -63,16 +63,17 @@ wants_after before after any = by before.want refl
     by : (want : Option TypeTextError) → want ≡ before.want → is_some after.want ≡ true
     by None is = none after.want refl (sym is)
     by (Some want) is =
-        let same : after ≡ before = subst (λ o. AppendsUnlessFailed o before [] after) (sym is) (any []).appends.0 in
+        let same : after ≡ before = subst (λ o. AppendsUnlessWanting o before [] after) (sym is) (any []).appends.0 in
         ap (λ (o : OutputView). is_some o.want) same ∙ ap is_some (sym is)
 
 -- after a want nothing changes
 pub wanting_stays : (before after : OutputView) (text : List ℕ) → is_some before.want ≡ true →
     Wrote before after text → after ≡ before
-unfolding Appends
+unfolding AppendsText
 wanting_stays before after text some w = by before.want some w.appends.0
   where
-    by : (want : Option TypeTextError) → is_some want ≡ true → AppendsUnlessFailed want before text after → after ≡ before
+    by : (want : Option TypeTextError) → is_some want ≡ true → AppendsUnlessWanting want before text after →
+        after ≡ before
     by None some follows = absurd (cc)
     by (Some want) some follows = follows
 

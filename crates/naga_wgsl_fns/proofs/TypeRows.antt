@@ -24,7 +24,9 @@ use Rattle.naga_form.specs.TypeTrees.{resolution_tree}
 use Rattle.naga_words.specs.declared.error.TypeTextError.{TypeTextError}
 use Rattle.wgsl_text.specs.Reading.{type_layout}
 use Rattle.module_meaning.specs.Names.{HasNamesOf, module_names}
-use Rattle.naga_words.specs.Output.{AppendsUnlessFailed, Appends, HasAppended, AppendsSegmentsUnlessFailed, AppendsSegments, HasAppendedSegments}
+use Rattle.naga_words.specs.Output.{AppendsUnlessWanting, AppendsText, HasAppended}
+use Rattle.naga_words.specs.Output.{AppendsSegmentsUnlessWanting, AppendsSegments}
+use Rattle.naga_words.specs.Output.{HasAppendedSegments}
 use Rattle.naga_words.specs.Output.{OutputView}
 use Rattle.naga_words.specs.Output.{SpelledSegments, Wrote, joined_texts}
 use Rattle.naga_wgsl_fns.specs.declared.functions.FunctionText.{FunctionText}
@@ -75,14 +77,14 @@ module _ (ps : List Segment) (t : List ℕ) (known : known_text ps ≡ Some t) w
           reason_as (λ refused. lacks_nothing refused.1) before.failures after.failures want lies.1,
         )
 
-    known_follows : (want : Option TypeTextError) → AppendsSegmentsUnlessFailed want refuses ps before after
-        → AppendsUnlessFailed want before t after
+    known_follows : (want : Option TypeTextError) → AppendsSegmentsUnlessWanting want refuses ps before after
+        → AppendsUnlessWanting want before t after
     known_follows None follow = known_lies after.want follow
     known_follows (Some want) follow = follow
 
   pub known_wrote : {refuses : Bool} {before after : OutputView} → SpelledSegments refuses before after ps
       → Wrote before after t
-  unfolding AppendsSegments Appends
+  unfolding AppendsSegments AppendsText
   known_wrote {refuses} {before} {after} w =
       record { appends = (known_follows refuses before after before.want w.appends.0, w.appends.1) }
 

@@ -40,8 +40,8 @@ is_want (plan_error.Unnamed error) = is_names_want error
 is_want (plan_error.Memory e) = true
 is_want _ = false
 
--- the function with this number has no plan where the namer was this: for a construct at a part of
--- it, which is the first in the order of the text
+-- With this namer the function with this number has no plan, for the first construct in the order of
+-- the text, which stands at this part of the function.
 pub record IsRefusedFor (explicit : Bool) (m : Module) (info : ModuleInfo) (number : ℕ)
     (namer : Names) (it : Construct) (at : FunctionRefusalPosition) : Type 0 where
   pub error : PlanError

@@ -1,5 +1,5 @@
--- What holds of all that a module can be refused for: what is told is a refusal, and the first
--- stands in one place.
+-- What holds of all that a module can be refused for: where something stands the module is refused,
+-- and all that is the first stands at one position.
 --
 -- Throughout, m is the module, info what is known of it, explicit says whether `let`s tell types,
 -- and one and other are refusals.

@@ -31,7 +31,7 @@ pub record LeavesOnError (flags : WriterFlags) (m : Module) (info : ModuleInfo) 
   -- found
   pub told : TellsOfModule error → TellsFirst (annotates_types flags) m info error
 
--- the call gave this answer; its text, where it wrote the module, is told apart from this
+-- what holds after this answer; of a call that wrote the module, another definition has the text
 abbrev pub Leaves : WriterFlags → Module → ModuleInfo → Result Unit Error →
     (content now : List ℕ) → (before after : ℕ) → Type 0
 Leaves flags m info (Ok _) content now before after = after ≡ before

@@ -94,8 +94,8 @@ StandsAtPart explicit m info number f known part.Labels it =
 abbrev pub LabelsGetNamesIn : Module → (number : ℕ) → Type 0
 LabelsGetNamesIn m number = ExpressionNamesAreFullIn m (labels_before m number) number → ⊥
 
--- so it is with a function that there is, and nothing in front of it in the order of the text keeps
--- the function from having a plan
+-- The construct stands at this part of the function with this number, and nothing that is looked at
+-- before it keeps the function from having a plan.
 pub record StandsInFunction (explicit : Bool) (m : Module) (info : ModuleInfo) (number : ℕ)
     (found : Construct × FunctionRefusalPosition) : Type 0 where
   pub function : Function

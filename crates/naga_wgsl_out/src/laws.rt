@@ -8,8 +8,8 @@ pub fn texts_are_equal()
     ensures { TextsAreEqual }
 {}
 
-/// Where something stands for which a module is refused, it isn't so that nothing is refused: so
-/// [`unwritable`](crate::wgsl::unwritable) answers `None` exactly where nothing stands.
+/// Where a construct stands for which a module is refused, `NothingIsRefused` does not hold. So
+/// [`unwritable`](crate::wgsl::unwritable) answers `None` exactly where none stands.
 pub fn refusals_refuse()
     ensures { RefusalsRefuse }
 {}

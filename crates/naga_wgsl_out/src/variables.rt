@@ -79,7 +79,7 @@ fn write_var<W: TextSink>(
     write_value(alloc, text, variable.init, out);
 }
 
-/// Where a variable is bound, if it is, and a line end after that.
+/// The group and the number of a variable's binding, if it has one, and a line end after that.
 #[tactic(auto, using(naga_words::proofs::Writing::writes_nothing, crate::proofs::VariableRows::unbound_row))]
 fn write_resource<W: TextSink>(binding: Option<ResourceBinding>, out: &mut Output<'_, W>)
     ensures { Writes W.text W.failures out.old out.new (resource_text binding) }

@@ -3,7 +3,8 @@ use Rattle.std.proofs.Common.{◌≡◌, ℕ, ◌<◌, true, false, Bool, List, 
 use Rattle.std.proofs.Common.{Option, Some, None, append_assoc, refl, sym, ap, subst, ◌∙◌}
 use Rattle.std.specs.Option.{is_some}
 use Rattle.std.proofs.lemmas.List.{append-nil}
-use Rattle.naga_words.specs.Output.{AppendsUnlessFailed, Appends, IsReason, HasAppended, AppendsSegmentsUnlessFailed, AppendsSegments}
+use Rattle.naga_words.specs.Output.{AppendsUnlessWanting, AppendsText, IsReason, HasAppended}
+use Rattle.naga_words.specs.Output.{AppendsSegmentsUnlessWanting, AppendsSegments}
 use Rattle.naga_words.specs.Output.{HasAppendedSegments}
 use Rattle.naga_words.specs.Output.{OutputView, SpelledSegments}
 use Rattle.naga_words.specs.Output.{Wrote}
@@ -134,7 +135,7 @@ module _ (refuses : Bool) (before after : OutputView) where
     )
 
     after_middle : (want : Option TypeTextError) → want ≡ middle.want
-        → HasAppendedSegments refuses ps before middle want → AppendsSegmentsUnlessFailed want refuses qs middle after
+        → HasAppendedSegments refuses ps before middle want → AppendsSegmentsUnlessWanting want refuses qs middle after
         → HasAppendedSegments refuses (ps ++ qs) before after after.want
     after_middle None is stand follow = after_whole after.want stand.0 stand.1 follow
     after_middle (Some want) is stand follow =
@@ -142,13 +143,13 @@ module _ (refuses : Bool) (before after : OutputView) where
         (subst (λ o. HasAppendedSegments refuses (ps ++ qs) before middle o) is (after_segment want stand))
 
     follow_then : (want : Option TypeTextError) → want ≡ before.want
-        → AppendsSegmentsUnlessFailed want refuses ps before middle
-        → AppendsSegmentsUnlessFailed middle.want refuses qs middle after
-        → AppendsSegmentsUnlessFailed want refuses (ps ++ qs) before after
+        → AppendsSegmentsUnlessWanting want refuses ps before middle
+        → AppendsSegmentsUnlessWanting middle.want refuses qs middle after
+        → AppendsSegmentsUnlessWanting want refuses (ps ++ qs) before after
     follow_then None is first more = after_middle middle.want refl first more
     follow_then (Some want) is first more =
-        let stays : AppendsSegmentsUnlessFailed (Some want) refuses qs middle after =
-        subst (λ o. AppendsSegmentsUnlessFailed o refuses qs middle after)
+        let stays : AppendsSegmentsUnlessWanting (Some want) refuses qs middle after =
+        subst (λ o. AppendsSegmentsUnlessWanting o refuses qs middle after)
         (ap (λ (s : OutputView). s.want) first ∙ sym is)
         more in
         stays ∙ first
@@ -176,8 +177,8 @@ module _ (refuses : Bool) (before after : OutputView) where
       reason_as (λ none. absurd none) before.failures after.failures want lies.1,
     )
 
-    follow_one : (want : Option TypeTextError) → AppendsUnlessFailed want before text after
-        → AppendsSegmentsUnlessFailed want refuses (segment ∷ []) before after
+    follow_one : (want : Option TypeTextError) → AppendsUnlessWanting want before text after
+        → AppendsSegmentsUnlessWanting want refuses (segment ∷ []) before after
     follow_one None follows = stands after.want follows
     follow_one (Some want) follows = follows
 
@@ -210,15 +211,15 @@ spells_any {refuses} {before} {after} {segments} w =
         none : false ≡ true → ⊥
         none e = cc
 
-    by : (want : Option TypeTextError) → AppendsSegmentsUnlessFailed want false segments before after
-        → AppendsSegmentsUnlessFailed want refuses segments before after
+    by : (want : Option TypeTextError) → AppendsSegmentsUnlessWanting want false segments before after
+        → AppendsSegmentsUnlessWanting want refuses segments before after
     by None follow = on after.want follow
     by (Some want) follow = follow
 
 -- a word, or a debug text
 pub spells_word : {refuses : Bool} {before after : OutputView} {word : List ℕ} → Wrote before after word
     → SpelledSegments refuses before after (Word word ∷ [])
-unfolding AppendsSegments Appends
+unfolding AppendsSegments AppendsText
 spells_word {refuses} {before} {after} {word} w = record {
   appends = (
     follow_one refuses before after (Word word) word (WordThen word NoSegments) refl before.want
@@ -229,7 +230,7 @@ spells_word {refuses} {before} {after} {word} w = record {
 
 pub spells_shown : {refuses : Bool} {before after : OutputView} {debug : List ℕ}
     → Wrote before after debug → SpelledSegments refuses before after (Shown ∷ [])
-unfolding AppendsSegments Appends
+unfolding AppendsSegments AppendsText
 spells_shown {refuses} {before} {after} {debug} w = record {
   appends = (
     follow_one refuses before after Shown debug (ShownThen debug NoSegments) refl before.want
@@ -262,7 +263,7 @@ unfolding AppendsSegments
 spells_nothing {refuses} before = record { appends = (by before.want refl, refl) }
   where
     by : (want : Option TypeTextError) → want ≡ before.want
-        → AppendsSegmentsUnlessFailed want refuses [] before before
+        → AppendsSegmentsUnlessWanting want refuses [] before before
     by None is = subst (λ o. HasAppendedSegments refuses [] before before o) is
         (record { text = []; is_text = NoSegments; following = sym (append-nil before.content) }, refl)
     by (Some want) is = refl
@@ -274,7 +275,7 @@ unfolding AppendsSegments
 spells_no_more {refuses} before segments some = record { appends = (by before.want some, refl) }
   where
     by : (want : Option TypeTextError) → is_some want ≡ true
-        → AppendsSegmentsUnlessFailed want refuses segments before before
+        → AppendsSegmentsUnlessWanting want refuses segments before before
     by None some = absurd (cc)
     by (Some want) some = refl
 
@@ -288,7 +289,7 @@ stands_so refuses before after segments fresh same stand =
     record { appends = (by before.want fresh, same) }
   where
     by : (want : Option TypeTextError) → is_some want ≡ false
-        → AppendsSegmentsUnlessFailed want refuses segments before after
+        → AppendsSegmentsUnlessWanting want refuses segments before after
     by None none = stand
     by (Some want) none = absurd (cc)
 
@@ -330,8 +331,8 @@ from_fresh : (refuses : Bool) (start now : OutputView) (segments : List Segment)
     → HasAppendedSegments refuses segments start now want
 unfolding AppendsSegments
 from_fresh refuses start now segments w fresh want is =
-    let follow : AppendsSegmentsUnlessFailed None refuses segments start now =
-    subst (λ o. AppendsSegmentsUnlessFailed o refuses segments start now) fresh w.appends.0 in
+    let follow : AppendsSegmentsUnlessWanting None refuses segments start now =
+    subst (λ o. AppendsSegmentsUnlessWanting o refuses segments start now) fresh w.appends.0 in
     subst (λ o. HasAppendedSegments refuses segments start now o) is follow
 
 module _ {refuses : Bool} {start now : OutputView} {segments : List Segment} where

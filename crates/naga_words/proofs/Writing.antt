@@ -7,7 +7,8 @@ use Rattle.std.proofs.lemmas.List.{append-nil}
 use Rattle.naga_words.specs.Sink.{IsAfter}
 use Rattle.naga_words.specs.declared.error.TypeTextError.{TypeTextError}
 use Rattle.naga_words.specs.declared.error.TypeTextError.TheVariants.{NoForm}
-use Rattle.naga_words.specs.Output.{OutputView, IsReason, HasAppended, AppendsUnlessFailed, Appends, Wrote, joined_texts}
+use Rattle.naga_words.specs.Output.{OutputView, IsReason, HasAppended, AppendsUnlessWanting, AppendsText}
+use Rattle.naga_words.specs.Output.{Wrote, joined_texts}
 
 -- ---- rows
 -- a beginning of the first text is a beginning of both
@@ -48,12 +49,13 @@ after_segment content failed text more middle after want lies is same =
 
 pub writes_then : {before middle after : OutputView} {first more : List ℕ} → Wrote before middle first →
     Wrote middle after more → Wrote before after (joined_texts first more)
-unfolding joined_texts Appends
+unfolding joined_texts AppendsText
 writes_then {before} {middle} {after} {first} {more} w v =
     record { appends = (by before.want refl w.appends.0, v.appends.1 ∙ w.appends.1) }
   where
     on : (want : Option TypeTextError) → want ≡ middle.want →
-        HasAppended before.content before.failures first middle.content middle.failures want → AppendsUnlessFailed want middle more after
+        HasAppended before.content before.failures first middle.content middle.failures want →
+        AppendsUnlessWanting want middle more after
         → HasAppended before.content before.failures (first ++ more) after.content after.failures
         after.want
     on None is lies follows =
@@ -62,30 +64,31 @@ writes_then {before} {middle} {after} {first} {more} w v =
     on (Some want) is lies follows = after_segment before.content before.failures first more middle after want
         lies (sym is) follows
 
-    by : (want : Option TypeTextError) → want ≡ before.want → AppendsUnlessFailed want before first middle →
-        AppendsUnlessFailed want before (first ++ more) after
+    by : (want : Option TypeTextError) → want ≡ before.want → AppendsUnlessWanting want before first middle →
+        AppendsUnlessWanting want before (first ++ more) after
     by None is follows = on middle.want refl follows v.appends.0
     by (Some want) is follows =
-        let stays : AppendsUnlessFailed (Some want) middle more after =
-        subst (λ o. AppendsUnlessFailed o middle more after) (ap (λ (s : OutputView). s.want) follows ∙ sym is) v.appends.0 in
+        let stays : AppendsUnlessWanting (Some want) middle more after =
+        subst (λ o. AppendsUnlessWanting o middle more after) (ap (λ (s : OutputView). s.want) follows ∙ sym is)
+        v.appends.0 in
         stays ∙ follows
 
 -- nothing is written
 pub writes_nothing : (before : OutputView) → Wrote before before []
-unfolding Appends
+unfolding AppendsText
 writes_nothing before = record { appends = (by before.want refl, refl) }
   where
-    by : (want : Option TypeTextError) → want ≡ before.want → AppendsUnlessFailed want before [] before
+    by : (want : Option TypeTextError) → want ≡ before.want → AppendsUnlessWanting want before [] before
     by None is = subst (λ o. HasAppended before.content before.failures [] before.content before.failures o) is
         (sym (append-nil before.content), refl)
     by (Some want) is = refl
 
 -- after a want every text is written
 pub writes_no_more : (before : OutputView) (text : List ℕ) → is_some before.want ≡ true → Wrote before before text
-unfolding Appends
+unfolding AppendsText
 writes_no_more before text some = record { appends = (by before.want some, refl) }
   where
-    by : (want : Option TypeTextError) → is_some want ≡ true → AppendsUnlessFailed want before text before
+    by : (want : Option TypeTextError) → is_some want ≡ true → AppendsUnlessWanting want before text before
     by None some = absurd (cc)
     by (Some want) some = refl
 
@@ -132,13 +135,14 @@ pub ruleset loop_writes = (leaves_start, leaves_more, leaves_none, leaves_wantin
 from_fresh : (start now : OutputView) (text : List ℕ) → Wrote start now text → start.want ≡ None →
     (want : Option TypeTextError) → now.want ≡ want
     → HasAppended start.content start.failures text now.content now.failures want
-unfolding Appends
+unfolding AppendsText
 from_fresh start now text w fresh want is =
-    let follows : AppendsUnlessFailed None start text now = subst (λ o. AppendsUnlessFailed o start text now) fresh w.appends.0 in
+    let follows : AppendsUnlessWanting None start text now =
+    subst (λ o. AppendsUnlessWanting o start text now) fresh w.appends.0 in
     subst (λ o. HasAppended start.content start.failures text now.content now.failures o) is follows
 
 pub same_sink : (start now : OutputView) (text : List ℕ) → Wrote start now text → now.sink ≡ start.sink
-unfolding Appends
+unfolding AppendsText
 same_sink start now text w = w.appends.1
 
 pub content_whole : (start now : OutputView) (text : List ℕ) → Wrote start now text → start.want ≡ None →

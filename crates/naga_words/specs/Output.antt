@@ -25,8 +25,8 @@ output_view text failures out = record {
   want = out.want;
 }
 
--- the want fits: the sink is said to have failed only where a failure was counted, and a type to have
--- no form only where that may be refused
+-- the want fits: the sink is said to have failed only where a failure was counted, and a type to
+-- have no form only where that may be refused
 abbrev pub IsReason : (may_refuse : Type 0) (failed failures : ℕ) → TypeTextError → Type 0
 IsReason may_refuse failed failures (Sink Failed) = failed < failures
 IsReason may_refuse failed failures (Sink (SinkMemory error)) = ⊤
@@ -41,21 +41,22 @@ HasAppended content failed text now failures (Some want) =
     IsAfter content text now × IsReason ⊥ failed failures want
 
 -- after a want nothing is done
-abbrev pub AppendsUnlessFailed : Option TypeTextError →
+abbrev pub AppendsUnlessWanting : Option TypeTextError →
     (before : OutputView) (text : List ℕ) (after : OutputView) → Type 0
-AppendsUnlessFailed None before text after =
+AppendsUnlessWanting None before text after =
     HasAppended before.content before.failures text after.content after.failures after.want
-AppendsUnlessFailed (Some want) before text after = after ≡ before
+AppendsUnlessWanting (Some want) before text after = after ≡ before
 
--- What a call does that appends this text to an output: nothing after a want; else the sink holds the
--- text, or a beginning of it with a want. The sink stays the same one.
-unfoldable pub Appends : (before : OutputView) (text : List ℕ) (after : OutputView) → Type 0
-Appends before text after = AppendsUnlessFailed before.want before text after × (after.sink ≡ before.sink)
+-- What a call does that appends this text to an output: nothing after a want; else the sink holds
+-- the text, or a beginning of it with a want. The sink stays the same one.
+unfoldable pub AppendsText : (before : OutputView) (text : List ℕ) (after : OutputView) → Type 0
+AppendsText before text after =
+    AppendsUnlessWanting before.want before text after × (after.sink ≡ before.sink)
 
--- The same as a record, so that the prover's search takes it whole, also where a call promises it of
--- every text.
+-- The same as a record, so that the prover's search takes it whole, also where a call promises it
+-- of every text.
 pub record Wrote (before after : OutputView) (text : List ℕ) : Type 0 where
-  pub appends : Appends before text after
+  pub appends : AppendsText before text after
 
 -- The text is written to an output, or a beginning of it, up to a want, by what the output's sink
 -- shows of itself.
@@ -71,7 +72,8 @@ joined_texts first more = first ++ more
 
 -- ---- the same of a text in segments, of which a context that refuses may refuse one
 -- with no want a text of the segments stands after what was held; with one, a beginning of one
-abbrev pub HasAppendedSegments : (refuses : Bool) (segments : List Segment) (before after : OutputView)
+abbrev pub HasAppendedSegments : (refuses : Bool) (segments : List Segment)
+    (before after : OutputView)
     → Option TypeTextError → Type 0
 HasAppendedSegments refuses segments before after None =
     HasWritten segments before.content after.content × (after.failures ≡ before.failures)
@@ -80,17 +82,18 @@ HasAppendedSegments refuses segments before after (Some want) =
     IsReason (IsRefused refuses segments) before.failures after.failures want
 
 -- after a want nothing is done
-abbrev pub AppendsSegmentsUnlessFailed : Option TypeTextError → (refuses : Bool) (segments : List Segment)
-    → (before after : OutputView) → Type 0
-AppendsSegmentsUnlessFailed None refuses segments before after =
+abbrev pub AppendsSegmentsUnlessWanting : Option TypeTextError → (refuses : Bool)
+    (segments : List Segment) → (before after : OutputView) → Type 0
+AppendsSegmentsUnlessWanting None refuses segments before after =
     HasAppendedSegments refuses segments before after after.want
-AppendsSegmentsUnlessFailed (Some want) refuses segments before after = after ≡ before
+AppendsSegmentsUnlessWanting (Some want) refuses segments before after = after ≡ before
 
 -- and the sink is the same
-unfoldable pub AppendsSegments : (refuses : Bool) (segments : List Segment) (before after : OutputView) →
-    Type 0
+unfoldable pub AppendsSegments : (refuses : Bool) (segments : List Segment)
+    (before after : OutputView) → Type 0
 AppendsSegments refuses segments before after =
-    AppendsSegmentsUnlessFailed before.want refuses segments before after × (after.sink ≡ before.sink)
+    AppendsSegmentsUnlessWanting before.want refuses segments before after
+    × (after.sink ≡ before.sink)
 
 pub record SpelledSegments (refuses : Bool) (before after : OutputView)
     (segments : List Segment) : Type 0 where

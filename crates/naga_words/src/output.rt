@@ -51,7 +51,7 @@ impl<'a, W: TextSink> Output<'a, W> {
     }
 
     /// Writes a piece of text.
-    #[tactic(auto, unfolding(crate::specs::Output::Appends))]
+    #[tactic(auto, unfolding(crate::specs::Output::AppendsText))]
     pub fn put(&mut self, piece: &str)
         ensures { Writes W.text W.failures self.old self.new piece.now }
     {

@@ -115,7 +115,7 @@ the function's expressions and statements, or of the declarations, around the pl
 A module is refused where operands, types or blocks stand in one another on more levels than
 --nesting allows, since each takes some of the stack, or where its text has more bytes than --text.
 
-The status is 0; 1 where the module is refused or not accepted; 2 where the words are wrong, the
+The status is 0; 1 where the module is refused or not accepted; 2 where an option is wrong, the
 input is no module, something cannot be read or written, or memory is refused. With --lines it is
 0 or 2, since each line of the output tells what becomes of its module. Where the error output is a
 terminal and the output is none, a line there tells how far the run has come.";
@@ -125,7 +125,7 @@ fn command<'a>(alloc: Global) -> Result<Command<'a>, AllocError> {
         .version("0.1.0")
         .about(ABOUT)
         .after_help(AFTER_HELP)
-        .arg(flag(alloc, "explicit-types", "Has each let tell its type"))?
+        .arg(flag(alloc, "explicit-types", "Has each let state its type"))?
         .arg(plain(alloc))?
         .arg(check(alloc)?)?
         .arg(layout(alloc)?)?
@@ -157,7 +157,7 @@ fn check<'a>(alloc: Global) -> Result<Arg<'a>, AllocError> {
 }
 
 fn layout<'a>(alloc: Global) -> Result<Arg<'a>, AllocError> {
-    let help = "Tells where the members of the module's structs stand, or why they can't";
+    let help = "Prints where the members of the module's structs stand, or why they can't";
     flag(alloc, "layout", help)
         .conflicts_with("check")?
         .conflicts_with("explicit-types")?

@@ -8,7 +8,8 @@ use Rattle.fault_details.proofs.spelled.told_types.Goals as goal
 pub returns-then-eq : goal.returns-then-eq
 returns-then-eq c =
     let m = c.args.«module».now in
-    let same : string_bytes c.in_ok-told_expected.told_expected ≡ string_bytes c.in_ok-told_got.told_got = search rules in
+    let same : string_bytes c.in_ok-told_expected.told_expected ≡ string_bytes c.in_ok-told_got.told_got =
+    search rules in
     ok_then c.placed_types.result
     (λ t placed. inr (
       placed,

@@ -11,9 +11,11 @@ returns-clause-ok c =
 pub returns-clause-err : goal.returns-clause-err
 returns-clause-err c =
     refusal_of_reset c.reset.result c.args.«module».now _
-    (start_is _ _ _ _ c.reserved_words-reserved.ensures c.builtin_words-builtin.ensures c.new.ensures refl) c.reset.ensures.reason
+    (start_is _ _ _ _ c.reserved_words-reserved.ensures c.builtin_words-builtin.ensures c.new.ensures refl)
+    c.reset.ensures.reason
 
 pub returns-clause-namer : goal.returns-clause-namer
 returns-clause-namer c =
     namer_after_reset c.reset.result c.args.«module».now _ _ _ _
-    (start_is _ _ _ _ c.reserved_words-reserved.ensures c.builtin_words-builtin.ensures c.new.ensures refl) c.reset.ensures.ok
+    (start_is _ _ _ _ c.reserved_words-reserved.ensures c.builtin_words-builtin.ensures c.new.ensures refl)
+    c.reset.ensures.ok
