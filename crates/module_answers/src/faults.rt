@@ -65,8 +65,9 @@ pub fn fault_text(
     ensures { IfOk result (λ text. TellsFault root «module».now info.now unaccepted
         (string_bytes text)) }
 {
+    let fault = unaccepted.fault;
     let expected = explain(alloc, module, info, unaccepted)?;
-    kind_text(alloc, module, unaccepted.fault, expected, root)
+    kind_text(alloc, module, fault, expected, root)
 }
 
 /// A kind of fault with what was expected.
