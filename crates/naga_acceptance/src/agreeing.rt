@@ -10,7 +10,7 @@
 //! such others is compared with the first use of its operator, which is looked for from the start.
 
 ghost use Rattle.std.specs.Prelude.{◌≡◌, ◌+◌, ◌<◌, ◌≤◌, ◌^◌, suc, length, slice_get, true, Some};
-ghost use Rattle.std.specs.Prelude.{◌%◌, [], IfOk, OnErr};
+ghost use Rattle.std.specs.Prelude.{◌%◌, [], IfOk, None, OnErr, replicate};
 ghost use Rattle.std.specs.Option.{IfSome, is_none, option_map, option_map_or, option_to_list};
 ghost use Rattle.naga_acceptance.specs.Faults.{Disagrees, site_of};
 ghost use Rattle.naga_acceptance.specs.FirstFaults.{IsDisagreement};
@@ -42,6 +42,9 @@ pub(crate) struct Expressions<'a> {
 
 /// How many slots the table of remembered uses has.
 const SLOTS: usize = 509;
+
+/// How many slots it has for a module with few expressions.
+const FEW_SLOTS: usize = 41;
 
 /// How many remainders hashes have. It is a prime, so that hashes that differ by a multiple of a
 /// power of two have different ones.
@@ -426,8 +429,37 @@ fn first_disagreeing(
     Ok(None)
 }
 
-/// The first use of the part that does not agree with all of the part that stand before it. The
-/// table stays out of the frames of its callers, which go as deep as parts are halved.
+/// The first use of the part that does not agree with all of the part that stand before it, by an
+/// empty table of so many slots.
+fn disagreement_by(
+    module: &Module,
+    info: &ModuleInfo,
+    table: &mut [Option<Site>],
+    slots: usize,
+    part: Part,
+) -> Result<Option<UsePosition>, Crowded>
+    requires slots { 0 < slots }
+    requires empty { table.old ≡ replicate slots None }
+    ensures found { IfOk result (IsFirstDisagreement «module».now.types
+        (groups_of «module».now info.now) (is_in part)) }
+    ensures crowded { OnErr result (part.first < part.last) }
+{
+    let mut number = 0;
+    while let Some(group) = group_at(module, info, number) {
+        let found = first_disagreeing(module, info, table, slots, part, number, group)?;
+        if let Some(index) = found {
+            return Ok(Some(UsePosition {
+                group: number,
+                index,
+            }));
+        }
+        number += 1;
+    }
+    Ok(None)
+}
+
+/// The same by the table. It stays out of the frames of the callers, which go as deep as parts are
+/// halved.
 #[inline(never)]
 fn part_disagreement(
     module: &Module,
@@ -439,18 +471,58 @@ fn part_disagreement(
     ensures crowded { OnErr result (part.first < part.last) }
 {
     let mut table: [Option<Site>; SLOTS] = [None; SLOTS];
-    let mut number = 0;
-    while let Some(group) = group_at(module, info, number) {
-        let found = first_disagreeing(module, info, &mut table, SLOTS, part, number, group)?;
-        if let Some(index) = found {
-            return Ok(Some(UsePosition {
-                group: number,
-                index,
-            }));
+    disagreement_by(module, info, &mut table, SLOTS, part)
+}
+
+/// The same by the small table.
+#[inline(never)]
+fn few_disagreement(
+    module: &Module,
+    info: &ModuleInfo,
+    part: Part,
+) -> Result<Option<UsePosition>, Crowded>
+    ensures found { IfOk result (IsFirstDisagreement «module».now.types
+        (groups_of «module».now info.now) (is_in part)) }
+    ensures crowded { OnErr result (part.first < part.last) }
+{
+    let mut table: [Option<Site>; FEW_SLOTS] = [None; FEW_SLOTS];
+    disagreement_by(module, info, &mut table, FEW_SLOTS, part)
+}
+
+/// Whether the small table has room for all uses of the module, however many operators there are.
+fn has_few_expressions(module: &Module) -> bool {
+    let mut count = module.global_expressions.len();
+    for (_, function) in module.functions.iter() {
+        count = count.saturating_add(function.expressions.len());
+        if count > FEW_SLOTS {
+            return false;
         }
-        number += 1;
     }
-    Ok(None)
+    for entry_point in &module.entry_points {
+        count = count.saturating_add(entry_point.function.expressions.len());
+        if count > FEW_SLOTS {
+            return false;
+        }
+    }
+    count <= FEW_SLOTS
+}
+
+/// The same by the table that is as large as it need be: to empty it takes longer than to go through
+/// a small module.
+fn sized_disagreement(
+    module: &Module,
+    info: &ModuleInfo,
+    part: Part,
+) -> Result<Option<UsePosition>, Crowded>
+    ensures found { IfOk result (IsFirstDisagreement «module».now.types
+        (groups_of «module».now info.now) (is_in part)) }
+    ensures crowded { OnErr result (part.first < part.last) }
+{
+    if has_few_expressions(module) {
+        few_disagreement(module, info, part)
+    } else {
+        part_disagreement(module, info, part)
+    }
 }
 
 fn stands_before(place: UsePosition, other: UsePosition) -> bool
@@ -476,12 +548,12 @@ fn earlier(found: Option<UsePosition>, other: Option<UsePosition>) -> Option<Use
     }
 }
 
-/// The same as [`part_disagreement`], half by half where the table has no room.
+/// The same, half by half where the table has no room.
 fn first_disagreement(module: &Module, info: &ModuleInfo, part: Part) -> Option<UsePosition>
     ensures { IsFirstDisagreement «module».now.types (groups_of «module».now info.now) (is_in part)
         result }
 {
-    match part_disagreement(module, info, part) {
+    match sized_disagreement(module, info, part) {
         Ok(found) => found,
         Err(Crowded) => {
             let middle = part.first + (part.last - part.first) / 2;

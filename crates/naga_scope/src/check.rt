@@ -1,6 +1,6 @@
 //! The check that each expression is in scope where it is used, which tells the first fault.
 
-ghost use Rattle.std.specs.Prelude.{◌≡◌, ◌-◌, ◌&&◌, ℕ, List, [], IsTrue, length};
+ghost use Rattle.std.specs.Prelude.{◌≡◌, ◌-◌, ◌&&◌, ◌∷◌, ℕ, List, [], IsTrue, length};
 ghost use Rattle.std.specs.Option.{option_to_list};
 ghost use Rattle.std.specs.Result.{is_ok, result_and};
 ghost use Rattle.module_meaning.specs.FunctionShapes.{function_shape};
@@ -151,8 +151,45 @@ fn check_use(
     }
 }
 
-/// The same of the operands of the statement itself.
+/// The same of two expressions.
+fn check_two(
+    scope: &Scope,
+    known: &KnownFunction<'_>,
+    number: usize,
+    first: Handle<Expression>,
+    second: Handle<Expression>,
+) -> Result<(), ScopeFault>
+    ensures { result ≡ check_uses (shape_of known.now) (handles_at scope.now) number
+        (first ∷ second ∷ []) }
+{
+    if !is_usable(scope, known, first) {
+        return Err(ScopeFault::Operand {
+            statement: number,
+            operand: first,
+        });
+    }
+    check_use(scope, known, number, second)
+}
+
+/// The same of the operands of the statement itself. A store, of which functions have the most, is
+/// looked at once, and any other statement for each operand.
 fn check_uses(
+    scope: &Scope,
+    known: &KnownFunction<'_>,
+    number: usize,
+    statement: &Statement,
+) -> Result<(), ScopeFault>
+    ensures { result ≡ check_uses (shape_of known.now) (handles_at scope.now) number
+        (own_operands (tree_of statement.now)) }
+{
+    match statement {
+        Statement::Store { pointer, value } => check_two(scope, known, number, *pointer, *value),
+        _ => check_each_use(scope, known, number, statement),
+    }
+}
+
+/// The same, one operand after another.
+fn check_each_use(
     scope: &Scope,
     known: &KnownFunction<'_>,
     number: usize,
@@ -242,8 +279,10 @@ fn check_emitted(
     known: &KnownFunction<'_>,
     number: usize,
     handle: Handle<Expression>,
+    is_bound: bool,
 ) -> Result<(), ScopeFault>
-    requires { IsPointOf known.now scope.now }
+    requires at { IsPointOf known.now scope.now }
+    requires bound { is_bound ≡ bound_in known.now handle }
     ensures { result ≡ check_emitted (shape_of known.now) (handles_at scope.now) number handle }
 {
     if !scope.availability(handle).is_new() {
@@ -258,7 +297,7 @@ fn check_emitted(
             expression: handle,
         });
     }
-    if known.binds(handle) {
+    if is_bound {
         check_bound(scope, known, number, handle)
     } else {
         Ok(())
@@ -282,8 +321,9 @@ fn check_one(
         scope.new.named ≡ named_after (shape_of known.now) handle scope.old.named }
     ensures counted { Counted scope.old scope.new 1 }
 {
-    check_emitted(scope, known, number, handle)?;
-    scope.emit(&known.shader.types, known.function, known.info, handle);
+    let is_bound = known.binds(handle);
+    check_emitted(scope, known, number, handle, is_bound)?;
+    scope.emit(is_bound, known.function, handle);
     Ok(())
 }
 

@@ -181,6 +181,7 @@ impl Plan {
             return Err(PlanError::Memory(AllocError));
         };
         let mut scope = Scope::start(alloc, known.function, changes)?;
+        let start = scope.mark();
         let checked = check_function(&mut scope, known);
         let written = written_without_form(alloc, known, statements, names)?;
         let first = first_lack(
@@ -193,7 +194,7 @@ impl Plan {
         if let Some(error) = first {
             return Err(error);
         }
-        scope.restart(known.function);
+        scope.rewind(start);
         Ok(Plan { scope, named })
     }
 

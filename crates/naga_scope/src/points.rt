@@ -29,11 +29,8 @@ ghost use Rattle.naga_scope.specs.Log.{Counted, Extends, HasRoom, Reverts, Same,
 ghost use Rattle.naga_scope.specs.Log.{forget_at, grows};
 
 use crate::known_function::KnownFunction;
-use crate::lets::{
-    binds, expression_at, is_constant_leaf, is_named, is_operator, kind_at, label_of,
-};
-use naga_info::FunctionInfo;
-use naga_ir::{Expression, Function, Handle, ItemIndex, Type_, UniqueArena};
+use crate::lets::{expression_at, is_constant_leaf, is_named, is_operator, kind_at, label_of};
+use naga_ir::{Expression, Function, Handle, ItemIndex};
 use std::alloc::{AllocError, Global};
 use std::marker::Model;
 
@@ -385,29 +382,28 @@ impl Scope {
         }
     }
 
-    /// Where the expression with this handle stands after an `Emit` of it. Its operands are looked
-    /// at only where that depends on them.
+    /// Where the expression with this handle stands after an `Emit` of it, by whether a `let` binds
+    /// it. Its operands are looked at only where that depends on them.
     fn emitted(
         &self,
-        types: &UniqueArena<Type_>,
+        is_bound: bool,
         function: &Function,
-        info: &FunctionInfo,
         handle: Handle<Expression>,
     ) -> Availability
         ensures grows { IsTrue (grows (get_or self.now.table handle Availability.Absent) result) }
-        ensures emitted { (named : ℕ → List ℕ) (m : Module) (known : ModuleInfo) →
-            m.types ≡ types.now →
-            let shape = function_shape m known function.now info.now in
+        ensures emitted { (named : ℕ → List ℕ) (m : Module) (known : ModuleInfo)
+            (es : List ExpressionInfo) →
+            let shape = function_shape m known function.now es in
             let evaluated = expression_of shape handle in
-            result ≡ emitted_availability (binds shape handle) (is_pure evaluated)
+            result ≡ emitted_availability is_bound (is_pure evaluated)
             (usable_all shape (handles_of named self.now.table) (operands_of evaluated))
             (next_name (is_some (label_of function.now handle)) self.now.named)
             (get_or self.now.table handle Availability.Absent) }
     {
-        let before = self.availability(handle);
-        if binds(types, function, info, handle) {
+        if is_bound {
             return Availability::Bound(self.next_name(function, handle));
         }
+        let before = self.availability(handle);
         if is_operator(kind_at(function, handle)) {
             before.unbound(self.has_operands(function, handle))
         } else {
@@ -415,24 +411,19 @@ impl Scope {
         }
     }
 
-    /// Goes after an `Emit` of the expression with this handle. It is named where a `let` binds
-    /// it, by the next name of those that front ends gave where it has such a one. An operator that
-    /// no `let` binds is written where it is used, if its operands are in scope here. A `Load` that
-    /// no `let` binds stays absent, since it may not be read later than here.
-    pub fn emit(
-        &mut self,
-        types: &UniqueArena<Type_>,
-        function: &Function,
-        info: &FunctionInfo,
-        handle: Handle<Expression>,
-    )
+    /// Goes after an `Emit` of the expression with this handle, where it is known whether a `let`
+    /// binds it. It is named where one does, by the next name of those that front ends gave where it
+    /// has such a one. An operator that no `let` binds is written where it is used, if its operands
+    /// are in scope here. A `Load` that no `let` binds stays absent, since it may not be read later
+    /// than here.
+    pub fn emit(&mut self, is_bound: bool, function: &Function, handle: Handle<Expression>)
         requires size { length self.old.table ≡ length function.now.expressions }
         requires room { HasRoom self.old 1 }
         ensures handles { (names : NameMap) (m : Module) (known : ModuleInfo)
-            (named : ℕ → List ℕ) (g : ℕ) →
-            m.types ≡ types.now →
+            (es : List ExpressionInfo) (named : ℕ → List ℕ) (g : ℕ) →
+            is_bound ≡ binds (function_shape m known function.now es) handle →
             handles_of named self.new.table ≡
-            after_one (function_naming names named m known g function.now info.now) self.old.named
+            after_one (function_naming names named m known g function.now es) self.old.named
             handle
             (handles_of named self.old.table) }
         ensures named { self.new.named
@@ -440,7 +431,7 @@ impl Scope {
         ensures kept { Extends self.old self.new }
         ensures counted { Counted self.old self.new 1 }
     {
-        let availability = self.emitted(types, function, info, handle);
+        let availability = self.emitted(is_bound, function, handle);
         self.named = self.named_following(function, handle);
         self.stand(handle, availability);
     }
@@ -537,6 +528,19 @@ impl Scope {
         while mark < self.mark() {
             self.undo_last();
         }
+    }
+
+    /// Goes back to where the mark was made, at the start of the function: what was changed since is
+    /// undone, and the names that front ends gave are counted anew. So the start is not worked out
+    /// again.
+    pub(crate) fn rewind(&mut self, mark: usize)
+        requires { mark ≤ length self.old.log }
+        ensures restores { (before : TextPoint) → mark ≡ length before.log →
+            Reverts before self.old → Same before self.new }
+        ensures named { self.new.named ≡ 0 }
+    {
+        self.back_to(mark);
+        self.named = 0;
     }
 
     /// Forgets what the change with this number introduced.

@@ -195,8 +195,34 @@ fn note_emitted(lines: &mut [Option<Line>], known: &KnownFunction<'_>, range: Ra
     }
 }
 
-/// Notes the operands of a statement itself, which stands on this line.
+/// Notes that this line writes both expressions.
+#[tactic(auto, using(crate::proofs::FirstLines::writes_then))]
+fn note_two(
+    lines: &mut [Option<Line>],
+    first: Handle<Expression>,
+    second: Handle<Expression>,
+    line: &Line,
+)
+    ensures { WritesAlso lines.old ((line.now, first) ∷ (line.now, second) ∷ []) lines.new }
+{
+    note(lines, first, line);
+    note(lines, second, line);
+}
+
+/// Notes the operands of a statement itself, which stands on this line. A store, of which functions
+/// have the most, is looked at once, and any other statement for each operand.
 fn note_own(lines: &mut [Option<Line>], statement: &Statement, line: &Line)
+    ensures { WritesAlso lines.old (writes_at line.now (own_operands (tree_of statement.now)))
+        lines.new }
+{
+    match statement {
+        Statement::Store { pointer, value } => note_two(lines, *pointer, *value, line),
+        _ => note_each(lines, statement, line),
+    }
+}
+
+/// The same, one operand after another.
+fn note_each(lines: &mut [Option<Line>], statement: &Statement, line: &Line)
     ensures { WritesAlso lines.old (writes_at line.now (own_operands (tree_of statement.now)))
         lines.new }
 {

@@ -4,7 +4,7 @@ use Rattle.module_meaning.specs.ExpressionForms.{expression_has_own_form}
 use Rattle.naga_wgsl_fns.proofs.Preconditions.{IsNoOther, expression_formed}
 use Rattle.std.proofs.Common.{◌≡◌, ℕ, zero, suc, ◌<◌, Bool, true, false, List, [], ◌∷◌, length}
 use Rattle.std.proofs.Common.{Option, Some}
-use Rattle.std.proofs.Common.{None, codes, refl, sym, ap, ◌∙◌, arith, get_or}
+use Rattle.std.proofs.Common.{None, codes, refl, sym, ap, ◌∙◌, append_assoc, arith, get_or}
 use Rattle.std.specs.Prelude.{IsTrue, slice_get, if◌then◌else◌, unwrap_or}
 use Rattle.std.specs.Option.{is_some, option_and_then, option_map, option_map_or, option_to_list}
 use Rattle.std.specs.List.{AllByRecursion}
@@ -88,7 +88,7 @@ use Rattle.naga_wgsl_fns.specs.Expressions.{global_address_text, global_referenc
 use Rattle.naga_wgsl_fns.specs.Expressions.{global_value_text, load_text}
 use Rattle.naga_wgsl_fns.specs.Expressions.{next_operand_text, operands_at, operands_left}
 use Rattle.naga_wgsl_fns.specs.Expressions.{operands_text, own_form, own_text}
-use Rattle.naga_wgsl_fns.specs.Expressions.{pointed_text, reference_text, value_text}
+use Rattle.naga_wgsl_fns.specs.Expressions.{pointed_text, reference_text, spaced_text, value_text}
 use Rattle.naga_wgsl_fns.proofs.PartForms.{part_form, referred_part, valued_part}
 use Rattle.naga_wgsl_fns.proofs.VariableRows.{handle_variable_reference, kept_reference}
 use Rattle.naga_wgsl_fns.proofs.Preconditions.{ordered}
@@ -499,9 +499,7 @@ pub infix_row : (f : FunctionText) (table : List Availability) (op : ir_operator
     joined_texts
     (codes "(")
     (joined_texts (value_text f table left)
-    (joined_texts (codes " ")
-    (joined_texts (operator_text op)
-    (joined_texts (codes " ") (joined_texts (value_text f table right) (codes ")"))))))
+    (joined_texts (spaced_text op) (joined_texts (value_text f table right) (codes ")"))))
 unfolding applied_text value_text joined_texts
 infix_row f table op left right =
     let form = value_form (naming f) (source f) (handles_in f table) in
@@ -512,6 +510,9 @@ infix_row f table op left right =
     (joined_texts w
     (joined_texts (codes " ") (joined_texts (expression_layout (form right)) (codes ")")))))))
     (sym (operator_row op))
+    ∙ ap (λ w. joined_texts (codes "(") (joined_texts (expression_layout (form left)) (32 ∷ w)))
+    (sym (append_assoc (operator_text op) (codes " ")
+    (joined_texts (expression_layout (form right)) (codes ")"))))
 
 -- ---- calls
 pub called_row : (f : FunctionText) (table : List Availability) (word : List ℕ) (handle : ℕ)

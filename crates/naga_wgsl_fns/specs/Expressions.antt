@@ -11,6 +11,7 @@ use Rattle.naga_ir.specs.declared.expression.CooperativeData.{CooperativeData}
 use Rattle.naga_ir.specs.declared.types.CooperativeRole.{CooperativeRole}
 use Rattle.naga_ir.specs.declared.types.CooperativeSize.{CooperativeSize}
 use Rattle.module_meaning.specs.ExpressionShapes.{part_selector}
+use Rattle.naga_ir.specs.declared.operators.BinaryOperator.{BinaryOperator}
 use Rattle.naga_ir.specs.declared.types.Type_.{Type_}
 use Rattle.naga_ir.specs.declared.types.TypeInner.{TypeInner}
 use Rattle.naga_ir.specs.declared.types.TypeInner.TheVariants as inner
@@ -30,6 +31,7 @@ use Rattle.module_meaning.specs.TypeParts.{is_atomic}
 use Rattle.naga_ir.specs.declared.expression.SwizzleComponent.{SwizzleComponent}
 use Rattle.naga_ir.specs.declared.types.VectorSize.{VectorSize}
 use Rattle.wgsl_text.specs.Expressions.{more_arguments_pieces, operands as arguments_of}
+use Rattle.wgsl_words.specs.Words.{operator_text}
 use Rattle.wgsl_text.specs.Text.{text}
 use Rattle.wgsl_text.specs.Types.{Named, TypeSpecifier}
 use Rattle.wgsl_text.specs.Reading.{type_layout}
@@ -121,6 +123,10 @@ unfoldable pub applied_text : FunctionText → (table : List Availability) → N
     → (operands : List ℕ) → List ℕ
 applied_text f table notation operands =
     expression_layout (applied_form notation (value_forms (form_at f table) operands))
+
+-- an operator between its operands, with the blanks around it
+abbrev pub spaced_text : BinaryOperator → List ℕ
+spaced_text op = codes " " ++ operator_text op ++ codes " "
 
 -- a value of a type, made of the operands of an expression
 unfoldable pub made_text : FunctionText → (table : List Availability) → (type : TypeSpecifier) →

@@ -190,9 +190,9 @@ turn_text f k s i body continuing break_if =
 -- cases, in front of which these values wait for one
 unfoldable pub cases_text : FunctionText → ℕ → Handles → (i : ℕ) → List CaseValue → CaseTrees →
     List ℕ
-cases_text f k s i labels cases =
+cases_text f k s i values cases =
     text
-    (cases_pieces (cases_form (naming f) (let_annotation f) (source f) k labels cases s) i)
+    (cases_pieces (cases_form (naming f) (let_annotation f) (source f) k values cases s) i)
 
 -- the values of these cases
 abbrev pub labels_of : List SwitchCase → List CaseValue
@@ -200,29 +200,29 @@ labels_of cases = map (λ c. case_value_form c.value) cases
 
 -- a case value, values each of which has another one after it, and those of a group up to the colon
 unfoldable pub case_value_text : CaseValue → List ℕ
-case_value_text label = text (case_value_pieces label)
+case_value_text value = text (case_value_pieces value)
 
 unfoldable pub waiting_text : List CaseValue → List ℕ
 waiting_text [] = []
-waiting_text (label ∷ labels) = case_value_text label ++ (codes ", " ++ waiting_text labels)
+waiting_text (value ∷ values) = case_value_text value ++ (codes ", " ++ waiting_text values)
 
 -- a default that no other case value stands with
-abbrev pub stands_alone : (labels : List CaseValue) → (own : CaseValue) → Bool
+abbrev pub stands_alone : (values : List CaseValue) → (own : CaseValue) → Bool
 stands_alone [] DefaultCase = true
-stands_alone labels own = false
+stands_alone values own = false
 
-unfoldable pub group_start : (labels : List CaseValue) → (own : CaseValue) → List ℕ
-group_start labels own = text (case_pieces (case_values_form labels own))
+unfoldable pub group_start : (values : List CaseValue) → (own : CaseValue) → List ℕ
+group_start values own = text (case_pieces (case_values_form values own))
 
 -- case values and the block that they are for
-unfoldable pub group_text : FunctionText → ℕ → Handles → (i : ℕ) → (labels : List CaseValue) →
+unfoldable pub group_text : FunctionText → ℕ → Handles → (i : ℕ) → (values : List CaseValue) →
     (own : CaseValue) → BlockTree → List ℕ
-group_text f k s i labels own body =
+group_text f k s i values own body =
     indentation i ++
-    (group_start labels own ++
+    (group_start values own ++
     (codes " {\n" ++ (block_text f k s (suc i) body ++ line_start i (codes "}\n"))))
 
 -- one that falls through has none of its own
-unfoldable pub case_text : FunctionText → ℕ → Handles → (i : ℕ) → (labels : List CaseValue) →
+unfoldable pub case_text : FunctionText → ℕ → Handles → (i : ℕ) → (values : List CaseValue) →
     (own : CaseValue) → (falls : Bool) → BlockTree → List ℕ
-case_text f k s i labels own falls body = if falls then [] else group_text f k s i labels own body
+case_text f k s i values own falls body = if falls then [] else group_text f k s i values own body

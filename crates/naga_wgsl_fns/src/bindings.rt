@@ -158,7 +158,7 @@ fn write_interpolation<W: TextSink>(
 {
     let interpolation = interpolation.unwrap_or(Interpolation::Perspective);
     let sampling = sampling.unwrap_or(Sampling::Center);
-    write_told(
+    write_needed_words(
         is_perspective(interpolation),
         is_center(sampling),
         interpolation.to_wgsl(),
@@ -185,8 +185,8 @@ fn is_center(sampling: Sampling) -> bool
     }
 }
 
-/// The words of both, of which a text tells no more than it needs.
-fn write_told<W: TextSink>(
+/// The words of both, without those that say what is so by itself.
+fn write_needed_words<W: TextSink>(
     perspective: bool,
     center: bool,
     interpolation: &str,

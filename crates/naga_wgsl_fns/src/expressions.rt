@@ -10,13 +10,13 @@ ghost use Rattle.naga_wgsl_fns.specs.Expressions.{address_text, applied_text, ca
 ghost use Rattle.naga_wgsl_fns.specs.Expressions.{made_text, made_type, next_operand_text};
 ghost use Rattle.naga_wgsl_fns.specs.Expressions.{operands_text};
 ghost use Rattle.naga_wgsl_fns.specs.Expressions.{own_text};
-ghost use Rattle.naga_wgsl_fns.specs.Expressions.{pointed_text, reference_text, value_text};
+ghost use Rattle.naga_wgsl_fns.specs.Expressions.{pointed_text, reference_text, spaced_text};
+ghost use Rattle.naga_wgsl_fns.specs.Expressions.{value_text};
 ghost use Rattle.wgsl_words.specs.Words.{unary_text};
 
 use crate::functions::FunctionText;
 use crate::literal::write_literal;
 use module_meaning::called_str;
-use naga_back::binary_operation_str;
 use naga_ir::{BinaryOperator, Expression, Handle, LocalVariable, Type_, UnaryOperator};
 use naga_scope::{Availability, Scope};
 use naga_words::{Output, TextSink};
@@ -195,9 +195,7 @@ impl FunctionText<'_> {
     {
         out.put("(");
         self.write_value(scope, left, out);
-        out.put(" ");
-        out.put(binary_operation_str(op));
-        out.put(" ");
+        out.put(spaced_operator_str(op));
         self.write_value(scope, right, out);
         out.put(")");
     }
@@ -293,6 +291,33 @@ impl FunctionText<'_> {
         out.put("(&");
         self.write_local_name(local, out);
         out.put(")");
+    }
+}
+
+/// The text of an operator between its operands, with the blanks around it: one piece, since operands
+/// in operands are written again and again.
+fn spaced_operator_str(op: BinaryOperator) -> &'static str
+    ensures { result.now ≡ spaced_text op }
+{
+    match op {
+        BinaryOperator::Add => " + ",
+        BinaryOperator::Subtract => " - ",
+        BinaryOperator::Multiply => " * ",
+        BinaryOperator::Divide => " / ",
+        BinaryOperator::Modulo => " % ",
+        BinaryOperator::Equal => " == ",
+        BinaryOperator::NotEqual => " != ",
+        BinaryOperator::Less => " < ",
+        BinaryOperator::LessEqual => " <= ",
+        BinaryOperator::Greater => " > ",
+        BinaryOperator::GreaterEqual => " >= ",
+        BinaryOperator::And => " & ",
+        BinaryOperator::ExclusiveOr => " ^ ",
+        BinaryOperator::InclusiveOr => " | ",
+        BinaryOperator::LogicalAnd => " && ",
+        BinaryOperator::LogicalOr => " || ",
+        BinaryOperator::ShiftLeft => " << ",
+        BinaryOperator::ShiftRight => " >> ",
     }
 }
 

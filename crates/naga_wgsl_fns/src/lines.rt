@@ -64,9 +64,9 @@ impl FunctionText<'_> {
     {
         for index in range.first..range.end {
             let handle = ItemIndex::from_index(index);
-            self.write_emitted(handle, at, out);
-            at.scope
-                .emit(&self.shader.types, self.function, self.info, handle);
+            let is_bound = binds(&self.shader.types, self.function, self.info, handle);
+            self.write_emitted(is_bound, handle, at, out);
+            at.scope.emit(is_bound, self.function, handle);
         }
     }
 
@@ -74,18 +74,20 @@ impl FunctionText<'_> {
     #[tactic(auto, using(naga_words::proofs::Writing::writes_nothing), unfolding(crate::specs::Statements::emitted_text))]
     fn write_emitted<W: TextSink>(
         &self,
+        is_bound: bool,
         handle: Handle<Expression>,
         at: &BodyState,
         out: &mut Output<'_, W>,
     )
         requires can { CanWrite self.now }
+        requires bound { is_bound ≡ bound self.now handle }
         requires handle { handle < length self.now.function.now.expressions }
         requires root { IsTrue (bound self.now handle) → IsInText self.now handle }
         requires named { IsTrue (bound self.now handle) → IsLet self.now handle }
         ensures { Writes W.text W.failures out.old out.new
             (text_at self.now at.now.scope emitted_text at.now.indent handle) }
     {
-        if binds(&self.shader.types, self.function, self.info, handle) {
+        if is_bound {
             self.write_let(handle, at, out);
         }
     }

@@ -1,4 +1,4 @@
-//! The stage of an entry point, by its attributes.
+//! The stage of an entry entry_point, by its attributes.
 
 ghost use Rattle.std.specs.Prelude.{◌<◌, IsTrue, codes, length};
 ghost use Rattle.std.specs.Option.{is_some, option_map};
@@ -20,65 +20,69 @@ use naga_names::NameKey;
 use naga_words::{Output, TextSink};
 
 impl ModuleText<'_> {
-    /// The attributes of an entry point's stage, each with one blank after it, and the line end
+    /// The attributes of an entry entry_point's stage, each with one blank after it, and the line end
     /// after them: `@compute @workgroup_size(8, 8, 1) `.
     #[tactic(auto, using(naga_words::proofs::Writing::writes_then, crate::proofs::StageRows::stage_row))]
-    pub fn write_stage<W: TextSink>(&self, point: &EntryPoint, out: &mut Output<'_, W>)
+    pub fn write_stage<W: TextSink>(&self, entry_point: &EntryPoint, out: &mut Output<'_, W>)
         requires can { CanWriteIn self.now }
-        requires there { StageIsThere self.now.shader.now point.now }
-        requires formed { IsTrue (stage_has_form point.now point.now.stage) }
+        requires there { StageIsThere self.now.shader.now entry_point.now }
+        requires formed { IsTrue (stage_has_form entry_point.now entry_point.now.stage) }
         ensures { Writes W.text W.failures out.old out.new
-            (stage_text self.now.shader.now point.now) }
+            (stage_text self.now.shader.now entry_point.now) }
     {
-        self.write_stage_attributes(point, out);
+        self.write_stage_attributes(entry_point, out);
         out.put("\n");
     }
 
-    fn write_stage_attributes<W: TextSink>(&self, point: &EntryPoint, out: &mut Output<'_, W>)
+    fn write_stage_attributes<W: TextSink>(&self, entry_point: &EntryPoint, out: &mut Output<'_, W>)
         requires can { CanWriteIn self.now }
-        requires there { StageIsThere self.now.shader.now point.now }
-        requires formed { IsTrue (stage_has_form point.now point.now.stage) }
+        requires there { StageIsThere self.now.shader.now entry_point.now }
+        requires formed { IsTrue (stage_has_form entry_point.now entry_point.now.stage) }
         ensures { Writes W.text W.failures out.old out.new (attributes_text
-            (stage_attributes (module_names self.now.shader.now) point.now point.now.stage)) }
+            (stage_attributes (module_names self.now.shader.now) entry_point.now entry_point.now.stage)) }
     {
-        match point.stage {
+        match entry_point.stage {
             ShaderStage::Vertex => out.put("@vertex "),
             ShaderStage::Fragment => out.put("@fragment "),
-            ShaderStage::Compute => write_compute(point.workgroup_size, out),
-            ShaderStage::Mesh => self.write_mesh(point, out),
-            ShaderStage::Task => self.write_task(point, out),
+            ShaderStage::Compute => write_compute(entry_point.workgroup_size, out),
+            ShaderStage::Mesh => self.write_mesh(entry_point, out),
+            ShaderStage::Task => self.write_task(entry_point, out),
             ShaderStage::RayGeneration => out.put("@ray_generation "),
-            ShaderStage::AnyHit => self.write_hit("@any_hit ", point.incoming_ray_payload, out),
+            ShaderStage::AnyHit => self.write_hit(
+                "@any_hit ",
+                entry_point.incoming_ray_payload,
+                out,
+            ),
             ShaderStage::ClosestHit => {
-                self.write_hit("@closest_hit ", point.incoming_ray_payload, out)
+                self.write_hit("@closest_hit ", entry_point.incoming_ray_payload, out)
             }
-            ShaderStage::Miss => self.write_hit("@miss ", point.incoming_ray_payload, out),
+            ShaderStage::Miss => self.write_hit("@miss ", entry_point.incoming_ray_payload, out),
         }
     }
 
     /// A mesh stage has an output, and may have a payload.
-    fn write_mesh<W: TextSink>(&self, point: &EntryPoint, out: &mut Output<'_, W>)
+    fn write_mesh<W: TextSink>(&self, entry_point: &EntryPoint, out: &mut Output<'_, W>)
         requires can { CanWriteIn self.now }
-        requires there { StageIsThere self.now.shader.now point.now }
-        requires formed { IsTrue (is_some point.now.mesh_info) }
+        requires there { StageIsThere self.now.shader.now entry_point.now }
+        requires formed { IsTrue (is_some entry_point.now.mesh_info) }
         ensures { Writes W.text W.failures out.old out.new (attributes_text
-            (stage_attributes (module_names self.now.shader.now) point.now stage.Mesh)) }
+            (stage_attributes (module_names self.now.shader.now) entry_point.now stage.Mesh)) }
     {
-        self.write_output(point.mesh_info, out);
-        write_sizes(point.workgroup_size, out);
-        self.write_payload(point.task_payload, out);
+        self.write_output(entry_point.mesh_info, out);
+        write_sizes(entry_point.workgroup_size, out);
+        self.write_payload(entry_point.task_payload, out);
     }
 
-    fn write_task<W: TextSink>(&self, point: &EntryPoint, out: &mut Output<'_, W>)
+    fn write_task<W: TextSink>(&self, entry_point: &EntryPoint, out: &mut Output<'_, W>)
         requires can { CanWriteIn self.now }
-        requires there { StageIsThere self.now.shader.now point.now }
-        requires formed { IsTrue (is_some point.now.task_payload) }
+        requires there { StageIsThere self.now.shader.now entry_point.now }
+        requires formed { IsTrue (is_some entry_point.now.task_payload) }
         ensures { Writes W.text W.failures out.old out.new (attributes_text
-            (stage_attributes (module_names self.now.shader.now) point.now stage.Task)) }
+            (stage_attributes (module_names self.now.shader.now) entry_point.now stage.Task)) }
     {
         out.put("@task ");
-        self.write_needed("@payload(", point.task_payload, out);
-        write_sizes(point.workgroup_size, out);
+        self.write_needed("@payload(", entry_point.task_payload, out);
+        write_sizes(entry_point.workgroup_size, out);
     }
 
     /// A stage that answers a ray, which came with a payload.

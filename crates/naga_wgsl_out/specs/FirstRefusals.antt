@@ -20,8 +20,8 @@ RefusalsRefuse =
 -- All that stands in a module and is the first stands at one place, so that two calls, or a call
 -- and the writer, can't tell of two places. That it is one construct it does not say: among the
 -- labels of items a full namer and a key out of range may stand.
-abbrev pub FirstRefusalsAreAtOnePlace : Type 0
-FirstRefusalsAreAtOnePlace =
+abbrev pub FirstRefusalsAreAtOnePosition : Type 0
+FirstRefusalsAreAtOnePosition =
     (explicit : Bool) (m : Module) (info : ModuleInfo) (one other : Refusal) →
     StandsIn explicit m info one → IsFirst explicit m info one.position →
     StandsIn explicit m info other → IsFirst explicit m info other.position →

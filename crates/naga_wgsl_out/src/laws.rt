@@ -1,5 +1,5 @@
 //! Laws of texts and of refusals, each on a function that does nothing: its contract says the law.
-ghost use Rattle.naga_wgsl_out.specs.FirstRefusals.{FirstRefusalsAreAtOnePlace, RefusalsRefuse};
+ghost use Rattle.naga_wgsl_out.specs.FirstRefusals.{FirstRefusalsAreAtOnePosition, RefusalsRefuse};
 ghost use Rattle.naga_wgsl_out.specs.Writing.{TextsAreEqual};
 
 /// Two calls of [`Writer::write`](crate::wgsl::Writer::write) that answer `Ok` append equal texts
@@ -14,9 +14,9 @@ pub fn refusals_refuse()
     ensures { RefusalsRefuse }
 {}
 
-/// What stands in a module and is the first for which it is refused stands at one place. So the
-/// place that [`unwritable`](crate::wgsl::unwritable) tells is the one of which
-/// [`Writer::write`](crate::wgsl::Writer::write) tells.
-pub fn first_refusals_are_at_one_place()
-    ensures { FirstRefusalsAreAtOnePlace }
+/// All constructs that are the first for which a module is refused stand at one position. So the
+/// position that [`unwritable`](crate::wgsl::unwritable) gives is that of the construct which the
+/// error of [`Writer::write`](crate::wgsl::Writer::write) names.
+pub fn first_refusals_are_at_one_position()
+    ensures { FirstRefusalsAreAtOnePosition }
 {}

@@ -101,11 +101,15 @@ fn write_bounded(
     let mut writer = Writer::new(alloc, empty, flags);
     let answer = writer.write(module, info);
     let sink = writer.finish();
-    told(answer, sink, bound)
+    within_bound(answer, sink, bound)
 }
 
-/// What is told of the writer's answer, by the length of what its sink took.
-fn told(answer: Result<(), Error>, sink: BoundedText, bound: usize) -> Result<String, LimitedError>
+/// The answer of the writer, or that the text is too long, by the length of what its sink took.
+fn within_bound(
+    answer: Result<(), Error>,
+    sink: BoundedText,
+    bound: usize,
+) -> Result<String, LimitedError>
     ensures { TellsBounded bound answer sink.text result }
 {
     if sink.text().len() > bound {

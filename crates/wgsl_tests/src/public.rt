@@ -52,7 +52,7 @@ use naga_wgsl_out::keyword_set::KeywordSet;
 use naga_wgsl_out::keywords::BUILTIN_IDENTIFIERS;
 use naga_wgsl_out::keywords::RESERVED;
 use naga_wgsl_out::keywords::RESERVED_PREFIXES;
-use naga_wgsl_out::laws::first_refusals_are_at_one_place;
+use naga_wgsl_out::laws::first_refusals_are_at_one_position;
 use naga_wgsl_out::laws::refusals_refuse;
 use naga_wgsl_out::laws::texts_are_equal;
 use naga_wgsl_out::namer::EntryPointIndex;

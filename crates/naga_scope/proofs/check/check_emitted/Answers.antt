@@ -28,8 +28,8 @@ returns-then-not-is_emittable c =
     stopped_kind k.shader.now k.module_info.now k.function.now k.info.now c.args.number h
     (handles_at c.args.scope.now) new kind
 
-pub returns-then-binds : goal.returns-then-binds
-returns-then-binds c =
+pub returns-then-is_bound : goal.returns-then-is_bound
+returns-then-is_bound c =
     let k = c.args.known.now in
     let h = c.args.handle in
     let new = sym (c.is_new.ensures.named (λ number. []) (numbered_name h)
@@ -37,11 +37,11 @@ returns-then-binds c =
     ∙ c.if-not-is_new.false in
     let kind = sym (c.is_emittable.ensures ∙ ap is_emittable_kind c.kind_at.ensures) ∙ c.if-not-is_emittable.false in
     checked_by k.shader.now k.module_info.now k.function.now k.info.now c.args.number h (handles_at c.args.scope.now)
-    c.requires.ordered c.requires.held true c.check_bound.result new kind
-    (sym c.if-binds.true ∙ c.binds.ensures) c.check_bound.ensures
+    c.requires.at.ordered c.requires.at.held true c.check_bound.result new kind
+    (sym c.if-is_bound.true ∙ c.requires.bound) c.check_bound.ensures
 
-pub returns-else-binds : goal.returns-else-binds
-returns-else-binds c =
+pub returns-else-is_bound : goal.returns-else-is_bound
+returns-else-is_bound c =
     let k = c.args.known.now in
     let h = c.args.handle in
     let s = handles_at c.args.scope.now in
@@ -50,6 +50,6 @@ returns-else-binds c =
     ∙ c.if-not-is_new.false in
     let kind = sym (c.is_emittable.ensures ∙ ap is_emittable_kind c.kind_at.ensures) ∙ c.if-not-is_emittable.false in
     checked_by k.shader.now k.module_info.now k.function.now k.info.now c.args.number h s
-    c.requires.ordered c.requires.held false
+    c.requires.at.ordered c.requires.at.held false
     (check_operands (shape_of k) s c.args.number h (operands_at k.function.now.expressions h))
-    new kind (sym c.if-binds.false ∙ c.binds.ensures) refl
+    new kind (sym c.if-is_bound.false ∙ c.requires.bound) refl

@@ -1,4 +1,4 @@
-use Rattle.std.proofs.Common.{[], None, refl, sym, ◌∙◌}
+use Rattle.std.proofs.Common.{[], None, sym, ◌∙◌}
 use Rattle.naga_form.proofs.Fits.{named_one}
 use Rattle.naga_scope.proofs.Logs.{extends_refl}
 use Rattle.naga_scope.proofs.ScopeChecks.{given_back, not_ok}
@@ -22,8 +22,9 @@ returns-in_err-check_emitted-clause-kept c = extends_refl _
 
 pub returns-clause-after : goal.returns-clause-after
 returns-clause-after c holds =
-    c.emit.ensures.handles (λ key. None) c.args.known.now.shader.now c.args.known.now.module_info.now
-    (λ number. []) 0 refl
+    let k = c.args.known.now in
+    c.emit.ensures.handles (λ key. None) k.shader.now k.module_info.now k.info.now (λ number. []) 0
+    c.binds-is_bound.ensures
 
 pub returns-clause-named : goal.returns-clause-named
 returns-clause-named c holds =

@@ -14,7 +14,7 @@ use Rattle.naga_ir.specs.declared.statement.Statement.{Statement}
 use Rattle.naga_names.proofs.Reset.{if_err}
 use Rattle.naga_names.specs.Naming.{Names}
 use Rattle.naga_names.specs.declared.error.NamerError.{NamerError}
-use Rattle.naga_scope.specs.Availabilities.{KeepsStart}
+use Rattle.naga_scope.specs.Availabilities.{KeepsStart, handles_of}
 use Rattle.naga_scope.specs.Changes.{block_changes}
 use Rattle.naga_scope.specs.ExpressionNames.{HasBegunLabels, NamesLabels, RefusesLabels}
 use Rattle.naga_ir.specs.InOrder.{trees_in, trees_of}
@@ -27,6 +27,7 @@ use Rattle.naga_scope.specs.declared.plan.PlanError.TheVariants.{Unnamed}
 use Rattle.naga_scope.proofs.ExpressionNames.{named_begun, none_full, refused_begun}
 use Rattle.naga_scope.proofs.FirstInText.{FoundBelow, first_found, first_to_plan, nothing_found}
 use Rattle.naga_scope.proofs.InOrder.{changes_in_order, labels_in_order}
+use Rattle.naga_scope.proofs.Logs.{reverts}
 use Rattle.naga_scope.proofs.plan.Plan.of_function.Goals as goal
 
 -- ---- what is told of the statements in order is told of the body
@@ -111,6 +112,11 @@ returns-in-Some-first c =
       begun = begun_all k sts trees c.in_ok-named.ensures.ok;
     }
 
+pub rewind-requires : goal.rewind-requires
+rewind-requires c =
+    let at = c.mark-start.ensures in
+    let longer = c.check_function-checked.ensures.kept.longer in omega (arith, at, longer)
+
 pub returns-clause-ok : goal.returns-clause-ok
 returns-clause-ok c =
     let k = c.args.known.now in
@@ -128,20 +134,22 @@ returns-clause-ok c =
     c.annotated_without_form.result c.annotated_without_form.ensures
     (sym c.first_lack-first.ensures ∙ c.in_default-first.is) in
     let kept = c.check_function-checked.ensures.kept in
+    let same = c.rewind.ensures.restores c.in_ok-scope.scope c.mark-start.ensures (reverts kept) in
     let at_first =
     subst (HasRoom c.in_ok-scope.scope) (all_changes k sts trees c.in-Some.changes c.in-Some.ensures.some)
     c.in_ok-scope.ensures.room in
     record {
       in_scope = nothing.0;
-      starts = λ named. c.restart.ensures.start named k.shader.now k.module_info.now k.info.now;
-      no_name = c.restart.ensures.named;
-      size = c.restart.ensures.size ∙ (kept.size ∙ c.in_ok-scope.ensures.size);
+      starts = λ named. ap (handles_of named) same.table
+          ∙ c.in_ok-scope.ensures.start named k.shader.now k.module_info.now k.info.now;
+      no_name = c.rewind.ensures.named;
+      size = ap length same.table ∙ c.in_ok-scope.ensures.size;
       counted = c.in_ok-scope.ensures.counted;
       room = few (expression_labels f) c.in_ok-named.named.items (named_all k sts trees c.in_ok-named.ensures.ok).count
           (omega (arith, c.in_ok-named.named.ok.0, c.in_ok-named.named.small));
       changes = record {
-        log = omega (arith, at_first.log, c.restart.ensures.room, kept.room, ap length c.restart.ensures.log);
-        names = omega (arith, at_first.names, c.restart.ensures.named, c.in_ok-scope.ensures.named);
+        log = omega (arith, at_first.log, same.room, ap length same.log);
+        names = omega (arith, at_first.names, c.rewind.ensures.named, c.in_ok-scope.ensures.named);
       };
       formed = nothing.1;
     }

@@ -3,7 +3,7 @@ use Rattle.naga_ir.specs.Operands.{own_operands}
 use Rattle.naga_ir.specs.StatementViews.{tree_of}
 use Rattle.naga_scope.proofs.FirstLines.{NotedSoFar, noted_all, noted_more, noted_none}
 use Rattle.naga_scope.specs.FirstLines.{writes_at}
-use Rattle.naga_scope.proofs.written.note_own.Goals as goal
+use Rattle.naga_scope.proofs.written.note_each.Goals as goal
 
 pub loop-operand-init : goal.loop-operand-init
 loop-operand-init c =

@@ -1,5 +1,5 @@
 use Rattle.naga_wgsl_out.proofs.FirstRefusals.{one_position}
-use Rattle.naga_wgsl_out.proofs.laws.first_refusals_are_at_one_place.Goals as goal
+use Rattle.naga_wgsl_out.proofs.laws.first_refusals_are_at_one_position.Goals as goal
 
 pub returns : goal.returns
 returns c =

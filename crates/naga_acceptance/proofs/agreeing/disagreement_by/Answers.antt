@@ -4,16 +4,16 @@ use Rattle.std.specs.Option.{is_none}
 use Rattle.std.proofs.lemmas.Option.{slice_get_within, slice_get_cases}
 use Rattle.module_meaning.specs.acceptance.AgreeingOperators.{groups_of}
 use Rattle.module_meaning.specs.acceptance.Operations.{all_agree}
-use Rattle.naga_acceptance.specs.declared.agreeing.TheConstants.{SLOTS}
 use Rattle.naga_acceptance.specs.Uses.{group_of, group_uses, part_uses}
 use Rattle.naga_ir.proofs.Listed.{past_end}
 use Rattle.naga_acceptance.proofs.Remembering.{none_remembered, remembers_same}
-use Rattle.naga_acceptance.proofs.agreeing.part_disagreement.Goals as goal
+use Rattle.naga_acceptance.proofs.agreeing.disagreement_by.Goals as goal
 
 pub loop-group-init : goal.loop-group-init
 loop-group-init c = record {
   agree = refl;
-  remembered = none_remembered c.args.module.now.types (groups_of c.args.module.now c.args.info.now) SLOTS _ refl;
+  remembered = none_remembered c.args.module.now.types (groups_of c.args.module.now c.args.info.now)
+      c.args.slots _ c.requires.empty;
   within = omega arith;
 }
 

@@ -3,7 +3,7 @@ use Rattle.naga_form.specs.Attributes.{interpolation_told}
 use Rattle.naga_words.proofs.Writing.{writes_as, writes_nothing}
 use Rattle.naga_wgsl_fns.proofs.AttributeRows.{interpolated_row, sampled_row, untold_row}
 use Rattle.naga_wgsl_fns.specs.Attributes.{attributes_text}
-use Rattle.naga_wgsl_fns.proofs.bindings.write_told.Goals as goal
+use Rattle.naga_wgsl_fns.proofs.bindings.write_needed_words.Goals as goal
 
 pub returns-then-not-center : goal.returns-then-not-center
 returns-then-not-center g c =

@@ -3,7 +3,7 @@ use Rattle.std.specs.Result.{result_and}
 use Rattle.naga_scope.specs.KnownFunctions.{handles_at, shape_of}
 use Rattle.naga_scope.specs.ScopeChecks.{check_uses}
 use Rattle.naga_scope.proofs.ScopeChecks.{given_back}
-use Rattle.naga_scope.proofs.check.check_uses.Goals as goal
+use Rattle.naga_scope.proofs.check.check_each_use.Goals as goal
 
 pub returns-in_err-check_use : goal.returns-in_err-check_use
 returns-in_err-check_use c =

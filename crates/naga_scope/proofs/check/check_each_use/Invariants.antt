@@ -3,7 +3,7 @@ use Rattle.naga_ir.specs.Operands.{own_operands}
 use Rattle.naga_ir.specs.StatementViews.{tree_of}
 use Rattle.naga_scope.specs.KnownFunctions.{handles_at, shape_of}
 use Rattle.naga_scope.specs.ScopeChecks.{check_uses}
-use Rattle.naga_scope.proofs.check.check_uses.Given as goal
+use Rattle.naga_scope.proofs.check.check_each_use.Given as goal
 
 abbrev pub invariant-loop-operand : goal.invariant-loop-operand
 invariant-loop-operand l =
