@@ -23,7 +23,7 @@ pub enum Error {
         place: String,
         /// The label of the function or the entry point there, where there is one.
         function: Option<String>,
-        /// What is wrong there, and what was wanted:
+        /// What is wrong there, and what was expected:
         /// `the known type is another: the expression gives vec4<f32>, the info has f32`.
         fault: String,
     },
