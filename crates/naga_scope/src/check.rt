@@ -20,8 +20,9 @@ ghost use Rattle.shader_runs.specs.Scope.{named_by, named_by_all, named_by_cases
 ghost use Rattle.shader_runs.specs.Scope.{usable_if};
 ghost use Rattle.naga_scope.specs.Availabilities.{handles_of, is_earlier, operands_at};
 ghost use Rattle.naga_scope.specs.Changes.{block_changes, cases_changes, statement_changes};
-ghost use Rattle.naga_scope.specs.KnownFunctions.{IsPointOf, cases_in, expressions_of, handles_at};
-ghost use Rattle.naga_scope.specs.KnownFunctions.{naming_of, shape_of, statement_in, statements_in};
+ghost use Rattle.naga_scope.specs.KnownFunctions.{IsPointOf, bound_in, cases_in, expressions_of};
+ghost use Rattle.naga_scope.specs.KnownFunctions.{handles_at, naming_of, shape_of, statement_in};
+ghost use Rattle.naga_scope.specs.KnownFunctions.{statements_in};
 ghost use Rattle.naga_scope.specs.Log.{Counted, Extends, HasRoom, Reverts, Same};
 ghost use Rattle.naga_scope.specs.Results.{CaseResultsFit, ResultsFit, StatementResultsFit};
 ghost use Rattle.naga_scope.specs.ScopeChecks.{check_all, check_break, check_cases, check_emit};
