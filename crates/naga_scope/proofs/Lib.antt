@@ -27,7 +27,6 @@ pub mod UnsupportedDeclarations
 pub mod Searching
 pub mod FirstLines
 pub mod LineOrder
-mod LineExamples
 pub mod EarliestFound
 pub mod BreakNotes
 pub mod LineWrites
