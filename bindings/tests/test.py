@@ -310,14 +310,29 @@ def cut_answers(output, names):
 
 # The label after a place: `, in "half"`.
 LABEL = re.compile(r', in "(?:[^"\\]|\\.)*"')
+# Another use of an operator, as wgsl_cases tells it, and as the library does.
+ANOTHER_USE = re.compile(r"(?<= as at )(function|entry point|global expression) (\d+)(?:, expression (\d+))?(?=, got )")
+LABEL_OF_USE = re.compile(r'( as at [^" ]+), in "(?:[^"\\]|\\.)*"(?=, got )')
+
+
+def json_use(match):
+    """The position in the JSON of another use of an operator."""
+    item, number, expression = match.groups()
+    if item == "global expression":
+        return f"module.global_expressions[{number}]"
+    function = f"functions[{number}]" if item == "function" else f"entry_points[{number}].function"
+    return f"module.{function}.expressions[{expression}]"
 
 
 def wanted_of(answer, text):
     """The status and the text that the library owes where wgsl_cases tells this. It tells places in other words."""
     front, _, last = answer[:-1].rpartition("\n")
-    if last.startswith("not accepted: "):
-        _, fault = last.removeprefix("not accepted: ").split(": ", 1)
-        return NOT_ACCEPTED, (text if text and text.endswith(f": {fault}") else fault)
+    before = front.rpartition("\n")[2]
+    if before.startswith("not accepted: "):
+        _, fault = before.removeprefix("not accepted: ").split(": ", 1)
+        wanted = f'{last.removeprefix("at: ")}: {ANOTHER_USE.sub(json_use, fault)}'
+        # The library tells the label of the function of that use too.
+        return NOT_ACCEPTED, (text if text and LABEL_OF_USE.sub(r"\1", text) == wanted else wanted)
     if last.startswith("at: "):
         wanted = f'{front.rpartition("refused: ")[2]}: {last.removeprefix("at: ")}'
         # The library tells the label of the function too.

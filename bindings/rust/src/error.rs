@@ -23,8 +23,8 @@ pub enum Error {
         place: String,
         /// The label of the function or the entry point there, where there is one.
         function: Option<String>,
-        /// What is wrong there, and what was wanted:
-        /// `the known type is another: expected vec4<f32>, got f32`.
+        /// What is wrong there, and what was expected:
+        /// `the known type is another: the expression gives vec4<f32>, the info has f32`.
         fault: String,
     },
     /// The JSON holds no module.

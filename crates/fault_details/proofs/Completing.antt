@@ -121,7 +121,7 @@ module _ (m : Module) (ess : List (List ExpressionInfo))
 
 -- ---- items
 
-module _ (m : Module) (info : ModuleInfo) (ranges : IsTrue (module_ranges_fit m info)) (numbered : AreNumbered m) where
+module _ (m : Module) (info : ModuleInfo) (ranges : IsTrue (module_ranges_fit m info)) where
   sizes : (sizes_fit m info ≡ true) × (module_in_range m ≡ true)
       × (all_known (resolution_fits (length m.overrides) (length m.types)) info ≡ true)
   unfolding module_ranges_fit
@@ -131,6 +131,22 @@ module _ (m : Module) (info : ModuleInfo) (ranges : IsTrue (module_ranges_fit m 
       let b = and_parts (list_all type_is_fit m.types) (module_in_range m && known) a.1 in
       let c = and_parts (module_in_range m) known b.1 in
       (a.0, c.0, c.1)
+
+  pub sizes_known : (all_paired function_size_fits m.functions info.functions.items ≡ true)
+      × (all_paired entry_point_size_fits m.entry_points.items info.entry_points.items ≡ true)
+      × (length m.global_expressions ≡ length info.const_expression_types.items)
+  sizes_known =
+      let functions = all_paired function_size_fits m.functions info.functions.items in
+      let entry_points = all_paired entry_point_size_fits m.entry_points.items info.entry_points.items in
+      let globals = length m.global_expressions == length info.const_expression_types.items in
+      let a = and_parts functions (entry_points && globals) sizes.0 in
+      let b = and_parts entry_points globals a.1 in
+      (a.0, b.0, eqb-true (length m.global_expressions) (length info.const_expression_types.items) b.1)
+
+module _ (m : Module) (info : ModuleInfo) (ranges : IsTrue (module_ranges_fit m info)) (numbered : AreNumbered m) where
+  sizes_are : (sizes_fit m info ≡ true) × (module_in_range m ≡ true)
+      × (all_known (resolution_fits (length m.overrides) (length m.types)) info ≡ true)
+  sizes_are = sizes m info ranges
 
   declared_in_range : (list_all (constant_in_range (length m.types) (length m.global_expressions)) m.constants ≡ true)
       × (list_all (override_in_range (length m.types) (length m.global_expressions)) m.overrides ≡ true)
@@ -143,7 +159,7 @@ module _ (m : Module) (info : ModuleInfo) (ranges : IsTrue (module_ranges_fit m 
       let expressions = all_placed (global_expression_in_range m) m.global_expressions in
       let a = and_parts (declarations_in_range m)
       (all_placed (function_in_range m) m.functions
-      && list_all (entry_point_in_range m) m.entry_points.items) sizes.1 in
+      && list_all (entry_point_in_range m) m.entry_points.items) sizes_are.1 in
       let b = and_parts (types_in_range (length m.overrides) m.types)
       (special_types_fit (length m.types) m.special_types
       && (constants && (overrides && (globals && expressions)))) a.0 in
@@ -159,20 +175,14 @@ module _ (m : Module) (info : ModuleInfo) (ranges : IsTrue (module_ranges_fit m 
   functions_in_range =
       let a = and_parts (declarations_in_range m)
       (all_placed (function_in_range m) m.functions
-      && list_all (entry_point_in_range m) m.entry_points.items) sizes.1 in
+      && list_all (entry_point_in_range m) m.entry_points.items) sizes_are.1 in
       and_parts (all_placed (function_in_range m) m.functions)
       (list_all (entry_point_in_range m) m.entry_points.items) a.1
 
   known_sizes : (all_paired function_size_fits m.functions info.functions.items ≡ true)
       × (all_paired entry_point_size_fits m.entry_points.items info.entry_points.items ≡ true)
       × (length m.global_expressions ≡ length info.const_expression_types.items)
-  known_sizes =
-      let functions = all_paired function_size_fits m.functions info.functions.items in
-      let entry_points = all_paired entry_point_size_fits m.entry_points.items info.entry_points.items in
-      let globals = length m.global_expressions == length info.const_expression_types.items in
-      let a = and_parts functions (entry_points && globals) sizes.0 in
-      let b = and_parts entry_points globals a.1 in
-      (a.0, b.0, eqb-true (length m.global_expressions) (length info.const_expression_types.items) b.1)
+  known_sizes = sizes_known m info ranges
 
   known_fit : (list_all (list_all (λ k. resolution_fits (length m.overrides) (length m.types) k.ty))
       info.functions.items ≡ true)
@@ -186,7 +196,7 @@ module _ (m : Module) (info : ModuleInfo) (ranges : IsTrue (module_ranges_fit m 
       info.entry_points.items in
       let globals =
       list_all (resolution_fits (length m.overrides) (length m.types)) info.const_expression_types.items in
-      let a = and_parts functions (entry_points && globals) sizes.2 in
+      let a = and_parts functions (entry_points && globals) sizes_are.2 in
       let b = and_parts entry_points globals a.1 in
       (a.0, b.0, b.1)
 

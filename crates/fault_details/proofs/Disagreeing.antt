@@ -5,7 +5,7 @@
 -- expressions that stand together (gs are several), v and w are uses (os are several), here and
 -- there their types, at is a position, f gives what there is of a number, n is a bound or a number
 -- below it, and i and k are places in lists.
-use Rattle.std.proofs.Common.{◌≡◌, ◌∙◌, ◌<◌, ◌+◌, ◌-◌, ◌==◌, ◌&&◌, ◌⊎◌, ℕ, zero, suc}
+use Rattle.std.proofs.Common.{◌≡◌, ◌∙◌, ◌<◌, ◌+◌, ◌-◌, ◌==◌, ◌&&◌, inl, inr, ◌⊎◌, ℕ, zero, suc}
 use Rattle.std.proofs.Common.{Bool, true, false, List, [], ◌∷◌, ◌++◌, length, map, Option, Some, None}
 use Rattle.std.proofs.Common.{IsSome, append-nil, arith, ap, is_some, option_and_then, option_map}
 use Rattle.std.proofs.Common.{option_to_list, refl, slice_get, subst, sym, true≢false, zip, ⊎_elim}
@@ -46,6 +46,7 @@ use Rattle.module_meaning.specs.acceptance.AgreeingOperators.{uses_of}
 use Rattle.module_meaning.specs.acceptance.InfoSizes.{all_paired, entry_point_size_fits}
 use Rattle.module_meaning.specs.acceptance.InfoSizes.{function_size_fits}
 use Rattle.module_meaning.specs.acceptance.Operations.{Operation, agrees, all_agree}
+use Rattle.fault_details.specs.OtherUses.{IsBefore}
 use Rattle.fault_details.specs.Reasons.{use_reason}
 use Rattle.fault_details.proofs.Reasoning.{item_before, some_first, some_second, some_then}
 use Rattle.fault_details.proofs.Reasoning.{some_unless}
@@ -54,10 +55,11 @@ use Rattle.fault_details.proofs.Reasoning.{some_unless}
 
 -- an item of lists that belong to numbers is of one of them
 of_number : {X : Type 0} (f : ℕ → List X) (n i : ℕ) (x : X) → slice_get (joined_below f n) i ≡ Some x →
-    (number : ℕ) × (k : ℕ) × (slice_get (f number) k ≡ Some x)
+    (number : ℕ) × (k : ℕ) × (slice_get (f number) k ≡ Some x) × (number < n)
 of_number f zero i x is = absurd (true≢false (sym (ap is_some is)))
 of_number f (suc n) i x is =
-    ⊎_elim (λ front. of_number f n front.0 x front.1) (λ back. (n, back.0, back.1))
+    ⊎_elim (λ front. let found = of_number f n front.0 x front.1 in
+    (found.0, found.1, found.2, omega (arith, found.3))) (λ back. (n, back.0, back.1, omega arith))
     (in_row (joined_below f n) (f n) i x is)
 
 -- the item of a value that may be missing
@@ -67,7 +69,7 @@ of_option (Some y) zero x is = is
 of_option (Some y) (suc i) x is = absurd (true≢false (sym (ap is_some is)))
 
 -- where a test does not hold of all, it fails of one
-one_fails : {X : Type 0} (test : X → Bool) (xs : List X) → list_all test xs ≡ false →
+pub one_fails : {X : Type 0} (test : X → Bool) (xs : List X) → list_all test xs ≡ false →
     (i : ℕ) × (x : X) × (slice_get xs i ≡ Some x) × (test x ≡ false)
 one_fails test [] fails = absurd (true≢false fails)
 one_fails {X} test (x ∷ xs) fails = by (one_fails test xs) (test x) refl
@@ -81,7 +83,7 @@ one_fails {X} test (x ∷ xs) fails = by (one_fails test xs) (test x) refl
 
 -- ---- what is found
 
-mapped : {X Y : Type 0} (g : X → Y) (o : Option X) → IsSome o → IsSome (option_map g o)
+pub mapped : {X Y : Type 0} (g : X → Y) (o : Option X) → IsSome o → IsSome (option_map g o)
 mapped g None some = some
 mapped g (Some x) some = refl
 
@@ -101,7 +103,7 @@ some_after f n m (suc k) apart some =
     ∙ some_first (first_below f (k + suc n)) (option_map (λ x. (k + suc n, x)) (f (k + suc n)))
     (some_after f n (k + suc n) k refl some)
 
-some_below : {F : Type 0} (f : ℕ → Option F) (n m : ℕ) → n < m → IsSome (f n) → IsSome (first_below f m)
+pub some_below : {F : Type 0} (f : ℕ → Option F) (n m : ℕ) → n < m → IsSome (f n) → IsSome (first_below f m)
 some_below f n m within some = some_after f n m (m - suc n) (omega (arith, within)) some
 
 or_here : {F : Type 0} (o : Option F) (h : ℕ) (further : Option (ℕ × F)) → IsSome o → IsSome (or_further o h further)
@@ -131,10 +133,10 @@ some_faulty f n (y ∷ xs) (suc i) x is some =
 module _ (types : List Type_) where
   -- a use is one of a group, of so many of its first expressions
   of_first : (g : Group) (n i : ℕ) (w : Operation) → slice_get (first_uses types g n) i ≡ Some w →
-      (k : ℕ) × (use_in types g k ≡ Some w)
+      (k : ℕ) × (use_in types g k ≡ Some w) × (k < n)
   of_first g n i w is =
       let found = of_number (λ k. option_to_list (use_in types g k)) n i w is in
-      (found.0, of_option (use_in types g found.0) found.1 w found.2)
+      (found.0, of_option (use_in types g found.0) found.1 w found.2, found.3)
 
   of_group : (o : Option Group) (i : ℕ) (w : Operation) → slice_get (option_map_or (uses_of types) o []) i ≡ Some w →
       (g : Group) × (k : ℕ) × (o ≡ Some g) × (use_in types g k ≡ Some w)
@@ -144,40 +146,42 @@ module _ (types : List Type_) where
       (g, found.0, refl, found.1)
 
   -- one of those that stand before an expression is one of some group
-  abbrev IsUse : List Group → Operation → Type 0
-  IsUse gs w = (n : ℕ) × (g : Group) × (k : ℕ) × (slice_get gs n ≡ Some g) × (use_in types g k ≡ Some w)
+  abbrev pub IsUse : List Group → (number index : ℕ) → Operation → Type 0
+  IsUse gs number index w = (n : ℕ) × (g : Group) × (k : ℕ) × (slice_get gs n ≡ Some g) × (use_in types g k ≡ Some w)
+      × IsBefore (n, k) (number, index)
 
-  of_earlier : (gs : List Group) (number : ℕ) (g : Group) (index : ℕ) → slice_get gs number ≡ Some g →
-      (i : ℕ) (w : Operation) → slice_get (earlier_uses types gs number g index) i ≡ Some w → IsUse gs w
+  pub of_earlier : (gs : List Group) (number : ℕ) (g : Group) (index : ℕ) → slice_get gs number ≡ Some g →
+      (i : ℕ) (w : Operation) → slice_get (earlier_uses types gs number g index) i ≡ Some w → IsUse gs number index w
   of_earlier gs number g index at i w is =
       ⊎_elim (λ front. before front.0 front.1)
-      (λ back. let found = of_first g index back.0 w back.1 in (number, g, found.0, at, found.1))
+      (λ back. let found = of_first g index back.0 w back.1 in
+      (number, g, found.0, at, found.1, inr (refl, found.2)))
       (in_row (group_uses types gs number) (first_uses types g index) i w is)
     where
-      before : (k : ℕ) → slice_get (group_uses types gs number) k ≡ Some w → IsUse gs w
+      before : (k : ℕ) → slice_get (group_uses types gs number) k ≡ Some w → IsUse gs number index w
       before k front =
           let found = of_number (λ n. option_map_or (uses_of types) (slice_get gs n) []) number k w front in
           let taken = of_group (slice_get gs found.0) found.1 w found.2 in
-          (found.0, taken.0, taken.1, taken.2, taken.3)
+          (found.0, taken.0, taken.1, taken.2, taken.3, inl found.3)
 
 -- of each expression of a group one thing is known
-abbrev IsSized : Group → Type 0
+abbrev pub IsSized : Group → Type 0
 IsSized g = length g.expressions ≡ length g.known
 
 module _ (types : List Type_) (g : Group) (sized : IsSized g) (index : ℕ) (v : Operation)
     (taken : use_in types g index ≡ Some v) where
   -- the expression of a use, and its type
-  use_expression : (e : Expression) × (slice_get g.expressions index ≡ Some e)
+  pub use_expression : (e : Expression) × (slice_get g.expressions index ≡ Some e)
       × (expression_use types g.known index e ≡ Some v)
   use_expression = then_some (expression_use types g.known index) (slice_get g.expressions index) v taken
 
-  use_type : (r : TypeResolution) × (slice_get g.known index ≡ Some r)
+  pub use_type : (r : TypeResolution) × (slice_get g.known index ≡ Some r)
   use_type =
       let within = slice_get_within g.expressions index use_expression.0 use_expression.1 in
       item_before g.known (length g.expressions) index (omega (arith, sized))
       (lt-ltb index (length g.expressions) within)
 
-  use_answer : v.answer ≡ type_identity types use_type.0
+  pub use_answer : v.answer ≡ type_identity types use_type.0
   use_answer =
       let made = map_some (λ operator. record {
         operator = operator;
@@ -210,30 +214,41 @@ disagreeing w v fails = by (is_same_operator w v) refl
 module _ (types : List Type_) (gs : List Group)
     (sized : (n : ℕ) (g : Group) → slice_get gs n ≡ Some g → IsSized g)
     (v : Operation) (here : TypeResolution) (is_here : v.answer ≡ type_identity types here) where
-  -- one that does not agree is found in its group
-  other_there : (g : Group) → IsSized g → (k : ℕ) (w : Operation) → use_in types g k ≡ Some w →
-      agrees w v ≡ false → IsSome (first_other_in types here v g)
-  other_there g fits k w taken fails =
+  -- one that does not agree is such an expression,
+  pub other_expression : (g : Group) → IsSized g → (k : ℕ) (w : Operation) → use_in types g k ≡ Some w →
+      agrees w v ≡ false → (e : Expression) × (slice_get g.expressions k ≡ Some e)
+      × IsSome (other_type types here g v (0 + k) e)
+  other_expression g fits k w taken fails =
       let e = use_expression types g fits k w taken in
       let there = use_type types g fits k w taken in
       let apart = disagreeing w v fails in
       let start : 0 + k ≡ k = omega arith in
       let unlike : are_alike types here there.0 ≡ false =
       differ (type_identity types there.0) (type_identity types here)
-      ((λ i. bytes_eq (sym (use_answer types g fits k w taken) i) (sym is_here i)) ∙ apart.1) in
-      some_faulty (other_type types here g v) 0 g.expressions k e.0 e.1
-      (ap (λ k. is_some (other_type types here g v k e.0)) start
-      ∙ chosen (option_map_or (λ w. is_same_operator w v) (expression_use types g.known k e.0) false)
-      (option_and_then (unless_alike types here) (slice_get g.known k))
-      (ap (λ o. option_map_or (λ w. is_same_operator w v) o false) e.2 ∙ apart.0)
-      (some_then (unless_alike types here) (slice_get g.known k) there.0 there.1
-      (some_unless (are_alike types here there.0) there.0 unlike)))
+      ((λ i. bytes_eq (sym (use_answer types g fits k w taken) i) (sym is_here i)) ∙ apart.1) in (
+        e.0,
+        e.1,
+        ap (λ k. is_some (other_type types here g v k e.0)) start
+            ∙ chosen (option_map_or (λ w. is_same_operator w v) (expression_use types g.known k e.0) false)
+            (option_and_then (unless_alike types here) (slice_get g.known k))
+            (ap (λ o. option_map_or (λ w. is_same_operator w v) o false) e.2 ∙ apart.0)
+            (some_then (unless_alike types here) (slice_get g.known k) there.0 there.1
+            (some_unless (are_alike types here there.0) there.0 unlike)),
+      )
 
-  other_found : (w : Operation) → IsUse types gs w → agrees w v ≡ false → IsSome (first_other types here gs v)
-  other_found w taken fails =
+  -- and is found in its group
+  pub other_there : (number index : ℕ) (w : Operation) → (taken : IsUse types gs number index w) → agrees w v ≡ false →
+      IsSome (first_other_at types here gs v taken.0)
+  other_there number index w taken fails =
+      let e = other_expression taken.1 (sized taken.0 taken.1 taken.3) taken.2 w taken.4 fails in
+      some_then (first_other_in types here v) (slice_get gs taken.0) taken.1 taken.3
+      (some_faulty (other_type types here taken.1 v) 0 taken.1.expressions taken.2 e.0 e.1 e.2)
+
+  other_found : (number index : ℕ) (w : Operation) → IsUse types gs number index w → agrees w v ≡ false →
+      IsSome (first_other types here gs v)
+  other_found number index w taken fails =
       some_below (first_other_at types here gs v) taken.0 (length gs) (slice_get_within gs taken.0 taken.1 taken.3)
-      (some_then (first_other_in types here v) (slice_get gs taken.0) taken.1 taken.3
-      (other_there taken.1 (sized taken.0 taken.1 taken.3) taken.2 w taken.4 fails))
+      (other_there number index w taken fails)
 
 module _ (m : Module) (gs : List Group) (sized : (n : ℕ) (g : Group) → slice_get gs n ≡ Some g → IsSized g)
     (number index : ℕ) (g : Group) (at : slice_get gs number ≡ Some g)
@@ -243,26 +258,35 @@ module _ (m : Module) (gs : List Group) (sized : (n : ℕ) (g : Group) → slice
   uses = earlier_uses m.types gs number g index
 
   -- the expression is a use, and one before it does not agree
-  by_use : (o : Option Operation) → use_in m.types g index ≡ o → all_agree (uses ++ option_to_list o) ≡ false →
-      IsSome (other_use_in m gs g index)
-  by_use None is fails = absurd (true≢false (sym before ∙ sym (ap all_agree (append-nil uses)) ∙ fails))
-  by_use (Some v) is fails =
-      let some = list_all (λ o. agrees o v) uses in
-      let found = one_fails (λ o. agrees o v) uses
-      (sym (ap (λ b. b && some) before) ∙ sym (agree_after uses v) ∙ fails) in
-      let fits = sized number g at in
-      let here = use_type m.types g fits index v is in
-      some_then (λ v. option_and_then (λ here. option_map (placed_use m here) (first_other m.types here gs v))
-      (slice_get g.known index)) (use_in m.types g index) v is
-      (some_then (λ here. option_map (placed_use m here) (first_other m.types here gs v)) (slice_get g.known index)
-      here.0 here.1
-      (mapped (placed_use m here.0) (first_other m.types here.0 gs v)
-      (other_found m.types gs sized v here.0 (use_answer m.types g fits index v is) found.1
-      (of_earlier m.types gs number g index at found.0 found.1 found.2) found.3)))
+  abbrev pub IsApart : Operation → Type 0
+  IsApart v = (use_in m.types g index ≡ Some v) × ((w : Operation) × IsUse m.types gs number index w
+      × (agrees w v ≡ false))
+
+  pub own_use : (v : Operation) × IsApart v
+  own_use = by (use_in m.types g index) refl (sym (ap all_agree (one_more m.types gs number g index)) ∙ after)
+    where
+      by : (o : Option Operation) → use_in m.types g index ≡ o → all_agree (uses ++ option_to_list o) ≡ false →
+          (v : Operation) × IsApart v
+      by None is fails = absurd (true≢false (sym before ∙ sym (ap all_agree (append-nil uses)) ∙ fails))
+      by (Some v) is fails =
+          let found = one_fails (λ o. agrees o v) uses
+          (sym (ap (λ b. b && list_all (λ o. agrees o v) uses) before) ∙ sym (agree_after uses v) ∙ fails) in (
+            v,
+            (is, (found.1, of_earlier m.types gs number g index at found.0 found.1 found.2, found.3)),
+          )
 
   use_told : IsSome (other_use_in m gs g index)
   use_told =
-      by_use (use_in m.types g index) refl (sym (ap all_agree (one_more m.types gs number g index)) ∙ after)
+      let v = own_use in
+      let fits = sized number g at in
+      let here = use_type m.types g fits index v.0 v.1.0 in
+      some_then (λ v. option_and_then (λ here. option_map (placed_use m here) (first_other m.types here gs v))
+      (slice_get g.known index)) (use_in m.types g index) v.0 v.1.0
+      (some_then (λ here. option_map (placed_use m here) (first_other m.types here gs v.0)) (slice_get g.known index)
+      here.0 here.1
+      (mapped (placed_use m here.0) (first_other m.types here.0 gs v.0)
+      (other_found m.types gs sized v.0 here.0 (use_answer m.types g fits index v.0 v.1.0) number index v.1.1.0 v.1.1.1
+      v.1.1.2)))
 
 -- ---- groups
 
@@ -303,7 +327,7 @@ module _ (m : Module) (info : ModuleInfo)
   own_sized zero g at = subst IsSized (same_Some own_group g at) globals
   own_sized (suc n) g at = absurd (true≢false (sym (ap is_some at)))
 
-  groups_sized : (n : ℕ) (g : Group) → slice_get (groups_of m info) n ≡ Some g → IsSized g
+  pub groups_sized : (n : ℕ) (g : Group) → slice_get (groups_of m info) n ≡ Some g → IsSized g
   groups_sized n g at =
       ⊎_elim (λ front. functions_sized m.functions info.functions.items
       (and_parts (length m.functions == length info.functions.items)

@@ -3,7 +3,7 @@ use Rattle.std.proofs.Common.{◌≡◌, ◌<◌, ◌==◌, ◌-◌, ℕ, zero, 
 use Rattle.std.proofs.Common.{Option, Some, None}
 use Rattle.std.proofs.Common.{refl, length, nat_lt, nat_le, not, slice_get, true≢false, sym, eq-eqb}
 use Rattle.std.proofs.Common.{◌∙◌}
-use Rattle.std.proofs.lemmas.Bool.{ltb-false, leb-false}
+use Rattle.std.proofs.lemmas.Bool.{ltb-false, ltb-true, leb-false}
 use Rattle.std.specs.List.{enumerate_from}
 use Rattle.std.specs.Prelude.{if◌then◌else◌, take}
 use Rattle.std.specs.Option.{IfSome, is_some, option_and_then, option_map, option_map_or, option_or}
@@ -60,7 +60,7 @@ use Rattle.module_meaning.specs.acceptance.StatementsFit.{last_falls_through}
 use Rattle.module_meaning.specs.TypeParts.{known_pointee}
 use Rattle.fault_details.specs.Holds.{IsReason, ReasonsHold}
 use Rattle.fault_details.specs.Reasons.{Reason, Absent, Later, OtherClass, OtherNumber, OtherType}
-use Rattle.fault_details.specs.Reasons.{PastParts, LacksLetter, Unexpected}
+use Rattle.fault_details.specs.Reasons.{KnownType, PastParts, LacksLetter, Unexpected}
 use Rattle.fault_details.specs.Reasons.{has_letter, letter_reason, reason_at, swizzle_reason}
 use Rattle.fault_details.specs.Reasons.{use_reason}
 use Rattle.fault_details.specs.Reasons.{absent, class_reason, declared_reason, emitted_reason}
@@ -124,9 +124,10 @@ module _ (m : Module) where
   not_before_holds name here count h = by (nat_lt h here) refl (nat_lt h count) refl
     where
       by : (before : Bool) → nat_lt h here ≡ before → (there : Bool) → nat_lt h count ≡ there →
-          Holds (if before then None else (if there then Some (Later name h here) else Some (Absent name h count)))
+          Holds (if before then None
+          else (if there then Some (Later name h here count) else Some (Absent name h count)))
       by true b there t = tt
-      by false b true t = ltb-false h here b
+      by false b true t = (ltb-false h here b, ltb-true h count t)
       by false b false t = ltb-false h count t
 
   number_holds : (of : Counted) (expected got : ℕ) → Holds (number_reason of expected got)
@@ -271,7 +272,8 @@ module _ (m : Module) where
 
   wanted_holds : (known : List TypeResolution) (own : TypeResolution) (e : Expression) (expected : ExpectedType) →
       Holds (expected_reason m.types known own e expected)
-  wanted_holds known own e (LikeThis expected) = unlike_holds expected own
+  wanted_holds known own e (LikeThis gives) =
+      unless_holds (IsReason m) (are_alike m.types own gives) (KnownType gives own) (λ fails. fails)
   wanted_holds known own e Anything = tt
   wanted_holds known own e Nothing = typeless_holds known own e
 

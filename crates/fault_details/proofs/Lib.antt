@@ -9,3 +9,4 @@ pub mod Passing
 pub mod Reasoning
 pub mod ScalarsApart
 mod TextExamples
+pub mod UsesBefore

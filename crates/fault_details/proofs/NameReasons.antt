@@ -109,9 +109,10 @@ before_told name here count h fails = by (nat_lt h here) fails
     either false x y = refl
 
     by : (b : Bool) → b ≡ false →
-        IsSome (if b then None else (if nat_lt h count then Some (Later name h here) else Some (Absent name h count)))
+        IsSome (if b then None
+        else (if nat_lt h count then Some (Later name h here count) else Some (Absent name h count)))
     by true e = absurd (true≢false e)
-    by false e = either (nat_lt h count) (Later name h here) (Absent name h count)
+    by false e = either (nat_lt h count) (Later name h here count) (Absent name h count)
 
 number_told : (of : Counted) (expected got : ℕ) → (expected == got) ≡ false → IsSome (number_reason of expected got)
 number_told of expected got fails = some_unless (expected == got) (OtherNumber of expected got) fails

@@ -1,9 +1,7 @@
 -- What was expected, as it is displayed: lines that `docs/USING.md` has.
 use Rattle.std.proofs.Common.{◌≡◌, codes, refl}
 use Rattle.std.specs.Fmt.{digits}
-use Rattle.naga_acceptance.specs.declared.faults.FunctionPosition.TheVariants as part
-use Rattle.naga_acceptance.specs.declared.faults.FaultPosition.TheVariants as item
-use Rattle.fault_details.specs.Texts.{many_text, use_text, mismatch_text}
+use Rattle.fault_details.specs.Texts.{many_text, mismatch_text}
 use Rattle.fault_details.specs.declared.mismatch.Mismatch.TheVariants as mismatch
 use Rattle.fault_details.specs.declared.words.Counted.TheVariants as counted
 use Rattle.fault_details.specs.declared.words.ListName.TheVariants as list
@@ -17,8 +15,8 @@ one_wanted : many_text 1 counted.Arguments ≡ codes "1 argument"
 unfolding digits
 one_wanted = refl
 
-not_before : mismatch_text (mismatch.EarlierItem list.Expressions 7 3)
-    ≡ codes "names expressions[7], expected one before expressions[3]"
+not_before : mismatch_text (mismatch.EarlierItem list.Expressions 7 3 12)
+    ≡ codes "names expressions[7], expected one before expressions[3], of 12"
 unfolding digits
 not_before = refl
 
@@ -36,12 +34,3 @@ past_the_parts = refl
 
 no_loop : mismatch_text (mismatch.Need need.Loop) ≡ codes "expected a loop to go on with"
 no_loop = refl
-
-of_a_function : use_text (item.Function 0 (part.Expression 1)) ≡ codes "functions[0].expressions[1]"
-unfolding digits
-of_a_function = refl
-
-of_an_entry_point : use_text (item.EntryPoint 2 (part.Expression 10))
-    ≡ codes "entry_points[2].function.expressions[10]"
-unfolding digits
-of_an_entry_point = refl

@@ -1,29 +1,31 @@
 -- When a reason is right: the two types are not alike; the type is not of the class; the type has no
--- component for the letter; the number of an item is not below how many there are,
--- or not below that of the item before which it is to stand; numbers that are told differ. Of a
+-- component for the letter; the number of an item is not below how many there are, or it is, and is
+-- not below that of the item before which it is to stand; numbers that are told differ. Of a
 -- value that is not there or not expected, and of what a statement needs, nothing is said. And that
 -- each reason is one.
 --
 -- Throughout, m is a module, info what is known of it, and u a position with a kind of fault.
-use Rattle.std.specs.Prelude.{◌≡◌, ⊤, ◌≢◌, ◌≤◌, false}
+use Rattle.std.specs.Prelude.{◌≡◌, ⊤, ◌≢◌, ◌≤◌, ◌<◌, false}
 use Rattle.std.specs.Option.{IfSome, option_map_or}
 use Rattle.naga_ir.specs.declared.module.Module.{Module}
 use Rattle.naga_info.specs.declared.info.ModuleInfo.{ModuleInfo}
 use Rattle.naga_info.specs.Resolution.{inner_of}
 use Rattle.naga_acceptance.specs.declared.faults.Unaccepted.{Unaccepted}
 use Rattle.module_meaning.specs.AlikeTypes.{are_alike}
-use Rattle.fault_details.specs.Reasons.{Reason, OtherType, OtherClass, NoValue, Unexpected, Absent}
-use Rattle.fault_details.specs.Reasons.{Later, OtherNumber, OtherUse, PastParts, LacksLetter, Needs}
+use Rattle.fault_details.specs.Reasons.{Reason, OtherType, KnownType, OtherClass, NoValue}
+use Rattle.fault_details.specs.Reasons.{Unexpected, Absent, Later, OtherNumber, OtherUse, PastParts}
+use Rattle.fault_details.specs.Reasons.{LacksLetter, Needs}
 use Rattle.fault_details.specs.Reasons.{fault_reason, has_letter, is_in_class}
 
 abbrev pub IsReason : Module → Reason → Type 0
 IsReason m (OtherType expected got) = are_alike m.types got expected ≡ false
+IsReason m (KnownType gives known) = are_alike m.types known gives ≡ false
 IsReason m (OtherClass class got) =
     option_map_or (is_in_class m.types class) (inner_of got m.types) false ≡ false
 IsReason m (NoValue expected) = ⊤
 IsReason m (Unexpected got) = ⊤
 IsReason m (Absent name index count) = count ≤ index
-IsReason m (Later name index before) = before ≤ index
+IsReason m (Later name index before count) = (before ≤ index) × (index < count)
 IsReason m (OtherNumber of expected got) = expected ≢ got
 IsReason m (PastParts count got) = count ≤ got
 IsReason m (LacksLetter letter got) =

@@ -1,4 +1,5 @@
 pub mod Holds
+pub mod OtherUses
 pub mod Reasons
 pub mod Shown
 pub mod Texts

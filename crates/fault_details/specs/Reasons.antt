@@ -90,6 +90,8 @@ use Rattle.fault_details.specs.declared.words.TypeClass.TheVariants as class
 pub data Reason : Type 0 where
   -- a value of one type is expected, and one of another stands there
   OtherType : (expected got : TypeResolution) → Reason
+  -- an expression gives a value of one type, and another is known of it
+  KnownType : (gives known : TypeResolution) → Reason
   -- a type of a class is expected, and another stands there
   OtherClass : TypeClass → (got : TypeResolution) → Reason
   -- a value is expected, and there is none
@@ -98,8 +100,8 @@ pub data Reason : Type 0 where
   Unexpected : (got : TypeResolution) → Reason
   -- an item is named that is not there: its list has so many
   Absent : ListName → (index count : ℕ) → Reason
-  -- an item is named that does not stand before the one of this number
-  Later : ListName → (index before : ℕ) → Reason
+  -- an item of a list of so many is named that does not stand before the one of this number
+  Later : ListName → (index before count : ℕ) → Reason
   -- so many are expected, and so many stand there
   OtherNumber : Counted → (expected got : ℕ) → Reason
   -- a part is named of which there are so many
@@ -126,7 +128,7 @@ absent name count h = if nat_lt h count then None else Some (Absent name h count
 abbrev pub not_before : ListName → (here count : ℕ) → (h : ℕ) → Option Reason
 not_before name here count h =
     if nat_lt h here then None
-    else (if nat_lt h count then Some (Later name h here) else Some (Absent name h count))
+    else (if nat_lt h count then Some (Later name h here count) else Some (Absent name h count))
 
 -- what a type is made of
 abbrev pub part_reason : (here count : ℕ) → TypeInner → Option Reason
@@ -261,11 +263,15 @@ typeless_reason types known own (expression.Load pointer) =
 typeless_reason types known own (expression.CallResult function) = Some (Unexpected own)
 typeless_reason types known own _ = None
 
+-- another type is known than what an expression stands for has
+abbrev pub known_unlike : List Type_ → (gives known : TypeResolution) → Option Reason
+known_unlike types gives own = if are_alike types own gives then None else Some (KnownType gives own)
+
 abbrev pub expected_reason :
     List Type_ → (known : List TypeResolution) → (own : TypeResolution) → Expression →
     ExpectedType →
     Option Reason
-expected_reason types known own e (LikeThis expected) = unlike types expected own
+expected_reason types known own e (LikeThis gives) = known_unlike types gives own
 expected_reason types known own e Anything = None
 expected_reason types known own e Nothing = typeless_reason types known own e
 

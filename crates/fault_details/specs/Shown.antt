@@ -5,8 +5,8 @@ use Rattle.naga_ir.specs.declared.types.TypeInner.TheVariants as inner
 use Rattle.naga_info.specs.declared.info.TypeResolution.TheVariants.{Value}
 use Rattle.naga_acceptance.specs.KnownTypes.{inferred}
 use Rattle.naga_acceptance.specs.TextOrder.{PlacedStatement}
-use Rattle.fault_details.specs.Reasons.{Reason as Told, OtherType, OtherClass, NoValue, Unexpected}
-use Rattle.fault_details.specs.Reasons.{Absent, Later, OtherNumber, OtherUse, PastParts}
+use Rattle.fault_details.specs.Reasons.{Reason as Told, OtherType, KnownType, OtherClass, NoValue}
+use Rattle.fault_details.specs.Reasons.{Unexpected, Absent, Later, OtherNumber, OtherUse, PastParts}
 use Rattle.fault_details.specs.Reasons.{LacksLetter, Needs}
 use Rattle.fault_details.specs.declared.reasons.Reason.{Reason}
 use Rattle.fault_details.specs.declared.reasons.Reason.TheVariants as code
@@ -17,11 +17,12 @@ abbrev pub shown : Reason → Told
 shown (code.OtherType expected got) = OtherType (inferred expected) got.now
 shown (code.OtherScalar expected got) =
     OtherType (Value (inner.Scalar expected)) (Value (inner.Scalar got))
+shown (code.KnownType gives known) = KnownType (inferred gives) known.now
 shown (code.OtherClass class got) = OtherClass class got.now
 shown (code.NoValue expected) = NoValue (inferred expected)
 shown (code.Unexpected got) = Unexpected got.now
 shown (code.Absent name index count) = Absent name index count
-shown (code.Later name index before) = Later name index before
+shown (code.Later name index before count) = Later name index before count
 shown (code.OtherNumber of expected got) = OtherNumber of expected got
 shown (code.PastParts count got) = PastParts count got
 shown (code.LacksLetter letter got) = LacksLetter letter got.now

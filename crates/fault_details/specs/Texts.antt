@@ -1,14 +1,10 @@
 -- What is displayed of what was expected, and of what stands there instead.
 --
--- Throughout, h is the number of an item in its list, e that of an expression, and n counts several
--- things.
+-- Throughout, h is the number of an item in its list, and n counts several things.
 use Rattle.std.specs.Prelude.{ℕ, List, [], ◌++◌, ◌==◌, codes, decimal, if◌then◌else◌, string_bytes}
 use Rattle.naga_ir.specs.declared.expression.SwizzleComponent.{SwizzleComponent}
 use Rattle.naga_ir.specs.declared.expression.SwizzleComponent.TheVariants as component
-use Rattle.naga_acceptance.specs.declared.faults.FaultPosition.{FaultPosition}
-use Rattle.naga_acceptance.specs.declared.faults.FaultPosition.TheVariants as item
-use Rattle.naga_acceptance.specs.declared.faults.FunctionPosition.{FunctionPosition}
-use Rattle.naga_acceptance.specs.declared.faults.FunctionPosition.TheVariants as part
+use Rattle.naga_acceptance.specs.FaultTexts.{item_text as position_text}
 use Rattle.fault_details.specs.declared.mismatch.Mismatch.{Mismatch}
 use Rattle.fault_details.specs.declared.mismatch.Mismatch.TheVariants as mismatch
 use Rattle.fault_details.specs.declared.words.Counted.{Counted}
@@ -68,22 +64,6 @@ letter_text component.Y = codes "y"
 letter_text component.Z = codes "z"
 letter_text component.W = codes "w"
 
--- an expression of a function, after the function
-abbrev pub part_text : FunctionPosition → List ℕ
-part_text (part.Expression e) = codes ".expressions[" ++ (decimal e ++ codes "]")
-part_text _ = []
-
--- an expression of a function, of an entry point or of the module itself, by its position in the
--- module
-abbrev pub use_text : FaultPosition → List ℕ
-use_text (item.Function h place) =
-    codes "functions[" ++ (decimal h ++ (codes "]" ++ part_text place))
-use_text (item.EntryPoint h place) =
-    codes "entry_points[" ++ (decimal h ++ (codes "].function" ++ part_text place))
-use_text (item.GlobalExpression e) =
-    codes "global_expressions[" ++ (decimal e ++ codes "]")
-use_text _ = codes "module"
-
 -- what a statement needs beside types
 abbrev pub need_text : Need → List ℕ
 need_text need.LoopOrSwitch = codes "a loop or a switch to leave"
@@ -102,14 +82,17 @@ count_text n = (if n == 1 then codes "is" else codes "are") ++ codes " " ++ deci
 abbrev pub mismatch_text : Mismatch → List ℕ
 mismatch_text (mismatch.Type ty got) =
     codes "expected " ++ string_bytes ty ++ codes ", got " ++ string_bytes got
+mismatch_text (mismatch.KnownType gives known) =
+    codes "the expression gives " ++ (string_bytes gives ++ (codes ", the info has " ++ string_bytes known))
 mismatch_text (mismatch.Class any got) =
     codes "expected " ++ class_text any ++ codes ", got " ++ string_bytes got
 mismatch_text (mismatch.Value ty) = codes "expected " ++ string_bytes ty ++ codes ", got nothing"
 mismatch_text (mismatch.Nothing got) = codes "expected nothing, got " ++ string_bytes got
 mismatch_text (mismatch.Item name h n) =
     codes "names " ++ (item_text name h ++ (codes ", of which there " ++ count_text n))
-mismatch_text (mismatch.EarlierItem name h before) =
-    codes "names " ++ (item_text name h ++ (codes ", expected one before " ++ item_text name before))
+mismatch_text (mismatch.EarlierItem name h before n) =
+    codes "names " ++ (item_text name h ++ (codes ", expected one before " ++ (item_text name before
+    ++ (codes ", of " ++ decimal n))))
 mismatch_text (mismatch.Number of n got) =
     codes "expected " ++ many_text n of ++ codes ", got " ++ decimal got
 mismatch_text (mismatch.Part n got) =
@@ -118,6 +101,6 @@ mismatch_text (mismatch.Letter letter got) =
     codes "names ." ++ (letter_text letter ++ (codes ", which " ++ (string_bytes got ++
     codes " does not have")))
 mismatch_text (mismatch.Use at ty got) =
-    codes "expected " ++ (string_bytes ty ++ (codes " as at " ++ (use_text at ++ (codes ", got " ++
-    string_bytes got))))
+    codes "expected " ++ (string_bytes ty ++ (codes " as at " ++ (position_text at ++ (codes ", got "
+    ++ string_bytes got))))
 mismatch_text (mismatch.Need it) = codes "expected " ++ need_text it

@@ -14,8 +14,9 @@ use Rattle.naga_words.specs.Contexts.{global_context}
 use Rattle.naga_words.specs.Segments.{IsText}
 use Rattle.naga_words.specs.Spelling.{Context, FitsResolution, IsInOrder, resolution_segments}
 use Rattle.naga_listing.specs.OneLine.{on_one_line}
-use Rattle.fault_details.specs.Reasons.{Reason, OtherType, OtherClass, NoValue, Unexpected, Absent}
-use Rattle.fault_details.specs.Reasons.{Later, OtherNumber, OtherUse, PastParts, LacksLetter, Needs}
+use Rattle.fault_details.specs.Reasons.{Reason, OtherType, KnownType, OtherClass, NoValue}
+use Rattle.fault_details.specs.Reasons.{Unexpected, Absent, Later, OtherNumber, OtherUse, PastParts}
+use Rattle.fault_details.specs.Reasons.{LacksLetter, Needs}
 use Rattle.fault_details.specs.Texts.{item_text}
 use Rattle.fault_details.specs.declared.words.ListName.TheVariants as list
 use Rattle.fault_details.specs.declared.mismatch.Mismatch.{Mismatch}
@@ -98,12 +99,14 @@ TypesAreToldApart = (m : Module) (expected got : TypeResolution) (text other : L
 abbrev pub Tells : Module → Reason → Mismatch → Type 0
 Tells m (OtherType expected got) (told.Type mismatch_text got_text) =
     TellsBoth m expected got (string_bytes mismatch_text) (string_bytes got_text)
+Tells m (KnownType gives known) (told.KnownType gives_text known_text) =
+    TellsBoth m gives known (string_bytes gives_text) (string_bytes known_text)
 Tells m (OtherClass class got) (told.Class told_class text) =
     (told_class ≡ class) × IsTold m got (string_bytes text)
 Tells m (NoValue expected) (told.Value text) = IsTold m expected (string_bytes text)
 Tells m (Unexpected got) (told.Nothing text) = IsTold m got (string_bytes text)
 Tells m (Absent name index count) w = w ≡ told.Item name index count
-Tells m (Later name index before) w = w ≡ told.EarlierItem name index before
+Tells m (Later name index before count) w = w ≡ told.EarlierItem name index before count
 Tells m (OtherNumber of expected got) w = w ≡ told.Number of expected got
 Tells m (PastParts count got) w = w ≡ told.Part count got
 Tells m (LacksLetter letter got) (told.Letter told_letter text) =

@@ -1,6 +1,7 @@
 //! What is proved of reasons.
 
 ghost use Rattle.fault_details.specs.Holds.{ReasonsHold};
+ghost use Rattle.fault_details.specs.OtherUses.{OtherUsesStandBefore};
 ghost use Rattle.fault_details.specs.Told.{TypesAreToldApart};
 ghost use Rattle.fault_details.specs.WithReason.{NameFaultsHaveReasons, TypeFaultsHaveReasons};
 
@@ -28,6 +29,13 @@ pub fn type_faults_have_reasons()
 /// operand or an initialiser is not there, or not before what names it.
 pub fn name_faults_have_reasons()
     ensures { NameFaultsHaveReasons }
+{}
+
+/// Of an operator that does not agree, where all that the module names is there,
+/// [`explain`](crate::explain) tells a use of the same operator over operands of types alike, which
+/// stands before and has the type that is told, another than that at the fault.
+pub fn other_uses_stand_before()
+    ensures { OtherUsesStandBefore }
 {}
 
 /// No text tells two types: where [`explain`](crate::explain) tells one that is expected and another

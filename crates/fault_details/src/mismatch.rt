@@ -3,9 +3,7 @@
 ghost use Rattle.std.specs.Prelude.{Some};
 ghost use Rattle.fault_details.specs.Texts.{mismatch_text};
 
-use crate::words::{
-    Counted, ListName, Many, Need, Numbered, There, TypeClass, UsePosition, letter_str,
-};
+use crate::words::{Counted, ListName, Many, Need, Numbered, There, TypeClass, letter_str};
 use naga_acceptance::FaultPosition;
 use naga_ir::SwizzleComponent;
 use std::fmt;
@@ -25,6 +23,14 @@ pub enum Mismatch {
         expected: String,
         /// The type that stands there.
         got: String,
+    },
+    /// An expression gives a value of one type, and another is known of it:
+    /// `the expression gives vec4<f32>, the info has vec3<f32>`.
+    KnownType {
+        /// The type of what the expression gives.
+        gives: String,
+        /// The type that is known of it.
+        known: String,
     },
     /// A type of a class is expected, and another stands there:
     /// `expected a scalar or a vector, got mat2x2<f32>`.
@@ -54,7 +60,7 @@ pub enum Mismatch {
         count: usize,
     },
     /// An item is named that is there, but not before the one that it has to stand before:
-    /// `names expressions[7], expected one before expressions[3]`.
+    /// `names expressions[7], expected one before expressions[3], of 12`.
     EarlierItem {
         /// The list that it stands in.
         list: ListName,
@@ -62,6 +68,8 @@ pub enum Mismatch {
         index: usize,
         /// The number of the item that it has to stand before.
         before: usize,
+        /// How many items the list has.
+        count: usize,
     },
     /// So many are expected, and so many stand there: `expected 2 arguments, got 3`.
     Number {
@@ -88,7 +96,7 @@ pub enum Mismatch {
         got: String,
     },
     /// The first use of the operator that is over operands of types alike and has another type:
-    /// `expected i32 as at functions[0].expressions[1], got f32`.
+    /// `expected i32 as at function 0, expression 1, got f32`.
     Use {
         /// The position of that use: an expression of a function, of an entry point or of the
         /// module itself.
@@ -108,6 +116,9 @@ impl fmt::Display for Mismatch {
     fn fmt<W: fmt::Write>(&self, f: &mut fmt::Formatter<W>) -> fmt::Result {
         match self {
             Mismatch::Type { expected, got } => write!(f, "expected {}, got {}", expected, got),
+            Mismatch::KnownType { gives, known } => {
+                write!(f, "the expression gives {}, the info has {}", gives, known)
+            }
             Mismatch::Class { class, got } => write!(f, "expected {}, got {}", class, got),
             Mismatch::Value { expected } => write!(f, "expected {}, got nothing", expected),
             Mismatch::Nothing { got } => write!(f, "expected nothing, got {}", got),
@@ -119,10 +130,15 @@ impl fmt::Display for Mismatch {
                 list,
                 index,
                 before,
+                count,
             } => {
                 let item = Numbered(*list, *index);
                 let next = Numbered(*list, *before);
-                write!(f, "names {}, expected one before {}", item, next)
+                write!(
+                    f,
+                    "names {}, expected one before {}, of {}",
+                    item, next, count
+                )
             }
             Mismatch::Number { of, expected, got } => {
                 write!(f, "expected {}, got {}", Many(*expected, *of), got)
@@ -142,15 +158,7 @@ impl fmt::Display for Mismatch {
                 item,
                 expected,
                 got,
-            } => {
-                write!(
-                    f,
-                    "expected {} as at {}, got {}",
-                    expected,
-                    UsePosition(*item),
-                    got
-                )
-            }
+            } => { write!(f, "expected {} as at {}, got {}", expected, item, got) }
             Mismatch::Need(need) => write!(f, "expected {}", need),
         }
     }

@@ -19,7 +19,13 @@ pub(crate) enum Reason<'a> {
         expected: InferredType,
         got: &'a TypeResolution,
     },
-    /// The same of two scalars, of which none is known of an expression.
+    /// An expression gives a value of one type, and another is known of it.
+    KnownType {
+        gives: InferredType,
+        known: &'a TypeResolution,
+    },
+    /// A value of one scalar is expected, and one of another stands there, of which none is known of
+    /// an expression.
     OtherScalar {
         expected: Scalar,
         got: Scalar,
@@ -43,11 +49,12 @@ pub(crate) enum Reason<'a> {
         index: usize,
         count: usize,
     },
-    /// An item is named that does not stand before the one of this number.
+    /// An item of a list of so many is named that does not stand before the one of this number.
     Later {
         list: ListName,
         index: usize,
         before: usize,
+        count: usize,
     },
     /// So many are expected, and so many stand there.
     OtherNumber {
@@ -104,6 +111,7 @@ pub(crate) fn not_before<'a>(
             list,
             index,
             before: here,
+            count,
         })
     } else {
         Some(Reason::Absent { list, index, count })

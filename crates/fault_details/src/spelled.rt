@@ -8,7 +8,7 @@ ghost use Rattle.naga_acceptance.specs.KnownTypes.{inferred};
 ghost use Rattle.naga_words.specs.Contexts.{global_context};
 ghost use Rattle.naga_words.specs.Segments.{IsText};
 ghost use Rattle.naga_words.specs.Spelling.{resolution_segments};
-ghost use Rattle.fault_details.specs.Reasons.{LacksLetter, NoValue, OtherClass, OtherType};
+ghost use Rattle.fault_details.specs.Reasons.{KnownType, LacksLetter, NoValue, OtherClass, OtherType};
 ghost use Rattle.fault_details.specs.Reasons.{OtherUse, Unexpected, fault_reason};
 ghost use Rattle.fault_details.specs.Shown.{shown};
 ghost use Rattle.fault_details.specs.Told.{HasNoOrder, IsOfModule, IsPlaced, IsTold, PlacesBoth};
@@ -235,6 +235,23 @@ fn other_type(
     Ok(Mismatch::Type { expected, got })
 }
 
+/// The type of what an expression gives, and the one that is known of it.
+fn known_type(
+    alloc: Global,
+    module: &Module,
+    gives: InferredType,
+    known: &TypeResolution,
+) -> Result<Mismatch, AllocError>
+    ensures { IfOk result (Tells «module».now (KnownType (inferred gives) known.now)) }
+{
+    let gives = resolution_of(gives);
+    let TwoTypes { expected, got } = told_types(alloc, module, &gives, known)?;
+    Ok(Mismatch::KnownType {
+        gives: expected,
+        known: got,
+    })
+}
+
 /// Two scalars.
 fn other_scalar(
     alloc: Global,
@@ -322,6 +339,7 @@ fn told_reason(alloc: Global, module: &Module, reason: &Reason<'_>) -> Result<Mi
 {
     match reason {
         Reason::OtherType { expected, got } => other_type(alloc, module, *expected, *got),
+        Reason::KnownType { gives, known } => known_type(alloc, module, *gives, *known),
         Reason::OtherScalar { expected, got } => other_scalar(alloc, module, *expected, *got),
         Reason::OtherClass { class, got } => other_class(alloc, module, *class, *got),
         Reason::NoValue { expected } => no_value(alloc, module, *expected),
@@ -335,10 +353,12 @@ fn told_reason(alloc: Global, module: &Module, reason: &Reason<'_>) -> Result<Mi
             list,
             index,
             before,
+            count,
         } => Ok(Mismatch::EarlierItem {
             list: *list,
             index: *index,
             before: *before,
+            count: *count,
         }),
         Reason::OtherNumber { of, expected, got } => Ok(Mismatch::Number {
             of: *of,
@@ -364,9 +384,9 @@ fn told_reason(alloc: Global, module: &Module, reason: &Reason<'_>) -> Result<Mi
 /// than the kind of the fault.
 ///
 /// - Of a type: the one that is expected, or the class of those of which any is, and the one that is
-///   known.
+///   known; of an expression by itself, the one that it gives and the one that is known of it.
 /// - Of what is named and is not there: its list, its number, and how many items the list has; of
-///   what is there, but not before what names it, the position of that.
+///   what is there, but not before what names it, the position of that too.
 /// - Of a swizzle: the first letter for which its vector has no component, and the vector's type.
 /// - Of a number, as of the arguments of a call: the one that is expected, and the one that is there.
 /// - Of an operator that does not agree: the first use of it in the module that is over operands of
@@ -381,7 +401,7 @@ fn told_reason(alloc: Global, module: &Module, reason: &Reason<'_>) -> Result<Mi
 /// if let Some(fault) = unaccepted(&shader.module, &shader.info) {
 ///     println!(rt; "not accepted: {fault}")?;
 ///     if let Some(expected) = explain(alloc, &shader.module, &shader.info, fault)? {
-///         println!(rt; "{expected}")?; // expected vec4<f32>, got f32
+///         println!(rt; "{expected}")?; // the expression gives vec4<f32>, the info has f32
 ///     }
 /// }
 /// ```

@@ -8,7 +8,8 @@ ghost use Rattle.module_meaning.specs.TypeParts.{known_inner, part_count};
 ghost use Rattle.naga_acceptance.specs.KnownTypes.{inferred, known_types, allowed};
 ghost use Rattle.naga_info.specs.Resolution.{inner_of};
 ghost use Rattle.fault_details.specs.Reasons.{class_reason, first_reason, has_letter};
-ghost use Rattle.fault_details.specs.Reasons.{index_reason, is_in_class, letter_reason};
+ghost use Rattle.fault_details.specs.Reasons.{index_reason, is_in_class, known_unlike};
+ghost use Rattle.fault_details.specs.Reasons.{letter_reason};
 ghost use Rattle.fault_details.specs.Reasons.{operand_reason, own_type_reason, swizzle_reason};
 ghost use Rattle.fault_details.specs.Reasons.{type_reason};
 ghost use Rattle.fault_details.specs.Reasons.{typeless_reason, unlike, expected_reason};
@@ -104,6 +105,21 @@ fn unlike<'a>(
     }
 }
 
+/// The type that is known of an expression, if it is not like the one that this gives.
+fn known_unlike<'a>(
+    types: &UniqueArena<Type_>,
+    gives: InferredType,
+    known: &'a TypeResolution,
+) -> Option<Reason<'a>>
+    ensures { option_map shown result ≡ known_unlike types.now (inferred gives) known.now }
+{
+    if is_like(types, known, &gives) {
+        None
+    } else {
+        Some(Reason::KnownType { gives, known })
+    }
+}
+
 /// The type of an expression, if it is another than the one that is expected.
 pub(crate) fn type_reason<'a>(
     types: &'a UniqueArena<Type_>,
@@ -157,7 +173,7 @@ fn expected_reason<'a>(
         expression.now (allowed demand) }
 {
     match demand {
-        AllowedType::LikeThis(expected) => unlike(types, expected, own),
+        AllowedType::LikeThis(gives) => known_unlike(types, gives, own),
         AllowedType::Anything => None,
         AllowedType::Nothing => typeless_reason(types, known, own, expression),
     }

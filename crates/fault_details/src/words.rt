@@ -3,9 +3,7 @@
 ghost use Rattle.std.specs.Prelude.{◌≡◌, Some};
 ghost use Rattle.fault_details.specs.Texts.{class_text, count_text, item_text, letter_text};
 ghost use Rattle.fault_details.specs.Texts.{list_text, many_text, need_text, singular_text};
-ghost use Rattle.fault_details.specs.Texts.{part_text, use_text};
 
-use naga_acceptance::{FaultPosition, FunctionPosition};
 use naga_ir::SwizzleComponent;
 use std::fmt;
 
@@ -54,44 +52,6 @@ impl fmt::Display for Numbered {
 
     fn fmt<W: fmt::Write>(&self, f: &mut fmt::Formatter<W>) -> fmt::Result {
         write!(f, "{}[{}]", self.0, self.1)
-    }
-}
-
-/// An expression by its position in a module: `functions[0].expressions[1]`.
-#[derive(Clone, Copy)]
-pub(crate) struct UsePosition(pub FaultPosition);
-
-impl fmt::Display for UsePosition {
-    ghost output = { λ path. Some (use_text path.0) };
-
-    fn fmt<W: fmt::Write>(&self, f: &mut fmt::Formatter<W>) -> fmt::Result {
-        match self.0 {
-            FaultPosition::Function(handle, part) => {
-                write!(f, "functions[{}]{}", handle.index(), PartPosition(part))
-            }
-            FaultPosition::EntryPoint(index, part) => {
-                write!(f, "entry_points[{}].function{}", index, PartPosition(part))
-            }
-            FaultPosition::GlobalExpression(handle) => {
-                write!(f, "global_expressions[{}]", handle.index())
-            }
-            _ => f.write_str("module"),
-        }
-    }
-}
-
-/// An expression of a function, after the function.
-#[derive(Clone, Copy)]
-struct PartPosition(FunctionPosition);
-
-impl fmt::Display for PartPosition {
-    ghost output = { λ at. Some (part_text at.0) };
-
-    fn fmt<W: fmt::Write>(&self, f: &mut fmt::Formatter<W>) -> fmt::Result {
-        match self.0 {
-            FunctionPosition::Expression(handle) => write!(f, ".expressions[{}]", handle.index()),
-            _ => Ok(()),
-        }
     }
 }
 

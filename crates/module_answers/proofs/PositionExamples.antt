@@ -1,15 +1,13 @@
--- Places and refusals as they are told: lines that `docs/USING.md` has.
+-- Positions as they are told in lines that `docs/USING.md` has.
 use Rattle.std.proofs.Common.{◌≡◌, codes, refl, None, Some}
 use Rattle.std.specs.Fmt.{debug_str, digits}
-use Rattle.module_answers.specs.Positions.{json_position, json_refusal, json_refusal_position}
-use Rattle.module_answers.specs.Positions.{labelled_position}
+use Rattle.module_answers.specs.Positions.{json_position, json_refusal_position}
 use Rattle.module_answers.specs.declared.positions.JsonRoot.TheVariants as root
 use Rattle.naga_acceptance.specs.declared.faults.FunctionPosition.TheVariants as position
 use Rattle.naga_acceptance.specs.declared.faults.FaultPosition.TheVariants as item
 use Rattle.naga_scope.specs.declared.declarations.DeclarationPosition.TheVariants as declaration
 use Rattle.naga_scope.specs.declared.lines.Line.TheVariants as line
 use Rattle.naga_scope.specs.declared.scope_faults.ScopeFault.TheVariants as scope
-use Rattle.naga_wgsl_fns.specs.declared.refusals.construct.Construct.TheVariants as construct
 use Rattle.naga_wgsl_fns.specs.declared.plans.FunctionRefusalPosition.TheVariants as part
 use Rattle.naga_wgsl_out.specs.declared.unwritable.RefusalPosition.TheVariants as refused
 
@@ -41,22 +39,20 @@ without_a_role : json_refusal_position root.Member None (refused.Function 0 (par
 unfolding digits
 without_a_role = refl
 
-without_a_label : labelled_position root.Module (item.Function 0 (position.Expression 3)) None
-    ≡ Some (codes "functions[0].expressions[3]")
+without_the_member : json_position root.Module (item.Function 0 (position.Expression 3))
+    ≡ codes "functions[0].expressions[3]"
 unfolding digits
-without_a_label = refl
+without_the_member = refl
 
-a_refusal :
-    json_refusal root.Member construct.FloatLiteral None (refused.Function 0 (part.Expression (line.Statement 1) 3))
-    None
-    ≡ Some (codes "float literal: module.functions[0].expressions[3], in statement 1")
+in_a_statement :
+    json_refusal_position root.Member None (refused.Function 0 (part.Expression (line.Statement 1) 3))
+    ≡ codes "module.functions[0].expressions[3], in statement 1"
 unfolding digits
-a_refusal = refl
+in_a_statement = refl
 
 in_a_break_if :
-    json_refusal root.Member construct.FloatLiteral None
-    (refused.Function 0 (part.Expression (line.BreakIf 1 4) 3)) None
-    ≡ Some (codes "float literal: module.functions[0].expressions[3], in break if of statement 1")
+    json_refusal_position root.Member None (refused.Function 0 (part.Expression (line.BreakIf 1 4) 3))
+    ≡ codes "module.functions[0].expressions[3], in break if of statement 1"
 unfolding digits
 in_a_break_if = refl
 
@@ -67,11 +63,10 @@ of_a_break_if :
 unfolding digits
 of_a_break_if = refl
 
-a_declaration : json_refusal root.Member construct.Overlap None (refused.Declaration (declaration.Struct 5)) None
-    ≡ Some (codes "members overlap: module.types[5]")
+a_declaration : json_refusal_position root.Member None (refused.Declaration (declaration.Struct 5))
+    ≡ codes "module.types[5]"
 unfolding digits
 a_declaration = refl
 
-labels_of_items : json_refusal root.Member construct.FullNamer None refused.Labels None
-    ≡ Some (codes "namer is full: module")
+labels_of_items : json_refusal_position root.Member None refused.Labels ≡ codes "module"
 labels_of_items = refl

@@ -3,5 +3,6 @@ pub mod WriteOutcomes
 pub mod Faults
 pub mod Roles
 pub mod Positions
+pub mod Refusals
 pub mod Labels
 pub mod Within

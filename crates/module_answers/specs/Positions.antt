@@ -3,11 +3,12 @@
 -- module, as `functions[3].expressions[41]`. A statement is told by its number, after its function:
 -- `module.functions[3], statement 12`.
 --
+-- The module itself, which is told of its labels, sizes and special types, is told by that word alone.
+--
 -- Throughout, from is what the JSON holds, h a handle or an index, n the number of a statement, and
--- role what an operand that
--- is out of scope is where it is used, if that is known. A label is that of the function or the
--- entry point that a position is in, if there is one and it has a label.
-use Rattle.std.specs.Prelude.{ℕ, List, [], ◌++◌, codes, decimal, Option, None, Some}
+-- role what an operand that is out of scope is where it is used, if that is known. A label is that of
+-- the function or the entry point that a position is in, if there is one and it has a label.
+use Rattle.std.specs.Prelude.{◌≡◌, ℕ, List, [], ◌++◌, codes, decimal, Option, None, Some}
 use Rattle.std.specs.Fmt.{◌++?◌, debug_str}
 use Rattle.module_answers.specs.Roles.{Role}
 use Rattle.module_answers.specs.declared.positions.JsonRoot.{JsonRoot}
@@ -24,8 +25,6 @@ use Rattle.naga_scope.specs.declared.lines.Line.{Line}
 use Rattle.naga_scope.specs.declared.lines.Line.TheVariants as line
 use Rattle.naga_scope.specs.declared.scope_faults.ScopeFault.{ScopeFault}
 use Rattle.naga_scope.specs.declared.scope_faults.ScopeFault.TheVariants as scope
-use Rattle.naga_wgsl_fns.specs.Constructs.{construct_text}
-use Rattle.naga_wgsl_fns.specs.declared.refusals.construct.Construct.{Construct}
 use Rattle.naga_wgsl_fns.specs.declared.plans.FunctionRefusalPosition.{FunctionRefusalPosition}
 use Rattle.naga_wgsl_fns.specs.declared.plans.FunctionRefusalPosition.TheVariants as part
 use Rattle.naga_wgsl_out.specs.declared.unwritable.RefusalPosition.{RefusalPosition}
@@ -59,11 +58,21 @@ entry_point_text h = listed (codes "entry_points") h
 abbrev pub entry_function_text : (h : ℕ) → List ℕ
 entry_function_text h = entry_point_text h ++ codes ".function"
 
--- a label, after the position: `, in "half"`. Nothing is said of one of whose text in quotes
--- nothing is known, as of one past ASCII
+-- a label, after the position: `, in "half"`. Nothing is known of one of whose text in quotes nothing
+-- is, as of one past ASCII
 abbrev pub in_function : (label : Option (List ℕ)) → Option (List ℕ)
 in_function None = Some []
 in_function (Some label) = Some (codes ", in ") ++? debug_str label
+
+-- what is told where these words are known, if any are
+abbrev pub IsKnownText : (known : Option (List ℕ)) → (text : List ℕ) → Type 0
+IsKnownText known text = (words : List ℕ) → known ≡ Some words → text ≡ words
+
+-- A text, which is a position, with what is told after it of the label there:
+-- `module.functions[0].expressions[3], in "half"`. Of a label past ASCII there is some text.
+abbrev pub IsLabelled : (label : Option (List ℕ)) → (position text : List ℕ) → Type 0
+IsLabelled label position text =
+    (after : List ℕ) × IsKnownText (in_function label) after × (text ≡ position ++ after)
 
 -- ---- where a module is not accepted
 
@@ -85,11 +94,6 @@ json_position from (item.GlobalExpression h) = root_text from ++ listed (codes "
 json_position from (item.Function h at) = root_text from ++ (function_text h ++ part_position at)
 json_position from (item.EntryPoint h at) =
     root_text from ++ (entry_function_text h ++ part_position at)
-
--- the same with the label: `module.functions[0].expressions[3], in "half"`
-abbrev pub labelled_position : JsonRoot → FaultPosition → (label : Option (List ℕ)) →
-    Option (List ℕ)
-labelled_position from at label = Some (json_position from at) ++? in_function label
 
 -- ---- where it is refused
 
@@ -163,11 +167,3 @@ json_refusal_position from role (refused.Function h at) =
     root_text from ++ (function_text h ++ refused_part role at)
 json_refusal_position from role (refused.EntryPoint h at) =
     root_text from ++ (entry_function_text h ++ refused_part role at)
-
--- a refusal, by its construct, its position and the label: `float literal: module.constants[0]`.
--- Nothing is said of a construct of whose text nothing is known
-abbrev pub json_refusal : JsonRoot → Construct → (role : Option Role) → RefusalPosition →
-    (label : Option (List ℕ)) → Option (List ℕ)
-json_refusal from construct role at label =
-    construct_text construct
-    ++? (Some (codes ": " ++ json_refusal_position from role at) ++? in_function label)

@@ -2,18 +2,20 @@
 
 ghost use Rattle.std.specs.Prelude.{IfOk, string_bytes};
 ghost use Rattle.std.specs.Option.{option_map};
-ghost use Rattle.module_answers.specs.Faults.{IsLabelText, TellsFault, TellsFaultAt};
+ghost use Rattle.module_answers.specs.Faults.{TellsFault, TellsFaultAt, TellsKind, TellsMismatch};
+ghost use Rattle.module_answers.specs.Faults.{TellsPosition};
+ghost use Rattle.module_answers.specs.Positions.{IsKnownText, in_function};
 
 use crate::positions::{InFunction, JsonPosition, JsonRoot, label_of};
 use naga_info::ModuleInfo;
-use naga_wgsl_out::info::{Unaccepted, explain};
+use naga_wgsl_out::info::{Fault, FaultPosition, Mismatch, Unaccepted, explain};
 use naga_wgsl_out::ir::Module;
 use std::alloc::{AllocError, Global};
 
 /// A fault of the module as one line: its position in the JSON, with the label of the function or
 /// the entry point there, its kind, and what was expected, if more can be told than the kind.
 ///
-/// `module.functions[0].expressions[3], in "half": the known type is another: expected i32, got f32`
+/// `module.functions[0].expressions[3], in "half": the known type is another: the expression gives i32, the info has f32`
 pub fn fault_line(
     alloc: Global,
     module: &Module,
@@ -24,34 +26,90 @@ pub fn fault_line(
     ensures { IfOk result (λ line. TellsFaultAt root «module».now info.now unaccepted
         (string_bytes line)) }
 {
-    let position = JsonPosition(root, unaccepted.item);
-    let label = label_text(alloc, label_of(module, &unaccepted.item))?;
-    let fault = fault_text(alloc, module, info, unaccepted)?;
-    format!(in alloc; "{position}{label}: {fault}")
+    let position = labelled_position(alloc, module, unaccepted.item, root)?;
+    let fault = fault_text(alloc, module, info, unaccepted, root)?;
+    format!(in alloc; "{position}: {fault}")
+}
+
+/// An item of a module, told as its position in the JSON, with the label of the function or the entry
+/// point that it is in: `module.functions[0].expressions[3], in "half"`.
+pub fn labelled_position(
+    alloc: Global,
+    module: &Module,
+    item: FaultPosition,
+    root: JsonRoot,
+) -> Result<String, AllocError>
+    ensures { IfOk result (λ text. TellsPosition root «module».now item (string_bytes text)) }
+{
+    let label = label_text(alloc, label_of(module, &item))?;
+    format!(in alloc; "{}{label}", JsonPosition(root, item))
 }
 
 /// A label, told after a position; nothing where there is none.
-fn label_text(alloc: Global, label: Option<&str>) -> Result<String, AllocError>
-    ensures { IfOk result (λ text. IsLabelText (option_map (λ label. label.now) label.entry)
-        (string_bytes text)) }
+pub(crate) fn label_text(alloc: Global, label: Option<&str>) -> Result<String, AllocError>
+    ensures { IfOk result (λ text. IsKnownText
+        (in_function (option_map (λ label. label.now) label.entry)) (string_bytes text)) }
 {
     let label = InFunction(label);
     format!(in alloc; "{label}")
 }
 
-/// The same without the position and the label.
+/// The same without the position and the label there.
 pub fn fault_text(
     alloc: Global,
     module: &Module,
     info: &ModuleInfo,
     unaccepted: Unaccepted,
+    root: JsonRoot,
 ) -> Result<String, AllocError>
-    ensures { IfOk result (λ text. TellsFault «module».now info.now unaccepted
+    ensures { IfOk result (λ text. TellsFault root «module».now info.now unaccepted
         (string_bytes text)) }
 {
     let fault = unaccepted.fault;
-    match explain(alloc, module, info, unaccepted)? {
-        Some(expected) => format!(in alloc; "{fault}: {expected}"),
+    let expected = explain(alloc, module, info, unaccepted)?;
+    kind_text(alloc, module, fault, expected, root)
+}
+
+/// A kind of fault with what was expected.
+fn kind_text(
+    alloc: Global,
+    module: &Module,
+    fault: Fault,
+    expected: Option<Mismatch>,
+    root: JsonRoot,
+) -> Result<String, AllocError>
+    ensures { IfOk result (λ text. TellsKind root «module».now fault expected
+        (string_bytes text)) }
+{
+    match expected {
+        Some(expected) => {
+            let reason = mismatch_text(alloc, module, expected, root)?;
+            format!(in alloc; "{fault}: {reason}")
+        }
         None => format!(in alloc; "{fault}"),
+    }
+}
+
+/// What was expected, and what stands there, with the position of another use of an operator as in
+/// the JSON: `expected i32 as at module.functions[0].expressions[1], in "half", got f32`.
+pub fn mismatch_text(
+    alloc: Global,
+    module: &Module,
+    mismatch: Mismatch,
+    root: JsonRoot,
+) -> Result<String, AllocError>
+    ensures { IfOk result (λ text. TellsMismatch root «module».now mismatch
+        (string_bytes text)) }
+{
+    match mismatch {
+        Mismatch::Use {
+            item,
+            expected,
+            got,
+        } => {
+            let position = labelled_position(alloc, module, item, root)?;
+            format!(in alloc; "expected {expected} as at {position}, got {got}")
+        }
+        other => format!(in alloc; "{other}"),
     }
 }

@@ -6,16 +6,16 @@ mod faults;
 mod layouts;
 mod listed_positions;
 mod positions;
+mod refusals;
 mod roles;
 mod within;
 mod writing;
 
-pub use faults::{fault_line, fault_text};
+pub use faults::{fault_line, fault_text, labelled_position, mismatch_text};
 pub use layouts::layout_table;
 pub use listed_positions::{listed_position, refused_position};
-pub use positions::{
-    JsonPosition, JsonRefusal, JsonRefusalPosition, JsonRoot, LabelledPosition, label_at, label_of,
-};
+pub use positions::{JsonPosition, JsonRefusalPosition, JsonRoot, label_at, label_of};
+pub use refusals::refusal_line;
 pub use roles::{Role, operands_have_roles, role_at};
 pub use within::{NoOutcome, check_nesting, write_told_within, write_within};
 pub use writing::{WriteOutcome, flags_for, write, write_told};

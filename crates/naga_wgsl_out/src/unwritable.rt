@@ -50,13 +50,13 @@ pub struct Refusal {
 /// it stands; none exactly where nothing stands in it for which [`Writer::write`] refuses it, with
 /// these flags.
 ///
-/// Where several stand, it is the first that the writer finds, and the error that `write` answers
-/// names what stands at the same position: first of the declarations, in the order of the text;
-/// then of the labels of items; then of the functions and the entry points, in the order of the
-/// text. In each of these its labels come first, and then the lines of its text: the signature, the
-/// locals, the statements. Of one line it is a rule of scope, then the statement itself, the
-/// written expression with the lowest handle, the type that is declared, and the one that a `let`
-/// tells.
+/// Where several stand, it is the first that the writer finds, in the order of `docs/REFUSALS.md`,
+/// and the error that `write` answers names what stands at the same position: first of the
+/// declarations, as they stand in a text; then of the labels of items; then of the functions and the
+/// entry points. In each of these its labels come first, and then the lines of its text: the
+/// signature, the locals, the statements, and a loop's `break if` after what stands in the loop. Of
+/// one line it is a rule of scope, then the statement itself, the written expression with the lowest
+/// handle, the type that is declared, and the one that a `let` tells.
 ///
 /// It takes the time of `write` without the text.
 ///

@@ -21,6 +21,13 @@ EXPECTATION = re.compile(
 )
 ONLY_WITH_TYPES = re.compile(r"\[(: [^\[\]]+)\]")
 # A line of attributes alone, in front of an entry point or a variable that is bound.
+# Where a module is not accepted: an item, and a part of a function.
+POSITION = re.compile(r"not accepted: ([a-z ]+?)(?: (\d+))?(?:, (local|expression|statement) (\d+))?: ")
+LISTS = {
+    "type": "types", "constant": "constants", "override": "overrides", "global variable": "global_variables",
+    "global expression": "global_expressions", "function": "functions", "entry point": "entry_points",
+}
+PARTS = {"local": ".local_variables[{}]", "expression": ".expressions[{}]", "statement": ", statement {}"}
 ATTRIBUTES = re.compile(r"@\w+(?:\([^()]*\))?(?: @\w+(?:\([^()]*\))?)*")
 
 
@@ -172,10 +179,12 @@ class Expected:
         if self.portable is not None and self.texts[0] is None:
             raise case.error("portable alone: what is written otherwise is not told")
 
-    def answers(self, has_entry_points):
+    def answers(self, module):
         """What the program prints without the types of `let`s and with them."""
         if self.only is not None:
-            return [self.only, self.only]
+            told = f"{self.only}at: {json_position(self.only, module)}\n"
+            return [told, told]
+        has_entry_points = bool(module.get("entry_points"))
 
         def told(text, refusal):
             if refusal is not None:
@@ -193,6 +202,20 @@ class Expected:
         if self.portable is None:
             return None
         return [ended(ONLY_WITH_TYPES.sub(types, self.portable), has_entry_points) for types in ("", r"\1")]
+
+
+def json_position(told, module):
+    """The position in the JSON of what is told of a module that is not accepted, with the label there."""
+    item, number, part, place = POSITION.match(told).groups()
+    if item == "module":
+        return item
+    at = f"module.{LISTS[item]}[{number}]"
+    if item not in ("function", "entry point"):
+        return at
+    label = module[LISTS[item]][int(number)].get("name")
+    function = ".function" if item == "entry point" else ""
+    within = PARTS[part].format(place) if part else ""
+    return at + function + within + ("" if label is None else f", in {json.dumps(label, ensure_ascii=False)}")
 
 
 def ended(text, has_entry_points):
@@ -370,7 +393,7 @@ class Joined:
         if expected.place is not None:
             told["places"] = True
         self.input.append(json.dumps(told, ensure_ascii=False, separators=(",", ":")) + "\n")
-        plain, typed = expected.answers(bool(told["module"].get("entry_points")))
+        plain, typed = expected.answers(told["module"])
         self.output.append(f"== {case.name}\n{plain}")
         if typed != plain:
             self.output.append(f"== {case.name}, with types\n{typed}")

@@ -5,7 +5,7 @@ ghost use Rattle.module_meaning.specs.acceptance.Accepted.{is_accepted};
 
 use bitflags::Flags;
 use json::{Scratch, Value};
-use module_answers::{JsonRefusalPosition, JsonRoot, role_at};
+use module_answers::{JsonRefusalPosition, JsonRoot, labelled_position, role_at};
 use naga_json::{Known, known_of, parse};
 use naga_wgsl_out::info::{Unaccepted, count, explain, unaccepted};
 use naga_wgsl_out::wgsl::{Writer, WriterFlags, unwritable};
@@ -77,7 +77,8 @@ fn answer_known<W: Write>(
     Ok(())
 }
 
-/// Prints where and why a module is not accepted, and what was expected there.
+/// Prints where and why a module is not accepted, what was expected there, and where that is in its
+/// JSON.
 fn print_fault<W: Write>(
     alloc: Global,
     name: &str,
@@ -86,10 +87,11 @@ fn print_fault<W: Write>(
     out: &mut W,
 ) -> io::Result<()> {
     write!(out, "== {name}\nnot accepted: {fault}")?;
-    if let Some(wanted) = explain(alloc, &known.module, &known.info, fault)? {
-        write!(out, ": {wanted}")?;
+    if let Some(expected) = explain(alloc, &known.module, &known.info, fault)? {
+        write!(out, ": {expected}")?;
     }
-    writeln!(out)
+    let position = labelled_position(alloc, &known.module, fault.item, JsonRoot::Member)?;
+    writeln!(out, "\nat: {position}")
 }
 
 /// Prints what the writer makes of the module with these flags, and where each `let` tells its type

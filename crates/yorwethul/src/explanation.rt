@@ -2,7 +2,7 @@
 
 use crate::texts::{Style, write_in};
 use module_answers::{
-    JsonRefusal, JsonRoot, LabelledPosition, NoOutcome, WriteOutcome, fault_text, listed_position,
+    JsonRoot, NoOutcome, WriteOutcome, fault_line, fault_text, listed_position, refusal_line,
     refused_position,
 };
 use naga_json::Known;
@@ -73,8 +73,8 @@ fn of_refusal(
         &position,
         construct.as_str(),
     )?;
-    let told = JsonRefusal::of(root, &known.module, refusal);
-    not_written(format!(in alloc; "refused: {told}\n\n{listing}"))
+    let line = refusal_line(alloc, &known.module, refusal, root)?;
+    not_written(format!(in alloc; "refused: {line}\n\n{listing}"))
 }
 
 /// Tells where a module is not accepted and why, and shows the lines around.
@@ -85,10 +85,10 @@ fn of_unaccepted(
     unaccepted: Unaccepted,
 ) -> Result<Explanation, AllocError> {
     let position = listed_position(unaccepted.item);
-    let told = LabelledPosition::of(root, &known.module, unaccepted.item);
-    let fault = fault_text(alloc, &known.module, &known.info, unaccepted)?;
+    let fault = fault_text(alloc, &known.module, &known.info, unaccepted, root)?;
     let listing = explain(alloc, &known.module, &known.info, &position, fault.as_str())?;
-    not_written(format!(in alloc; "not accepted: {told}: {fault}\n\n{listing}"))
+    let line = fault_line(alloc, &known.module, &known.info, unaccepted, root)?;
+    not_written(format!(in alloc; "not accepted: {line}\n\n{listing}"))
 }
 
 fn not_written(text: Result<String, AllocError>) -> Result<Explanation, AllocError> {

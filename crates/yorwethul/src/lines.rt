@@ -6,6 +6,7 @@ use crate::texts::{Style, write_in};
 use json::Scratch;
 use module_answers::{
     JsonPosition, JsonRefusalPosition, JsonRoot, NoOutcome, WriteOutcome, label_at, label_of,
+    mismatch_text,
 };
 use naga_json::{Known, ReadError, known_of, parse_bytes};
 use naga_wgsl_out::info::{Unaccepted, explain};
@@ -277,7 +278,8 @@ fn tell_unaccepted(
         tell(alloc, "function", label, &mut told)?;
     }
     if let Some(reason) = explain(alloc, &known.module, &known.info, unaccepted)? {
-        tell(alloc, "reason", reason, &mut told)?;
+        let reason = mismatch_text(alloc, &known.module, reason, JsonRoot::Member)?;
+        put(alloc, "reason", Value::String(reason), &mut told)?;
     }
     put(alloc, "not_accepted", Value::Object(told), members)
 }

@@ -8,7 +8,7 @@ use crate::progress::Progress;
 use crate::texts::write_in;
 use crate::words::{Request, Task, request_of};
 use module_answers::{
-    JsonRefusal, JsonRoot, NoOutcome, WriteOutcome, check_nesting, fault_line, layout_table,
+    JsonRoot, NoOutcome, WriteOutcome, check_nesting, fault_line, layout_table, refusal_line,
 };
 use naga_json::Known;
 use naga_wgsl_out::info::{Unaccepted, unaccepted};
@@ -158,7 +158,7 @@ fn print_text<O: Write, E: Write>(
     err: &mut E,
 ) -> u8 {
     match write_in(alloc, request.style, known) {
-        Ok(written) => print_written(written, request.root(), &known.module, out, err),
+        Ok(written) => print_written(alloc, written, request.root(), &known.module, out, err),
         Err(unwritten) => tell_unwritten(alloc, request, known, unwritten, err),
     }
 }
@@ -217,6 +217,7 @@ fn tell_layouts<O: Write, E: Write>(
 }
 
 fn print_written<O: Write, E: Write>(
+    alloc: Global,
     written: WriteOutcome<String>,
     root: JsonRoot,
     module: &Module,
@@ -230,7 +231,10 @@ fn print_written<O: Write, E: Write>(
     } = written;
     match (answer, refusal) {
         (Ok(()), _) => print(sink, out, err),
-        (Err(_), Some(refusal)) => refuse(JsonRefusal::of(root, module, refusal), err),
+        (Err(_), Some(refusal)) => match refusal_line(alloc, module, refusal, root) {
+            Ok(line) => refuse(line, err),
+            Err(_) => fail(Failure::Memory, err),
+        },
         (Err(error), None) => tell_error(error, err),
     }
 }

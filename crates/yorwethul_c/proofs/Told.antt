@@ -1,5 +1,5 @@
 -- What a call tells, from what its steps say.
-use Rattle.std.proofs.Common.{◌≡◌, ◌≤◌, ◌∙◌, ℕ, List, [], Err, None, Ok, Option, Result, Some, ap}
+use Rattle.std.proofs.Common.{◌≡◌, ◌≤◌, ◌∙◌, ℕ, List, [], Err, IfErr, IfOk, None, Ok, Option, Result, Some, ap}
 use Rattle.std.proofs.Common.{inl, inr, is_none, length, refl, subst, sym, arith}
 use Rattle.std.proofs.lemmas.Bool.{le-leb, lt-leb}
 use Rattle.told_floats.specs.Told.{IsToldModule}
@@ -8,7 +8,7 @@ use Rattle.naga_ir.specs.declared.module.Module.{Module}
 use Rattle.naga_info.specs.declared.info.ModuleInfo.{ModuleInfo}
 use Rattle.module_meaning.specs.acceptance.Accepted.{is_accepted}
 use Rattle.naga_back.specs.declared.flags.WriterFlags.{WriterFlags}
-use Rattle.naga_back.specs.Flags.{bits_of}
+use Rattle.naga_back.specs.Flags.{annotates_types, bits_of}
 use Rattle.naga_wgsl_fns.specs.declared.refusals.error.Error.{Error}
 use Rattle.naga_wgsl_fns.specs.declared.refusals.error.Error.TheVariants as error
 use Rattle.naga_wgsl_out.specs.Checked.{IsCounted}
@@ -16,12 +16,16 @@ use Rattle.naga_wgsl_out.specs.Headline.{FaithfulWriting}
 use Rattle.naga_wgsl_out.specs.Writing.{AppendsItsText}
 use Rattle.naga_acceptance.specs.FirstFaults.{IsFirstFault}
 use Rattle.naga_acceptance.specs.declared.faults.Unaccepted.{Unaccepted}
+use Rattle.naga_wgsl_out.specs.declared.unwritable.Refusal.{Refusal}
+use Rattle.module_answers.specs.Faults.{TellsFaultAt}
+use Rattle.module_answers.specs.WriteOutcomes.{TellsBeside}
+use Rattle.module_answers.specs.declared.positions.JsonRoot.TheVariants as root
 use Rattle.module_answers.specs.Within.{IsUnwritten, TellsDepth}
 use Rattle.module_answers.specs.declared.within.NoOutcome.{NoOutcome}
 use Rattle.module_answers.specs.declared.within.NoOutcome.TheVariants as unwritten
 use Rattle.yorwethul_c.specs.Answers.{IsAccepted, IsNotAccepted, IsStopped, IsTooDeep, IsTooLong}
 use Rattle.yorwethul_c.specs.Answers.{IsWritten, LacksMemory, Says, SaysOfError, SaysOfUnwritten}
-use Rattle.yorwethul_c.specs.Answers.{SaysOfWritten, deepest_nesting, longest_text}
+use Rattle.yorwethul_c.specs.Answers.{SaysOfWritten, SaysThat, TellsAnyRefusal, deepest_nesting, longest_text}
 use Rattle.yorwethul_c.specs.Answers.{TellsOfChecking, TellsOfLayouts, TellsOfReading}
 use Rattle.yorwethul_c.specs.Answers.{TellsOfWriting}
 use Rattle.yorwethul_c.specs.Answers.{IsAsAsked, status_of_error, tells_floats}
@@ -38,6 +42,25 @@ pub said : (Tells : Status → List ℕ → Type 0) (wanted told : Status) (text
     Tells wanted text → Tells status.OutOfMemory [] → Says wanted told text → Tells told text
 said Tells wanted told text tells lacks (inl is) = subst (λ s. Tells s text) (sym is) tells
 said Tells wanted told text tells lacks (inr less) = lacking Tells told text lacks less
+
+pub said_that : (Tells : Status → List ℕ → Type 0) (Holds : List ℕ → Type 0) (wanted told : Status) (text : List ℕ) →
+    (Holds text → Tells wanted text) → Tells status.OutOfMemory [] → SaysThat Holds wanted told text → Tells told text
+said_that Tells Holds wanted told text tells lacks (inl is) = subst (λ s. Tells s text) (sym is.0) (tells is.1)
+said_that Tells Holds wanted told text tells lacks (inr less) = lacking Tells told text lacks less
+
+-- a text of which this holds is told, if there was memory for it
+pub settled_that : {T E : Type 0} (bytes : T → List ℕ) (Holds : List ℕ → Type 0) (made : Result T E)
+    (wanted told : Status) (text : List ℕ) → IfOk made (λ t. Holds (bytes t)) →
+    IfOk made (λ t. (told ≡ wanted) × (text ≡ bytes t)) → IfErr made (λ _. LacksMemory told text) →
+    SaysThat Holds wanted told text
+settled_that bytes Holds (Ok t) wanted told text holds is lacks = inl (is.0, subst Holds (sym is.1) holds)
+settled_that bytes Holds (Err e) wanted told text holds is lacks = inr lacks
+
+-- of no refusal nothing has to hold
+pub said_of_none : (m : Module) (wanted told : Status) (text : List ℕ) → Says wanted told text →
+    SaysThat (TellsAnyRefusal m None) wanted told text
+said_of_none m wanted told text (inl is) = inl (is, tt)
+said_of_none m wanted told text (inr less) = inr less
 
 -- ---- what is said of reading is told by each call
 
@@ -76,20 +99,27 @@ unread_laid_out json status.TooLong text tells = absurd tells
 
 -- ---- what was asked of the module
 
-pub faulty : (m : Module) (read : ModuleInfo) (found : Option Unaccepted) (fault : Unaccepted) →
-    found ≡ Some fault → IfSome found (IsFirstFault m read) → IsNotAccepted
-faulty m read found fault is fails =
-    record { m = m; read = read; fault = fault; fails = subst (λ r. IfSome r (IsFirstFault m read)) is fails }
+pub faulty : (m : Module) (read : ModuleInfo) (found : Option Unaccepted) (fault : Unaccepted) (text : List ℕ) →
+    found ≡ Some fault → IfSome found (IsFirstFault m read) → TellsFaultAt root.Member m read fault text →
+    IsNotAccepted text
+faulty m read found fault text is fails line =
+    record {
+      m = m;
+      read = read;
+      fault = fault;
+      fails = subst (λ r. IfSome r (IsFirstFault m read)) is fails;
+      line = line;
+    }
 
 -- it is nested too deep, or memory was wanting for the question
-pub too_deep : (Tells : Status → List ℕ → Type 0) (m : Module) (reason : NoOutcome) (told : Status) (text : List ℕ) →
-    (IsTooDeep → Tells status.TooDeep text) → Tells status.OutOfMemory [] →
-    TellsDepth deepest_nesting m reason → SaysOfUnwritten reason told text → Tells told text
-too_deep Tells m (unwritten.TooDeep nested) told text deep lacks past says =
+pub too_deep : (Tells : Status → List ℕ → Type 0) (m : Module) (info : ModuleInfo) (reason : NoOutcome)
+    (told : Status) (text : List ℕ) → (IsTooDeep → Tells status.TooDeep text) → Tells status.OutOfMemory [] →
+    TellsDepth deepest_nesting m reason → SaysOfUnwritten m info reason told text → Tells told text
+too_deep Tells m info (unwritten.TooDeep nested) told text deep lacks past says =
     said Tells status.TooDeep told text (deep (record { m = m; nested = nested; past = past })) lacks says.0
-too_deep Tells m (unwritten.NotAccepted fault) told text deep lacks past says = absurd past
-too_deep Tells m unwritten.TooLong told text deep lacks past says = absurd past
-too_deep Tells m (unwritten.Memory error) told text deep lacks past says =
+too_deep Tells m info (unwritten.NotAccepted fault) told text deep lacks past says = absurd past
+too_deep Tells m info unwritten.TooLong told text deep lacks past says = absurd past
+too_deep Tells m info (unwritten.Memory error) told text deep lacks past says =
     said Tells status.OutOfMemory told text (subst (Tells status.OutOfMemory) (sym (says.1 refl)) lacks) lacks says.0
 
 -- the writer was not asked for it, or was stopped
@@ -97,13 +127,20 @@ pub not_written : (json : List ℕ) (flags : ℕ) (writer : WriterFlags) (given 
     (reason : NoOutcome) (told : Status) (text : List ℕ) →
     flags ≤ 7 → bits_of writer ≡ flags % 4 → (reason ≡ unwritten.TooLong → IsAsAsked (tells_floats flags) given m) →
     IsUnwritten writer (record { nesting = deepest_nesting; text = longest_text }) given m read info reason →
-    SaysOfUnwritten reason told text → TellsOfWriting json flags told text
+    SaysOfUnwritten m info reason told text → TellsOfWriting json flags told text
 not_written json flags writer given m read info (unwritten.TooDeep nested) told text known bits asked is says =
     said (TellsOfWriting json flags) status.TooDeep told text
     (inr (record { m = given; nested = nested; past = is.0 })) refl says.0
 not_written json flags writer given m read info (unwritten.NotAccepted fault) told text known bits asked is says =
-    said (TellsOfWriting json flags) status.NotAccepted told text
-    (record { m = given; read = read; fault = fault; fails = is.1 }) refl says.0
+    said_that (TellsOfWriting json flags) (TellsFaultAt root.Member m info fault) status.NotAccepted told text
+    (λ line. record {
+      m = given;
+      read = read;
+      fault = fault;
+      fails = is.1;
+      line = subst (λ m. TellsFaultAt root.Member m read fault text) is.2
+          (subst (λ read. TellsFaultAt root.Member m read fault text) is.3 line);
+    }) refl says
 not_written json flags writer given m read info unwritten.TooLong told text known bits asked is says =
     let long : IsTooLong flags =
     record {
@@ -138,21 +175,22 @@ no_failures flags m info content failures f =
     record { refusals = f.refusals; reading = f.reading; interface = f.interface; runs = f.runs }
 
 -- it stopped by an error
-stopped : (json : List ℕ) (flags : ℕ) (e : Error) (told : Status) (text : List ℕ) →
-    IsStopped flags (status_of_error e) →
-    SaysOfError e told text → TellsOfWriting json flags told text
-stopped json flags (error.Memory e) told text is says =
-    said (TellsOfWriting json flags) status.OutOfMemory told text (says.1 refl) refl says.0
-stopped json flags (error.FmtError e) told text is says =
-    said (TellsOfWriting json flags) status.Refused told text is refl says.0
-stopped json flags (error.Custom e) told text is says =
-    said (TellsOfWriting json flags) status.Refused told text is refl says.0
-stopped json flags (error.Unimplemented e) told text is says =
-    said (TellsOfWriting json flags) status.Refused told text is refl says.0
-stopped json flags (error.UnsupportedRelationalFunction e) told text is says =
-    said (TellsOfWriting json flags) status.Refused told text is refl says.0
-stopped json flags (error.Unsupported kind value) told text is says =
-    said (TellsOfWriting json flags) status.Refused told text is refl says.0
+stopped : (json : List ℕ) (flags : ℕ) (m : Module) (refusal : Option Refusal) (e : Error) (told : Status)
+    (text : List ℕ) → (TellsAnyRefusal m refusal text → IsStopped flags (status_of_error e) text) →
+    SaysOfError m refusal e told text → TellsOfWriting json flags told text
+stopped json flags m refusal (error.Memory e) told text is says =
+    said_that (TellsOfWriting json flags) (TellsAnyRefusal m refusal) status.OutOfMemory told text (λ _. says.1 refl)
+    refl says.0
+stopped json flags m refusal (error.FmtError e) told text is says =
+    said_that (TellsOfWriting json flags) (TellsAnyRefusal m refusal) status.Refused told text is refl says.0
+stopped json flags m refusal (error.Custom e) told text is says =
+    said_that (TellsOfWriting json flags) (TellsAnyRefusal m refusal) status.Refused told text is refl says.0
+stopped json flags m refusal (error.Unimplemented e) told text is says =
+    said_that (TellsOfWriting json flags) (TellsAnyRefusal m refusal) status.Refused told text is refl says.0
+stopped json flags m refusal (error.UnsupportedRelationalFunction e) told text is says =
+    said_that (TellsOfWriting json flags) (TellsAnyRefusal m refusal) status.Refused told text is refl says.0
+stopped json flags m refusal (error.Unsupported kind value) told text is says =
+    said_that (TellsOfWriting json flags) (TellsAnyRefusal m refusal) status.Refused told text is refl says.0
 
 pub at_most_seven : (flags : ℕ) → flags < 4 → flags ≤ 7
 at_most_seven flags less = omega arith
@@ -167,14 +205,16 @@ with_floats_told flags given m more told =
     subst (λ asked. IsAsAsked asked given m) (sym (le-leb 4 flags more)) told
 
 pub wrote : (json : List ℕ) (flags : ℕ) (writer : WriterFlags) (given m : Module) (read info : ModuleInfo)
-    (answer : Result Unit Error) (content : List ℕ) (failures : ℕ) (told : Status) (text : List ℕ) →
+    (answer : Result Unit Error) (refusal : Option Refusal) (content : List ℕ) (failures : ℕ) (told : Status)
+    (text : List ℕ) →
     flags ≤ 7 → bits_of writer ≡ flags % 4 → IsAsAsked (tells_floats flags) given m →
     IsTrue (is_accepted given read) → IsCounted m read info →
     FaithfulWriting writer m info answer [] content 0 failures →
-    AppendsItsText m info writer answer [] content → length content ≤ longest_text →
-    SaysOfWritten answer content told text → TellsOfWriting json flags told text
-wrote json flags writer given m read info (Ok tt) content failures told text known bits asked accepted counted faithful
-    appends within is =
+    AppendsItsText m info writer answer [] content → TellsBeside (annotates_types writer) m info answer refusal →
+    length content ≤ longest_text →
+    SaysOfWritten m answer refusal content told text → TellsOfWriting json flags told text
+wrote json flags writer given m read info (Ok tt) refusal content failures told text known bits asked accepted counted
+    faithful appends beside within is =
     let moved : FaithfulWriting writer m info (Ok tt) [] text 0 0 =
     subst (λ now. FaithfulWriting writer m info (Ok tt) [] now 0 0) (sym is.1)
     (no_failures writer m info content failures faithful) in
@@ -195,10 +235,10 @@ wrote json flags writer given m read info (Ok tt) content failures told text kno
       is_within = subst (λ t. length t ≤ longest_text) (sym is.1) within;
     } in
     subst (λ s. TellsOfWriting json flags s text) (sym is.0) done
-wrote json flags writer given m read info (Err e) content failures told text known bits asked accepted counted faithful
-    appends within says =
-    stopped json flags e told text
-    (record {
+wrote json flags writer given m read info (Err e) refusal content failures told text known bits asked accepted counted
+    faithful appends beside within says =
+    stopped json flags m refusal e told text
+    (λ line. record {
       flags_are_known = known;
       writer = writer;
       has_bits = bits;
@@ -214,5 +254,8 @@ wrote json flags writer given m read info (Err e) content failures told text kno
       counted = counted;
       faithful = faithful;
       told_is = refl;
+      refusal = refusal;
+      beside = beside;
+      line = line;
     })
     says

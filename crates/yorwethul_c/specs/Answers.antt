@@ -3,15 +3,20 @@
 -- Throughout, m is a module, read is what is known of it, info is the same with the uses counted, and
 -- json is the bytes that a call was given.
 use Rattle.std.specs.Prelude.{◌≡◌, ◌<◌, ◌≤◌, ⊤, ℕ, ◌%◌, ◌++◌, ◌⊎◌, Bool, true, false, IsTrue}
-use Rattle.std.specs.Prelude.{List, [], Some, length}
+use Rattle.std.specs.Prelude.{List, [], Option, Some, length}
+use Rattle.std.specs.Option.{IfSome}
 use Rattle.std.specs.Prelude.{drop, if◌then◌else◌, nat_le, Result, Ok, Err}
 use Rattle.naga_ir.specs.declared.module.Module.{Module}
 use Rattle.naga_info.specs.declared.info.ModuleInfo.{ModuleInfo}
-use Rattle.naga_back.specs.Flags.{bits_of}
+use Rattle.naga_back.specs.Flags.{annotates_types, bits_of}
 use Rattle.naga_back.specs.declared.flags.WriterFlags.{WriterFlags}
 use Rattle.naga_acceptance.specs.FirstFaults.{IsFirstFault}
 use Rattle.naga_acceptance.specs.declared.faults.Unaccepted.{Unaccepted}
 use Rattle.module_meaning.specs.acceptance.Accepted.{is_accepted}
+use Rattle.module_answers.specs.Faults.{TellsFaultAt}
+use Rattle.module_answers.specs.Refusals.{TellsRefusalAt}
+use Rattle.module_answers.specs.WriteOutcomes.{TellsBeside}
+use Rattle.module_answers.specs.declared.positions.JsonRoot.TheVariants as root
 use Rattle.module_answers.specs.declared.within.NoOutcome.{NoOutcome}
 use Rattle.module_answers.specs.declared.within.NoOutcome.TheVariants as unwritten
 use Rattle.module_limits.specs.Nesting.{nested_past}
@@ -22,6 +27,7 @@ use Rattle.naga_wgsl_fns.specs.declared.refusals.error.Error.{Error}
 use Rattle.naga_wgsl_fns.specs.declared.refusals.error.Error.TheVariants as error
 use Rattle.naga_wgsl_out.specs.Checked.{IsCounted}
 use Rattle.naga_wgsl_out.specs.Headline.{FaithfulWriting}
+use Rattle.naga_wgsl_out.specs.declared.unwritable.Refusal.{Refusal}
 use Rattle.told_floats.specs.Told.{IsToldModule}
 use Rattle.yorwethul_c.specs.Nesting.{nest_past}
 use Rattle.yorwethul_c.specs.declared.nesting.Within.TheVariants as within
@@ -63,6 +69,10 @@ pub record HandsOut (Tells : Status → List ℕ → Type 0) (number needed : �
 abbrev pub status_of_error : Error → Status
 status_of_error (error.Memory e) = status.OutOfMemory
 status_of_error _ = status.Refused
+
+-- the line of a refusal, if there is one
+abbrev pub TellsAnyRefusal : Module → Option Refusal → (text : List ℕ) → Type 0
+TellsAnyRefusal m told text = IfSome told (λ refusal. TellsRefusalAt root.Member m refusal text)
 
 -- the status of what the writer was not asked for, or stopped at
 abbrev pub status_of_unwritten : NoOutcome → Status
@@ -118,8 +128,9 @@ pub record IsTooLong (flags : ℕ) : Type 0 where
   pub longer : longest_text < length (layout (written_program m info writer))
 
 -- The writer stopped at an accepted module, by an error of this status. So a refusal is for a
--- listed construct that stands in the module, or the sink failed.
-pub record IsStopped (flags : ℕ) (told : Status) : Type 0 where
+-- listed construct that stands in the module, and this line tells it with its position, or the sink
+-- failed.
+pub record IsStopped (flags : ℕ) (told : Status) (text : List ℕ) : Type 0 where
   pub flags_are_known : flags ≤ 7
   pub writer : WriterFlags
   pub has_bits : bits_of writer ≡ flags % 4
@@ -135,6 +146,9 @@ pub record IsStopped (flags : ℕ) (told : Status) : Type 0 where
   pub counted : IsCounted m read info
   pub faithful : FaithfulWriting writer m info (Err error) [] beginning 0 failures
   pub told_is : status_of_error error ≡ told
+  pub refusal : Option Refusal
+  pub beside : TellsBeside (annotates_types writer) m info (Err error) refusal
+  pub line : TellsAnyRefusal m refusal text
 
 -- A module was read of which this is nested too deep.
 pub record IsTooDeep : Type 0 where
@@ -148,12 +162,13 @@ pub record IsAccepted : Type 0 where
   pub read : ModuleInfo
   pub accepted : IsTrue (is_accepted m read)
 
--- A module was read that is not accepted, for this fault, which is its first.
-pub record IsNotAccepted : Type 0 where
+-- A module was read that is not accepted, for this fault, which is its first, and this line tells it.
+pub record IsNotAccepted (text : List ℕ) : Type 0 where
   pub m : Module
   pub read : ModuleInfo
   pub fault : Unaccepted
   pub fails : IsFirstFault m read fault
+  pub line : TellsFaultAt root.Member m read fault text
 
 -- of what is read: no module stands in the bytes, more than 127 lists and objects of them are open
 -- at once, or memory was refused, and then there is no text
@@ -170,17 +185,17 @@ TellsOfDepth json = IsTrue (nest_past 127 within.Outside 0 json) ⊎ IsTooDeep
 -- of a module that is to be written
 abbrev pub TellsOfWriting : (json : List ℕ) (flags : ℕ) → Status → (text : List ℕ) → Type 0
 TellsOfWriting json flags status.Done text = IsWritten flags text
-TellsOfWriting json flags status.Refused text = IsStopped flags status.Refused
+TellsOfWriting json flags status.Refused text = IsStopped flags status.Refused text
 TellsOfWriting json flags status.TooLong text = IsTooLong flags
 TellsOfWriting json flags status.TooDeep text = TellsOfDepth json
-TellsOfWriting json flags status.NotAccepted text = IsNotAccepted
+TellsOfWriting json flags status.NotAccepted text = IsNotAccepted text
 TellsOfWriting json flags status.UnknownFlag text = 8 ≤ flags
 TellsOfWriting json flags told text = TellsOfReading json told text
 
 -- of one that is only asked whether it is accepted: then there is no text
 abbrev pub TellsOfChecking : (json : List ℕ) → Status → (text : List ℕ) → Type 0
 TellsOfChecking json status.Done text = IsAccepted × (text ≡ [])
-TellsOfChecking json status.NotAccepted text = IsNotAccepted
+TellsOfChecking json status.NotAccepted text = IsNotAccepted text
 TellsOfChecking json status.TooDeep text = TellsOfDepth json
 TellsOfChecking json told text = TellsOfReading json told text
 
@@ -188,7 +203,7 @@ TellsOfChecking json told text = TellsOfReading json told text
 abbrev pub TellsOfLayouts : (json : List ℕ) → Status → (text : List ℕ) → Type 0
 TellsOfLayouts json status.Done text = IsAccepted
 TellsOfLayouts json status.Refused text = IsAccepted
-TellsOfLayouts json status.NotAccepted text = IsNotAccepted
+TellsOfLayouts json status.NotAccepted text = IsNotAccepted text
 TellsOfLayouts json status.TooDeep text = TellsOfDepth json
 TellsOfLayouts json told text = TellsOfReading json told text
 
@@ -202,21 +217,27 @@ LacksMemory told text = (told ≡ status.OutOfMemory) × (text ≡ [])
 abbrev pub Says : (wanted told : Status) → (text : List ℕ) → Type 0
 Says wanted told text = (told ≡ wanted) ⊎ LacksMemory told text
 
--- what is told of an error of the writer
-abbrev pub SaysOfError : Error → Status → (text : List ℕ) → Type 0
-SaysOfError error told text =
-    Says (status_of_error error) told text
+-- so it is, with a text of which this holds
+abbrev pub SaysThat : (Holds : List ℕ → Type 0) → (wanted told : Status) → (text : List ℕ) → Type 0
+SaysThat Holds wanted told text = ((told ≡ wanted) × Holds text) ⊎ LacksMemory told text
+
+-- what is told of an error of the writer, and of a refusal beside it
+abbrev pub SaysOfError : Module → Option Refusal → Error → Status → (text : List ℕ) → Type 0
+SaysOfError m refusal error told text =
+    SaysThat (TellsAnyRefusal m refusal) (status_of_error error) told text
     × (status_of_error error ≡ status.OutOfMemory → text ≡ [])
 
 -- what is told where the writer was not asked or was stopped
-abbrev pub SaysOfUnwritten : NoOutcome → Status → (text : List ℕ) → Type 0
-SaysOfUnwritten reason told text =
+abbrev pub SaysOfUnwritten : Module → ModuleInfo → NoOutcome → Status → (text : List ℕ) → Type 0
+SaysOfUnwritten m info (unwritten.NotAccepted fault) told text =
+    SaysThat (TellsFaultAt root.Member m info fault) status.NotAccepted told text
+SaysOfUnwritten m info reason told text =
     Says (status_of_unwritten reason) told text
     × (status_of_unwritten reason ≡ status.OutOfMemory → text ≡ [])
 
--- what is told of the writer's answer, and of what its sink holds
-abbrev pub SaysOfWritten : Result Unit Error → (content : List ℕ) → Status → (text : List ℕ) →
-    Type 0
-SaysOfWritten (Ok _) content told text =
+-- what is told of the writer's answer, of a refusal beside it, and of what its sink holds
+abbrev pub SaysOfWritten : Module → Result Unit Error → Option Refusal → (content : List ℕ) →
+    Status → (text : List ℕ) → Type 0
+SaysOfWritten m (Ok _) refusal content told text =
     (told ≡ status.Done) × (text ≡ content)
-SaysOfWritten (Err error) content told text = SaysOfError error told text
+SaysOfWritten m (Err error) refusal content told text = SaysOfError m refusal error told text

@@ -2,15 +2,17 @@
 
 ghost use Rattle.std.specs.Prelude.{◌≡◌, ◌<◌, ◌≤◌, ◌%◌, ℕ, IfErr, IfOk, List, string_bytes};
 ghost use Rattle.naga_back.specs.Flags.{bits_of};
+ghost use Rattle.module_answers.specs.Faults.{TellsFaultAt};
 ghost use Rattle.yorwethul_c.specs.Answers.{LacksMemory, Says, SaysOfError, SaysOfWritten};
+ghost use Rattle.yorwethul_c.specs.Answers.{SaysOfUnwritten, SaysThat, TellsAnyRefusal};
 ghost use Rattle.yorwethul_c.specs.Answers.{TellsOfChecking, TellsOfLayouts, TellsOfReading};
-ghost use Rattle.yorwethul_c.specs.Answers.{SaysOfUnwritten, TellsOfWriting};
+ghost use Rattle.yorwethul_c.specs.Answers.{TellsOfWriting};
 
 use crate::nesting::nests_past;
 use crate::status::{Status, status_of};
 use bitflags::Flags;
 use module_answers::{
-    JsonRefusal, JsonRoot, NoOutcome, WriteOutcome, check_nesting, fault_line, layout_table,
+    JsonRoot, NoOutcome, WriteOutcome, check_nesting, fault_line, layout_table, refusal_line,
     write_told_within, write_within,
 };
 use naga_json::{Known, ReadError, read_known};
@@ -169,8 +171,8 @@ fn writer_flags(flags: u32) -> WriterFlags
 }
 
 fn told_written(alloc: Global, module: &Module, written: WriteOutcome<String>) -> Answer
-    ensures { SaysOfWritten written.answer (string_bytes written.sink) result.status
-        (string_bytes result.text) }
+    ensures { SaysOfWritten «module».now written.answer written.refusal
+        (string_bytes written.sink) result.status (string_bytes result.text) }
 {
     let WriteOutcome {
         answer,
@@ -187,7 +189,7 @@ fn told_written(alloc: Global, module: &Module, written: WriteOutcome<String>) -
 }
 
 fn told_error(alloc: Global, module: &Module, error: Error, refusal: Option<Refusal>) -> Answer
-    ensures { SaysOfError error result.status (string_bytes result.text) }
+    ensures { SaysOfError «module».now refusal error result.status (string_bytes result.text) }
 {
     match status_of(&error) {
         Status::OutOfMemory => out_of_memory(alloc),
@@ -204,12 +206,12 @@ fn told_refusal(
     error: Error,
     refusal: Option<Refusal>,
 ) -> Answer
-    ensures { Says status result.status (string_bytes result.text) }
+    ensures { SaysThat (TellsAnyRefusal «module».now refusal) status result.status
+        (string_bytes result.text) }
 {
     match refusal {
         Some(refusal) => {
-            let refusal = JsonRefusal::of(JsonRoot::Member, module, refusal);
-            let text = format!(in alloc; "{refusal}");
+            let text = refusal_line(alloc, module, refusal, JsonRoot::Member);
             settled(alloc, status, text)
         }
         None => told(alloc, status, error),
@@ -218,7 +220,8 @@ fn told_refusal(
 
 /// Tells why the writer was not asked, or was stopped.
 fn not_written(alloc: Global, known: &Known, unwritten: NoOutcome) -> Answer
-    ensures { SaysOfUnwritten unwritten result.status (string_bytes result.text) }
+    ensures { SaysOfUnwritten known.now.module known.now.info unwritten result.status
+        (string_bytes result.text) }
 {
     match unwritten {
         NoOutcome::TooDeep(nested) => told(alloc, Status::TooDeep, nested),
@@ -278,7 +281,8 @@ fn laid_out_flat(alloc: Global, known: &Known) -> Answer
 
 /// Tells where and why the module is not accepted, and what was expected there.
 fn not_accepted(alloc: Global, known: &Known, fault: Unaccepted) -> Answer
-    ensures { Says Status.NotAccepted result.status (string_bytes result.text) }
+    ensures { SaysThat (TellsFaultAt JsonRoot.Member known.now.module known.now.info fault)
+        Status.NotAccepted result.status (string_bytes result.text) }
 {
     let text = fault_line(alloc, &known.module, &known.info, fault, JsonRoot::Member);
     settled(alloc, Status::NotAccepted, text)

@@ -57,6 +57,19 @@ const FLOAT_LITERAL: &str = r#"{
     "info": {"functions": [[0]]}
 }"#;
 
+/// `fn größe() -> f32`, with a literal of an infinity, which no numeral tells.
+const PAST_ASCII: &str = r#"{
+    "module": {
+        "types": [{"inner": {"Scalar": {"kind": "Float", "width": 4}}}],
+        "functions": [{
+            "name": "größe", "result": {"ty": 0},
+            "expressions": [{"Literal": {"F32": {"bits": 2139095040}}}],
+            "body": [{"Return": {"value": 0}}]
+        }]
+    },
+    "info": {"functions": [[0]]}
+}"#;
+
 /// `fn meet()`, with a barrier of subgroups.
 const SUBGROUP_BARRIER: &str = r#"{
     "module": {"functions": [{"name": "meet", "body": [{"ControlBarrier": "SUB_GROUP"}]}]},
@@ -110,6 +123,12 @@ const CALLS: &[(Call, &str, u32, &str)] = &[
         FLOAT_LITERAL,
         0,
         "fn half() -> f32 {\n    return 0.5f;\n}\n",
+    ),
+    (
+        Call::Write(4),
+        PAST_ASCII,
+        1,
+        "float literal: module.functions[0].expressions[0], in statement 0, in \"größe\"",
     ),
     (Call::Write(5), SUBGROUP_BARRIER, 0, "fn meet() {\n"),
     (

@@ -244,6 +244,19 @@ const INFINITE_LITERAL: &str = r#"{
     "info": {"functions": [[0]]}
 }"#;
 
+/// The same with a name past ASCII.
+const PAST_ASCII: &str = r#"{
+    "module": {
+        "types": [{"inner": {"Scalar": {"kind": "Float", "width": 4}}}],
+        "functions": [{
+            "name": "größe", "result": {"ty": 0},
+            "expressions": [{"Literal": {"F32": {"bits": 2139095040}}}],
+            "body": [{"Return": {"value": 0}}]
+        }]
+    },
+    "info": {"functions": [[0]]}
+}"#;
+
 /// A stage that takes the size of a subgroup.
 const SUBGROUP: &str = r#"{
     "module": {
@@ -313,18 +326,18 @@ struct Out: no layout
 
 const OPERAND_FAULT: &str = "not accepted: module.functions[0].expressions[1], in \"double\": \
     an operand does not stand before the expression: \
-    names expressions[1], expected one before expressions[1]\n";
+    names expressions[1], expected one before expressions[1], of 2\n";
 
 const OPERAND_LISTING: &str = "\
 not accepted: module.functions[0].expressions[1], in \"double\": an operand does not stand before the expression: \
-    names expressions[1], expected one before expressions[1]
+    names expressions[1], expected one before expressions[1], of 2
 
 function 0 \"double\"(\"x\": i32) -> i32
   expressions
      0  FunctionArgument 0 \"x\"                        i32
      1  Binary Add left: [1], right: [0]              i32
         ^ an operand does not stand before the expression: \
-    names expressions[1], expected one before expressions[1]
+    names expressions[1], expected one before expressions[1], of 2
   statements
      0  Emit 1..2
      1  Return value: [1]
@@ -413,6 +426,16 @@ const MODULES: &[(&str, Task, Style, Told)] = &[
             REFUSED,
             "",
             "refused: float literal: module.functions[0].expressions[0], in statement 0, in \"endless\"\n",
+        ),
+    ),
+    (
+        PAST_ASCII,
+        Task::Write,
+        STANDARD,
+        (
+            REFUSED,
+            "",
+            "refused: float literal: module.functions[0].expressions[0], in statement 0, in \"größe\"\n",
         ),
     ),
     (FLOAT_LITERAL, Task::Check, STANDARD, (0, "accepted\n", "")),

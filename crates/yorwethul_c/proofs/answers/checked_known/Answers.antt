@@ -6,6 +6,6 @@ use Rattle.yorwethul_c.proofs.answers.checked_known.Goals as goal
 
 pub returns-in-Err : goal.returns-in-Err
 returns-in-Err c =
-    λ json. too_deep (TellsOfChecking json) c.args.known.now.module _ _ _ inr refl
+    λ json. too_deep (TellsOfChecking json) c.args.known.now.module c.args.known.now.info _ _ _ inr refl
     (subst (λ r. IfErr r (TellsDepth deepest_nesting c.args.known.now.module)) c.in-Err.is
     c.check_nesting.ensures.deep) c.not_written.ensures

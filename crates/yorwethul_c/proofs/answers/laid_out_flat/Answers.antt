@@ -1,13 +1,13 @@
 use Rattle.std.proofs.Common.{refl}
 use Rattle.yorwethul_c.specs.Answers.{TellsOfLayouts}
 use Rattle.yorwethul_c.specs.declared.status.Status.TheVariants as status
-use Rattle.yorwethul_c.proofs.Told.{accepted_by, faulty, said}
+use Rattle.yorwethul_c.proofs.Told.{accepted_by, faulty, said, said_that}
 use Rattle.yorwethul_c.proofs.answers.laid_out_flat.Goals as goal
 
 pub returns-in-Some : goal.returns-in-Some
 returns-in-Some c =
-    λ json. said (TellsOfLayouts json) status.NotAccepted _ _
-    (faulty c.args.known.now.module c.args.known.now.info _ _ c.in-Some.is c.unaccepted.ensures.fault) refl
+    λ json. said_that (TellsOfLayouts json) _ status.NotAccepted _ _
+    (faulty c.args.known.now.module c.args.known.now.info _ _ _ c.in-Some.is c.unaccepted.ensures.fault) refl
     c.not_accepted.ensures
 
 pub returns-in-Ok : goal.returns-in-Ok

@@ -39,7 +39,7 @@ returns-in-Ok c =
     (string_bytes w.sink) 0 failures)) c.in-Ok.is c.write_within.ensures.written in
     let within = subst (λ r. IfOk r (λ w. length (string_bytes w.sink) ≤ longest_text)) c.in-Ok.is
     c.write_within.ensures.within in
-    λ json. wrote json c.args.flags writer given m read info w.answer (string_bytes w.sink) answers.0 _ _
+    λ json. wrote json c.args.flags writer given m read info w.answer w.refusal (string_bytes w.sink) answers.0 _ _
     (at_most_seven c.args.flags c.requires.known) c.writer_flags.ensures
-    (as_given c.args.flags given c.requires.known) accepted counted answers.1.faithful answers.1.text within
+    (as_given c.args.flags given c.requires.known) accepted counted answers.1.faithful answers.1.text answers.1.refusal within
     c.told_written.ensures

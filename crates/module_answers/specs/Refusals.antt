@@ -1,0 +1,22 @@
+-- What is told of what a module is refused for.
+--
+-- Throughout, m is a module, refusal a construct with its position, and from what the JSON holds by
+-- which the position is told.
+use Rattle.std.specs.Prelude.{◌≡◌, ℕ, List, ◌++◌, codes}
+use Rattle.naga_ir.specs.declared.module.Module.{Module}
+use Rattle.naga_wgsl_fns.specs.Constructs.{construct_text}
+use Rattle.naga_wgsl_out.specs.declared.unwritable.Refusal.{Refusal}
+use Rattle.module_answers.specs.Labels.{label_at}
+use Rattle.module_answers.specs.Positions.{IsKnownText, IsLabelled, json_refusal_position}
+use Rattle.module_answers.specs.Roles.{role_in}
+use Rattle.module_answers.specs.declared.positions.JsonRoot.{JsonRoot}
+
+-- The construct, and after a colon its position and the label there:
+-- `float literal: module.functions[0].expressions[3], in statement 1, in "half"`. Of a construct of
+-- whose words nothing is known there is some text.
+abbrev pub TellsRefusalAt : JsonRoot → Module → Refusal → (line : List ℕ) → Type 0
+TellsRefusalAt from m refusal line =
+    (construct position : List ℕ) × IsKnownText (construct_text refusal.construct) construct
+    × IsLabelled (label_at m refusal.position)
+    (json_refusal_position from (role_in m refusal.position) refusal.position) position
+    × (line ≡ construct ++ (codes ": " ++ position))
