@@ -5,6 +5,6 @@ use Rattle.naga_wgsl_fns.proofs.module_text.ModuleText.write_mesh.Goals as goal
 
 pub returns : goal.returns
 returns g c =
-    writes_as (sym (mesh_row c.args.self.now.shader.now c.args.point.now))
+    writes_as (sym (mesh_row c.args.self.now.shader.now c.args.entry_point.now))
     (writes_then c.write_output.ensures
     (writes_then c.write_sizes.ensures c.write_payload.ensures))

@@ -20,45 +20,45 @@ own m e s text is row =
 pub returns-in-Vertex : goal.returns-in-Vertex
 returns-in-Vertex g c =
     writes_as
-    (own c.args.self.now.shader.now c.args.point.now _ _ c.in-Vertex.is (sym (plain_row Vertex)))
+    (own c.args.self.now.shader.now c.args.entry_point.now _ _ c.in-Vertex.is (sym (plain_row Vertex)))
     c.put.ensures
 
 pub returns-in-Fragment : goal.returns-in-Fragment
 returns-in-Fragment g c =
     writes_as
-    (own c.args.self.now.shader.now c.args.point.now _ _ c.in-Fragment.is (sym (plain_row Fragment)))
+    (own c.args.self.now.shader.now c.args.entry_point.now _ _ c.in-Fragment.is (sym (plain_row Fragment)))
     c.put-in-Fragment.ensures
 
 pub returns-in-RayGeneration : goal.returns-in-RayGeneration
 returns-in-RayGeneration g c =
     writes_as
-    (own c.args.self.now.shader.now c.args.point.now _ _ c.in-RayGeneration.is (sym (plain_row RayGeneration)))
+    (own c.args.self.now.shader.now c.args.entry_point.now _ _ c.in-RayGeneration.is (sym (plain_row RayGeneration)))
     c.put-in-RayGeneration.ensures
 
 pub returns-in-Compute : goal.returns-in-Compute
 returns-in-Compute g c =
     writes_as
-    (own c.args.self.now.shader.now c.args.point.now _ _ c.in-Compute.is
-    (compute_is c.args.point.now.workgroup_size))
+    (own c.args.self.now.shader.now c.args.entry_point.now _ _ c.in-Compute.is
+    (compute_is c.args.entry_point.now.workgroup_size))
     c.write_compute.ensures
 
 pub returns-in-AnyHit : goal.returns-in-AnyHit
 returns-in-AnyHit g c =
     writes_as
-    (own c.args.self.now.shader.now c.args.point.now _ _ c.in-AnyHit.is
-    (hit_is c.args.self.now.shader.now AnyHit c.args.point.now.incoming_ray_payload))
+    (own c.args.self.now.shader.now c.args.entry_point.now _ _ c.in-AnyHit.is
+    (hit_is c.args.self.now.shader.now AnyHit c.args.entry_point.now.incoming_ray_payload))
     c.write_hit.ensures
 
 pub returns-in-ClosestHit : goal.returns-in-ClosestHit
 returns-in-ClosestHit g c =
     writes_as
-    (own c.args.self.now.shader.now c.args.point.now _ _ c.in-ClosestHit.is
-    (hit_is c.args.self.now.shader.now ClosestHit c.args.point.now.incoming_ray_payload))
+    (own c.args.self.now.shader.now c.args.entry_point.now _ _ c.in-ClosestHit.is
+    (hit_is c.args.self.now.shader.now ClosestHit c.args.entry_point.now.incoming_ray_payload))
     c.write_hit-in-ClosestHit.ensures
 
 pub returns-in-Miss : goal.returns-in-Miss
 returns-in-Miss g c =
     writes_as
-    (own c.args.self.now.shader.now c.args.point.now _ _ c.in-Miss.is
-    (hit_is c.args.self.now.shader.now Miss c.args.point.now.incoming_ray_payload))
+    (own c.args.self.now.shader.now c.args.entry_point.now _ _ c.in-Miss.is
+    (hit_is c.args.self.now.shader.now Miss c.args.entry_point.now.incoming_ray_payload))
     c.write_hit-in-Miss.ensures
