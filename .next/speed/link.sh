@@ -1,0 +1,2 @@
+cd /tmp/speed/ir; T=/tmp/speed/tc/lib
+exec -a ld.lld /opt/rattle/toolchain/bin/clang -m elf_x86_64 -pie --dynamic-linker /lib64/ld-linux-x86-64.so.2 --as-needed -z relro -z now -z noexecstack --eh-frame-hdr --gc-sections --no-dependent-libraries --threads=1 -o $2 $T/Scrt1.o $T/crti.o $T/crtbeginS.o $1 /opt/rattle/c/libos_c.a /opt/rattle/c/liblibc_c.a $3 $T/libm.so.6 $T/libc.so.6 $T/libc_nonshared.a $T/ld-linux-x86-64.so.2 $T/libgcc.a $T/libgcc_s.so.1 $T/crtendS.o $T/crtn.o
