@@ -84,11 +84,21 @@ fn of_unaccepted(
     known: &Known,
     unaccepted: Unaccepted,
 ) -> Result<Explanation, AllocError> {
+    let line = fault_line(alloc, &known.module, &known.info, unaccepted, root)?;
+    let listing = listing_of(alloc, root, known, unaccepted)?;
+    not_written(format!(in alloc; "not accepted: {line}\n\n{listing}"))
+}
+
+/// The lines around a fault, with the fault under its own.
+fn listing_of(
+    alloc: Global,
+    root: JsonRoot,
+    known: &Known,
+    unaccepted: Unaccepted,
+) -> Result<String, AllocError> {
     let position = listed_position(unaccepted.item);
     let fault = fault_text(alloc, &known.module, &known.info, unaccepted, root)?;
-    let listing = explain(alloc, &known.module, &known.info, &position, fault.as_str())?;
-    let line = fault_line(alloc, &known.module, &known.info, unaccepted, root)?;
-    not_written(format!(in alloc; "not accepted: {line}\n\n{listing}"))
+    explain(alloc, &known.module, &known.info, &position, fault.as_str())
 }
 
 fn not_written(text: Result<String, AllocError>) -> Result<Explanation, AllocError> {
