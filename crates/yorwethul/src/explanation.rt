@@ -84,9 +84,19 @@ fn of_unaccepted(
     known: &Known,
     unaccepted: Unaccepted,
 ) -> Result<Explanation, AllocError> {
-    let line = fault_line(alloc, &known.module, &known.info, unaccepted, root)?;
     let listing = listing_of(alloc, root, known, unaccepted)?;
+    let line = line_of(alloc, root, known, unaccepted)?;
     not_written(format!(in alloc; "not accepted: {line}\n\n{listing}"))
+}
+
+/// Where a module is not accepted, and why.
+fn line_of(
+    alloc: Global,
+    root: JsonRoot,
+    known: &Known,
+    unaccepted: Unaccepted,
+) -> Result<String, AllocError> {
+    fault_line(alloc, &known.module, &known.info, unaccepted, root)
 }
 
 /// The lines around a fault, with the fault under its own.
