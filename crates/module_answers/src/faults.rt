@@ -15,7 +15,8 @@ use std::alloc::{AllocError, Global};
 /// A fault of the module as one line: its position in the JSON, with the label of the function or
 /// the entry point there, its kind, and what was expected, if more can be told than the kind.
 ///
-/// `module.functions[0].expressions[3], in "half": the known type is another: the expression gives i32, the info has f32`
+/// `module.functions[0].expressions[3], in "half": the known type is another: the expression gives
+/// i32, the info has f32`
 pub fn fault_line(
     alloc: Global,
     module: &Module,

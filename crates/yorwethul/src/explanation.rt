@@ -1,9 +1,9 @@
-//! Why a module has no text, with a picture of the place.
+//! Why a module has no text, with the lines around its position.
 
 use crate::texts::{Style, write_in};
 use module_answers::{
-    JsonRoot, NoOutcome, WriteOutcome, fault_line, fault_text, listed_position, refusal_line,
-    refused_position,
+    JsonRoot, NoOutcome, WriteOutcome, fault_text, labelled_position, listed_position,
+    refusal_line, refused_position,
 };
 use naga_json::Known;
 use naga_listing::explain;
@@ -84,31 +84,11 @@ fn of_unaccepted(
     known: &Known,
     unaccepted: Unaccepted,
 ) -> Result<Explanation, AllocError> {
-    let listing = listing_of(alloc, root, known, unaccepted)?;
-    let line = line_of(alloc, root, known, unaccepted)?;
-    not_written(format!(in alloc; "not accepted: {line}\n\n{listing}"))
-}
-
-/// Where a module is not accepted, and why.
-fn line_of(
-    alloc: Global,
-    root: JsonRoot,
-    known: &Known,
-    unaccepted: Unaccepted,
-) -> Result<String, AllocError> {
-    fault_line(alloc, &known.module, &known.info, unaccepted, root)
-}
-
-/// The lines around a fault, with the fault under its own.
-fn listing_of(
-    alloc: Global,
-    root: JsonRoot,
-    known: &Known,
-    unaccepted: Unaccepted,
-) -> Result<String, AllocError> {
-    let position = listed_position(unaccepted.item);
+    let position = labelled_position(alloc, &known.module, unaccepted.item, root)?;
+    let item = listed_position(unaccepted.item);
     let fault = fault_text(alloc, &known.module, &known.info, unaccepted, root)?;
-    explain(alloc, &known.module, &known.info, &position, fault.as_str())
+    let listing = explain(alloc, &known.module, &known.info, &item, fault.as_str())?;
+    not_written(format!(in alloc; "not accepted: {position}: {fault}\n\n{listing}"))
 }
 
 fn not_written(text: Result<String, AllocError>) -> Result<Explanation, AllocError> {
