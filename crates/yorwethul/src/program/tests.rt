@@ -321,7 +321,7 @@ struct Near: no layout
     d: offset 36, align 4, size 4: after a member without a size
     e: offset 0, align 4, size 4: a second member at 0
 struct Out: no layout
-    a: bound
+    a: has a binding
 ";
 
 const OPERAND_FAULT: &str = "not accepted: module.functions[0].expressions[1], in \"double\": \
