@@ -348,7 +348,7 @@ refused: float literal: module.functions[0].expressions[0], in statement 0, in \
 
 function 0 \"half\"() -> f32
   expressions
-     0  Literal F32(1056964608)                       f32
+     0  Literal F32(0.5)                              f32
         ^ float literal
   statements
      0  Return value: [0]
