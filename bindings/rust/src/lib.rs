@@ -129,7 +129,7 @@ pub fn check_json(json: &str) -> Result<(), Error> {
 ///     "info": {}
 /// }"#;
 /// let told = yorwethul::layout_json(json)?;
-/// assert_eq!(told, "struct Count: align 4, size 4\n    value: offset 0, align 4, size 4\n");
+/// assert_eq!(told, "struct Count: align 4, size 4\n    value: u32, offset 0, align 4, size 4\n");
 /// # Ok::<(), yorwethul::Error>(())
 /// ```
 pub fn layout_json(json: &str) -> Result<String, Error> {

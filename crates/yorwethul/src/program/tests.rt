@@ -273,7 +273,8 @@ const SUBGROUP: &str = r#"{
 }"#;
 
 /// Structs: with a gap, with a member at no multiple of its alignment, with an array of another stride,
-/// and with a member that is bound.
+/// with a member that is bound, and with a span that is not kept; and a variable of an array of another
+/// stride.
 const STRUCTS: &str = r#"{
     "module": {
         "types": [
@@ -294,34 +295,46 @@ const STRUCTS: &str = r#"{
                 {"name": "c", "ty": 4, "offset": 32}, {"name": "d", "ty": 0, "offset": 36},
                 {"name": "e", "ty": 0, "offset": 0}]}}},
             {"name": "Out", "inner": {"Struct": {"span": 4, "members": [
-                {"name": "a", "ty": 0, "offset": 0, "binding": {"Location": {"location": 0}}}]}}}
-        ]
+                {"name": "a", "ty": 0, "offset": 0, "binding": {"Location": {"location": 0}}}]}}},
+            {"inner": {"Vector": {"size": "Bi", "scalar": {"kind": "Float", "width": 4}}}},
+            {"name": "Pass", "inner": {"Struct": {"span": 20, "members": [
+                {"name": "a", "ty": 9, "offset": 0}, {"name": "b", "ty": 9, "offset": 8}]}}},
+            {"inner": {"Array": {"base": 10, "size": "Dynamic", "stride": 48}}}
+        ],
+        "global_variables": [{
+            "name": "rows", "space": {"Storage": {"access": "LOAD | STORE"}}, "ty": 11,
+            "binding": {"group": 0, "binding": 0}
+        }]
     },
     "info": {}
 }"#;
 
 const LAYOUTS: &str = "\
 struct Gap: align 4, size 32
-    a: offset 0, align 4, size 4
-    fn_: offset 16, align 4, size 4
-struct Odd: no layout
-    a: offset 0, align 4, size 4
-    b: offset 6, align 4, size 4: member off its alignment
-struct Wide: no layout
-    a: offset 4, align 4, size 4: member off its alignment
-    b: offset 16: array stride 16, by WGSL 4
-    c: offset 80: its type has no layout
+    a: u32, offset 0, align 4, size 4
+    fn_: u32, offset 16, align 4, size 4
+struct Odd: no layout, span 12 in the module
+    a: u32, offset 0, align 4, size 4
+    b: u32, offset 6, align 4, size 4: member off its alignment, 4 is the first that it could have
+struct Wide: no layout, span 80 in the module
+    a: u32, offset 4, align 4, size 4: member off its alignment, 0 is the first that it could have
+    b: array<u32, 4>, offset 16: array stride 16, by WGSL 4
+    c: Odd, offset 80: its type has no layout
 struct Ends: align 4, no size
-    a: offset 0, align 4, size 32
-    b: offset 32, align 4, no size
-struct Near: no layout
-    a: offset 0, align 4, size 32
-    b: offset 28, align 4, size 4: members overlap
-    c: offset 32, align 4, no size
-    d: offset 36, align 4, size 4: after a member without a size
-    e: offset 0, align 4, size 4: a second member at 0
-struct Out: no layout
-    a: bound
+    a: Gap, offset 0, align 4, size 32
+    b: array<u32>, offset 32, align 4, no size
+struct Near: no layout, span 8 in the module
+    a: Gap, offset 0, align 4, size 32
+    b: u32, offset 28, align 4, size 4: members overlap, 32 is the first that it could have
+    c: array<u32>, offset 32, align 4, no size
+    d: u32, offset 36, align 4, size 4: after a member without a size
+    e: u32, offset 0, align 4, size 4: a second member at 0, 40 is the first that it could have
+struct Out: no layout, span 4 in the module
+    a: u32, bound
+struct Pass: align 8, size 16, span 20 in the module, not kept
+    a: vec2<f32>, offset 0, align 8, size 8
+    b: vec2<f32>, offset 8, align 8, size 8
+rows: array<Pass>, stride 48 in the module, 16 in WGSL, not kept
 ";
 
 const OPERAND_FAULT: &str = "not accepted: module.functions[0].expressions[1], in \"double\": \
