@@ -272,6 +272,49 @@ const SUBGROUP: &str = r#"{
     "info": {"entry_points": [[0]]}
 }"#;
 
+/// A function that returns an operator over a load which a block alone gives.
+const GIVEN_IN_BLOCK: &str = r#"{
+    "module": {
+        "types": [
+            {"inner": {"Scalar": {"kind": "Bool", "width": 1}}},
+            {"inner": {"Scalar": {"kind": "Sint", "width": 4}}}
+        ],
+        "functions": [{
+            "name": "f", "arguments": [{"name": "c", "ty": 0}], "result": {"ty": 1},
+            "local_variables": [{"name": "a", "ty": 1}],
+            "expressions": [
+                {"FunctionArgument": 0}, {"LocalVariable": 0}, {"Load": {"pointer": 1}},
+                {"Unary": {"op": "Negate", "expr": 2}}
+            ],
+            "body": [
+                {"If": {"condition": 0, "accept": [{"Emit": {"start": 2, "end": 3}}], "reject": []}},
+                {"Emit": {"start": 3, "end": 4}}, {"Return": {"value": 3}}
+            ]
+        }]
+    },
+    "info": {"functions": [[0, {"Value": {"Pointer": {"base": 1, "space": "Function"}}}, 1, 1]]}
+}"#;
+
+const GIVEN_IN_BLOCK_LISTING: &str = "\
+refused: operand out of scope: module.functions[0].expressions[3], operand value of statement 3, in \"f\": \
+    expressions[2] has no value at statement 2; statement 1 gives it, in a block that has ended
+
+function 0 \"f\"(\"c\": bool) -> i32
+  locals
+     0  no initialiser \"a\"                            i32
+  expressions
+     0  FunctionArgument 0 \"c\"                        bool
+     1  LocalVariable 0 \"a\"                           ptr<function, i32>
+     2  Load pointer: [1]                             i32
+        ^ no value at statement 2; statement 1 gives it, in a block that has ended
+     3  Unary Negate expr: [2]                        i32
+  statements
+     0  If condition: [0]
+     1  | Emit 2..3
+     2  Emit 3..4
+     3  Return value: [3]
+";
+
 /// Structs: with a gap, with a member at no multiple of its alignment, with an array of another stride,
 /// with a member that is bound, and with a span that is not kept; and a variable of an array of another
 /// stride.
@@ -505,6 +548,23 @@ const MODULES: &[(&str, Task, Style, Told)] = &[
         (REFUSED, LITERAL_LISTING, ""),
     ),
     (FLOAT_LITERAL, Task::Explain, STANDARD, (0, "written\n", "")),
+    (
+        GIVEN_IN_BLOCK,
+        Task::Explain,
+        STANDARD,
+        (REFUSED, GIVEN_IN_BLOCK_LISTING, ""),
+    ),
+    (
+        GIVEN_IN_BLOCK,
+        Task::Write,
+        STANDARD,
+        (
+            REFUSED,
+            "",
+            "refused: operand out of scope: module.functions[0].expressions[3], operand value of statement 3, \
+    in \"f\": expressions[2] has no value at statement 2; statement 1 gives it, in a block that has ended\n",
+        ),
+    ),
     (STRUCTS, Task::Check, STANDARD, (0, "accepted\n", "")),
     (
         STRUCTS,
