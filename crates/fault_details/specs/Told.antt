@@ -1,4 +1,5 @@
--- What is told of a reason.
+-- How a reason is made a text: which types are named by their spellings, and which by their
+-- positions.
 --
 -- Throughout, m is a module, r a type that is expected or known, it a type by itself, and h is a
 -- handle.
@@ -23,12 +24,12 @@ use Rattle.fault_details.specs.declared.mismatch.Mismatch.{Mismatch}
 use Rattle.fault_details.specs.declared.mismatch.Mismatch.TheVariants as told
 
 -- a type by its position in the module
-abbrev pub place_text : (h : ℕ) → List ℕ
-place_text h = item_text list.Types h
+abbrev pub type_position_text : (h : ℕ) → List ℕ
+type_position_text h = item_text list.Types h
 
 -- a type without a spelling: one of the module by its position, another not at all
 abbrev pub unspelled_text : TypeResolution → List ℕ
-unspelled_text (Handle h) = place_text h
+unspelled_text (Handle h) = type_position_text h
 unspelled_text (Value it) = codes "a type that names what is not there"
 
 -- types and overrides by their labels
@@ -66,28 +67,28 @@ named_type (inner.BindingArray base length) = Some base
 named_type _ = None
 
 -- a type with the position of the one that it names: `ptr<function, S> of types[5]`
-abbrev pub with_place : (alone : List ℕ) → (named : Option ℕ) → List ℕ
-with_place alone None = alone
-with_place alone (Some h) = alone ++ (codes " of " ++ place_text h)
+abbrev pub with_position : (alone : List ℕ) → (named : Option ℕ) → List ℕ
+with_position alone None = alone
+with_position alone (Some h) = alone ++ (codes " of " ++ type_position_text h)
 
 -- A type of the module is told by its position, and another one as ever, with the position of the
 -- type that it names.
-abbrev pub IsPlaced : Module → TypeResolution → (text : List ℕ) → Type 0
-IsPlaced m (Handle h) text = text ≡ place_text h
-IsPlaced m (Value it) text =
-    (alone : List ℕ) × IsTold m (Value it) alone × (text ≡ with_place alone (named_type it))
+abbrev pub IsPositioned : Module → TypeResolution → (text : List ℕ) → Type 0
+IsPositioned m (Handle h) text = text ≡ type_position_text h
+IsPositioned m (Value it) text =
+    (alone : List ℕ) × IsTold m (Value it) alone × (text ≡ with_position alone (named_type it))
 
 -- Two types are told by their positions; where these are told alike too, as one type and another.
-abbrev pub PlacesBoth : Module → (expected got : TypeResolution) → (text other : List ℕ) → Type 0
-PlacesBoth m expected got text other =
-    (IsPlaced m expected text × IsPlaced m got other × (text ≢ other))
-    ⊎ (IsPlaced m expected text × IsPlaced m got text × (other ≡ codes "another " ++ text))
+abbrev pub PositionsBoth : Module → (expected got : TypeResolution) → (text other : List ℕ) → Type 0
+PositionsBoth m expected got text other =
+    (IsPositioned m expected text × IsPositioned m got other × (text ≢ other))
+    ⊎ (IsPositioned m expected text × IsPositioned m got text × (other ≡ codes "another " ++ text))
 
 -- Two types are told by texts that differ, or by their positions where one text would tell both.
 abbrev pub TellsBoth : Module → (expected got : TypeResolution) → (text other : List ℕ) → Type 0
 TellsBoth m expected got text other =
     (IsTold m expected text × IsTold m got other × (text ≢ other))
-    ⊎ (PlacesBoth m expected got text other
+    ⊎ (PositionsBoth m expected got text other
     × ((both : List ℕ) × IsTold m expected both × IsTold m got both))
 
 -- No text tells two types.

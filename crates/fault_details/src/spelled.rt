@@ -11,9 +11,9 @@ ghost use Rattle.naga_words.specs.Spelling.{resolution_segments};
 ghost use Rattle.fault_details.specs.Reasons.{KnownType, LacksLetter, NoValue, OtherClass, OtherType};
 ghost use Rattle.fault_details.specs.Reasons.{OtherUse, Unexpected, fault_reason};
 ghost use Rattle.fault_details.specs.Shown.{shown};
-ghost use Rattle.fault_details.specs.Told.{HasNoOrder, IsOfModule, IsPlaced, IsTold, PlacesBoth};
+ghost use Rattle.fault_details.specs.Told.{HasNoOrder, IsOfModule, IsPositioned, IsTold, PositionsBoth};
 ghost use Rattle.fault_details.specs.Told.{Tells, TellsBoth, TellsOf, named_type, unspelled_text};
-ghost use Rattle.fault_details.specs.Told.{with_place};
+ghost use Rattle.fault_details.specs.Told.{with_position};
 
 use crate::items::fault_reason;
 use crate::mismatch::Mismatch;
@@ -112,12 +112,12 @@ fn named_type(inner: &TypeInner) -> Option<Handle<Type_>>
 }
 
 /// A type with the position of the one that it names.
-fn with_place(
+fn with_position(
     alloc: Global,
     alone: String,
     named: Option<Handle<Type_>>,
 ) -> Result<String, AllocError>
-    ensures { IfOk result (λ t. string_bytes t ≡ with_place (string_bytes alone) named) }
+    ensures { IfOk result (λ t. string_bytes t ≡ with_position (string_bytes alone) named) }
 {
     match named {
         Some(base) => {
@@ -130,31 +130,31 @@ fn with_place(
 
 /// A type by its position, if it is one of the module, or else as it is told, with the position of
 /// the type that it names.
-fn placed(alloc: Global, module: &Module, ty: &TypeResolution) -> Result<String, AllocError>
-    ensures { IfOk result (λ t. IsPlaced «module».now ty.now (string_bytes t)) }
+fn positioned(alloc: Global, module: &Module, ty: &TypeResolution) -> Result<String, AllocError>
+    ensures { IfOk result (λ t. IsPositioned «module».now ty.now (string_bytes t)) }
 {
     match ty {
         TypeResolution::Handle(_) => unspelled(alloc, ty),
         TypeResolution::Value(inner) => {
             let alone = told(alloc, module, ty)?;
-            with_place(alloc, alone, named_type(inner))
+            with_position(alloc, alone, named_type(inner))
         }
     }
 }
 
 /// Two types by their positions, or as one type and another where these are told alike.
-fn placed_types(
+fn positioned_types(
     alloc: Global,
     module: &Module,
     expected: &TypeResolution,
     got: &TypeResolution,
 ) -> Result<TwoTypes, AllocError>
-    ensures { IfOk result (λ t. PlacesBoth «module».now expected.now got.now (string_bytes t.expected)
+    ensures { IfOk result (λ t. PositionsBoth «module».now expected.now got.now (string_bytes t.expected)
         (string_bytes t.got)) }
 {
-    let expected = placed(alloc, module, expected)?;
-    let placed_got = placed(alloc, module, got)?;
-    if expected.as_str() == placed_got.as_str() {
+    let expected = positioned(alloc, module, expected)?;
+    let positioned_got = positioned(alloc, module, got)?;
+    if expected.as_str() == positioned_got.as_str() {
         let another = format!(in alloc; "another {}", expected)?;
         return Ok(TwoTypes {
             expected,
@@ -163,7 +163,7 @@ fn placed_types(
     }
     Ok(TwoTypes {
         expected,
-        got: placed_got,
+        got: positioned_got,
     })
 }
 
@@ -180,7 +180,7 @@ fn told_types(
     let told_expected = told(alloc, module, expected)?;
     let told_got = told(alloc, module, got)?;
     if told_expected.as_str() == told_got.as_str() {
-        return placed_types(alloc, module, expected, got);
+        return positioned_types(alloc, module, expected, got);
     }
     Ok(TwoTypes {
         expected: told_expected,

@@ -182,8 +182,8 @@ fn name_in<'a>(names: &'a HashMap<NameKey, String>, key: &NameKey) -> &'a str {
 /// What is known of a member's type.
 #[derive(Clone, Copy)]
 enum Found {
-    /// The member is bound, so that its offset counts for nothing.
-    Bound,
+    /// The member has a binding, so that its offset counts for nothing.
+    HasBinding,
     /// The type has this layout.
     Laid(TypeLayout),
     /// The type is an array of this stride, or has one in it, where WGSL has the other stride.
@@ -196,7 +196,7 @@ fn found_of(types: &UniqueArena<Type_>, member: &StructMember) -> Found
     requires ordered { IsTrue (parts_stand_before types.now) }
 {
     if member.binding.is_some() {
-        return Found::Bound;
+        return Found::HasBinding;
     }
     if let Some(layout) = layout_of(types, member.ty) {
         return Found::Laid(layout);
@@ -413,12 +413,12 @@ struct MemberLine<'a> {
 impl fmt::Display for MemberLine<'_> {
     fn fmt<W: fmt::Write>(&self, f: &mut fmt::Formatter<W>) -> fmt::Result {
         write!(f, "    {}: {}, ", self.name, self.ty)?;
-        if let Found::Bound = self.found {
-            return f.write_str("bound");
+        if let Found::HasBinding = self.found {
+            return f.write_str("has a binding");
         }
         write!(f, "offset {}", self.offset)?;
         match self.found {
-            Found::Bound => Ok(()),
+            Found::HasBinding => Ok(()),
             Found::Laid(layout) => write!(
                 f,
                 ", {}{}",

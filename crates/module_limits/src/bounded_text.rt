@@ -6,9 +6,9 @@ use naga_words::{SinkError, TextSink};
 use std::alloc::{AllocError, Global};
 use std::marker::Model;
 
-/// A text that takes pieces as long as it has no more bytes than its bound, and refuses all after
-/// the piece that took it past. So one that refused a piece has more bytes than its bound, of which
-/// the caller can tell that the whole text has more; and one whose last piece took it past has,
+/// A text that takes chunks as long as it has no more bytes than its bound, and refuses all after
+/// the chunk that took it past. So one that refused a chunk has more bytes than its bound, of which
+/// the caller can tell that the whole text has more; and one whose last chunk took it past has,
 /// too, though it refused none.
 ///
 /// Contracts see its text, its bound and the number of its failures.
@@ -89,15 +89,15 @@ impl BoundedText {
     }
 }
 
-/// It takes all of a piece or nothing. After 2^64 failures each further one is told as want of
+/// It takes all of a chunk or nothing. After 2^64 failures each further one is told as want of
 /// memory.
 impl TextSink for BoundedText {
     ghost text = { λ s. s.text };
 
     ghost failures = { λ s. s.failures };
 
-    fn write_str(&mut self, piece: &str) -> Result<(), SinkError>
-        ensures text_ok { OnOk result (self.new.text ≡ self.old.text ++ piece.now) }
+    fn write_str(&mut self, chunk: &str) -> Result<(), SinkError>
+        ensures text_ok { OnOk result (self.new.text ≡ self.old.text ++ chunk.now) }
         ensures text_err { OnErr result (self.new.text ≡ self.old.text) }
         ensures bound { self.new.bound ≡ self.old.bound }
         ensures taken { OnOk result (length self.old.text ≤ self.old.bound) }
@@ -109,7 +109,7 @@ impl TextSink for BoundedText {
         if self.is_past() {
             return Err(self.fail());
         }
-        self.text.push_str(piece)?;
+        self.text.push_str(chunk)?;
         Ok(())
     }
 }

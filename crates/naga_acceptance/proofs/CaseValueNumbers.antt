@@ -27,7 +27,7 @@ use Rattle.naga_ir.specs.declared.statement.SwitchValue.{SwitchValue}
 use Rattle.naga_ir.specs.declared.statement.SwitchValue.TheVariants as switch_value
 use Rattle.module_meaning.specs.acceptance.StatementsFit.{has_case_value, is_same_case_value}
 use Rattle.module_meaning.specs.acceptance.StatementsFit.{case_values_differ}
-use Rattle.naga_acceptance.specs.declared.case_value_numbers.TheConstants.{PLACES}
+use Rattle.naga_acceptance.specs.declared.case_value_numbers.TheConstants.{CELLS}
 use Rattle.naga_acceptance.specs.CaseValues.{number_of, numbers_of, times, shares, IsTwice}
 use Rattle.naga_acceptance.specs.CaseValues.{AreApart}
 use Rattle.naga_acceptance.specs.CaseValues.{AreMarked, AreOnce}
@@ -242,39 +242,39 @@ found_or_not ns a r position rise =
 
 -- a number without a mark is none of these
 pub unmarked : (ns : List ℕ) (marks : List Bool) (a : ℕ) → AreMarked ns marks →
-    slice_index_or marks (a % PLACES) false ≡ false → false ≡ nat_lt 0 (times a ns)
+    slice_index_or marks (a % CELLS) false ≡ false → false ≡ nat_lt 0 (times a ns)
 unmarked ns marks a marked none = sym (le-ltb 0 (times a ns) (omega (arith, found_never ns a never)))
   where
     never : (k : ℕ) → k < length ns → slice_index ns k ≢ a
     never k within same =
-        false≢true (sym none ∙ ap (λ n. slice_index_or marks (n % PLACES) false) (sym same)
+        false≢true (sym none ∙ ap (λ n. slice_index_or marks (n % CELLS) false) (sym same)
         ∙ marked k within)
 
 -- one more number has a mark, and those before keep theirs
-pub marked_more : (ns : List ℕ) (marks : List Bool) (index place : ℕ) →
-    place ≡ slice_index ns index % PLACES → place < length marks →
-    ((k : ℕ) → k < index → slice_index_or marks (slice_index ns k % PLACES) false ≡ true) →
+pub marked_more : (ns : List ℕ) (marks : List Bool) (index cell : ℕ) →
+    cell ≡ slice_index ns index % CELLS → cell < length marks →
+    ((k : ℕ) → k < index → slice_index_or marks (slice_index ns k % CELLS) false ≡ true) →
     (k : ℕ) → k < index + 1 →
-    slice_index_or (slice_set marks place true) (slice_index ns k % PLACES) false ≡ true
-marked_more ns marks index place here within before k less =
-    by_place (slice_index ns k % PLACES == place) refl
+    slice_index_or (slice_set marks cell true) (slice_index ns k % CELLS) false ≡ true
+marked_more ns marks index cell here within before k less =
+    by_cell (slice_index ns k % CELLS == cell) refl
   where
-    by_place : (b : Bool) → (slice_index ns k % PLACES == place) ≡ b →
-        slice_index_or (slice_set marks place true) (slice_index ns k % PLACES) false ≡ true
-    by_place true e =
-        ap (λ n. slice_index_or (slice_set marks place true) n false)
-        (eqb-true (slice_index ns k % PLACES) place e)
-        ∙ get_or-set_same marks place true false within
-    by_place false e =
-        get_or-set_other marks place (slice_index ns k % PLACES) true false
-        (eqb-false (slice_index ns k % PLACES) place e)
+    by_cell : (b : Bool) → (slice_index ns k % CELLS == cell) ≡ b →
+        slice_index_or (slice_set marks cell true) (slice_index ns k % CELLS) false ≡ true
+    by_cell true e =
+        ap (λ n. slice_index_or (slice_set marks cell true) n false)
+        (eqb-true (slice_index ns k % CELLS) cell e)
+        ∙ get_or-set_same marks cell true false within
+    by_cell false e =
+        get_or-set_other marks cell (slice_index ns k % CELLS) true false
+        (eqb-false (slice_index ns k % CELLS) cell e)
         ∙ before k (earlier (k == index) refl)
       where
         earlier : (b : Bool) → (k == index) ≡ b → k < index
         earlier false other = omega (arith, less, eqb-false k index other)
         earlier true same =
-            absurd (eqb-false (slice_index ns k % PLACES) place e
-            (ap (λ n. slice_index ns n % PLACES) (eqb-true k index same) ∙ sym here))
+            absurd (eqb-false (slice_index ns k % CELLS) cell e
+            (ap (λ n. slice_index ns n % CELLS) (eqb-true k index same) ∙ sym here))
 
 -- ---- the first numbers, sorted, and those after
 

@@ -11,7 +11,7 @@ pub mod Identities
 pub mod CaseValueNumbers
 pub mod CaseValues
 pub mod Mixing
-pub mod OperatorParts
+pub mod OperatorShares
 pub mod Pairing
 pub mod Passing
 pub mod Recounted

@@ -10,7 +10,7 @@ use Rattle.std.specs.Int.Signed.{lt_z}
 use Rattle.naga_ir.specs.StatementTree.{CaseTrees, no_cases, case}
 use Rattle.naga_ir.specs.declared.statement.SwitchValue.{SwitchValue}
 use Rattle.naga_ir.specs.declared.statement.SwitchValue.TheVariants as switch_value
-use Rattle.naga_acceptance.specs.declared.case_value_numbers.TheConstants.{PLACES}
+use Rattle.naga_acceptance.specs.declared.case_value_numbers.TheConstants.{CELLS}
 
 -- integers ascend by their numbers, and the default stands after all
 abbrev pub is_before : SwitchValue → SwitchValue → Bool
@@ -61,7 +61,7 @@ IsTwice ns = (a : ℕ) × (2 ≤ times a ns)
 -- each of the numbers has a mark at its remainder
 abbrev pub AreMarked : List ℕ → (marks : List Bool) → Type 0
 AreMarked ns marks =
-    (k : ℕ) → k < length ns → slice_index_or marks (slice_index ns k % PLACES) false ≡ true
+    (k : ℕ) → k < length ns → slice_index_or marks (slice_index ns k % CELLS) false ≡ true
 
 -- no number stands beside itself
 abbrev pub AreApart : List ℕ → Type 0

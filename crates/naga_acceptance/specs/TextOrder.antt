@@ -16,8 +16,8 @@ use Rattle.naga_ir.specs.declared.module.Function.{Function}
 use Rattle.naga_ir.specs.declared.module.Module.{Module}
 use Rattle.naga_info.specs.declared.info.TypeResolution.{TypeResolution}
 use Rattle.naga_acceptance.specs.KnownTypes.{known_types}
-use Rattle.naga_acceptance.specs.declared.walk.Demand.{Demand}
-use Rattle.naga_acceptance.specs.declared.walk.Demand.TheVariants as demand
+use Rattle.naga_acceptance.specs.declared.walk.StatementTest.{StatementTest}
+use Rattle.naga_acceptance.specs.declared.walk.StatementTest.TheVariants as test
 use Rattle.module_meaning.specs.acceptance.Numbers.{case_value_fits_32_bits}
 use Rattle.module_meaning.specs.acceptance.Ranges.{is_below, simple_in_range}
 use Rattle.module_meaning.specs.acceptance.StatementsFit.{components_pointer, is_condition}
@@ -99,9 +99,9 @@ abbrev pub is_sound : Module → Function → (known : List TypeResolution) → 
 is_sound m f known s = own_is_sound m f known s.breaks s.continues s.tree
 
 -- one of the two
-abbrev pub is_met : Demand → PlacedStatement → Bool
-is_met (demand.InRange callees expressions) s = is_in_range callees expressions s
-is_met (demand.Sound m f known) s = is_sound m.now f.now (known_types known) s
+abbrev pub is_met : StatementTest → PlacedStatement → Bool
+is_met (test.InRange callees expressions) s = is_in_range callees expressions s
+is_met (test.Sound m f known) s = is_sound m.now f.now (known_types known) s
 
 -- ---- numbers of statements
 

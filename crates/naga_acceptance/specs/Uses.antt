@@ -1,9 +1,9 @@
 -- What the code that compares uses of operators stands for: uses, where they stand, and what is
--- remembered of those that were seen, a part of them at a time.
+-- remembered of those that were seen, a share of them at a time.
 --
 -- Throughout, types are a module's types, g is a group of expressions that stand together (gs are
 -- the groups of a module, in order), u is a use in the code, v and w are uses (os are several), a
--- site, or a place, tells a group and an expression of it, h is a hash, and steps (n) tell how far
+-- site, or a position, tells a group and an expression of it, h is a hash, and steps (n) tell how far
 -- a slot is after that of a use.
 use Rattle.std.specs.Prelude.{ℕ, zero, suc, ◌+◌, ◌*◌, ◌%◌, ◌^◌, ◌<◌, ◌≤◌, ◌≡◌, Bool, true, false}
 use Rattle.std.specs.Prelude.{◌&&◌}
@@ -19,7 +19,7 @@ use Rattle.naga_acceptance.specs.OperatorKeys.{key}
 use Rattle.naga_acceptance.specs.declared.agreeing.Expressions.{Expressions}
 use Rattle.naga_acceptance.specs.declared.agreeing.Probe.{Probe}
 use Rattle.naga_acceptance.specs.declared.agreeing.Probe.TheVariants.{Empty, Seen, Full}
-use Rattle.naga_acceptance.specs.declared.agreeing.Part.{Part}
+use Rattle.naga_acceptance.specs.declared.agreeing.Share.{Share}
 use Rattle.naga_acceptance.specs.declared.agreeing.Site.{Site}
 use Rattle.naga_acceptance.specs.declared.agreeing.TheConstants.{REMAINDERS}
 use Rattle.naga_acceptance.specs.declared.agreeing.UsePosition.{UsePosition}
@@ -166,18 +166,18 @@ pub record Remembers (types : List Type_) (gs : List Group) (os : List Operation
   pub hashed : AreHashed types gs table
   pub found : (v : Operation) → IsAmong v os → IsFound types gs slots table v
 
--- ---- parts of the operators
+-- ---- shares of the operators
 
--- operators with this hash are of the part
-abbrev pub has_hash : Part → (h : ℕ) → Bool
-has_hash part h = nat_le part.first (h % REMAINDERS) && nat_le (h % REMAINDERS) part.last
+-- operators with this hash are of the share
+abbrev pub has_hash : Share → (h : ℕ) → Bool
+has_hash share h = nat_le share.first (h % REMAINDERS) && nat_le (h % REMAINDERS) share.last
 
-abbrev pub is_in : Part → Operation → Bool
-is_in part v = has_hash part (hash_of v)
+abbrev pub is_in : Share → Operation → Bool
+is_in share v = has_hash share (hash_of v)
 
 -- the uses of its operators
-abbrev pub part_uses : Part → List Operation → List Operation
-part_uses part os = filter (is_in part) os
+abbrev pub share_uses : Share → List Operation → List Operation
+share_uses share os = filter (is_in share) os
 
 -- The uses that pass the test and stand before an expression agree, and with it they don't.
 abbrev pub DisagreesFirst :
@@ -188,21 +188,21 @@ DisagreesFirst types gs test number index =
     × (all_agree (filter test (earlier_uses types gs number g index)) ≡ true)
     × (all_agree (filter test (earlier_uses types gs number g (suc index))) ≡ false)
 
--- So does the use at a place; or all that pass the test agree, where there is none.
+-- So does the use at a position; or all that pass the test agree, where there is none.
 abbrev pub IsFirstDisagreement :
     List Type_ → List Group → (test : Operation → Bool) → Option UsePosition → Type 0
 IsFirstDisagreement types gs test None =
     all_agree (filter test (group_uses types gs (length gs))) ≡ true
-IsFirstDisagreement types gs test (Some place) =
-    DisagreesFirst types gs test place.group place.index
+IsFirstDisagreement types gs test (Some position) =
+    DisagreesFirst types gs test position.group position.index
 
 abbrev pub stands_before : UsePosition → UsePosition → Bool
-stands_before place other =
-    nat_lt place.group other.group
-    || (place.group == other.group && nat_lt place.index other.index)
+stands_before position other =
+    nat_lt position.group other.group
+    || (position.group == other.group && nat_lt position.index other.index)
 
--- the one of two places that stands before the other, where there are both
+-- the one of two positions that stands before the other, where there are both
 abbrev pub earlier : Option UsePosition → Option UsePosition → Option UsePosition
 earlier None other = other
-earlier (Some place) None = Some place
-earlier (Some place) (Some other) = if stands_before place other then Some place else Some other
+earlier (Some position) None = Some position
+earlier (Some position) (Some other) = if stands_before position other then Some position else Some other

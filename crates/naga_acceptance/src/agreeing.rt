@@ -18,7 +18,7 @@ ghost use Rattle.naga_acceptance.specs.FirstUses.{use_item};
 ghost use Rattle.naga_acceptance.specs.Uses.{AreHashed, DisagreesFirst, IsFirstDisagreement};
 ghost use Rattle.naga_acceptance.specs.Uses.{IsHashed, Probes, Remembers, earlier, earlier_uses};
 ghost use Rattle.naga_acceptance.specs.Uses.{first_answer, first_uses, group_of, group_uses};
-ghost use Rattle.naga_acceptance.specs.Uses.{has_hash, hash_of, is_in, operation, part_uses};
+ghost use Rattle.naga_acceptance.specs.Uses.{has_hash, hash_of, is_in, operation, share_uses};
 ghost use Rattle.naga_acceptance.specs.Uses.{site_answer, stands_before, use_at, use_in};
 ghost use Rattle.module_meaning.specs.acceptance.AgreeingOperators.{function_group};
 ghost use Rattle.module_meaning.specs.acceptance.AgreeingOperators.{further_groups_of};
@@ -66,14 +66,14 @@ pub(crate) struct UsePosition {
     index: usize,
 }
 
-/// A part of the operators: those whose hashes have one of these remainders.
+/// A share of the operators: those whose hashes have one of these remainders.
 #[derive(Debug, Clone, Copy)]
-pub(crate) struct Part {
+pub(crate) struct Share {
     first: usize,
     last: usize,
 }
 
-/// The table has no room for the operators of a part, which can be halved.
+/// The table has no room for the operators of a share, which can be halved.
 #[derive(Debug, Clone, Copy)]
 struct Crowded;
 
@@ -328,49 +328,49 @@ fn probe_table(
     Probe::Full
 }
 
-/// Whether operators with this hash are of the part.
-fn has_hash(part: Part, hash: usize) -> bool
-    ensures { result ≡ has_hash part hash }
+/// Whether operators with this hash are of the share.
+fn has_hash(share: Share, hash: usize) -> bool
+    ensures { result ≡ has_hash share hash }
 {
     let remainder = hash % REMAINDERS;
-    part.first <= remainder && remainder <= part.last
+    share.first <= remainder && remainder <= share.last
 }
 
 /// Whether the expression `index` of a group, which has this number, agrees with all uses of the
-/// part that stand before it, if it is one. It is remembered then, as far as the table, which has so
+/// share that stand before it, if it is one. It is remembered then, as far as the table, which has so
 /// many slots, has room.
 fn use_agrees(
     module: &Module,
     info: &ModuleInfo,
     table: &mut [Option<Site>],
     slots: usize,
-    part: Part,
+    share: Share,
     number: u128,
     group: Expressions<'_>,
     index: usize,
 ) -> Result<bool, Crowded>
     requires group { slice_get (groups_of «module».now info.now) number ≡ Some (group_of group) }
-    requires agree { all_agree (part_uses part (earlier_uses «module».now.types
+    requires agree { all_agree (share_uses share (earlier_uses «module».now.types
         (groups_of «module».now info.now) number (group_of group) index)) ≡ true }
     requires slots { 0 < slots }
     requires table { Remembers «module».now.types (groups_of «module».now info.now)
-        (part_uses part (earlier_uses «module».now.types (groups_of «module».now info.now) number
+        (share_uses share (earlier_uses «module».now.types (groups_of «module».now info.now) number
         (group_of group) index)) slots table.now }
-    ensures agree { IfOk result (λ agrees. agrees ≡ all_agree (part_uses part
+    ensures agree { IfOk result (λ agrees. agrees ≡ all_agree (share_uses share
         (earlier_uses «module».now.types (groups_of «module».now info.now) number
         (group_of group.entry) (suc index)))) }
     ensures table { IfOk result (λ agrees. agrees ≡ true →
         Remembers «module».now.types (groups_of «module».now info.now)
-        (part_uses part (earlier_uses «module».now.types (groups_of «module».now info.now) number
+        (share_uses share (earlier_uses «module».now.types (groups_of «module».now info.now) number
         (group_of group.entry) (suc index))) slots table.new) }
-    ensures crowded { OnErr result (part.first < part.last) }
+    ensures crowded { OnErr result (share.first < share.last) }
 {
     let types = &module.types;
     let Some(used) = use_in(types, group, index) else {
         return Ok(true);
     };
     let hash = hash_of(types, &used);
-    if !has_hash(part, hash) {
+    if !has_hash(share, hash) {
         return Ok(true);
     }
     match probe_table(module, info, table, slots, hash, &used) {
@@ -384,7 +384,7 @@ fn use_agrees(
         }
         Probe::Seen(alike) => Ok(alike),
         Probe::Full => {
-            if part.first < part.last {
+            if share.first < share.last {
                 return Err(Crowded);
             }
             Ok(earlier_answer(module, info, number, group, index, &used).unwrap_or(true))
@@ -392,36 +392,36 @@ fn use_agrees(
     }
 }
 
-/// The first use of a group, which has this number, that is of the part and does not agree with all
-/// of the part that stand before it, in the group or in the groups before it.
+/// The first use of a group, which has this number, that is of the share and does not agree with all
+/// of the share that stand before it, in the group or in the groups before it.
 fn first_disagreeing(
     module: &Module,
     info: &ModuleInfo,
     table: &mut [Option<Site>],
     slots: usize,
-    part: Part,
+    share: Share,
     number: u128,
     group: Expressions<'_>,
 ) -> Result<Option<usize>, Crowded>
     requires group { slice_get (groups_of «module».now info.now) number ≡ Some (group_of group) }
-    requires agree { all_agree (part_uses part (group_uses «module».now.types
+    requires agree { all_agree (share_uses share (group_uses «module».now.types
         (groups_of «module».now info.now) number)) ≡ true }
     requires slots { 0 < slots }
     requires table { Remembers «module».now.types (groups_of «module».now info.now)
-        (part_uses part (group_uses «module».now.types (groups_of «module».now info.now) number))
+        (share_uses share (group_uses «module».now.types (groups_of «module».now info.now) number))
         slots table.now }
-    ensures agree { IfOk result (λ found. is_none found ≡ true → all_agree (part_uses part
+    ensures agree { IfOk result (λ found. is_none found ≡ true → all_agree (share_uses share
         (group_uses «module».now.types (groups_of «module».now info.now) (suc number))) ≡ true) }
     ensures table { IfOk result (λ found. is_none found ≡ true →
         Remembers «module».now.types (groups_of «module».now info.now)
-        (part_uses part (group_uses «module».now.types (groups_of «module».now info.now)
+        (share_uses share (group_uses «module».now.types (groups_of «module».now info.now)
         (suc number))) slots table.new) }
     ensures fault { IfOk result (λ found. IfSome found (λ index. DisagreesFirst «module».now.types
-        (groups_of «module».now info.now) (is_in part) number index)) }
-    ensures crowded { OnErr result (part.first < part.last) }
+        (groups_of «module».now info.now) (is_in share) number index)) }
+    ensures crowded { OnErr result (share.first < share.last) }
 {
     for index in 0..group.arena.len() {
-        let agrees = use_agrees(module, info, table, slots, part, number, group, index)?;
+        let agrees = use_agrees(module, info, table, slots, share, number, group, index)?;
         if !agrees {
             return Ok(Some(index));
         }
@@ -429,24 +429,24 @@ fn first_disagreeing(
     Ok(None)
 }
 
-/// The first use of the part that does not agree with all of the part that stand before it, by an
+/// The first use of the share that does not agree with all of the share that stand before it, by an
 /// empty table of so many slots.
 fn disagreement_by(
     module: &Module,
     info: &ModuleInfo,
     table: &mut [Option<Site>],
     slots: usize,
-    part: Part,
+    share: Share,
 ) -> Result<Option<UsePosition>, Crowded>
     requires slots { 0 < slots }
     requires empty { table.old ≡ replicate slots None }
     ensures found { IfOk result (IsFirstDisagreement «module».now.types
-        (groups_of «module».now info.now) (is_in part)) }
-    ensures crowded { OnErr result (part.first < part.last) }
+        (groups_of «module».now info.now) (is_in share)) }
+    ensures crowded { OnErr result (share.first < share.last) }
 {
     let mut number = 0;
     while let Some(group) = group_at(module, info, number) {
-        let found = first_disagreeing(module, info, table, slots, part, number, group)?;
+        let found = first_disagreeing(module, info, table, slots, share, number, group)?;
         if let Some(index) = found {
             return Ok(Some(UsePosition {
                 group: number,
@@ -458,35 +458,35 @@ fn disagreement_by(
     Ok(None)
 }
 
-/// The same by the table. It stays out of the frames of the callers, which go as deep as parts are
+/// The same by the table. It stays out of the frames of the callers, which go as deep as shares are
 /// halved.
 #[inline(never)]
-fn part_disagreement(
+fn large_disagreement(
     module: &Module,
     info: &ModuleInfo,
-    part: Part,
+    share: Share,
 ) -> Result<Option<UsePosition>, Crowded>
     ensures found { IfOk result (IsFirstDisagreement «module».now.types
-        (groups_of «module».now info.now) (is_in part)) }
-    ensures crowded { OnErr result (part.first < part.last) }
+        (groups_of «module».now info.now) (is_in share)) }
+    ensures crowded { OnErr result (share.first < share.last) }
 {
     let mut table: [Option<Site>; SLOTS] = [None; SLOTS];
-    disagreement_by(module, info, &mut table, SLOTS, part)
+    disagreement_by(module, info, &mut table, SLOTS, share)
 }
 
 /// The same by the small table.
 #[inline(never)]
-fn few_disagreement(
+fn small_disagreement(
     module: &Module,
     info: &ModuleInfo,
-    part: Part,
+    share: Share,
 ) -> Result<Option<UsePosition>, Crowded>
     ensures found { IfOk result (IsFirstDisagreement «module».now.types
-        (groups_of «module».now info.now) (is_in part)) }
-    ensures crowded { OnErr result (part.first < part.last) }
+        (groups_of «module».now info.now) (is_in share)) }
+    ensures crowded { OnErr result (share.first < share.last) }
 {
     let mut table: [Option<Site>; FEW_SLOTS] = [None; FEW_SLOTS];
-    disagreement_by(module, info, &mut table, FEW_SLOTS, part)
+    disagreement_by(module, info, &mut table, FEW_SLOTS, share)
 }
 
 /// Whether the small table has room for all uses of the module, however many operators there are.
@@ -512,36 +512,36 @@ fn has_few_expressions(module: &Module) -> bool {
 fn sized_disagreement(
     module: &Module,
     info: &ModuleInfo,
-    part: Part,
+    share: Share,
 ) -> Result<Option<UsePosition>, Crowded>
     ensures found { IfOk result (IsFirstDisagreement «module».now.types
-        (groups_of «module».now info.now) (is_in part)) }
-    ensures crowded { OnErr result (part.first < part.last) }
+        (groups_of «module».now info.now) (is_in share)) }
+    ensures crowded { OnErr result (share.first < share.last) }
 {
     if has_few_expressions(module) {
-        few_disagreement(module, info, part)
+        small_disagreement(module, info, share)
     } else {
-        part_disagreement(module, info, part)
+        large_disagreement(module, info, share)
     }
 }
 
-fn stands_before(place: UsePosition, other: UsePosition) -> bool
-    ensures { result ≡ stands_before place other }
+fn stands_before(position: UsePosition, other: UsePosition) -> bool
+    ensures { result ≡ stands_before position other }
 {
-    place.group < other.group || (place.group == other.group && place.index < other.index)
+    position.group < other.group || (position.group == other.group && position.index < other.index)
 }
 
 /// The one of two uses that stands before the other, where there are both.
 fn earlier(found: Option<UsePosition>, other: Option<UsePosition>) -> Option<UsePosition>
     ensures { result ≡ earlier found other }
 {
-    let Some(place) = found else {
+    let Some(position) = found else {
         return other;
     };
     let Some(further) = other else {
         return found;
     };
-    if stands_before(place, further) {
+    if stands_before(position, further) {
         found
     } else {
         other
@@ -549,21 +549,21 @@ fn earlier(found: Option<UsePosition>, other: Option<UsePosition>) -> Option<Use
 }
 
 /// The same, half by half where the table has no room.
-fn first_disagreement(module: &Module, info: &ModuleInfo, part: Part) -> Option<UsePosition>
-    ensures { IsFirstDisagreement «module».now.types (groups_of «module».now info.now) (is_in part)
+fn first_disagreement(module: &Module, info: &ModuleInfo, share: Share) -> Option<UsePosition>
+    ensures { IsFirstDisagreement «module».now.types (groups_of «module».now info.now) (is_in share)
         result }
 {
-    match sized_disagreement(module, info, part) {
+    match sized_disagreement(module, info, share) {
         Ok(found) => found,
         Err(Crowded) => {
-            let middle = part.first + (part.last - part.first) / 2;
-            let front = Part {
-                first: part.first,
+            let middle = share.first + (share.last - share.first) / 2;
+            let front = Share {
+                first: share.first,
                 last: middle,
             };
-            let back = Part {
+            let back = Share {
                 first: middle + 1,
-                last: part.last,
+                last: share.last,
             };
             let found = first_disagreement(module, info, front);
             earlier(found, first_disagreement(module, info, back))
@@ -575,9 +575,9 @@ fn first_disagreement(module: &Module, info: &ModuleInfo, part: Part) -> Option<
 fn disagreement(module: &Module, info: &ModuleInfo) -> Option<UsePosition>
     ensures agree { is_none result ≡ module_operators_agree «module».now info.now }
     ensures fault { IfSome result
-        (λ place. Disagrees «module».now info.now place.group place.index) }
+        (λ position. Disagrees «module».now info.now position.group position.index) }
 {
-    let all = Part {
+    let all = Share {
         first: 0,
         last: REMAINDERS - 1,
     };
@@ -612,9 +612,9 @@ pub(crate) fn operators_fault(module: &Module, info: &ModuleInfo) -> Option<Unac
     ensures agree { is_none result ≡ module_operators_agree «module».now info.now }
     ensures fault { IfSome result (IsDisagreement «module».now info.now) }
 {
-    let place = disagreement(module, info)?;
+    let position = disagreement(module, info)?;
     Some(at(
-        use_item(module, place.group, place.index),
+        use_item(module, position.group, position.index),
         Fault::Disagreement,
     ))
 }

@@ -15,8 +15,8 @@ use naga_ir::{SwitchCase, SwitchValue};
 /// How many case values are sorted at once.
 const SORTED_CASE_VALUES: usize = 4096;
 
-/// How many places there are at which numbers are marked.
-const PLACES: usize = 32_768;
+/// How many cells there are at which numbers are marked.
+const CELLS: usize = 32_768;
 
 /// A number of its own for each case value.
 fn number_of(case_value: SwitchValue) -> u64
@@ -58,21 +58,21 @@ fn has_equal_neighbours(numbers: &[u64]) -> bool
 }
 
 /// Where a number is marked.
-fn place_of(number: u64) -> usize
-    ensures place { result ≡ number % PLACES }
-    ensures within { result < PLACES }
+fn cell_of(number: u64) -> usize
+    ensures cell { result ≡ number % CELLS }
+    ensures within { result < CELLS }
 {
-    (number % PLACES as u64) as usize
+    (number % CELLS as u64) as usize
 }
 
 /// The marks of these numbers, which tell of most others at once that they are none of these.
-fn marks_of(numbers: &[u64]) -> [bool; PLACES]
+fn marks_of(numbers: &[u64]) -> [bool; CELLS]
     ensures marks { AreMarked numbers.now result }
-    ensures size { length result ≡ PLACES }
+    ensures size { length result ≡ CELLS }
 {
-    let mut marks = [false; PLACES];
+    let mut marks = [false; CELLS];
     for number in numbers {
-        marks[place_of(*number)] = true;
+        marks[cell_of(*number)] = true;
     }
     marks
 }
@@ -81,10 +81,10 @@ fn marks_of(numbers: &[u64]) -> [bool; PLACES]
 fn is_among(numbers: &[u64], marks: &[bool], number: u64) -> bool
     requires rise { IsNonDecreasing numbers.now }
     requires marks { AreMarked numbers.now marks.now }
-    requires size { length marks.now ≡ PLACES }
+    requires size { length marks.now ≡ CELLS }
     ensures { result ≡ nat_lt 0 (times number numbers.now) }
 {
-    if !marks[place_of(number)] {
+    if !marks[cell_of(number)] {
         return false;
     }
     numbers.binary_search(&number).is_ok()
@@ -94,7 +94,7 @@ fn is_among(numbers: &[u64], marks: &[bool], number: u64) -> bool
 fn any_among(numbers: &[u64], marks: &[bool], cases: &[SwitchCase]) -> bool
     requires rise { IsNonDecreasing numbers.now }
     requires marks { AreMarked numbers.now marks.now }
-    requires size { length marks.now ≡ PLACES }
+    requires size { length marks.now ≡ CELLS }
     ensures { result ≡ shares numbers.now (numbers_of (cases_of cases.now)) }
 {
     for case in cases {

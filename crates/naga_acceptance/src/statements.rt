@@ -34,7 +34,7 @@ use crate::case_value_numbers::none_is_repeated;
 use crate::demands::points_to_components;
 use crate::expression_types::{is_bool, pointee_at};
 use crate::parts::{InferredType, Known, known_inner, known_type};
-use crate::walk::{first_unmet, sound_demand};
+use crate::walk::{first_unmet, sound_test};
 use module_meaning::type_parts::inner_at;
 use naga_ir::{
     Expression, Function, FunctionArgument, FunctionResult, Handle, Module, Scalar, ScalarKind,
@@ -551,7 +551,7 @@ pub(crate) fn first_unsound(module: &Module, function: &Function, known: Known<'
         (is_sound «module».now function.now (known_types known.entry)) 0
         (text_order function.now.body)) }
 {
-    first_unmet(sound_demand(module, function, known), &function.body)
+    first_unmet(sound_test(module, function, known), &function.body)
 }
 
 /// Whether the statements of a function get what they need, `known` being the types of its

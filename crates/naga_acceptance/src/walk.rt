@@ -16,7 +16,7 @@ use naga_ir::{Block, Function, Module, Statement, SwitchCase};
 
 /// What is asked of each statement of a body.
 #[derive(Clone, Copy)]
-pub(crate) enum Demand<'a> {
+pub(crate) enum StatementTest<'a> {
     /// That it names only so many functions, from the first on, and so many expressions.
     InRange {
         callees: usize,
@@ -30,23 +30,23 @@ pub(crate) enum Demand<'a> {
     },
 }
 
-pub(crate) fn range_demand(callees: usize, expressions: usize) -> Demand<'static>
+pub(crate) fn range_test(callees: usize, expressions: usize) -> StatementTest<'static>
     ensures { is_met result ≡ is_in_range callees expressions }
 {
-    Demand::InRange {
+    StatementTest::InRange {
         callees,
         expressions,
     }
 }
 
-pub(crate) fn sound_demand<'a>(
+pub(crate) fn sound_test<'a>(
     module: &'a Module,
     function: &'a Function,
     known: Known<'a>,
-) -> Demand<'a>
+) -> StatementTest<'a>
     ensures { is_met result ≡ is_sound «module».now function.now (known_types known.entry) }
 {
-    Demand::Sound {
+    StatementTest::Sound {
         module,
         function,
         known,
@@ -54,16 +54,16 @@ pub(crate) fn sound_demand<'a>(
 }
 
 /// Whether a statement by itself, its blocks left out, gets what is asked.
-fn is_met(demand: Demand<'_>, breaks: bool, continues: bool, statement: &Statement) -> bool
-    ensures { result ≡ is_met demand.entry
+fn is_met(test: StatementTest<'_>, breaks: bool, continues: bool, statement: &Statement) -> bool
+    ensures { result ≡ is_met test.entry
         (record { breaks = breaks; continues = continues; tree = tree_of statement.now }) }
 {
-    match demand {
-        Demand::InRange {
+    match test {
+        StatementTest::InRange {
             callees,
             expressions,
         } => own_in_range(callees, expressions, statement),
-        Demand::Sound {
+        StatementTest::Sound {
             module,
             function,
             known,
@@ -76,35 +76,35 @@ fn is_met(demand: Demand<'_>, breaks: bool, continues: bool, statement: &Stateme
 #[cycle(statements)]
 #[tactic(auto, using(crate::proofs::Walking::numbered_append))]
 fn walk_statement(
-    demand: Demand<'_>,
+    test: StatementTest<'_>,
     breaks: bool,
     continues: bool,
     statement: &Statement,
     number: usize,
 ) -> Result<usize, usize>
-    ensures { result ≡ numbered (is_met demand.entry) number
+    ensures { result ≡ numbered (is_met test.entry) number
         (record { breaks = breaks; continues = continues; tree = tree_of statement.now }
         ∷ statements_inside breaks continues (tree_of statement.now)) }
 {
-    if !is_met(demand, breaks, continues, statement) {
+    if !is_met(test, breaks, continues, statement) {
         return Err(number);
     }
     let next = number.wrapping_add(1);
     match statement {
-        Statement::Block(block) => walk_block(demand, breaks, continues, block, next),
+        Statement::Block(block) => walk_block(test, breaks, continues, block, next),
         Statement::If { accept, reject, .. } => {
-            match walk_block(demand, breaks, continues, accept, next) {
-                Ok(next) => walk_block(demand, breaks, continues, reject, next),
+            match walk_block(test, breaks, continues, accept, next) {
+                Ok(next) => walk_block(test, breaks, continues, reject, next),
                 Err(unmet) => Err(unmet),
             }
         }
-        Statement::Switch { cases, .. } => walk_cases(demand, continues, cases, next),
+        Statement::Switch { cases, .. } => walk_cases(test, continues, cases, next),
         Statement::Loop {
             body,
             continuing,
             ..
-        } => match walk_block(demand, true, true, body, next) {
-            Ok(next) => walk_block(demand, false, false, continuing, next),
+        } => match walk_block(test, true, true, body, next) {
+            Ok(next) => walk_block(test, false, false, continuing, next),
             Err(unmet) => Err(unmet),
         },
         _ => Ok(next),
@@ -113,18 +113,18 @@ fn walk_statement(
 
 #[cycle(statements)]
 fn walk_block(
-    demand: Demand<'_>,
+    test: StatementTest<'_>,
     breaks: bool,
     continues: bool,
     block: &Block,
     first: usize,
 ) -> Result<usize, usize>
-    ensures { result ≡ numbered (is_met demand.entry) first
+    ensures { result ≡ numbered (is_met test.entry) first
         (statements_in breaks continues block.now) }
 {
     let mut number = first;
     for statement in block.as_slice() {
-        match walk_statement(demand, breaks, continues, statement, number) {
+        match walk_statement(test, breaks, continues, statement, number) {
             Ok(next) => number = next,
             Err(unmet) => return Err(unmet),
         }
@@ -134,17 +134,17 @@ fn walk_block(
 
 #[cycle(statements)]
 fn walk_cases(
-    demand: Demand<'_>,
+    test: StatementTest<'_>,
     continues: bool,
     cases: &[SwitchCase],
     first: usize,
 ) -> Result<usize, usize>
-    ensures { result ≡ numbered (is_met demand.entry) first
+    ensures { result ≡ numbered (is_met test.entry) first
         (case_statements true continues (cases_of cases.now)) }
 {
     let mut number = first;
     for case in cases {
-        match walk_block(demand, true, continues, &case.body, number) {
+        match walk_block(test, true, continues, &case.body, number) {
             Ok(next) => number = next,
             Err(unmet) => return Err(unmet),
         }
@@ -154,10 +154,10 @@ fn walk_cases(
 
 /// The number of the first statement of a body, in the order of the text, that does not get what is
 /// asked. Those in blocks are counted too, from 0, and modulo 2^64.
-pub(crate) fn first_unmet(demand: Demand<'_>, body: &Block) -> Option<usize>
-    ensures { result ≡ result_err (numbered (is_met demand.entry) 0 (text_order body.now)) }
+pub(crate) fn first_unmet(test: StatementTest<'_>, body: &Block) -> Option<usize>
+    ensures { result ≡ result_err (numbered (is_met test.entry) 0 (text_order body.now)) }
 {
-    match walk_block(demand, false, false, body, 0) {
+    match walk_block(test, false, false, body, 0) {
         Ok(_) => None,
         Err(unmet) => Some(unmet),
     }

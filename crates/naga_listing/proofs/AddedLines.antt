@@ -10,7 +10,7 @@ use Rattle.naga_ir.specs.StatementTree.{CaseTrees, case, has_no_statements}
 use Rattle.naga_ir.specs.declared.statement.SwitchValue.{SwitchValue}
 use Rattle.naga_listing.specs.declared.positions.Line.{Line}
 use Rattle.naga_listing.specs.declared.positions.LineKind.{LineKind}
-use Rattle.naga_listing.specs.declared.positions.LineKind.TheVariants as row
+use Rattle.naga_listing.specs.declared.positions.LineKind.TheVariants as kind
 use Rattle.naga_listing.specs.declared.positions.Spot.{Spot}
 use Rattle.naga_listing.specs.declared.positions.Title.{Title}
 use Rattle.naga_listing.specs.declared.positions.Title.TheVariants as title
@@ -39,12 +39,12 @@ block_number_more n n' b b' s whole split next so_far =
 -- one case more
 pub cases_more : (level n n' : ℕ) (cs cs' : CaseTrees) (v : SwitchValue) (b : BlockTree)
     (falls : Bool) (before now whole : List Line) → cs ≡ case v b falls cs'
-    → now ≡ before ++ headed_lines (row.Case v falls) level n b → n' ≡ after_block n b
+    → now ≡ before ++ headed_lines (kind.Case v falls) level n b → n' ≡ after_block n b
     → before ++ case_lines level n cs ≡ whole → now ++ case_lines level n' cs' ≡ whole
 cases_more level n n' cs cs' v b falls before now whole split added next so_far =
     ap (λ ls. ls ++ case_lines level n' cs') added
-    ∙ ap (λ m. (before ++ headed_lines (row.Case v falls) level n b) ++ case_lines level m cs') next
-    ∙ append_assoc before (headed_lines (row.Case v falls) level n b)
+    ∙ ap (λ m. (before ++ headed_lines (kind.Case v falls) level n b) ++ case_lines level m cs') next
+    ∙ append_assoc before (headed_lines (kind.Case v falls) level n b)
     (case_lines level (after_block n b) cs')
     ∙ ap (λ d. before ++ case_lines level n d) (sym split)
     ∙ so_far
@@ -64,7 +64,7 @@ first_then l before middle now more first later =
 -- the line that tells which block it is, and those of its statements
 pub headed : (level one two n : ℕ) (r : LineKind) (b : BlockTree) (before middle now : List Line)
     → one ≡ wrapping_add level 1 → two ≡ wrapping_add level 2
-    → middle ≡ before ++ (record { level = one; row = r } ∷ [])
+    → middle ≡ before ++ (record { level = one; kind = r } ∷ [])
     → now ≡ middle ++ block_lines two n b → now ≡ before ++ headed_lines r level n b
 headed level one two n r b before middle now is_one is_two first more =
     more
@@ -91,23 +91,23 @@ number_stays n (statement s b) h = absurd (cc)
 -- one item more of a list
 pub items_more : (t : Title) (i : ℕ) (s : Spot) (start before now : List Line)
     → before ≡ start ++ items_below t i → s ≡ spot_in t i
-    → now ≡ before ++ (record { level = 2; row = row.Item s } ∷ [])
+    → now ≡ before ++ (record { level = 2; kind = kind.Item s } ∷ [])
     → now ≡ start ++ items_below t (i + 1)
 items_more t i s start before now so_far is more =
     more
-    ∙ ap (λ ls. ls ++ (line 2 (row.Item s) ∷ [])) so_far
-    ∙ append_assoc start (items_below t i) (line 2 (row.Item s) ∷ [])
-    ∙ ap (λ k. start ++ (items_below t i ++ (line 2 (row.Item k) ∷ []))) is
+    ∙ ap (λ ls. ls ++ (line 2 (kind.Item s) ∷ [])) so_far
+    ∙ append_assoc start (items_below t i) (line 2 (kind.Item s) ∷ [])
+    ∙ ap (λ k. start ++ (items_below t i ++ (line 2 (kind.Item k) ∷ []))) is
     ∙ ap (λ n. start ++ items_below t n) (sym (add-one i))
 
 -- a list that has items has a title
 pub full_section : (t : Title) (count : ℕ) → 0 < count
-    → section t count ≡ line 1 (row.Title t) ∷ items_below t count
+    → section t count ≡ line 1 (kind.Title t) ∷ items_below t count
 full_section t zero h = absurd (omega arith)
 full_section t (suc count) h = refl
 
 pub full_body : (b : BlockTree) → has_no_statements b ≡ false
-    → body_lines b ≡ line 1 (row.Title title.Statements) ∷ block_lines 2 0 b
+    → body_lines b ≡ line 1 (kind.Title title.Statements) ∷ block_lines 2 0 b
 full_body no_statements h = absurd (cc)
 full_body (statement s b) h = refl
 

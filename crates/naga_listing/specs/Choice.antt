@@ -12,7 +12,7 @@ use Rattle.naga_listing.specs.contracts.positions.SpotPartialEq.TheImpl.{eq-valu
 use Rattle.naga_listing.specs.declared.positions.Line.{Line}
 use Rattle.naga_listing.specs.declared.positions.ListingPosition.{ListingPosition}
 use Rattle.naga_listing.specs.declared.positions.LineKind.{LineKind}
-use Rattle.naga_listing.specs.declared.positions.LineKind.TheVariants as row
+use Rattle.naga_listing.specs.declared.positions.LineKind.TheVariants as kind
 use Rattle.naga_listing.specs.declared.positions.Spot.{Spot}
 use Rattle.naga_listing.specs.Lines.{all_lines, line}
 use Rattle.naga_listing.specs.Named.{named_spots}
@@ -21,20 +21,20 @@ use Rattle.naga_listing.specs.Named.{named_spots}
 abbrev pub same_spot : Spot → Spot → Bool
 same_spot = eq-value.it
 
--- Is the row about this?
+-- Is the kind about this?
 abbrev pub is_about : Spot → LineKind → Bool
-is_about s (row.Item t) = same_spot t s
+is_about s (kind.Item t) = same_spot t s
 is_about s _ = false
 
 abbrev pub is_named : (spots : List Spot) → LineKind → Bool
 is_named spots r = list_any (λ s. is_about s r) spots
 
 abbrev pub is_title : LineKind → Bool
-is_title (row.Title t) = true
+is_title (kind.Title t) = true
 is_title _ = false
 
 abbrev pub is_gap : LineKind → Bool
-is_gap row.Gap = true
+is_gap kind.Gap = true
 is_gap _ = false
 
 -- so many lines before the marked one and after it are shown
@@ -55,31 +55,31 @@ pub record Kept : Type 0 where
   pub opened : Bool
 
 abbrev pub begins_with_gap : List Line → Bool
-begins_with_gap lines = option_map_or (λ l. is_gap l.row) (slice_get lines 0) false
+begins_with_gap lines = option_map_or (λ l. is_gap l.kind) (slice_get lines 0) false
 
 -- lines are left out before these
 abbrev pub after_gap : List Line → List Line
-after_gap lines = if begins_with_gap lines then lines else line 0 row.Gap ∷ lines
+after_gap lines = if begins_with_gap lines then lines else line 0 kind.Gap ∷ lines
 
 -- Is a line shown that is not marked? A title is, of which a line is shown, and any other line that
 -- is the first, near the marked one, around it, or named.
 abbrev pub is_shown : (marked : ℕ) (spots : List Spot) (i : ℕ) → Line → Kept → Bool
 is_shown marked spots i l k =
-    if is_title l.row then k.opened
-    else (((is_near marked i || nat_lt l.level k.level) || (i == 0)) || is_named spots l.row)
+    if is_title l.kind then k.opened
+    else (((is_near marked i || nat_lt l.level k.level) || (i == 0)) || is_named spots l.kind)
 
 -- a line that is shown, or left out, before those that were kept
 abbrev pub with_line : (shown : Bool) → Line → Kept → Kept
 with_line shown l k = record {
   lines = if shown then l ∷ k.lines else after_gap k.lines;
   level = min k.level l.level;
-  opened = if is_title l.row then false else (shown || k.opened);
+  opened = if is_title l.kind then false else (shown || k.opened);
 }
 
 -- the marked line, with the line that says what is wrong
 abbrev pub with_marked : Line → Kept → Kept
 with_marked l k = record {
-  lines = l ∷ line l.level row.Mark ∷ k.lines;
+  lines = l ∷ line l.level kind.Mark ∷ k.lines;
   level = l.level;
   opened = true;
 }
@@ -96,7 +96,7 @@ kept_from marked spots i (l ∷ ls) =
 
 -- the number of the line that is about this, or that of the first line
 abbrev pub marked_line : Spot → List Line → ℕ
-marked_line s lines = unwrap_or (position (λ l. is_about s l.row) lines) 0
+marked_line s lines = unwrap_or (position (λ l. is_about s l.kind) lines) 0
 
 -- the lines that are shown of all lines
 abbrev pub shown_lines : Spot → (spots : List Spot) → List Line → List Line

@@ -14,14 +14,14 @@ use Rattle.naga_listing.specs.declared.positions.Line.{Line}
 use Rattle.naga_listing.specs.declared.positions.Listed.{Listed}
 use Rattle.naga_listing.specs.declared.positions.Listed.TheVariants as listed
 use Rattle.naga_listing.specs.declared.positions.LineKind.{LineKind}
-use Rattle.naga_listing.specs.declared.positions.LineKind.TheVariants as row
+use Rattle.naga_listing.specs.declared.positions.LineKind.TheVariants as kind
 use Rattle.naga_listing.specs.declared.positions.Spot.{Spot}
 use Rattle.naga_listing.specs.declared.positions.Spot.TheVariants as spot
 use Rattle.naga_listing.specs.declared.positions.Title.{Title}
 use Rattle.naga_listing.specs.declared.positions.Title.TheVariants as title
 
 abbrev pub line : (level : ℕ) → LineKind → Line
-line level r = record { level = level; row = r }
+line level r = record { level = level; kind = r }
 
 -- ---- items by their lists
 
@@ -39,12 +39,12 @@ spot_in title.Statements index = spot.Statement index
 -- the first so many items of a list
 abbrev pub items_below : Title → ℕ → List Line
 items_below t zero = []
-items_below t (suc index) = items_below t index ++ (line 2 (row.Item (spot_in t index)) ∷ [])
+items_below t (suc index) = items_below t index ++ (line 2 (kind.Item (spot_in t index)) ∷ [])
 
 -- a list of so many items under its title, and nothing where there are none
 abbrev pub section : Title → ℕ → List Line
 section t zero = []
-section t (suc more) = line 1 (row.Title t) ∷ items_below t (suc more)
+section t (suc more) = line 1 (kind.Title t) ∷ items_below t (suc more)
 
 -- ---- statements
 
@@ -74,16 +74,16 @@ abbrev mutual
   inside_lines level number (block b) = block_lines (wrapping_add level 2) number b
   inside_lines level number (branch condition accept reject) =
       block_lines (wrapping_add level 2) number accept
-      ++ another_lines row.Else level (after_block number accept) reject
+      ++ another_lines kind.Else level (after_block number accept) reject
   inside_lines level number (switch selector cs) = case_lines level number cs
   inside_lines level number (loop body continuing break_if) =
       block_lines (wrapping_add level 2) number body
-      ++ another_lines row.Continuing level (after_block number body) continuing
+      ++ another_lines kind.Continuing level (after_block number body) continuing
 
   pub block_lines : (level number : ℕ) → BlockTree → List Line
   block_lines level number no_statements = []
   block_lines level number (statement s b) =
-      line level (row.Item (spot.Statement number))
+      line level (kind.Item (spot.Statement number))
       ∷ (inside_lines level (wrapping_add number 1) s
       ++ block_lines level (after_inside (wrapping_add number 1) s) b)
 
@@ -92,14 +92,14 @@ abbrev mutual
   another_lines r level number no_statements = []
   another_lines r level number (statement s b) =
       line (wrapping_add level 1) r
-      ∷ (line (wrapping_add level 2) (row.Item (spot.Statement number))
+      ∷ (line (wrapping_add level 2) (kind.Item (spot.Statement number))
       ∷ (inside_lines (wrapping_add level 2) (wrapping_add number 1) s
       ++ block_lines (wrapping_add level 2) (after_inside (wrapping_add number 1) s) b))
 
   pub case_lines : (level number : ℕ) → CaseTrees → List Line
   case_lines level number no_cases = []
   case_lines level number (case v b falls cs) =
-      line (wrapping_add level 1) (row.Case v falls)
+      line (wrapping_add level 1) (kind.Case v falls)
       ∷ (block_lines (wrapping_add level 2) number b ++ case_lines level (after_block number b) cs)
 
 -- the number after a statement and those inside it, and their lines
@@ -108,7 +108,7 @@ after_statement number s = after_inside (wrapping_add number 1) s
 
 abbrev pub statement_lines : (level number : ℕ) → StatementTree → List Line
 statement_lines level number s =
-    line level (row.Item (spot.Statement number)) ∷ inside_lines level (wrapping_add number 1) s
+    line level (kind.Item (spot.Statement number)) ∷ inside_lines level (wrapping_add number 1) s
 
 -- the lines of two blocks of the statement at this level
 abbrev pub two_lines : LineKind → (level number : ℕ) → (first second : BlockTree) → List Line
@@ -123,7 +123,7 @@ headed_lines r level number b =
 
 abbrev pub body_lines : BlockTree → List Line
 body_lines no_statements = []
-body_lines (statement s b) = line 1 (row.Title title.Statements) ∷ block_lines 2 0 (statement s b)
+body_lines (statement s b) = line 1 (kind.Title title.Statements) ∷ block_lines 2 0 (statement s b)
 
 -- ---- all that can be listed
 
@@ -148,4 +148,4 @@ part_lines m (listed.EntryPoint index) =
 
 -- all lines of what is listed: the first is about the whole
 abbrev pub all_lines : Module → Listed → List Line
-all_lines m l = line 0 (row.Item spot.Whole) ∷ part_lines m l
+all_lines m l = line 0 (kind.Item spot.Whole) ∷ part_lines m l

@@ -74,7 +74,7 @@ fn marked_line(spot: &Spot, lines: &[Line]) -> usize
 {
     lines
         .iter()
-        .position(|line| is_about(spot, &line.row))
+        .position(|line| is_about(spot, &line.kind))
         .unwrap_or(0)
 }
 
@@ -94,47 +94,47 @@ fn kept_lines(
     Ok(kept)
 }
 
-fn is_about(spot: &Spot, row: &LineKind) -> bool
-    ensures { result ≡ is_about spot.now row.now }
+fn is_about(spot: &Spot, kind: &LineKind) -> bool
+    ensures { result ≡ is_about spot.now kind.now }
 {
-    match row {
+    match kind {
         LineKind::Item(item) => *item == *spot,
         _ => false,
     }
 }
 
-fn is_named(spots: &[Spot], row: &LineKind) -> bool
-    ensures { result ≡ is_named spots.now row.now }
+fn is_named(spots: &[Spot], kind: &LineKind) -> bool
+    ensures { result ≡ is_named spots.now kind.now }
 {
-    spots.iter().any(|spot| is_about(spot, row))
+    spots.iter().any(|spot| is_about(spot, kind))
 }
 
-fn is_title(row: &LineKind) -> bool
-    ensures { result ≡ is_title row.now }
+fn is_title(kind: &LineKind) -> bool
+    ensures { result ≡ is_title kind.now }
 {
-    matches!(row, LineKind::Title(_))
+    matches!(kind, LineKind::Title(_))
 }
 
-fn is_gap(row: &LineKind) -> bool
-    ensures { result ≡ is_gap row.now }
+fn is_gap(kind: &LineKind) -> bool
+    ensures { result ≡ is_gap kind.now }
 {
-    matches!(row, LineKind::Gap)
+    matches!(kind, LineKind::Gap)
 }
 
 fn begins_with_gap(lines: &[Line]) -> bool
     ensures { result ≡ begins_with_gap lines.now }
 {
     match lines.first() {
-        Some(line) => is_gap(&line.row),
+        Some(line) => is_gap(&line.kind),
         None => false,
     }
 }
 
-/// Whether a line of the list is shown that begins with this row, by whether one is after it.
-fn opens(row: &LineKind, shown: bool, opened: bool) -> bool
-    ensures { result ≡ (if is_title row.now then false else (shown || opened)) }
+/// Whether a line of the list is shown that begins with this kind, by whether one is after it.
+fn opens(kind: &LineKind, shown: bool, opened: bool) -> bool
+    ensures { result ≡ (if is_title kind.now then false else (shown || opened)) }
 {
-    if is_title(row) {
+    if is_title(kind) {
         false
     } else {
         shown || opened
@@ -182,10 +182,10 @@ impl Kept {
     /// Puts a line before those that were kept.
     fn put(&mut self, level: usize, head: LineKind) -> Result<(), AllocError>
         ensures { OnOk result (self.new ≡ record self.old {
-          lines = record { level = level; row = head } ∷ self.old.lines;
+          lines = record { level = level; kind = head } ∷ self.old.lines;
         }) }
     {
-        self.lines.insert(0, Line { level, row: head })?;
+        self.lines.insert(0, Line { level, kind: head })?;
         Ok(())
     }
 
@@ -204,13 +204,13 @@ impl Kept {
     fn shows(&self, marked: usize, spots: &[Spot], index: usize, line: &Line) -> bool
         ensures { result ≡ is_shown marked spots.now index line.now self.now }
     {
-        if is_title(&line.row) {
+        if is_title(&line.kind) {
             self.opened
         } else {
             is_near(marked, index)
                 || line.level < self.level
                 || index == 0
-                || is_named(spots, &line.row)
+                || is_named(spots, &line.kind)
         }
     }
 
@@ -220,7 +220,7 @@ impl Kept {
     {
         let level = line.level;
         self.put(level, LineKind::Mark)?;
-        self.put(level, line.row)?;
+        self.put(level, line.kind)?;
         self.level = level;
         self.opened = true;
         Ok(())
@@ -233,7 +233,7 @@ impl Kept {
         }) }
     {
         if shown {
-            self.put(line.level, line.row)
+            self.put(line.level, line.kind)
         } else {
             self.leave_out()
         }
@@ -248,7 +248,7 @@ impl Kept {
         let before = self.level;
         self.level = before.min(level);
         let opened = self.opened;
-        self.opened = opens(&line.row, shown, opened);
+        self.opened = opens(&line.kind, shown, opened);
         Ok(())
     }
 

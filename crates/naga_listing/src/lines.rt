@@ -121,9 +121,9 @@ fn add_body(lines: &mut Vec<Line>, body: &Block) -> Result<(), AllocError>
 
 fn push_row(lines: &mut Vec<Line>, level: usize, head: LineKind) -> Result<(), AllocError>
     ensures { IfOk result (λ _. lines.new.items
-        ≡ lines.old.items ++ record { level = level; row = head } ∷ []) }
+        ≡ lines.old.items ++ record { level = level; kind = head } ∷ []) }
 {
-    lines.push(Line { level, row: head })?;
+    lines.push(Line { level, kind: head })?;
     Ok(())
 }
 

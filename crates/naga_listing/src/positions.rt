@@ -100,5 +100,5 @@ pub struct Line {
     /// first line stands at 0, titles at 1, and items from 2 on, two deeper with each block.
     pub level: usize,
     /// What it shows.
-    pub row: LineKind,
+    pub kind: LineKind,
 }

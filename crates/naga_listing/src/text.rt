@@ -62,14 +62,14 @@ fn push_line(
     out: &mut String,
 ) -> Result<(), AllocError> {
     let level = line.level;
-    match &line.row {
+    match &line.kind {
         LineKind::Gap => out.push_str("    .."),
         LineKind::Title(title) => out.push_str(title_words(*title)),
         LineKind::Item(spot) => push_item(lister, level, spot, out),
-        row => {
+        kind => {
             push_margin(level, out)?;
             push_bars(level, out)?;
-            push_words(row, message, out)
+            push_words(kind, message, out)
         }
     }
 }
@@ -87,8 +87,8 @@ fn push_item(
 }
 
 /// Appends what a line says that has no number.
-fn push_words(row: &LineKind, message: &str, out: &mut String) -> Result<(), AllocError> {
-    match row {
+fn push_words(kind: &LineKind, message: &str, out: &mut String) -> Result<(), AllocError> {
+    match kind {
         LineKind::Mark => {
             out.push_str("^ ")?;
             out.push_str(message)

@@ -7,7 +7,7 @@ pub record LimitedText : Type 0 where
   pub limit : ℕ
   pub failures : ℕ
 
--- Is the piece the first that is longer than the room after the text?
+-- Is the chunk the first that is longer than the room after the text?
 abbrev pub goes_past : LimitedText → List ℕ → Bool
-goes_past content piece = (content.failures == 0) && nat_lt (content.limit - length content.text)
-    (length piece)
+goes_past content chunk = (content.failures == 0) && nat_lt (content.limit - length content.text)
+    (length chunk)

@@ -10,7 +10,7 @@ use thiserror::Error;
 /// Why a type was not written.
 #[derive(Clone, Copy, Debug, PartialEq, Eq, Error)]
 pub enum TypeTextError {
-    /// The sink refused a piece.
+    /// The sink refused a chunk.
     #[error("{0}")]
     Sink(SinkError),
     /// There was not enough memory for a text on the way.

@@ -10,10 +10,10 @@ use std::alloc::{AllocError, Global};
 use std::io::Write;
 use std::marker::Model;
 
-/// Hands text to a writer of bytes, piece by piece, and keeps it as well.
+/// Hands text to a writer of bytes, chunk by chunk, and keeps it as well.
 ///
 /// Contracts see the writer, the text that was handed to it, and the number of failures. Where
-/// contracts know what the writer holds, they know that each piece that was taken stands after it.
+/// contracts know what the writer holds, they know that each chunk that was taken stands after it.
 ///
 /// ```text
 /// let mut sink = IoSink::new(rt.alloc(), rt.stdout());
@@ -64,24 +64,24 @@ impl<W: Write> IoSink<W> {
     }
 }
 
-/// An error of the writer is told as `Failed`, and the whole piece counts as handed to it; after
+/// An error of the writer is told as `Failed`, and the whole chunk counts as handed to it; after
 /// 2^64 failures each further one is told as want of memory. Want of memory for the text comes
-/// before the piece is handed over, and changes nothing.
+/// before the chunk is handed over, and changes nothing.
 impl<W: Write> TextSink for IoSink<W> {
     ghost text = { λ s. s.text };
 
     ghost failures = { λ s. s.failures };
 
-    fn write_str(&mut self, piece: &str) -> Result<(), SinkError>
-        ensures text_ok { OnOk result (self.new.text ≡ self.old.text ++ piece.now) }
-        ensures text_err { OnErr result (IsAfter self.old.text piece.now self.new.text) }
+    fn write_str(&mut self, chunk: &str) -> Result<(), SinkError>
+        ensures text_ok { OnOk result (self.new.text ≡ self.old.text ++ chunk.now) }
+        ensures text_err { OnErr result (IsAfter self.old.text chunk.now self.new.text) }
         ensures written { OnOk result
-            (Appends (W.contents self.old.out) (W.contents self.new.out) piece.now) }
+            (Appends (W.contents self.old.out) (W.contents self.new.out) chunk.now) }
         ensures failures_ok { OnOk result (self.new.failures ≡ self.old.failures) }
         ensures failed { IsErrOf result SinkError.Failed → self.old.failures < self.new.failures }
     {
-        self.text.push_str(piece)?;
-        match self.out.write_all(piece.as_bytes()) {
+        self.text.push_str(chunk)?;
+        match self.out.write_all(chunk.as_bytes()) {
             Ok(()) => Ok(()),
             Err(_) => Err(self.fail()),
         }

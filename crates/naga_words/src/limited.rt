@@ -56,11 +56,11 @@ impl Limited {
         self.text.as_str()
     }
 
-    /// Whether the piece is the first that would take the text past its limit.
-    fn refuses(&self, piece: &str) -> bool
-        ensures { result ≡ goes_past self.now piece.now }
+    /// Whether the chunk is the first that would take the text past its limit.
+    fn refuses(&self, chunk: &str) -> bool
+        ensures { result ≡ goes_past self.now chunk.now }
     {
-        self.failures == 0 && piece.len() > self.limit.saturating_sub(self.text.len())
+        self.failures == 0 && chunk.len() > self.limit.saturating_sub(self.text.len())
     }
 }
 
@@ -70,23 +70,23 @@ impl TextSink for Limited {
 
     ghost failures = { λ s. s.failures };
 
-    fn write_str(&mut self, piece: &str) -> Result<(), SinkError>
+    fn write_str(&mut self, chunk: &str) -> Result<(), SinkError>
         ensures text_ok { OnOk result (self.new
-            ≡ record self.old { text = self.old.text ++ piece.now }) }
+            ≡ record self.old { text = self.old.text ++ chunk.now }) }
         ensures text_err { OnErr result (self.new.text ≡ self.old.text) }
-        ensures taken { OnOk result (goes_past self.old piece.now ≡ false) }
-        ensures refused { IsTrue (goes_past self.old piece.now) →
+        ensures taken { OnOk result (goes_past self.old chunk.now ≡ false) }
+        ensures refused { IsTrue (goes_past self.old chunk.now) →
             (result ≡ Err SinkError.Failed) × (self.new ≡ record self.old { failures = 1 }) }
-        ensures memory { goes_past self.old piece.now ≡ false → OnErr result
+        ensures memory { goes_past self.old chunk.now ≡ false → OnErr result
             ((result ≡ Err (SinkError.Memory alloc_error)) × (self.new ≡ self.old)) }
         ensures failures_ok { OnOk result (self.new.failures ≡ self.old.failures) }
         ensures failed { IsErrOf result SinkError.Failed → self.old.failures < self.new.failures }
     {
-        if self.refuses(piece) {
+        if self.refuses(chunk) {
             self.failures = 1;
             return Err(SinkError::Failed);
         }
-        self.text.push_str(piece)?;
+        self.text.push_str(chunk)?;
         Ok(())
     }
 }

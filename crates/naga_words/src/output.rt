@@ -9,7 +9,7 @@ use crate::error::TypeTextError;
 use crate::sink::TextSink;
 use std::alloc::AllocError;
 
-/// Takes text piece by piece for a sink, up to the first want: of memory, of a form for a type, or
+/// Takes text chunk by chunk for a sink, up to the first want: of memory, of a form for a type, or
 /// a failure of the sink.
 ///
 /// After a want nothing is written. So a writer goes on as if there were none, and whoever made
@@ -50,15 +50,15 @@ impl<'a, W: TextSink> Output<'a, W> {
         }
     }
 
-    /// Writes a piece of text.
+    /// Writes a chunk of text.
     #[tactic(auto, unfolding(crate::specs::Output::AppendsText))]
-    pub fn put(&mut self, piece: &str)
-        ensures { Writes W.text W.failures self.old self.new piece.now }
+    pub fn put(&mut self, chunk: &str)
+        ensures { Writes W.text W.failures self.old self.new chunk.now }
     {
         if self.want.is_some() {
             return;
         }
-        if let Err(error) = self.sink.write_str(piece) {
+        if let Err(error) = self.sink.write_str(chunk) {
             self.want = Some(TypeTextError::Sink(error));
         }
     }

@@ -8,7 +8,7 @@ ghost use Rattle.naga_words.specs.Sink.{IsAfter};
 use std::alloc::AllocError;
 use thiserror::Error;
 
-/// Why a sink did not take a piece of text.
+/// Why a sink did not take a chunk of text.
 #[derive(Clone, Copy, Debug, PartialEq, Eq, Error)]
 pub enum SinkError {
     /// It failed.
@@ -27,10 +27,10 @@ impl From<AllocError> for SinkError {
     }
 }
 
-/// Takes text piece by piece.
+/// Takes text chunk by chunk.
 ///
 /// A contract sees the text that it has taken, and the number of its failures, which it need not
-/// keep and which has no greatest value. Where a piece is refused, the sink may hold a beginning of
+/// keep and which has no greatest value. Where a chunk is refused, the sink may hold a beginning of
 /// it after what it held.
 ///
 /// A `String` is a sink, and what writes to one asks for no more than this:
@@ -46,10 +46,10 @@ pub trait TextSink {
 
     ghost failures: { Self → ℕ };
 
-    /// Takes `piece` after what it has taken. `Failed` comes only together with one more failure.
-    fn write_str(&mut self, piece: &str) -> Result<(), SinkError>
-        ensures text_ok { OnOk result (text self.new ≡ text self.old ++ piece.now) }
-        ensures text_err { OnErr result (IsAfter (text self.old) piece.now (text self.new)) }
+    /// Takes `chunk` after what it has taken. `Failed` comes only together with one more failure.
+    fn write_str(&mut self, chunk: &str) -> Result<(), SinkError>
+        ensures text_ok { OnOk result (text self.new ≡ text self.old ++ chunk.now) }
+        ensures text_err { OnErr result (IsAfter (text self.old) chunk.now (text self.new)) }
         ensures failures_ok { OnOk result (failures self.new ≡ failures self.old) }
         ensures failed { IsErrOf result SinkError.Failed → failures self.old < failures self.new };
 }
@@ -60,12 +60,12 @@ impl TextSink for String {
 
     ghost failures = { λ _. 0 };
 
-    fn write_str(&mut self, piece: &str) -> Result<(), SinkError>
-        ensures text_ok { OnOk result (string_bytes self.new ≡ string_bytes self.old ++ piece.now) }
+    fn write_str(&mut self, chunk: &str) -> Result<(), SinkError>
+        ensures text_ok { OnOk result (string_bytes self.new ≡ string_bytes self.old ++ chunk.now) }
         ensures text_err { OnErr result (string_bytes self.new ≡ string_bytes self.old) }
         ensures memory { OnErr result (result ≡ Err (SinkError.Memory alloc_error)) }
     {
-        self.push_str(piece)?;
+        self.push_str(chunk)?;
         Ok(())
     }
 }

@@ -1,4 +1,4 @@
-//! What the writer leaves in sinks that refuse a piece.
+//! What the writer leaves in sinks that refuse a chunk.
 
 ghost use Rattle.std.specs.Prelude.{◌≡◌, ◌<◌, ◌++◌, IsErrOf, IsTrue, OnErr, OnOk};
 ghost use Rattle.module_meaning.specs.acceptance.Accepted.{is_accepted};
@@ -25,16 +25,16 @@ impl TextSink for Refusing {
 
     ghost failures = { λ s. s.limited.failures };
 
-    fn write_str(&mut self, piece: &str) -> Result<(), SinkError>
+    fn write_str(&mut self, chunk: &str) -> Result<(), SinkError>
         ensures text_ok { OnOk result
-            (self.new.limited.text ≡ self.old.limited.text ++ piece.now) }
+            (self.new.limited.text ≡ self.old.limited.text ++ chunk.now) }
         ensures text_err { OnErr result (self.new.limited.text ≡ self.old.limited.text) }
         ensures failures_ok { OnOk result
             (self.new.limited.failures ≡ self.old.limited.failures) }
         ensures failed { IsErrOf result SinkError.Failed →
             self.old.limited.failures < self.new.limited.failures }
     {
-        match self.limited.write_str(piece) {
+        match self.limited.write_str(chunk) {
             Err(SinkError::Failed) => Err(self.refusal),
             answer => answer,
         }
@@ -59,7 +59,7 @@ fn is_begun_and_whole(held: &str, text: &str, limit: usize) -> bool {
     }
 }
 
-/// A module is written twice to a sink that refuses the first piece past its limit. The call that
+/// A module is written twice to a sink that refuses the first chunk past its limit. The call that
 /// comes to it tells so and leaves a beginning of the text, and the other writes the whole.
 fn refuses_once(
     rt: &impl Abort,

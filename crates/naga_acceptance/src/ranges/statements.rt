@@ -9,7 +9,7 @@ ghost use Rattle.module_meaning.specs.acceptance.Ranges.{all_below, is_below};
 
 use crate::ranges::is_below;
 use crate::ranges::numbers::case_values_fit_32_bits;
-use crate::walk::{first_unmet, range_demand};
+use crate::walk::{first_unmet, range_test};
 use naga_ir::{Block, Statement};
 
 /// Whether the operands of a statement by itself lie in the first `expressions`.
@@ -61,5 +61,5 @@ pub(crate) fn first_out_of_range(callees: usize, expressions: usize, body: &Bloc
     ensures { result ≡ result_err
         (numbered (is_in_range callees expressions) 0 (text_order body.now)) }
 {
-    first_unmet(range_demand(callees, expressions), body)
+    first_unmet(range_test(callees, expressions), body)
 }

@@ -373,7 +373,7 @@ struct Near: no layout, span 8 in the module
     d: u32, offset 36, align 4, size 4: after a member without a size
     e: u32, offset 0, align 4, size 4: a second member at 0, 40 is the first that it could have
 struct Out: no layout, span 4 in the module
-    a: u32, bound
+    a: u32, has a binding
 struct Pass: align 8, size 16, span 20 in the module, not kept
     a: vec2<f32>, offset 0, align 8, size 8
     b: vec2<f32>, offset 8, align 8, size 8

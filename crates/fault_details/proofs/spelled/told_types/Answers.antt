@@ -10,16 +10,16 @@ returns-then-eq c =
     let m = c.args.«module».now in
     let same : string_bytes c.in_ok-told_expected.told_expected ≡ string_bytes c.in_ok-told_got.told_got =
     search rules in
-    ok_then c.placed_types.result
-    (λ t placed. inr (
-      placed,
+    ok_then c.positioned_types.result
+    (λ t positioned. inr (
+      positioned,
       (
         string_bytes c.in_ok-told_expected.told_expected,
         c.in_ok-told_expected.ensures,
         subst (IsTold m c.args.got.now) (sym same) c.in_ok-told_got.ensures,
       ),
     ))
-    c.placed_types.ensures
+    c.positioned_types.ensures
 
 pub returns : goal.returns
 returns c =

@@ -4,7 +4,7 @@ use Rattle.std.specs.Option.{is_none}
 use Rattle.std.proofs.lemmas.Option.{slice_get_within, slice_get_cases}
 use Rattle.module_meaning.specs.acceptance.AgreeingOperators.{groups_of}
 use Rattle.module_meaning.specs.acceptance.Operations.{all_agree}
-use Rattle.naga_acceptance.specs.Uses.{group_of, group_uses, part_uses}
+use Rattle.naga_acceptance.specs.Uses.{group_of, group_uses, share_uses}
 use Rattle.naga_ir.proofs.Listed.{past_end}
 use Rattle.naga_acceptance.proofs.Remembering.{none_remembered, remembers_same}
 use Rattle.naga_acceptance.proofs.agreeing.disagreement_by.Goals as goal
@@ -31,7 +31,7 @@ loop-group-preserved c =
     in let within : c.loop-group.number < length gs =
     slice_get_within gs c.loop-group.number (group_of c.in-Some.group) (sym c.in-Some.ensures.group)
     in let next : suc c.loop-group.number ≡ c.loop-group.number + 1 = omega arith
-    in let before = λ (n : ℕ). part_uses c.args.part (group_uses types gs n)
+    in let before = λ (n : ℕ). share_uses c.args.share (group_uses types gs n)
     in let none : is_none c.in_ok-found.found ≡ true = ap is_none c.in_default-found.is
     in record {
       agree = ap (λ n. all_agree (before n)) (sym next) ∙ c.in_ok-found.ensures.agree none;
@@ -45,4 +45,4 @@ returns-clause-found c =
     in let gs = groups_of c.args.module.now c.args.info.now
     in let past : length gs ≤ c.loop-group.number = past_end gs c.loop-group.number (sym c.in_default.ensures.group)
     in let all : length gs ≡ c.loop-group.number = omega (arith, past, c.loop-group.invariant.within)
-    in ap (λ n. all_agree (part_uses c.args.part (group_uses types gs n))) all ∙ c.loop-group.invariant.agree
+    in ap (λ n. all_agree (share_uses c.args.share (group_uses types gs n))) all ∙ c.loop-group.invariant.agree

@@ -9,9 +9,9 @@ pub returns-clause-fault : goal.returns-clause-fault
 returns-clause-fault c =
     let m = c.args.module.now
     in let info = c.args.info.now
-    in let fails = c.in_ok-place.ensures.fault
-    in let within : c.in_ok-place.place.group < length (groups_of m info) =
-    slice_get_within (groups_of m info) c.in_ok-place.place.group fails.0 fails.1
+    in let fails = c.in_ok-position.ensures.fault
+    in let within : c.in_ok-position.position.group < length (groups_of m info) =
+    slice_get_within (groups_of m info) c.in_ok-position.position.group fails.0 fails.1
     in let site = c.use_item.ensures.site (omega (arith, within, groups_within m info))
     in let told = c.at.ensures
     in (ap (λ u. u.fault) told, subst (DisagreesAt m info) (sym (ap (λ u. site_of m u.item) told ∙ site)) fails)

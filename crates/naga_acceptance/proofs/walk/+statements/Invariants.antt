@@ -15,16 +15,16 @@ decreases-walk_cases l = 2 * cases_size (cases_of l.cases.now)
 
 abbrev pub invariant-walk_block-loop-statement : goal.invariant-walk_block-loop-statement
 invariant-walk_block-loop-statement l = record {
-  left : numbered (is_met l.demand) l.number
+  left : numbered (is_met l.test) l.number
       (statements_in l.breaks l.continues (block_of (drop l.statement-index l.statement-items))) ≡
-      numbered (is_met l.demand) l.first (statements_in l.breaks l.continues l.block);
+      numbered (is_met l.test) l.first (statements_in l.breaks l.continues l.block);
   smaller : block_size (block_of (drop l.statement-index l.statement-items)) ≤ block_size l.block;
 }
 
 abbrev pub invariant-walk_cases-loop-case : goal.invariant-walk_cases-loop-case
 invariant-walk_cases-loop-case l = record {
-  left : numbered (is_met l.demand) l.number
+  left : numbered (is_met l.test) l.number
       (case_statements true l.continues (cases_of (drop l.case-index l.cases))) ≡ numbered
-      (is_met l.demand) l.first (case_statements true l.continues (cases_of l.cases));
+      (is_met l.test) l.first (case_statements true l.continues (cases_of l.cases));
   smaller : cases_size (cases_of (drop l.case-index l.cases)) ≤ cases_size (cases_of l.cases);
 }

@@ -8,6 +8,6 @@ use Rattle.naga_listing.proofs.choice.marked_line.Goals as goal
 pub returns : goal.returns
 returns c =
     c.unwrap_or.ensures
-    ∙ ap (λ r. unwrap_or r 0) (position_from_yields_List (λ l. is_about c.args.spot.now l.row) _ _ _
+    ∙ ap (λ r. unwrap_or r 0) (position_from_yields_List (λ l. is_about c.args.spot.now l.kind) _ _ _
     c.position.ensures.ran (YieldsList-from_slice c.args.lines.now cc)
     (λ x b q k. search (rules, tests)))

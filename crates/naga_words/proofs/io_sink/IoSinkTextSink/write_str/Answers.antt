@@ -2,7 +2,7 @@ use Rattle.std.proofs.Common.{[], arith}
 use Rattle.std.proofs.lemmas.Grind.{common_steps}
 use Rattle.naga_words.proofs.io_sink.IoSinkTextSink.write_str.Goals as goal
 
--- the whole piece counts as handed over
+-- the whole chunk counts as handed over
 pub returns-in-Err-clause-text_err : goal.returns-in-Err-clause-text_err
 returns-in-Err-clause-text_err g c =
-    (c.args.piece.now, [], grind (arith, common_steps), grind (arith, common_steps))
+    (c.args.chunk.now, [], grind (arith, common_steps), grind (arith, common_steps))

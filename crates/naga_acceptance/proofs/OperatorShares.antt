@@ -1,9 +1,9 @@
--- Uses that pass a test, as those of a part of the operators: what one more changes, that all agree
+-- Uses that pass a test, as those of a share of the operators: what one more changes, that all agree
 -- where those of both halves do, and which is the first that does not.
 --
 -- Throughout, p, q and r are tests, o, v, w and x are uses (os are several), xs, ys and zs are lists,
 -- types are a module's types, gs its groups, g and h are among them, by the numbers n and m, i and j are
--- places in those, a and b places where uses stand, and part is a part with a remainder in its middle.
+-- places in those, a and b places where uses stand, and share is a share with a remainder in its middle.
 use Rattle.std.proofs.Common.{◌≡◌, ◌≢◌, ℕ, zero, suc, ◌+◌, ◌%◌, ◌<◌, ◌≤◌, Bool, true, false, ◌&&◌}
 use Rattle.std.proofs.Common.{◌==◌, List, [], ◌∷◌, ◌++◌, length, refl, ap, sym, ◌∙◌, subst, arith}
 use Rattle.std.proofs.Common.{Option, Some, None, slice_get, ◌⊎◌, inl, inr, append_assoc}
@@ -20,11 +20,11 @@ use Rattle.std.proofs.lemmas.Option.{same_Some, slice_get_within}
 use Rattle.naga_ir.specs.declared.types.Type_.{Type_}
 use Rattle.module_meaning.specs.acceptance.AgreeingOperators.{Group, uses_of}
 use Rattle.module_meaning.specs.acceptance.Operations.{Operation, agrees, all_agree}
-use Rattle.naga_acceptance.specs.declared.agreeing.Part.{Part}
+use Rattle.naga_acceptance.specs.declared.agreeing.Share.{Share}
 use Rattle.naga_acceptance.specs.declared.agreeing.TheConstants.{REMAINDERS}
 use Rattle.naga_acceptance.specs.declared.agreeing.UsePosition.{UsePosition}
 use Rattle.naga_acceptance.specs.Uses.{joined_below, use_in, group_uses, earlier_uses, first_answer}
-use Rattle.naga_acceptance.specs.Uses.{is_same_operator, hash_of, has_hash, is_in, part_uses}
+use Rattle.naga_acceptance.specs.Uses.{is_same_operator, hash_of, has_hash, is_in, share_uses}
 use Rattle.naga_acceptance.specs.Uses.{DisagreesFirst, IsFirstDisagreement, stands_before, earlier}
 use Rattle.naga_acceptance.proofs.Agreement.{agree_after, first_by, front_fails, other_agrees}
 use Rattle.naga_acceptance.proofs.EarlierUses.{use_more}
@@ -355,56 +355,56 @@ module _ (types : List Type_) (gs : List Group) where
           (front_of_place b a fails_q.0 fails_p.0 fails_q.1 fails_p.1 (omega (arith, fails_q.2)) (following e))
           fails_p.3))
 
--- ---- parts of the operators
+-- ---- shares of the operators
 
--- uses of one operator are of one part
-pub same_part : (part : Part) (v w : Operation) → is_same_operator w v ≡ true → is_in part v ≡ true →
-    is_in part w ≡ true
-same_part part v w same own = ap (has_hash part) (same_hash w v same) ∙ own
+-- uses of one operator are of one share
+pub same_share : (share : Share) (v w : Operation) → is_same_operator w v ≡ true → is_in share v ≡ true →
+    is_in share w ≡ true
+same_share share v w same own = ap (has_hash share) (same_hash w v same) ∙ own
 
--- the remainder of a use of a part
-in_bounds : (part : Part) (v : Operation) → is_in part v ≡ true →
-    (part.first ≤ hash_of v % REMAINDERS) × (hash_of v % REMAINDERS ≤ part.last)
-in_bounds part v own =
-    let parts = and_parts (leb part.first (hash_of v % REMAINDERS)) (leb (hash_of v % REMAINDERS) part.last) own
+-- the remainder of a use of a share
+in_bounds : (share : Share) (v : Operation) → is_in share v ≡ true →
+    (share.first ≤ hash_of v % REMAINDERS) × (hash_of v % REMAINDERS ≤ share.last)
+in_bounds share v own =
+    let parts = and_parts (leb share.first (hash_of v % REMAINDERS)) (leb (hash_of v % REMAINDERS) share.last) own
     in (
-      leb-true part.first (hash_of v % REMAINDERS) parts.0,
-      leb-true (hash_of v % REMAINDERS) part.last parts.1,
+      leb-true share.first (hash_of v % REMAINDERS) parts.0,
+      leb-true (hash_of v % REMAINDERS) share.last parts.1,
     )
 
 -- a use with such a remainder is of it
-from_bounds : (part : Part) (v : Operation) → part.first ≤ hash_of v % REMAINDERS →
-    hash_of v % REMAINDERS ≤ part.last → is_in part v ≡ true
-from_bounds part v above below =
-    and_from (leb part.first (hash_of v % REMAINDERS)) (leb (hash_of v % REMAINDERS) part.last)
-    (le-leb part.first (hash_of v % REMAINDERS) above)
-    (le-leb (hash_of v % REMAINDERS) part.last below)
+from_bounds : (share : Share) (v : Operation) → share.first ≤ hash_of v % REMAINDERS →
+    hash_of v % REMAINDERS ≤ share.last → is_in share v ≡ true
+from_bounds share v above below =
+    and_from (leb share.first (hash_of v % REMAINDERS)) (leb (hash_of v % REMAINDERS) share.last)
+    (le-leb share.first (hash_of v % REMAINDERS) above)
+    (le-leb (hash_of v % REMAINDERS) share.last below)
 
--- all operators are of the part with all remainders
-pub all_in : (part : Part) → part.first ≡ 0 → part.last + 1 ≡ REMAINDERS → (v : Operation) →
-    is_in part v ≡ true
-all_in part from to v = from_bounds part v (omega (arith, from)) (omega (arith, to))
+-- all operators are of the share with all remainders
+pub all_in : (share : Share) → share.first ≡ 0 → share.last + 1 ≡ REMAINDERS → (v : Operation) →
+    is_in share v ≡ true
+all_in share from to v = from_bounds share v (omega (arith, from)) (omega (arith, to))
 
-module _ (part : Part) (middle : ℕ) (above : part.first ≤ middle) (below : middle < part.last) where
+module _ (share : Share) (middle : ℕ) (above : share.first ≤ middle) (below : middle < share.last) where
   -- the half up to the middle
-  abbrev pub front_half : Part
-  front_half = record { first = part.first; last = middle }
+  abbrev pub front_half : Share
+  front_half = record { first = share.first; last = middle }
 
   -- the half after it
-  abbrev pub back_half : Part
-  back_half = record { first = middle + 1; last = part.last }
+  abbrev pub back_half : Share
+  back_half = record { first = middle + 1; last = share.last }
 
-  -- what is in it is in the part
-  front_in : (v : Operation) → is_in front_half v ≡ true → is_in part v ≡ true
+  -- what is in it is in the share
+  front_in : (v : Operation) → is_in front_half v ≡ true → is_in share v ≡ true
   front_in v own =
       let bounds = in_bounds front_half v own
-      in from_bounds part v bounds.0 (omega (arith, bounds.1, below))
+      in from_bounds share v bounds.0 (omega (arith, bounds.1, below))
 
   -- and so what is in the other
-  back_in : (v : Operation) → is_in back_half v ≡ true → is_in part v ≡ true
+  back_in : (v : Operation) → is_in back_half v ≡ true → is_in share v ≡ true
   back_in v own =
       let bounds = in_bounds back_half v own
-      in from_bounds part v (omega (arith, bounds.0, above)) bounds.1
+      in from_bounds share v (omega (arith, bounds.0, above)) bounds.1
 
   -- uses of different halves are of different operators
   halves_apart : (v w : Operation) → is_in front_half v ≡ true → is_in back_half w ≡ true →
@@ -426,21 +426,21 @@ module _ (part : Part) (middle : ℕ) (above : part.first ≤ middle) (below : m
   back_agrees_front v w back front =
       other_agrees v w (other_hash v w (λ same. halves_apart w v front back (sym same)))
 
-  -- each use of the part is of a half
-  either_half : (v : Operation) → is_in part v ≡ true →
+  -- each use of the share is of a half
+  either_half : (v : Operation) → is_in share v ≡ true →
       (is_in front_half v ≡ true) ⊎ (is_in back_half v ≡ true)
   either_half v own = by_middle (leb (hash_of v % REMAINDERS) middle) refl
     where
       by_middle : (b : Bool) → leb (hash_of v % REMAINDERS) middle ≡ b →
           (is_in front_half v ≡ true) ⊎ (is_in back_half v ≡ true)
       by_middle true e =
-          inl (from_bounds front_half v (in_bounds part v own).0 (leb-true (hash_of v % REMAINDERS) middle e))
+          inl (from_bounds front_half v (in_bounds share v own).0 (leb-true (hash_of v % REMAINDERS) middle e))
       by_middle false e =
           let following = leb-false (hash_of v % REMAINDERS) middle e
-          in inr (from_bounds back_half v (omega (arith, following)) (in_bounds part v own).1)
+          in inr (from_bounds back_half v (omega (arith, following)) (in_bounds share v own).1)
 
   -- named the other way round
-  swapped : (v : Operation) → is_in part v ≡ true →
+  swapped : (v : Operation) → is_in share v ≡ true →
       (is_in back_half v ≡ true) ⊎ (is_in front_half v ≡ true)
   swapped v own = by_half (either_half v own)
     where
@@ -449,52 +449,52 @@ module _ (part : Part) (middle : ℕ) (above : part.first ≤ middle) (below : m
       by_half (inl front) = inr front
       by_half (inr back) = inl back
 
-  -- the first use of either half that does not agree is the first of the part
+  -- the first use of either half that does not agree is the first of the share
   pub first_of_halves : (types : List Type_) (gs : List Group) (a b : Option UsePosition) →
       IsFirstDisagreement types gs (is_in front_half) a →
       IsFirstDisagreement types gs (is_in back_half) b →
-      IsFirstDisagreement types gs (is_in part) (earlier a b)
+      IsFirstDisagreement types gs (is_in share) (earlier a b)
   first_of_halves types gs a b front back =
-      first_of_both types gs (is_in part) (is_in front_half) (is_in back_half)
+      first_of_both types gs (is_in share) (is_in front_half) (is_in back_half)
       (record { either = either_half; first = front_agrees_back; second = back_agrees_front })
       (record { either = swapped; first = back_agrees_front; second = front_agrees_back })
       front_in back_in a b front back
 
 -- ---- one expression further
 
-module _ (types : List Type_) (gs : List Group) (part : Part) (number : ℕ) (g : Group) (index : ℕ) where
-  -- it is a use of the part
-  pub part_use_more : (v : Operation) → use_in types g index ≡ Some v → is_in part v ≡ true →
-      part_uses part (earlier_uses types gs number g (suc index)) ≡
-      part_uses part (earlier_uses types gs number g index) ++ v ∷ []
+module _ (types : List Type_) (gs : List Group) (share : Share) (number : ℕ) (g : Group) (index : ℕ) where
+  -- it is a use of the share
+  pub part_use_more : (v : Operation) → use_in types g index ≡ Some v → is_in share v ≡ true →
+      share_uses share (earlier_uses types gs number g (suc index)) ≡
+      share_uses share (earlier_uses types gs number g index) ++ v ∷ []
   part_use_more v here own =
-      ap (part_uses part) (use_more types gs number g index v here)
-      ∙ one_taken (is_in part) (earlier_uses types gs number g index) v own
+      ap (share_uses share) (use_more types gs number g index v here)
+      ∙ one_taken (is_in share) (earlier_uses types gs number g index) v own
 
-  -- which then has to agree with those of the part before it, which agree
-  pub one_more_agrees : (v : Operation) → use_in types g index ≡ Some v → is_in part v ≡ true →
-      all_agree (part_uses part (earlier_uses types gs number g index)) ≡ true →
-      all_agree (part_uses part (earlier_uses types gs number g (suc index))) ≡
-      list_all (λ o. agrees o v) (part_uses part (earlier_uses types gs number g index))
+  -- which then has to agree with those of the share before it, which agree
+  pub one_more_agrees : (v : Operation) → use_in types g index ≡ Some v → is_in share v ≡ true →
+      all_agree (share_uses share (earlier_uses types gs number g index)) ≡ true →
+      all_agree (share_uses share (earlier_uses types gs number g (suc index))) ≡
+      list_all (λ o. agrees o v) (share_uses share (earlier_uses types gs number g index))
   one_more_agrees v here own agree =
-      let before = part_uses part (earlier_uses types gs number g index)
+      let before = share_uses share (earlier_uses types gs number g index)
       in ap all_agree (part_use_more v here own)
       ∙ agree_after before v
       ∙ ap (λ b. b && list_all (λ o. agrees o v) before) agree
 
 -- ---- all uses of a module
 
-module _ (types : List Type_) (gs : List Group) (part : Part) (all : (v : Operation) → is_in part v ≡ true) where
-  -- all are of the part
-  all_uses_of : (os : List Operation) → all_agree (part_uses part os) ≡ all_agree os
-  all_uses_of os = ap all_agree (all_taken (is_in part) all os)
+module _ (types : List Type_) (gs : List Group) (share : Share) (all : (v : Operation) → is_in share v ≡ true) where
+  -- all are of the share
+  all_uses_of : (os : List Operation) → all_agree (share_uses share os) ≡ all_agree os
+  all_uses_of os = ap all_agree (all_taken (is_in share) all os)
 
   -- they are those of all groups
-  whole : all_agree (part_uses part (group_uses types gs (length gs))) ≡ all_agree (flat_map (uses_of types) gs)
+  whole : all_agree (share_uses share (group_uses types gs (length gs))) ≡ all_agree (flat_map (uses_of types) gs)
   whole = all_uses_of (group_uses types gs (length gs)) ∙ ap all_agree (all_groups types gs)
 
   -- they agree where no use disagrees first
-  pub all_or_first : (found : Option UsePosition) → IsFirstDisagreement types gs (is_in part) found →
+  pub all_or_first : (found : Option UsePosition) → IsFirstDisagreement types gs (is_in share) found →
       is_none found ≡ all_agree (flat_map (uses_of types) gs)
   all_or_first None agree = sym (sym whole ∙ agree)
   all_or_first (Some place) fails =
@@ -502,11 +502,11 @@ module _ (types : List Type_) (gs : List Group) (part : Part) (all : (v : Operat
       in let front =
       front_of_groups types gs place.group (length gs) fails.0 (suc place.index) fails.1 fails.2 within
       in sym (sym whole
-      ∙ more_after_fail (is_in part) (earlier_uses types gs place.group fails.0 (suc place.index))
+      ∙ more_after_fail (is_in share) (earlier_uses types gs place.group fails.0 (suc place.index))
       (group_uses types gs (length gs)) front fails.4)
 
   -- and those before that one do
-  pub agree_before : (found : Option UsePosition) → IsFirstDisagreement types gs (is_in part) found →
+  pub agree_before : (found : Option UsePosition) → IsFirstDisagreement types gs (is_in share) found →
       IfSome found (λ place. (g : Group) × (slice_get gs place.group ≡ Some g)
       × (all_agree (earlier_uses types gs place.group g place.index) ≡ true)
       × (all_agree (earlier_uses types gs place.group g (suc place.index)) ≡ false))
