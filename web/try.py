@@ -69,7 +69,7 @@ def questions():
     struct = {"name": "One", "inner": {"Struct": {"span": 4, "members": [{"name": "a", "ty": 0, "offset": 0}]}}}
     types = [{"inner": {"Scalar": {"kind": "Uint", "width": 4}}}, struct]
     known = json.dumps({"module": {"types": types}, "info": {}})
-    yield {"json": known, "call": "layout"}, ("done", "struct One: align 4, size 4\n    a: offset 0, align 4, size 4\n")
+    yield {"json": known, "call": "layout"}, ("done", "struct One: align 4, size 4\n    a: u32, offset 0, align 4, size 4\n")
     yield {"json": '{"module": {}, "info": {"functions": [[0]]}}', "call": "check"}, ("not accepted", None)
     yield {"json": "{}"}, ("no module", "module: missing")
     yield {"json": "[" * 200}, ("too deep", "lists and objects nest more than 127 deep")
@@ -78,7 +78,8 @@ def questions():
 def shown_of(answer):
     """The status and the text by which the page shows what the program answers."""
     label = ', in "{function}"'.format(**answer) if "function" in answer else ""
-    return ("refused", "{refused}: {place}".format(**answer) + label) if "refused" in answer else ("done", answer["text"])
+    root = ": {root}".format(**answer) if "root" in answer else ""
+    return ("refused", "{refused}: {place}".format(**answer) + label + root) if "refused" in answer else ("done", answer["text"])
 
 
 def ask(browser, port, words, wanted):

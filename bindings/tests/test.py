@@ -245,7 +245,8 @@ def test_lines(folder, _):
         if answer.get("error", "").endswith((": no truth value", ": no number of 32 bits")) or any(name in line for name in LIMITS_OF_LINES):
             continue
         if "refused" in answer:
-            wanted = (REFUSED, "{refused}: {place}".format(**answer) + in_function(answer))
+            root = ": {root}".format(**answer) if "root" in answer else ""
+            wanted = (REFUSED, "{refused}: {place}".format(**answer) + in_function(answer) + root)
         elif "text" in answer:
             wanted = (DONE, answer["text"])
         elif "not_accepted" in answer:

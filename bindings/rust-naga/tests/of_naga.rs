@@ -221,7 +221,7 @@ fn layouts_are_told() {
     let told = layout(&module, &known(&module)).unwrap();
     assert_eq!(
         told,
-        "struct One: align 4, size 4\n    a: offset 0, align 4, size 4\n"
+        "struct One: align 4, size 4\n    a: i32, offset 0, align 4, size 4\n"
     );
 }
 

@@ -15,6 +15,9 @@ pub enum Error {
         place: String,
         /// The label of the function or the entry point there, where there is one.
         function: Option<String>,
+        /// Why an operand that is out of scope there has no value:
+        /// `expressions[12] has no value at statement 8; no statement gives it`.
+        root: Option<String>,
     },
     /// The module is not accepted with what is known of it.
     #[non_exhaustive]
@@ -76,6 +79,14 @@ impl Error {
         }
     }
 
+    /// Why an operand that is out of scope at the place has no value, where that is told.
+    pub fn root(&self) -> Option<&str> {
+        match self {
+            Error::Refused { root, .. } => root.as_deref(),
+            _ => None,
+        }
+    }
+
     /// The label of the function or the entry point at the place, where there is one.
     pub fn function(&self) -> Option<&str> {
         match self {
@@ -111,9 +122,14 @@ impl fmt::Display for Error {
                 construct,
                 place,
                 function,
+                root,
             } => {
                 let label = InFunction(function);
-                write!(f, "refused: {construct}: {place}{label}")
+                write!(f, "refused: {construct}: {place}{label}")?;
+                match root {
+                    Some(root) => write!(f, ": {root}"),
+                    None => Ok(()),
+                }
             }
             Error::NotAccepted {
                 place,

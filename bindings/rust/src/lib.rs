@@ -129,7 +129,7 @@ pub fn check_json(json: &str) -> Result<(), Error> {
 ///     "info": {}
 /// }"#;
 /// let told = yorwethul::layout_json(json)?;
-/// assert_eq!(told, "struct Count: align 4, size 4\n    value: offset 0, align 4, size 4\n");
+/// assert_eq!(told, "struct Count: align 4, size 4\n    value: u32, offset 0, align 4, size 4\n");
 /// # Ok::<(), yorwethul::Error>(())
 /// ```
 pub fn layout_json(json: &str) -> Result<String, Error> {
@@ -216,11 +216,12 @@ fn answer(status: u32, text: String) -> Result<String, Error> {
     Err(match status {
         sys::DONE => return Ok(text),
         sys::REFUSED => {
-            let (construct, place, function) = refused_at(&text);
+            let (construct, place, function, root) = refused_at(&text);
             Error::Refused {
                 construct,
                 place,
                 function,
+                root,
             }
         }
         sys::NOT_ACCEPTED => {
@@ -243,15 +244,22 @@ fn answer(status: u32, text: String) -> Result<String, Error> {
     })
 }
 
-/// The construct in front of its place, the place, which is empty where none is told, and the label
-/// there.
-fn refused_at(text: &str) -> (String, String, Option<String>) {
-    match text.find(": module") {
-        Some(at) => {
-            let (place, function, _) = labelled(&text[at + 2..]);
-            (text[..at].into(), place.into(), function)
+/// The construct in front of its place, the place, which is empty where none is told, the label
+/// there, and why an operand there has no value.
+fn refused_at(text: &str) -> (String, String, Option<String>, Option<String>) {
+    let Some(at) = text.find(": module") else {
+        return (text.into(), String::new(), None, None);
+    };
+    let construct = text[..at].into();
+    match labelled(&text[at + 2..]) {
+        (place, Some(function), rest) => {
+            let root = rest.strip_prefix(": ").map(String::from);
+            (construct, place.into(), Some(function), root)
         }
-        None => (text.into(), String::new(), None),
+        (whole, None, _) => match whole.split_once(": ") {
+            Some((place, root)) => (construct, place.into(), None, Some(root.into())),
+            None => (construct, whole.into(), None, None),
+        },
     }
 }
 

@@ -49,7 +49,8 @@ fn a_longer_error_takes_two() {
         Err(Error::Refused {
             construct,
             place: String::new(),
-            function: None
+            function: None,
+            root: None
         })
     );
 }
@@ -78,6 +79,11 @@ fn each_status_is_told() {
             2,
             "module.functions[0], in \"f\": bad",
             "not accepted: module.functions[0], in \"f\": bad",
+        ),
+        (
+            1,
+            "a: module.functions[0], in \"f\": no statement gives it",
+            "refused: a: module.functions[0], in \"f\": no statement gives it",
         ),
         (3, "module: missing", "no module: module: missing"),
         (3, "not UTF-8", "no module: not UTF-8"),
@@ -140,6 +146,14 @@ fn a_label_is_apart_from_its_place() {
         assert_eq!(error.construct(), Some("float literal"));
         assert_eq!(error.place(), Some(at));
         assert_eq!(error.function(), Some(label));
+    }
+    // a root after a label, and without one
+    let at = "module.functions[0].expressions[3], operand value of statement 1";
+    for label in [", in \"half\"", ""] {
+        let text = alloc::format!("operand out of scope: {at}{label}: no statement gives it");
+        let error = told(sys::REFUSED, &text).unwrap_err();
+        assert_eq!(error.place(), Some(at));
+        assert_eq!(error.root(), Some("no statement gives it"));
     }
     // a fault may name a label, but not so
     let error = told(sys::NOT_ACCEPTED, "module.types[3]: bad, in \"s\"").unwrap_err();

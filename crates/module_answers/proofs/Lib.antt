@@ -2,3 +2,4 @@ pub mod Bounded
 mod Wants
 mod OperandRoles
 mod PositionExamples
+pub mod Walking

@@ -6,3 +6,5 @@ pub mod Positions
 pub mod Refusals
 pub mod Labels
 pub mod Within
+pub mod Roots
+pub mod ScopeRoots

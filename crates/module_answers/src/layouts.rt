@@ -4,45 +4,104 @@
 ghost use Rattle.std.specs.Prelude.{IsTrue};
 ghost use Rattle.module_meaning.specs.acceptance.Accepted.{is_accepted};
 ghost use Rattle.module_meaning.specs.acceptance.Ranges.{parts_stand_before};
+ghost use Rattle.naga_names.specs.Keys.{names_in};
+ghost use Rattle.naga_words.specs.Contexts.{names_context};
+ghost use Rattle.naga_words.specs.Spelling.{IsInOrder};
 
 use naga_info::ModuleInfo;
 use naga_wgsl_out::ir::{
     Handle, Module, SpecialTypes, StructMember, Type_, TypeInner, UniqueArena,
 };
 use naga_wgsl_out::namer::NameKey;
-use naga_wgsl_out::types::{TypeLayout, type_layout};
+use naga_wgsl_out::types::{
+    SinkError, TypeContext, TypeLayout, TypeTextError, WriterTypeContext, type_layout,
+};
 use naga_wgsl_out::wgsl::{Error, names_of};
+use naga_words::types::types_in_order;
 use std::alloc::{AllocError, Global};
 use std::collections::HashMap;
 use std::fmt;
 use std::fmt::Display;
 
-/// The structs that a text declares, each with a line for each member, under the names that a text
-/// has.
+/// The structs that a text declares, each with a line for each member, and the variables whose arrays
+/// don't keep their strides, under the names that a text has.
 #[tactic(auto, using(module_meaning::proofs::Layouts::accepted_in_order))]
 pub fn layout_table(alloc: Global, module: &Module, info: &ModuleInfo) -> Result<String, Error>
     requires accepted { IsTrue (is_accepted «module».now info.now) }
 {
     let (names, _namer) = names_of(alloc, module)?;
-    Ok(struct_lines(alloc, module, &names)?)
+    let mut text = String::new(alloc);
+    push_structs(alloc, module, &names, &mut text)?;
+    push_variables(alloc, module, &names, &mut text)?;
+    Ok(text)
 }
 
-fn struct_lines(
+fn push_structs(
     alloc: Global,
     module: &Module,
     names: &HashMap<NameKey, String>,
-) -> Result<String, AllocError>
+    text: &mut String,
+) -> Result<(), AllocError>
     requires ordered { IsTrue (parts_stand_before «module».now.types) }
 {
-    let mut text = String::new(alloc);
+    let spelling = types_in_order(&module.types, module.overrides.len());
     for (handle, ty) in module.types.iter() {
-        if let TypeInner::Struct { members, .. } = &ty.inner {
+        if let TypeInner::Struct { members, span } = &ty.inner {
             if is_declared(&module.special_types, handle) {
-                push_struct(alloc, &module.types, names, handle, members, &mut text)?;
+                push_struct(alloc, module, names, spelling, handle, *span, members, text)?;
             }
         }
     }
-    Ok(text)
+    Ok(())
+}
+
+/// A line for each variable of an array, or of one in an array, whose stride is not kept. That of an
+/// array in a struct is told of its member.
+fn push_variables(
+    alloc: Global,
+    module: &Module,
+    names: &HashMap<NameKey, String>,
+    text: &mut String,
+) -> Result<(), AllocError>
+    requires ordered { IsTrue (parts_stand_before «module».now.types) }
+{
+    let spelling = types_in_order(&module.types, module.overrides.len());
+    for (handle, variable) in module.global_variables.iter() {
+        if let Some((stride, wgsl)) = other_stride(&module.types, variable.ty) {
+            let ty = type_text(alloc, module, names, spelling, variable.ty)?;
+            let line = VariableLine {
+                name: name_in(names, &NameKey::GlobalVariable(handle)),
+                ty: ty.as_str(),
+                stride,
+                wgsl,
+            };
+            push_line(alloc, line, text)?;
+        }
+    }
+    Ok(())
+}
+
+/// A type as the text spells it, or by its number where it has no spelling.
+fn type_text(
+    alloc: Global,
+    module: &Module,
+    names: &HashMap<NameKey, String>,
+    spelling: bool,
+    ty: Handle<Type_>,
+) -> Result<String, AllocError>
+    requires order { IsTrue spelling → IsInOrder (names_context «module».now.types
+        (names_in names.now)) }
+{
+    if spelling && ty.index() < module.types.len() {
+        let mut text = String::new(alloc);
+        match (WriterTypeContext { module, names }).write_type(alloc, ty, &mut text) {
+            Ok(()) => return Ok(text),
+            Err(TypeTextError::Memory(error)) => return Err(error),
+            Err(TypeTextError::Sink(SinkError::Memory(error))) => return Err(error),
+            Err(_) => {}
+        }
+    }
+    format!(in alloc; "type {}", ty.index())
 }
 
 /// Whether a text declares the struct with this handle: no function of WGSL gives it, and it is
@@ -57,20 +116,27 @@ fn is_declared(special: &SpecialTypes, handle: Handle<Type_>) -> bool {
         && special.external_texture_transfer_function != Some(handle)
 }
 
-/// A struct of these members: its name and its layout, if it has one, and a line for each member.
+/// A struct of these members and this span: its name and its layout, if it has one, and a line for
+/// each member.
 fn push_struct(
     alloc: Global,
-    types: &UniqueArena<Type_>,
+    module: &Module,
     names: &HashMap<NameKey, String>,
+    spelling: bool,
     handle: Handle<Type_>,
+    span: u32,
     members: &[StructMember],
     text: &mut String,
 ) -> Result<(), AllocError>
-    requires ordered { IsTrue (parts_stand_before types.now) }
+    requires ordered { IsTrue (parts_stand_before «module».now.types) }
+    requires order { IsTrue spelling → IsInOrder (names_context «module».now.types
+        (names_in names.now)) }
 {
+    let types = &module.types;
     let head = StructLine {
         name: name_in(names, &NameKey::Type_(handle)),
         layout: layout_of(types, handle),
+        span,
     };
     push_line(alloc, head, text)?;
     let mut before = Before::Nothing;
@@ -78,11 +144,14 @@ fn push_struct(
     let mut number: u32 = 0;
     for member in members {
         let found = found_of(types, member);
+        let ty = type_text(alloc, module, names, spelling, member.ty)?;
         let line = MemberLine {
             name: name_in(names, &NameKey::StructMember(handle, number)),
+            ty: ty.as_str(),
             offset: member.offset,
             found,
             fault: fault_of(before, member.offset, found),
+            first: first_offset(before, found),
         };
         push_line(alloc, line, text)?;
         before = ended(member.offset, found);
@@ -254,42 +323,108 @@ fn fault_after(before: Before, offset: u32) -> Option<&'static str> {
     }
 }
 
+/// The first offset that a member with a layout could have after the one before it.
+fn first_offset(before: Before, found: Found) -> Option<u64> {
+    match found {
+        Found::Laid(layout) => match before {
+            Before::Nothing => Some(0),
+            Before::End(end) => next_multiple(end, layout.align),
+            Before::NoSize | Before::Unknown => None,
+        },
+        _ => None,
+    }
+}
+
+fn next_multiple(end: u64, alignment: u32) -> Option<u64> {
+    if alignment == 0 {
+        None
+    } else {
+        end.checked_next_multiple_of(alignment as u64)
+    }
+}
+
 // ---- lines
 
 #[derive(Clone, Copy)]
 struct StructLine<'a> {
     name: &'a str,
     layout: Option<TypeLayout>,
+    span: u32,
 }
 
 impl fmt::Display for StructLine<'_> {
     fn fmt<W: fmt::Write>(&self, f: &mut fmt::Formatter<W>) -> fmt::Result {
         write!(f, "struct {}: ", self.name)?;
         match self.layout {
-            Some(layout) => write!(f, "{}", LayoutWords(layout)),
-            None => f.write_str("no layout"),
+            Some(layout) => write!(
+                f,
+                "{}{}",
+                LayoutWords(layout),
+                LostSpan(layout.size, self.span)
+            ),
+            None => write!(f, "no layout, span {} in the module", self.span),
         }
+    }
+}
+
+/// The span of a struct in the module, where its size in the text is another.
+#[derive(Clone, Copy)]
+struct LostSpan(Option<u32>, u32);
+
+impl fmt::Display for LostSpan {
+    fn fmt<W: fmt::Write>(&self, f: &mut fmt::Formatter<W>) -> fmt::Result {
+        match self.0 {
+            Some(size) if size != self.1 => {
+                write!(f, ", span {} in the module, not kept", self.1)
+            }
+            _ => Ok(()),
+        }
+    }
+}
+
+#[derive(Clone, Copy)]
+struct VariableLine<'a> {
+    name: &'a str,
+    ty: &'a str,
+    stride: u32,
+    wgsl: u64,
+}
+
+impl fmt::Display for VariableLine<'_> {
+    fn fmt<W: fmt::Write>(&self, f: &mut fmt::Formatter<W>) -> fmt::Result {
+        write!(
+            f,
+            "{}: {}, stride {} in the module, {} in WGSL, not kept",
+            self.name, self.ty, self.stride, self.wgsl
+        )
     }
 }
 
 #[derive(Clone, Copy)]
 struct MemberLine<'a> {
     name: &'a str,
+    ty: &'a str,
     offset: u32,
     found: Found,
     fault: Option<&'static str>,
+    first: Option<u64>,
 }
 
 impl fmt::Display for MemberLine<'_> {
     fn fmt<W: fmt::Write>(&self, f: &mut fmt::Formatter<W>) -> fmt::Result {
-        write!(f, "    {}: ", self.name)?;
+        write!(f, "    {}: {}, ", self.name, self.ty)?;
         if let Found::HasBinding = self.found {
             return f.write_str("has a binding");
         }
         write!(f, "offset {}", self.offset)?;
         match self.found {
             Found::HasBinding => Ok(()),
-            Found::Laid(layout) => write!(f, ", {}{}", LayoutWords(layout), Why(self.fault)),
+            Found::Laid(layout) => write!(
+                f,
+                ", {}{}",
+                LayoutWords(layout),
+                Why(self.fault, self.first)
+            ),
             Found::Strided(stride, wgsl) => {
                 write!(f, ": array stride {}, by WGSL {}", stride, wgsl)
             }
@@ -310,14 +445,18 @@ impl fmt::Display for LayoutWords {
     }
 }
 
+/// What is wrong with an offset, and the first that would be right.
 #[derive(Clone, Copy)]
-struct Why(Option<&'static str>);
+struct Why(Option<&'static str>, Option<u64>);
 
 impl fmt::Display for Why {
     fn fmt<W: fmt::Write>(&self, f: &mut fmt::Formatter<W>) -> fmt::Result {
-        match self.0 {
-            Some(reason) => write!(f, ": {}", reason),
-            None => Ok(()),
+        match (self.0, self.1) {
+            (Some(reason), Some(first)) => {
+                write!(f, ": {}, {} is the first that it could have", reason, first)
+            }
+            (Some(reason), None) => write!(f, ": {}", reason),
+            (None, _) => Ok(()),
         }
     }
 }

@@ -8,6 +8,8 @@ mod listed_positions;
 mod positions;
 mod refusals;
 mod roles;
+mod root_texts;
+mod roots;
 mod within;
 mod writing;
 
@@ -17,5 +19,6 @@ pub use listed_positions::{listed_position, refused_position};
 pub use positions::{JsonPosition, JsonRefusalPosition, JsonRoot, label_at, label_of};
 pub use refusals::refusal_line;
 pub use roles::{Role, operands_have_roles, role_at};
+pub use root_texts::{Giver, MarkedRoot, ScopeRoot, root_at, root_spots};
 pub use within::{NoOutcome, check_nesting, write_told_within, write_within};
 pub use writing::{WriteOutcome, flags_for, write, write_told};

@@ -2,19 +2,21 @@
 
 ghost use Rattle.std.specs.Prelude.{IfOk, string_bytes};
 ghost use Rattle.module_answers.specs.Positions.{IsKnownText};
-ghost use Rattle.module_answers.specs.Refusals.{TellsRefusalAt};
+ghost use Rattle.module_answers.specs.Refusals.{TellsConstructAt, TellsRefusalAt};
 ghost use Rattle.naga_wgsl_fns.specs.Constructs.{construct_text};
 
 use crate::faults::label_text;
 use crate::positions::{JsonRefusalPosition, JsonRoot, label_at};
+use crate::root_texts::{root_after, root_at};
 use naga_wgsl_out::ir::Module;
 use naga_wgsl_out::wgsl::{Construct, Refusal};
 use std::alloc::{AllocError, Global};
 
-/// A refusal of the module as one line: its construct, and its position in the JSON with the label
-/// of the function or the entry point there.
+/// A refusal of the module as one line: its construct, its position in the JSON with the label of the
+/// function or the entry point there, and of an operand that is out of scope why it has no value.
 ///
-/// `float literal: module.functions[0].expressions[3], in statement 1, in "half"`
+/// `operand out of scope: module.functions[0].expressions[24], operand value of statement 11, in
+/// "half": expressions[12] has no value at statement 8; statement 4 gives it, in a block that has ended`
 pub fn refusal_line(
     alloc: Global,
     module: &Module,
@@ -23,6 +25,24 @@ pub fn refusal_line(
 ) -> Result<String, AllocError>
     ensures { IfOk result (λ line. TellsRefusalAt root «module».now refusal
         (string_bytes line)) }
+{
+    let mut line = positioned_construct(alloc, module, refusal, root)?;
+    let more = root_after(alloc, root_at(alloc, module, &refusal.position)?)?;
+    line.push_str(more.as_str())?;
+    Ok(line)
+}
+
+/// The construct and its position.
+///
+/// `float literal: module.functions[0].expressions[3], in statement 1, in "half"`
+fn positioned_construct(
+    alloc: Global,
+    module: &Module,
+    refusal: Refusal,
+    root: JsonRoot,
+) -> Result<String, AllocError>
+    ensures { IfOk result (λ text. TellsConstructAt root «module».now refusal
+        (string_bytes text)) }
 {
     let construct = construct_text(alloc, refusal.construct)?;
     let position = JsonRefusalPosition::of(root, module, refusal.position);

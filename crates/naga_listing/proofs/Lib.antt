@@ -1,4 +1,5 @@
 pub mod AddedLines
 pub mod Choosing
 pub mod FittingTypes
+pub mod Giving
 pub mod Seeking

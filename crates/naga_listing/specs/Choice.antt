@@ -4,7 +4,7 @@
 -- known by their levels. Throughout, i is a line's number, l the line, spots is what is named, and k
 -- what was kept of the lines after it.
 use Rattle.std.specs.Prelude.{ℕ, suc, ◌-◌, Bool, true, false, ◌&&◌, ◌||◌, nat_lt, nat_le, ◌==◌, min}
-use Rattle.std.specs.Prelude.{List, [], ◌∷◌, if◌then◌else◌, slice_get, unwrap_or}
+use Rattle.std.specs.Prelude.{List, [], ◌∷◌, ◌++◌, if◌then◌else◌, slice_get, unwrap_or}
 use Rattle.std.specs.List.{list_any, position}
 use Rattle.std.specs.Option.{option_map_or}
 use Rattle.naga_ir.specs.declared.module.Module.{Module}
@@ -106,3 +106,8 @@ shown_lines s spots lines = (kept_from (marked_line s lines) spots 0 lines).line
 -- that it names. In the position of others stands a gap.
 abbrev pub position_lines : Module → ListingPosition → List Line
 position_lines m p = shown_lines p.spot (named_spots m p) (all_lines m p.listed)
+
+-- the same, with the lines of more that is to be seen
+abbrev pub lines_with : Module → ListingPosition → (more : List Spot) → List Line
+lines_with m p more =
+    shown_lines p.spot (named_spots m p ++ more) (all_lines m p.listed)

@@ -1,4 +1,5 @@
 pub mod Choice
+pub mod Givers
 pub mod Lines
 pub mod Named
 pub mod OneLine

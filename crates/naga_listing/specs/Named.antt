@@ -15,6 +15,7 @@ use Rattle.naga_ir.specs.declared.types.TypeInner.TheVariants as inner
 use Rattle.naga_ir.specs.Operands.{expression_operands, own_operands, own_result}
 use Rattle.naga_ir.specs.InOrder.{trees_in, trees_inside}
 use Rattle.naga_ir.specs.StatementTree.{StatementTree}
+use Rattle.naga_listing.specs.Givers.{giver}
 use Rattle.naga_listing.specs.declared.positions.Listed.{Listed}
 use Rattle.naga_listing.specs.declared.positions.Listed.TheVariants as listed
 use Rattle.naga_listing.specs.declared.positions.ListingPosition.{ListingPosition}
@@ -50,13 +51,19 @@ operand_spots handles = map spot.Expression (take most_named handles)
 abbrev pub statement_spots : StatementTree → List Spot
 statement_spots s = operand_spots (own_operands s) ++ map spot.Expression (option_to_list (own_result s))
 
+-- of an expression its operands, and the first statement that gives it
+abbrev pub given_spots : Function → ℕ → Expression → List Spot
+given_spots f handle e =
+    operand_spots (expression_operands e)
+    ++ map spot.Statement (option_to_list (giver f.body handle))
+
 -- what a part of a function names of it
 abbrev pub part_spots : Function → Spot → List Spot
 part_spots f (spot.Local handle) =
     option_map_or (λ local. map spot.Expression (option_to_list local.init))
     (slice_get f.local_variables handle) []
 part_spots f (spot.Expression handle) =
-    option_map_or (λ e. operand_spots (expression_operands e)) (slice_get f.expressions handle) []
+    option_map_or (given_spots f handle) (slice_get f.expressions handle) []
 part_spots f (spot.Statement number) =
     option_map_or statement_spots (slice_get (trees_in f.body) number) []
 part_spots f _ = []

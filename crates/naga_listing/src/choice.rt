@@ -2,13 +2,13 @@
 
 ghost use Rattle.std.specs.Prelude.{◌≡◌, ◌||◌, false, if◌then◌else◌, IfOk, OnOk};
 ghost use Rattle.naga_listing.specs.Choice.{after_gap, begins_with_gap, is_about, is_gap};
-ghost use Rattle.naga_listing.specs.Choice.{is_named, is_near};
+ghost use Rattle.naga_listing.specs.Choice.{is_named, is_near, lines_with};
 ghost use Rattle.naga_listing.specs.Choice.{is_shown, is_title, kept_from, marked_line};
 ghost use Rattle.naga_listing.specs.Choice.{position_lines, shown_lines, with_any, with_line};
 ghost use Rattle.naga_listing.specs.Choice.{with_marked};
 
 use crate::lines::all_lines;
-use crate::named::named_spots;
+use crate::named::{named_spots, named_with};
 use crate::positions::{Line, LineKind, ListingPosition, Spot};
 use naga_ir::Module;
 use std::alloc::{AllocError, Global};
@@ -36,6 +36,21 @@ pub fn listing(
 {
     let lines = all_lines(alloc, module, &position.listed)?;
     let spots = named_spots(alloc, module, position)?;
+    shown_lines(alloc, &position.spot, &spots, &lines)
+}
+
+/// The same, with the lines of more items.
+pub fn listing_with(
+    alloc: Global,
+    module: &Module,
+    position: &ListingPosition,
+    more: &[Spot],
+) -> Result<Vec<Line>, AllocError>
+    ensures { IfOk result (λ lines. lines.items
+        ≡ lines_with «module».now position.now more.now) }
+{
+    let lines = all_lines(alloc, module, &position.listed)?;
+    let spots = named_with(alloc, module, position, more)?;
     shown_lines(alloc, &position.spot, &spots, &lines)
 }
 

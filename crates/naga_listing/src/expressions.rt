@@ -2,23 +2,26 @@
 
 use crate::lookup::item_at;
 use crate::operands::{MOST_FIELDS, push_field, push_list, push_numbered, push_operand};
-use float_numerals::{push_double, push_half, push_single};
+use float_numerals::{
+    double_decimal, half_decimal, push_double, push_half, push_single, single_decimal,
+};
 use naga_ir::{
     Constant, Expression, Function, GlobalVariable, Handle, ImageQuery, Literal, LocalVariable,
     Module, Override, SampleLevel, SwizzleComponent, Type_, VectorSize,
 };
-use std::alloc::AllocError;
+use std::alloc::{AllocError, Global};
 
 /// Appends what an expression is: `Binary Add left: [0], right: [2]`. The function is the one that
 /// it belongs to, if it is none of the module's own.
 pub(crate) fn push_expression(
+    alloc: Global,
     module: &Module,
     function: Option<&Function>,
     expression: &Expression,
     out: &mut String,
 ) -> Result<(), AllocError> {
     out.push_str(expression.name())?;
-    push_named(module, function, expression, out)?;
+    push_named(alloc, module, function, expression, out)?;
     push_choice(expression, out)?;
     push_of_expression(expression, out)
 }
@@ -27,13 +30,14 @@ pub(crate) fn push_expression(
 
 /// Appends what the expression names that is no expression.
 fn push_named(
+    alloc: Global,
     module: &Module,
     function: Option<&Function>,
     expression: &Expression,
     out: &mut String,
 ) -> Result<(), AllocError> {
     match expression {
-        Expression::Literal(literal) => push_literal(*literal, out),
+        Expression::Literal(literal) => push_literal(alloc, *literal, out),
         Expression::Constant(handle) => push_constant(module, *handle, out),
         Expression::Override(handle) => push_override(module, *handle, out),
         Expression::GlobalVariable(handle) => push_global(module, *handle, out),
@@ -49,8 +53,9 @@ fn push_named(
     }
 }
 
-/// Appends a literal: a float that is told by a numeral as in a text, any other as it is held.
-fn push_literal(literal: Literal, out: &mut String) -> Result<(), AllocError> {
+/// Appends a literal: a float that is told by a numeral as in a text, one that is held as its bits as
+/// a number, any other as it is held.
+fn push_literal(alloc: Global, literal: Literal, out: &mut String) -> Result<(), AllocError> {
     match literal {
         Literal::DecimalF64(decimal) => {
             out.push_str(" DecimalF64 ")?;
@@ -64,7 +69,72 @@ fn push_literal(literal: Literal, out: &mut String) -> Result<(), AllocError> {
             out.push_str(" DecimalF16 ")?;
             push_half(decimal, out)
         }
+        Literal::F64(bits) => push_double_bits(alloc, "F64", bits, out),
+        Literal::AbstractFloat(bits) => push_double_bits(alloc, "AbstractFloat", bits, out),
+        Literal::F32(bits) => push_single_bits(alloc, bits, out),
+        Literal::F16(bits) => push_half_bits(alloc, bits, out),
         _ => write!(out, " {literal:?}"),
+    }
+}
+
+/// Appends the `f64` with these bits: ` F64(0.5)`.
+fn push_double_bits(
+    alloc: Global,
+    name: &str,
+    bits: u64,
+    out: &mut String,
+) -> Result<(), AllocError> {
+    write!(out, " {name}(")?;
+    match double_decimal(alloc, bits)? {
+        Some(decimal) => {
+            let mut numeral = String::new(alloc);
+            push_double(decimal, &mut numeral)?;
+            push_without("lf", numeral.as_str(), out)?;
+        }
+        None if bits == 0x7ff0_0000_0000_0000 => out.push_str("inf")?,
+        None if bits == 0xfff0_0000_0000_0000 => out.push_str("-inf")?,
+        None => write!(out, "bits 0x{bits:x}")?,
+    }
+    out.push_str(")")
+}
+
+/// The same of an `f32`.
+fn push_single_bits(alloc: Global, bits: u32, out: &mut String) -> Result<(), AllocError> {
+    out.push_str(" F32(")?;
+    match single_decimal(alloc, bits)? {
+        Some(decimal) => {
+            let mut numeral = String::new(alloc);
+            push_single(decimal, &mut numeral)?;
+            push_without("f", numeral.as_str(), out)?;
+        }
+        None if bits == 0x7f80_0000 => out.push_str("inf")?,
+        None if bits == 0xff80_0000 => out.push_str("-inf")?,
+        None => write!(out, "bits 0x{bits:x}")?,
+    }
+    out.push_str(")")
+}
+
+/// The same of an `f16`.
+fn push_half_bits(alloc: Global, bits: u16, out: &mut String) -> Result<(), AllocError> {
+    out.push_str(" F16(")?;
+    match half_decimal(alloc, bits)? {
+        Some(decimal) => {
+            let mut numeral = String::new(alloc);
+            push_half(decimal, &mut numeral)?;
+            push_without("h", numeral.as_str(), out)?;
+        }
+        None if bits == 0x7c00 => out.push_str("inf")?,
+        None if bits == 0xfc00 => out.push_str("-inf")?,
+        None => write!(out, "bits 0x{bits:x}")?,
+    }
+    out.push_str(")")
+}
+
+/// Appends a numeral without the letters at its end that tell its type.
+fn push_without(suffix: &str, numeral: &str, out: &mut String) -> Result<(), AllocError> {
+    match numeral.strip_suffix(suffix) {
+        Some(digits) => out.push_str(digits),
+        None => out.push_str(numeral),
     }
 }
 

@@ -103,7 +103,7 @@ impl<'m, 'i, 'p> Lister<'m, 'i, 'p> {
         out: &mut String,
     ) -> Result<(), AllocError> {
         if let Some(expression) = item_at(&self.module.global_expressions, handle) {
-            push_expression(self.module, None, expression, out)?;
+            push_expression(self.alloc, self.module, None, expression, out)?;
         }
         Ok(())
     }
@@ -130,7 +130,7 @@ impl<'m, 'i, 'p> Lister<'m, 'i, 'p> {
     ) -> Result<(), AllocError> {
         if let Some(function) = self.function() {
             if let Some(expression) = item_at(&function.expressions, handle) {
-                push_expression(self.module, Some(function), expression, out)?;
+                push_expression(self.alloc, self.module, Some(function), expression, out)?;
             }
             if let Some(label) = function.named_expressions.get(&handle) {
                 write!(out, " as {:?}", label.as_str())?;

@@ -9,6 +9,7 @@
 mod choice;
 mod declarations;
 mod expressions;
+mod givers;
 mod items;
 mod lines;
 mod lookup;
@@ -21,10 +22,11 @@ mod statement_words;
 mod text;
 mod types;
 
-pub use choice::listing;
+pub use choice::{listing, listing_with};
+pub use givers::giver_of;
 pub use lookup::{entry_point_at, item_at};
-pub use numbers::statement_at;
+pub use numbers::{past_block, past_statement, statement_at};
 pub use one_line::on_one_line;
 pub use operands::MOST_FIELDS;
 pub use positions::{Line, LineKind, Listed, ListingPosition, Spot, Title};
-pub use text::explain;
+pub use text::{explain, explain_with};

@@ -1,15 +1,16 @@
 //! The items that a line names, whose own lines are shown too.
 
-ghost use Rattle.std.specs.Prelude.{◌≡◌, ◌∷◌, IfOk, map, take};
+ghost use Rattle.std.specs.Prelude.{◌≡◌, ◌∷◌, ◌++◌, IfOk, map, take};
 ghost use Rattle.std.specs.Option.{option_to_list};
 ghost use Rattle.naga_ir.specs.Operands.{expression_operands, own_operands};
 ghost use Rattle.naga_ir.specs.StatementViews.{tree_of};
 ghost use Rattle.naga_listing.specs.declared.positions.Spot.TheVariants as spot;
 ghost use Rattle.naga_listing.specs.Named.{beside_operands, declared_spots, global_spots};
-ghost use Rattle.naga_listing.specs.Named.{listed_spots, most_named, named_spots, operand_spots};
+ghost use Rattle.naga_listing.specs.Named.{given_spots, listed_spots, most_named, named_spots, operand_spots};
 ghost use Rattle.naga_listing.specs.Named.{part_spots};
 ghost use Rattle.naga_listing.specs.Named.{size_spots, statement_spots, type_spots, typed_spots};
 
+use crate::givers::giver_of;
 use crate::lookup::{entry_point_at, item_at, type_at};
 use crate::numbers::statement_at;
 use crate::positions::{Listed, ListingPosition, Spot};
@@ -33,6 +34,21 @@ pub(crate) fn named_spots(
     if let Some(beside) = &position.beside {
         spots.push(*beside)?;
     }
+    Ok(spots)
+}
+
+/// The same, with more to be seen.
+pub(crate) fn named_with(
+    alloc: Global,
+    module: &Module,
+    position: &ListingPosition,
+    more: &[Spot],
+) -> Result<Vec<Spot>, AllocError>
+    ensures { IfOk result (λ spots. spots.items
+        ≡ named_spots «module».now position.now ++ more.now) }
+{
+    let mut spots = named_spots(alloc, module, position)?;
+    spots.extend_from_slice(more)?;
     Ok(spots)
 }
 
@@ -68,7 +84,7 @@ fn part_spots(alloc: Global, function: &Function, spot: &Spot) -> Result<Vec<Spo
             None => Ok(Vec::new(alloc)),
         },
         Spot::Expression(handle) => match item_at(&function.expressions, *handle) {
-            Some(expression) => operand_spots(alloc, expression),
+            Some(expression) => given_spots(alloc, function, *handle, expression),
             None => Ok(Vec::new(alloc)),
         },
         Spot::Statement(number) => match statement_at(&function.body, *number) {
@@ -89,6 +105,23 @@ fn expression_spots(
     let mut spots = Vec::new(alloc);
     if let Some(handle) = handle {
         spots.push(Spot::Expression(handle))?;
+    }
+    Ok(spots)
+}
+
+/// The operands of an expression, and the first statement that gives it.
+fn given_spots(
+    alloc: Global,
+    function: &Function,
+    handle: Handle<Expression>,
+    expression: &Expression,
+) -> Result<Vec<Spot>, AllocError>
+    ensures { IfOk result (λ spots. spots.items
+        ≡ given_spots function.now handle expression.now) }
+{
+    let mut spots = operand_spots(alloc, expression)?;
+    if let Some(number) = giver_of(&function.body, handle) {
+        spots.push(Spot::Statement(number))?;
     }
     Ok(spots)
 }

@@ -2,6 +2,7 @@
 
 ghost use Rattle.std.specs.Prelude.{◌≡◌, ◌++◌, slice_get};
 ghost use Rattle.std.specs.Option.{option_map};
+ghost use Rattle.std.specs.Result.{result_err};
 ghost use Rattle.naga_ir.specs.StatementViews.{cases_of, tree_of};
 ghost use Rattle.naga_ir.specs.InOrder.{case_trees, trees_inside};
 ghost use Rattle.naga_listing.specs.Named.{found_as, sought};
@@ -18,6 +19,27 @@ pub fn statement_at(body: &Block, number: usize) -> Option<&Statement>
     match seek_block(body, number) {
         Ok(statement) => Some(statement),
         Err(_) => None,
+    }
+}
+
+/// How many statements are left where this one and those in its blocks are gone past; nothing where
+/// fewer are to be gone past.
+pub fn past_statement(statement: &Statement, left: usize) -> Option<usize>
+    ensures { result ≡ result_err (sought left (statement_trees (tree_of statement.now))) }
+{
+    match seek_statement(statement, left) {
+        Ok(_) => None,
+        Err(rest) => Some(rest),
+    }
+}
+
+/// The same of those of a block.
+pub fn past_block(block: &Block, left: usize) -> Option<usize>
+    ensures { result ≡ result_err (sought left (trees_in block.now)) }
+{
+    match seek_block(block, left) {
+        Ok(_) => None,
+        Err(rest) => Some(rest),
     }
 }
 

@@ -1,6 +1,6 @@
 //! The text of a listing.
 
-use crate::choice::listing;
+use crate::choice::listing_with;
 use crate::items::Lister;
 use crate::positions::{Line, LineKind, ListingPosition, Spot, Title};
 use crate::statement_words::push_case;
@@ -33,7 +33,19 @@ pub fn explain(
     position: &ListingPosition,
     message: &str,
 ) -> Result<String, AllocError> {
-    let lines = listing(alloc, module, position)?;
+    explain_with(alloc, module, info, position, &[], message)
+}
+
+/// The same, with the lines of more items: of what led to the position.
+pub fn explain_with(
+    alloc: Global,
+    module: &Module,
+    info: &ModuleInfo,
+    position: &ListingPosition,
+    more: &[Spot],
+    message: &str,
+) -> Result<String, AllocError> {
+    let lines = listing_with(alloc, module, position, more)?;
     let lister = Lister::new(alloc, module, info, &position.listed);
     let mut text = String::new(alloc);
     for line in &lines {

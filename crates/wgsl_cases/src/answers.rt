@@ -5,7 +5,7 @@ ghost use Rattle.module_meaning.specs.acceptance.Accepted.{is_accepted};
 
 use bitflags::Flags;
 use json::{Scratch, Value};
-use module_answers::{JsonRefusalPosition, JsonRoot, labelled_position, role_at};
+use module_answers::{JsonRefusalPosition, JsonRoot, labelled_position, role_at, root_at};
 use naga_json::{Known, known_of, parse};
 use naga_wgsl_out::info::{Unaccepted, count, explain, unaccepted};
 use naga_wgsl_out::wgsl::{Writer, WriterFlags, unwritable};
@@ -145,7 +145,8 @@ fn text_of(
     Ok(text)
 }
 
-/// Tells where what the module is refused for stands, if there is such a thing.
+/// Tells where what the module is refused for stands, if there is such a thing, and why an operand
+/// there has no value.
 fn push_place(
     alloc: Global,
     known: &Known,
@@ -161,7 +162,10 @@ fn push_place(
             position: refusal.position,
             role,
         };
-        let told = format!(in alloc; "at: {position}\n")?;
+        let told = match root_at(alloc, &known.module, &refusal.position)? {
+            Some(root) => format!(in alloc; "at: {position}: {root}\n")?,
+            None => format!(in alloc; "at: {position}\n")?,
+        };
         text.push_str(told.as_str())?;
     }
     Ok(())

@@ -2,11 +2,11 @@
 
 use crate::texts::{Style, write_in};
 use module_answers::{
-    JsonRoot, NoOutcome, WriteOutcome, fault_text, labelled_position, listed_position,
-    refusal_line, refused_position,
+    JsonRoot, MarkedRoot, NoOutcome, WriteOutcome, fault_text, labelled_position, listed_position,
+    refusal_line, refused_position, root_at, root_spots,
 };
 use naga_json::Known;
-use naga_listing::explain;
+use naga_listing::{ListingPosition, Spot, explain, explain_with};
 use naga_wgsl_out::info::Unaccepted;
 use naga_wgsl_out::wgsl::{Error, Refusal};
 use std::alloc::{AllocError, Global};
@@ -57,21 +57,30 @@ fn of_written(
     }
 }
 
-/// Tells what a module is refused for and where, and shows the lines around.
+/// Tells what a module is refused for and where, and shows the lines around: of an operand that is
+/// out of scope those around the expression that it has no value for.
 fn of_refusal(
     alloc: Global,
     root: JsonRoot,
     known: &Known,
     refusal: Refusal,
 ) -> Result<Explanation, AllocError> {
-    let construct = format!(in alloc; "{}", refusal.construct)?;
     let position = refused_position(refusal.position);
-    let listing = explain(
+    let (spot, message) = match root_at(alloc, &known.module, &refusal.position)? {
+        Some(root) => (
+            Spot::Expression(root.expression),
+            format!(in alloc; "{}", MarkedRoot(root))?,
+        ),
+        None => (position.spot, format!(in alloc; "{}", refusal.construct)?),
+    };
+    let more = root_spots(alloc, &known.module, &refusal.position)?;
+    let listing = explain_with(
         alloc,
         &known.module,
         &known.info,
-        &position,
-        construct.as_str(),
+        &ListingPosition { spot, ..position },
+        &more,
+        message.as_str(),
     )?;
     let line = refusal_line(alloc, &known.module, refusal, root)?;
     not_written(format!(in alloc; "refused: {line}\n\n{listing}"))

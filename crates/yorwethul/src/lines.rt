@@ -6,7 +6,7 @@ use crate::texts::{Style, write_in};
 use json::Scratch;
 use module_answers::{
     JsonPosition, JsonRefusalPosition, JsonRoot, NoOutcome, WriteOutcome, label_at, label_of,
-    mismatch_text,
+    mismatch_text, root_at,
 };
 use naga_json::{Known, ReadError, known_of, parse_bytes};
 use naga_wgsl_out::info::{Unaccepted, explain};
@@ -240,7 +240,8 @@ fn tell_written(
     }
 }
 
-/// Tells what the module is refused for, where that stands, and the text in front of it.
+/// Tells what the module is refused for, where that stands, why an operand there has no value, and
+/// the text in front of it.
 fn tell_refused(
     alloc: Global,
     reason: impl Display + Drop,
@@ -255,6 +256,9 @@ fn tell_refused(
         tell(alloc, "place", position, members)?;
         if let Some(label) = label_at(module, refusal.position) {
             tell(alloc, "function", label, members)?;
+        }
+        if let Some(root) = root_at(alloc, module, &refusal.position)? {
+            tell(alloc, "root", root, members)?;
         }
     }
     put(alloc, "text", Value::String(text), members)

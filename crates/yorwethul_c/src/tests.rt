@@ -90,7 +90,7 @@ const STRUCT: &str = r#"{
 
 const STRUCT_LAYOUT: &str = "\
 struct One: align 4, size 4
-    a: offset 0, align 4, size 4
+    a: u32, offset 0, align 4, size 4
 ";
 
 /// Too many lists in one another, of which the first stand in a string.

@@ -272,8 +272,52 @@ const SUBGROUP: &str = r#"{
     "info": {"entry_points": [[0]]}
 }"#;
 
+/// A function that returns an operator over a load which a block alone gives.
+const GIVEN_IN_BLOCK: &str = r#"{
+    "module": {
+        "types": [
+            {"inner": {"Scalar": {"kind": "Bool", "width": 1}}},
+            {"inner": {"Scalar": {"kind": "Sint", "width": 4}}}
+        ],
+        "functions": [{
+            "name": "f", "arguments": [{"name": "c", "ty": 0}], "result": {"ty": 1},
+            "local_variables": [{"name": "a", "ty": 1}],
+            "expressions": [
+                {"FunctionArgument": 0}, {"LocalVariable": 0}, {"Load": {"pointer": 1}},
+                {"Unary": {"op": "Negate", "expr": 2}}
+            ],
+            "body": [
+                {"If": {"condition": 0, "accept": [{"Emit": {"start": 2, "end": 3}}], "reject": []}},
+                {"Emit": {"start": 3, "end": 4}}, {"Return": {"value": 3}}
+            ]
+        }]
+    },
+    "info": {"functions": [[0, {"Value": {"Pointer": {"base": 1, "space": "Function"}}}, 1, 1]]}
+}"#;
+
+const GIVEN_IN_BLOCK_LISTING: &str = "\
+refused: operand out of scope: module.functions[0].expressions[3], operand value of statement 3, in \"f\": \
+    expressions[2] has no value at statement 2; statement 1 gives it, in a block that has ended
+
+function 0 \"f\"(\"c\": bool) -> i32
+  locals
+     0  no initialiser \"a\"                            i32
+  expressions
+     0  FunctionArgument 0 \"c\"                        bool
+     1  LocalVariable 0 \"a\"                           ptr<function, i32>
+     2  Load pointer: [1]                             i32
+        ^ no value at statement 2; statement 1 gives it, in a block that has ended
+     3  Unary Negate expr: [2]                        i32
+  statements
+     0  If condition: [0]
+     1  | Emit 2..3
+     2  Emit 3..4
+     3  Return value: [3]
+";
+
 /// Structs: with a gap, with a member at no multiple of its alignment, with an array of another stride,
-/// and with a member that is bound.
+/// with a member that is bound, and with a span that is not kept; and a variable of an array of another
+/// stride.
 const STRUCTS: &str = r#"{
     "module": {
         "types": [
@@ -294,34 +338,46 @@ const STRUCTS: &str = r#"{
                 {"name": "c", "ty": 4, "offset": 32}, {"name": "d", "ty": 0, "offset": 36},
                 {"name": "e", "ty": 0, "offset": 0}]}}},
             {"name": "Out", "inner": {"Struct": {"span": 4, "members": [
-                {"name": "a", "ty": 0, "offset": 0, "binding": {"Location": {"location": 0}}}]}}}
-        ]
+                {"name": "a", "ty": 0, "offset": 0, "binding": {"Location": {"location": 0}}}]}}},
+            {"inner": {"Vector": {"size": "Bi", "scalar": {"kind": "Float", "width": 4}}}},
+            {"name": "Pass", "inner": {"Struct": {"span": 20, "members": [
+                {"name": "a", "ty": 9, "offset": 0}, {"name": "b", "ty": 9, "offset": 8}]}}},
+            {"inner": {"Array": {"base": 10, "size": "Dynamic", "stride": 48}}}
+        ],
+        "global_variables": [{
+            "name": "rows", "space": {"Storage": {"access": "LOAD | STORE"}}, "ty": 11,
+            "binding": {"group": 0, "binding": 0}
+        }]
     },
     "info": {}
 }"#;
 
 const LAYOUTS: &str = "\
 struct Gap: align 4, size 32
-    a: offset 0, align 4, size 4
-    fn_: offset 16, align 4, size 4
-struct Odd: no layout
-    a: offset 0, align 4, size 4
-    b: offset 6, align 4, size 4: member off its alignment
-struct Wide: no layout
-    a: offset 4, align 4, size 4: member off its alignment
-    b: offset 16: array stride 16, by WGSL 4
-    c: offset 80: its type has no layout
+    a: u32, offset 0, align 4, size 4
+    fn_: u32, offset 16, align 4, size 4
+struct Odd: no layout, span 12 in the module
+    a: u32, offset 0, align 4, size 4
+    b: u32, offset 6, align 4, size 4: member off its alignment, 4 is the first that it could have
+struct Wide: no layout, span 80 in the module
+    a: u32, offset 4, align 4, size 4: member off its alignment, 0 is the first that it could have
+    b: array<u32, 4>, offset 16: array stride 16, by WGSL 4
+    c: Odd, offset 80: its type has no layout
 struct Ends: align 4, no size
-    a: offset 0, align 4, size 32
-    b: offset 32, align 4, no size
-struct Near: no layout
-    a: offset 0, align 4, size 32
-    b: offset 28, align 4, size 4: members overlap
-    c: offset 32, align 4, no size
-    d: offset 36, align 4, size 4: after a member without a size
-    e: offset 0, align 4, size 4: a second member at 0
-struct Out: no layout
-    a: has a binding
+    a: Gap, offset 0, align 4, size 32
+    b: array<u32>, offset 32, align 4, no size
+struct Near: no layout, span 8 in the module
+    a: Gap, offset 0, align 4, size 32
+    b: u32, offset 28, align 4, size 4: members overlap, 32 is the first that it could have
+    c: array<u32>, offset 32, align 4, no size
+    d: u32, offset 36, align 4, size 4: after a member without a size
+    e: u32, offset 0, align 4, size 4: a second member at 0, 40 is the first that it could have
+struct Out: no layout, span 4 in the module
+    a: u32, has a binding
+struct Pass: align 8, size 16, span 20 in the module, not kept
+    a: vec2<f32>, offset 0, align 8, size 8
+    b: vec2<f32>, offset 8, align 8, size 8
+rows: array<Pass>, stride 48 in the module, 16 in WGSL, not kept
 ";
 
 const OPERAND_FAULT: &str = "not accepted: module.functions[0].expressions[1], in \"double\": \
@@ -348,7 +404,7 @@ refused: float literal: module.functions[0].expressions[0], in statement 0, in \
 
 function 0 \"half\"() -> f32
   expressions
-     0  Literal F32(1056964608)                       f32
+     0  Literal F32(0.5)                              f32
         ^ float literal
   statements
      0  Return value: [0]
@@ -492,6 +548,23 @@ const MODULES: &[(&str, Task, Style, Told)] = &[
         (REFUSED, LITERAL_LISTING, ""),
     ),
     (FLOAT_LITERAL, Task::Explain, STANDARD, (0, "written\n", "")),
+    (
+        GIVEN_IN_BLOCK,
+        Task::Explain,
+        STANDARD,
+        (REFUSED, GIVEN_IN_BLOCK_LISTING, ""),
+    ),
+    (
+        GIVEN_IN_BLOCK,
+        Task::Write,
+        STANDARD,
+        (
+            REFUSED,
+            "",
+            "refused: operand out of scope: module.functions[0].expressions[3], operand value of statement 3, \
+    in \"f\": expressions[2] has no value at statement 2; statement 1 gives it, in a block that has ended\n",
+        ),
+    ),
     (STRUCTS, Task::Check, STANDARD, (0, "accepted\n", "")),
     (
         STRUCTS,

@@ -1,0 +1,99 @@
+-- Why an operand that is out of scope has no value, as it is told: the expression that it comes from,
+-- the statement where that had none, and the statement that gives it.
+--
+-- Throughout, n is the number of a statement, h the handle of an operand that is out of scope, end the
+-- number of the first statement that stands after the place where a value is needed, or of the one
+-- that needs it, m a module and g a function of it.
+use Rattle.std.specs.Prelude.{ℕ, ◌==◌, ◌&&◌, Bool, true, false, List, [], ◌++◌, codes, decimal}
+use Rattle.std.specs.Prelude.{nat_lt}
+use Rattle.std.specs.Prelude.{Option, None, Some, if◌then◌else◌, slice_get}
+use Rattle.std.specs.Option.{option_and_then, option_map}
+use Rattle.module_answers.specs.Roots.{root_by, value_at, values_at}
+use Rattle.module_answers.specs.declared.root_texts.Giver.{Giver}
+use Rattle.module_answers.specs.declared.root_texts.Giver.TheVariants.{Nothing, Ended, Skipped, Later}
+use Rattle.module_answers.specs.declared.root_texts.ScopeRoot.{ScopeRoot}
+use Rattle.module_answers.specs.declared.roots.Root.{Root}
+use Rattle.module_answers.specs.declared.roots.Stop.{Stop}
+use Rattle.module_answers.specs.declared.roots.Stop.TheVariants as stop
+use Rattle.naga_ir.specs.declared.module.Function.{Function}
+use Rattle.naga_ir.specs.declared.module.Module.{Module}
+use Rattle.naga_listing.specs.Givers.{giver}
+use Rattle.naga_scope.specs.declared.scope_faults.ScopeFault.{ScopeFault}
+use Rattle.naga_scope.specs.declared.scope_faults.ScopeFault.TheVariants as fault
+use Rattle.naga_wgsl_fns.specs.declared.plans.FunctionRefusalPosition.{FunctionRefusalPosition}
+use Rattle.naga_wgsl_fns.specs.declared.plans.FunctionRefusalPosition.TheVariants.{Scope}
+use Rattle.naga_wgsl_out.specs.declared.unwritable.RefusalPosition.{RefusalPosition}
+use Rattle.naga_wgsl_out.specs.declared.unwritable.RefusalPosition.TheVariants as refused
+
+-- what a fault asks for: by which statement, where in it, and the operand
+abbrev pub asked_by : ScopeFault → Option (ℕ × (Stop × ℕ))
+asked_by (fault.FirstValue local value) = None
+asked_by (fault.Operand n h) = Some (n, (stop.Before, h))
+asked_by (fault.BreakIf n next h) = Some (n, (stop.BreakIf next, h))
+asked_by (fault.EmittedOperand n e h) = Some (n, (stop.Giving e, h))
+asked_by (fault.IntroducedBefore n e) = None
+asked_by (fault.NeedsNoEmit n e) = None
+
+abbrev pub root_end : (is_there : Bool) → Stop → (n : ℕ) → ℕ
+root_end true (stop.BreakIf next) n = next
+root_end false (stop.BreakIf next) n = n
+root_end is_there stop.Before n = n
+root_end is_there (stop.Giving e) n = n
+
+-- what gives it: the statement that a `continue` may skip, or else the first that gives it. Before the
+-- end that stands in a block that has ended, since what stands in sight of the place gives a value
+abbrev pub giver_by : (skipped : Option ℕ) → (end : ℕ) → (first : Option ℕ) → Giver
+giver_by (Some n) end first = Skipped n
+giver_by None end None = Nothing
+giver_by None end (Some n) = if nat_lt n end then Ended n else Later n
+
+abbrev pub told_root : Function → (n : ℕ) → Stop → (h : ℕ) → Root → ScopeRoot
+told_root g n at h root = record {
+  expression = root.expression;
+  statement = root.statement;
+  giver =
+      giver_by root.skipped (root_end (root.statement == n) at root.statement)
+      (giver g.body root.expression);
+  is_operand = (root.statement == n) && (root.expression == h);
+}
+
+abbrev pub asked_root : Function → ℕ × (Stop × ℕ) → Option ScopeRoot
+asked_root g (n, (at, h)) =
+    option_map (told_root g n at h)
+    (root_by n h (value_at (values_at g.expressions g.body n at) h))
+
+abbrev pub scope_root : Function → ScopeFault → Option ScopeRoot
+scope_root g f = option_and_then (asked_root g) (asked_by f)
+
+-- of what is refused in a function
+abbrev pub part_root : FunctionRefusalPosition → Function → Option ScopeRoot
+part_root (Scope f) g = scope_root g f
+part_root part g = None
+
+abbrev pub root_in : Module → RefusalPosition → Option ScopeRoot
+root_in m (refused.Function h part) = option_and_then (part_root part) (slice_get m.functions h)
+root_in m (refused.EntryPoint i part) =
+    option_and_then (λ e. part_root part e.function) (slice_get m.entry_points.items i)
+root_in m at = None
+
+-- ---- texts
+abbrev pub giver_text : Giver → List ℕ
+giver_text Nothing = codes "no statement gives it"
+giver_text (Ended n) =
+    codes "statement " ++ decimal n ++ codes " gives it, in a block that has ended"
+giver_text (Skipped n) =
+    codes "statement " ++ decimal n ++ codes " gives it, where a continue may skip it"
+giver_text (Later n) = codes "statement " ++ decimal n ++ codes " gives it, later"
+
+abbrev pub root_text : ScopeRoot → List ℕ
+root_text root =
+    if root.is_operand then giver_text root.giver
+    else codes "expressions["
+    ++ (decimal root.expression
+    ++ (codes "] has no value at statement "
+    ++ (decimal root.statement ++ (codes "; " ++ giver_text root.giver))))
+
+-- after all else that is told of a refusal
+abbrev pub root_after : Option ScopeRoot → List ℕ
+root_after None = []
+root_after (Some root) = codes ": " ++ root_text root
