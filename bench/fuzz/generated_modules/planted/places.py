@@ -5,6 +5,7 @@ afterwards.
 """
 
 from modules import statements_in
+from roots import BREAK_IF, EMITTING, HERE, root_text
 from writer import emitted_by, first_lines
 
 
@@ -18,16 +19,19 @@ def always(is_plain, explicit):
 
 class Planted:
     """A construct, by what is told of it; the function that it is in, or none; what tells the
-    place after that of the function or of the module; and in which styles it stands there."""
+    place after that of the function or of the module; in which styles it stands there; and what tells
+    why an operand there has no value, if it has none."""
 
-    def __init__(self, name, f, part, stands=always):
-        self.name, self.f, self.part, self.stands = name, f, part, stands
+    def __init__(self, name, f, part, stands=always, root=None):
+        self.name, self.f, self.part, self.stands, self.root = name, f, part, stands, root
 
     def wanted(self, explicit):
         """What an answer has beside the text, where `let`s tell types or not."""
         if self.f is None:
             return {"refused": self.name, "place": "module" + self.part()}
         told = {"refused": self.name, "place": self.place_of_function() + self.part()}
+        if self.root is not None:
+            told["root"] = self.root()
         return told if self.f.label is None else {**told, "function": self.f.label}
 
     def place_of_function(self):
@@ -156,13 +160,21 @@ def operand(f, e, user):
 
 
 def at_operand(name, f, e, s):
-    return Planted(name, f, lambda: f"{expression(f, e)}, {operand(f, e, s)} of {statement(f, s)}")
+    def root():
+        stop = BREAK_IF if s.kind == "loop" else HERE
+        return root_text(f, index_of(f.expressions, e), index_of(statements_in(f.body), s), stop)
+    part = lambda: f"{expression(f, e)}, {operand(f, e, s)} of {statement(f, s)}"
+    return Planted(name, f, part, root=root)
 
 
 def at_operand_of_emitted(name, f, x, e, s):
     def part():
         return f"{expression(f, x)}, {operand(f, x, e)} of {expression(f, e)[1:]} in {statement(f, s)}"
-    return Planted(name, f, part)
+
+    def root():
+        number, emitting = index_of(statements_in(f.body), s), index_of(f.expressions, e)
+        return root_text(f, index_of(f.expressions, x), number, EMITTING, emitting)
+    return Planted(name, f, part, root=root)
 
 
 def at_second(name, f, e, s):
