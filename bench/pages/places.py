@@ -19,7 +19,7 @@ ASIDE = {
 OF_THE_IR = {"naga_ir", "naga_json", "naga_builder"}
 EXAMPLES = {
     "Select": "an operator that is called by a word",
-    "Splat": "an operator that tells its type, and of which constants are made",
+    "Splat": "an operator whose text names its type, and of which constants are made",
     "CooperativeStore": "a statement that is an act",
     "Kill": "a statement that is a jump",
 }

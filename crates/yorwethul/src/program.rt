@@ -26,7 +26,7 @@ mod tests;
 /// The status where a module is refused or not accepted.
 pub const REFUSED: u8 = 1;
 
-/// The status where the words are wrong, the input is no module, or something cannot be read or
+/// The status where an option is wrong, the input is no module, or something cannot be read or
 /// written.
 pub const FAILED: u8 = 2;
 

@@ -64,11 +64,11 @@ fn request_in<'a>(matches: &ArgMatches<'a>) -> Request<'a> {
     }
 }
 
-/// How deep a module may be nested where the words say nothing: half of what 8 MB of stack hold
+/// How deep a module may be nested where no option says: half of what 8 MB of stack hold
 /// (`docs/SPEED.md`).
 const NESTING: usize = 4_000;
 
-/// How many bytes a text may have where the words say nothing.
+/// How many bytes a text may have where no option says.
 const LONGEST_TEXT: usize = 67_108_864;
 
 fn limits_in(matches: &ArgMatches<'_>) -> Limits {
@@ -165,7 +165,7 @@ fn layout<'a>(alloc: Global) -> Result<Arg<'a>, AllocError> {
 }
 
 fn explain<'a>(alloc: Global) -> Result<Arg<'a>, AllocError> {
-    let help = "Shows why there is no text: what the fault is, with the lines around its place";
+    let help = "Shows why there is no text: what the fault is, with the lines around it";
     flag(alloc, "explain", help)
         .conflicts_with("check")?
         .conflicts_with("layout")
