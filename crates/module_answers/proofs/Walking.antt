@@ -1,7 +1,8 @@
 -- Steps of the search for why an expression has no value.
-use Rattle.std.proofs.Common.{◌≡◌, ℕ, zero, suc, ◌+◌, ◌-◌, ◌<◌, List, [], ◌∷◌, ◌++◌, refl, ap, ◌∙◌, sym}
-use Rattle.std.proofs.Common.{arith, add-one, Bool, Option, Some, None}
-use Rattle.std.proofs.lemmas.Option.{none-some, same_Some}
+use Rattle.std.proofs.Common.{◌≡◌, ℕ, zero, suc, ◌+◌, ◌-◌, ◌<◌, List, [], ◌∷◌, ◌++◌, ap, ◌∙◌, sym}
+use Rattle.std.proofs.Common.{arith, add-one, Bool, Some, None}
+use Rattle.std.proofs.lemmas.List.{drop_more}
+use Rattle.std.proofs.lemmas.Option.{slice_get_within, get_or_from_slice_get}
 use Rattle.std.specs.Prelude.{drop, slice_get}
 use Rattle.std.specs.Result.{result_err}
 use Rattle.naga_ir.specs.InOrder.{trees_in}
@@ -50,13 +51,8 @@ pub first_more : (es : List Expression) (i : ℕ) (e : Expression) (values now :
     with_first now (drop (i + 1) es) ≡ with_first values (drop i es)
 first_more es i e values now v here is added =
     ap (λ vs. with_first vs (drop (i + 1) es)) (added ∙ ap (λ v. values ++ (v ∷ [])) is)
-    ∙ ap (with_first values) (sym (drop_at es i e here))
-  where
-    drop_at : (xs : List Expression) (i : ℕ) (x : Expression) → slice_get xs i ≡ Some x →
-        drop i xs ≡ x ∷ drop (i + 1) xs
-    drop_at [] i x e = absurd (none-some x e)
-    drop_at (y ∷ xs) zero x e = ap (λ z. z ∷ xs) (same_Some y x e)
-    drop_at (y ∷ xs) (suc i) x e = drop_at xs i x e
+    ∙ ap (with_first values) (sym (drop_more es i e (slice_get_within es i e here)
+    ∙ ap (λ x. x ∷ drop (i + 1) es) (get_or_from_slice_get es i e e here)))
 
 -- ---- lists of statements
 pub left_step : (left next : ℕ) (b b' : BlockTree) (s : StatementTree) → b ≡ statement s b' →

@@ -5,9 +5,9 @@
 -- say of each expression whether it has its value, s is a statement and n its number, b is a block, cs
 -- are cases, end is the number of a statement, and left how many statements stand between it and the
 -- ones at hand, which are gone past first.
-use Rattle.std.specs.Prelude.{ℕ, zero, suc, ◌+◌, ◌-◌, ◌==◌, Bool, true, false, ◌&&◌, List, [], ◌∷◌, ◌++◌}
-use Rattle.std.specs.Prelude.{Option, None, Some, Result, Ok, Err, get_or, slice_get, slice_set, min}
-use Rattle.std.specs.Prelude.{if◌then◌else◌, unwrap_or}
+use Rattle.std.specs.Prelude.{ℕ, zero, suc, ◌+◌, ◌-◌, Bool, true, false, ◌&&◌, List, [], ◌∷◌, ◌++◌}
+use Rattle.std.specs.Prelude.{Option, None, Some, get_or, slice_get, slice_set, min}
+use Rattle.std.specs.Prelude.{unwrap_or}
 use Rattle.std.specs.Option.{option_map_or}
 use Rattle.std.specs.Result.{result_err}
 use Rattle.naga_ir.specs.Kinds.{kind_of}
@@ -26,7 +26,7 @@ use Rattle.module_answers.specs.declared.roots.Value.{Value}
 use Rattle.module_answers.specs.declared.roots.Value.TheVariants.{Absent, Skipped, Constant, Present}
 use Rattle.module_answers.specs.declared.roots.Value.TheVariants.{Lacking}
 use Rattle.module_answers.specs.declared.roots.Stop.{Stop}
-use Rattle.module_answers.specs.declared.roots.Stop.TheVariants.{Before, Giving, BreakIf}
+use Rattle.module_answers.specs.declared.roots.Stop.TheVariants.{Giving, BreakIf}
 
 -- ---- expressions
 abbrev pub value_at : List Value → ℕ → Value

@@ -3,12 +3,13 @@
 --
 -- Throughout, n is the number of a statement, h the handle of an operand that is out of scope, end the
 -- number of the first statement that stands after the place where a value is needed, or of the one
--- that needs it, m a module and g a function of it.
+-- that needs it, a what is asked for, m a module and g a function of it.
 use Rattle.std.specs.Prelude.{ℕ, ◌==◌, ◌&&◌, Bool, true, false, List, [], ◌++◌, codes, decimal}
 use Rattle.std.specs.Prelude.{nat_lt}
 use Rattle.std.specs.Prelude.{Option, None, Some, if◌then◌else◌, slice_get}
 use Rattle.std.specs.Option.{option_and_then, option_map}
 use Rattle.module_answers.specs.Roots.{root_by, value_at, values_at}
+use Rattle.module_answers.specs.declared.root_texts.Asked.{Asked}
 use Rattle.module_answers.specs.declared.root_texts.Giver.{Giver}
 use Rattle.module_answers.specs.declared.root_texts.Giver.TheVariants.{Nothing, Ended, Skipped, Later}
 use Rattle.module_answers.specs.declared.root_texts.ScopeRoot.{ScopeRoot}
@@ -26,11 +27,14 @@ use Rattle.naga_wgsl_out.specs.declared.unwritable.RefusalPosition.{RefusalPosit
 use Rattle.naga_wgsl_out.specs.declared.unwritable.RefusalPosition.TheVariants as refused
 
 -- what a fault asks for: by which statement, where in it, and the operand
-abbrev pub asked_by : ScopeFault → Option (ℕ × (Stop × ℕ))
+abbrev pub asked_by : ScopeFault → Option Asked
 asked_by (fault.FirstValue local value) = None
-asked_by (fault.Operand n h) = Some (n, (stop.Before, h))
-asked_by (fault.BreakIf n next h) = Some (n, (stop.BreakIf next, h))
-asked_by (fault.EmittedOperand n e h) = Some (n, (stop.Giving e, h))
+asked_by (fault.Operand n h) =
+    Some (record { statement = n; stop = stop.Before; operand = h })
+asked_by (fault.BreakIf n next h) =
+    Some (record { statement = n; stop = stop.BreakIf next; operand = h })
+asked_by (fault.EmittedOperand n e h) =
+    Some (record { statement = n; stop = stop.Giving e; operand = h })
 asked_by (fault.IntroducedBefore n e) = None
 asked_by (fault.NeedsNoEmit n e) = None
 
@@ -47,20 +51,21 @@ giver_by (Some n) end first = Skipped n
 giver_by None end None = Nothing
 giver_by None end (Some n) = if nat_lt n end then Ended n else Later n
 
-abbrev pub told_root : Function → (n : ℕ) → Stop → (h : ℕ) → Root → ScopeRoot
-told_root g n at h root = record {
+abbrev pub told_root : Function → Asked → Root → ScopeRoot
+told_root g a root = record {
   expression = root.expression;
   statement = root.statement;
   giver =
-      giver_by root.skipped (root_end (root.statement == n) at root.statement)
+      giver_by root.skipped (root_end (root.statement == a.statement) a.stop root.statement)
       (giver g.body root.expression);
-  is_operand = (root.statement == n) && (root.expression == h);
+  is_operand = (root.statement == a.statement) && (root.expression == a.operand);
 }
 
-abbrev pub asked_root : Function → ℕ × (Stop × ℕ) → Option ScopeRoot
-asked_root g (n, (at, h)) =
-    option_map (told_root g n at h)
-    (root_by n h (value_at (values_at g.expressions g.body n at) h))
+abbrev pub asked_root : Function → Asked → Option ScopeRoot
+asked_root g a =
+    option_map (told_root g a)
+    (root_by a.statement a.operand
+    (value_at (values_at g.expressions g.body a.statement a.stop) a.operand))
 
 abbrev pub scope_root : Function → ScopeFault → Option ScopeRoot
 scope_root g f = option_and_then (asked_root g) (asked_by f)

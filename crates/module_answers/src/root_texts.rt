@@ -2,7 +2,7 @@
 //! statement that gives that one.
 
 ghost use Rattle.std.specs.Prelude.{◌≡◌, IfOk, Some, string_bytes};
-ghost use Rattle.module_answers.specs.ScopeRoots.{asked_by};
+ghost use Rattle.module_answers.specs.ScopeRoots.{asked_by, asked_root};
 ghost use Rattle.module_answers.specs.ScopeRoots.{giver_by, giver_text, root_after, root_end};
 ghost use Rattle.module_answers.specs.ScopeRoots.{root_in, root_text, scope_root, told_root};
 
@@ -65,22 +65,44 @@ pub fn root_at(
     }
 }
 
-/// What a fault asks for: by which statement, where in it, and the operand.
-fn asked_by(fault: ScopeFault) -> Option<(usize, Stop, Handle<Expression>)>
+/// What a fault asks for.
+#[derive(Clone, Copy, Debug)]
+struct Asked {
+    /// The number of the statement that asks for it.
+    statement: usize,
+    /// Where in the statement it does.
+    stop: Stop,
+    operand: Handle<Expression>,
+}
+
+/// What this fault asks for, if it asks for an operand.
+fn asked_by(fault: ScopeFault) -> Option<Asked>
     ensures { result ≡ asked_by fault }
 {
     match fault {
-        ScopeFault::Operand { statement, operand } => Some((statement, Stop::Before, operand)),
+        ScopeFault::Operand { statement, operand } => Some(Asked {
+            statement,
+            stop: Stop::Before,
+            operand,
+        }),
         ScopeFault::BreakIf {
             statement,
             next,
             operand,
-        } => Some((statement, Stop::BreakIf(next), operand)),
+        } => Some(Asked {
+            statement,
+            stop: Stop::BreakIf(next),
+            operand,
+        }),
         ScopeFault::EmittedOperand {
             statement,
             expression,
             operand,
-        } => Some((statement, Stop::Giving(expression), operand)),
+        } => Some(Asked {
+            statement,
+            stop: Stop::Giving(expression),
+            operand,
+        }),
         ScopeFault::FirstValue { .. }
         | ScopeFault::IntroducedBefore { .. }
         | ScopeFault::NeedsNoEmit { .. } => None,
@@ -95,33 +117,38 @@ fn scope_root(
 ) -> Result<Option<ScopeRoot>, AllocError>
     ensures { IfOk result (λ root. root ≡ scope_root function.now fault) }
 {
-    let Some((statement, stop, operand)) = asked_by(fault) else {
-        return Ok(None);
-    };
-    match root_of(alloc, function, statement, stop, operand)? {
-        Some(root) => Ok(Some(told_root(function, statement, stop, operand, root))),
+    match asked_by(fault) {
+        Some(asked) => asked_root(alloc, function, &asked),
+        None => Ok(None),
+    }
+}
+
+/// Why what is asked for has no value.
+fn asked_root(
+    alloc: Global,
+    function: &Function,
+    asked: &Asked,
+) -> Result<Option<ScopeRoot>, AllocError>
+    ensures { IfOk result (λ root. root ≡ asked_root function.now asked.now) }
+{
+    match root_of(alloc, function, asked.statement, asked.stop, asked.operand)? {
+        Some(root) => Ok(Some(told_root(function, asked, &root))),
         None => Ok(None),
     }
 }
 
 /// The same once it is found.
-fn told_root(
-    function: &Function,
-    statement: usize,
-    stop: Stop,
-    operand: Handle<Expression>,
-    root: Root,
-) -> ScopeRoot
-    ensures { result ≡ told_root function.now statement stop operand root }
+fn told_root(function: &Function, asked: &Asked, root: &Root) -> ScopeRoot
+    ensures { result ≡ told_root function.now asked.now root.now }
 {
-    let is_there = root.statement == statement;
-    let end = root_end(is_there, stop, root.statement);
+    let is_there = root.statement == asked.statement;
+    let end = root_end(is_there, asked.stop, root.statement);
     let first = giver_of(&function.body, root.expression);
     ScopeRoot {
         expression: root.expression,
         statement: root.statement,
         giver: giver_by(root.skipped, end, first),
-        is_operand: is_there && root.expression.index() == operand.index(),
+        is_operand: is_there && root.expression.index() == asked.operand.index(),
     }
 }
 
@@ -258,12 +285,16 @@ fn chain_spots(
     function: &Function,
     fault: ScopeFault,
 ) -> Result<Vec<Spot>, AllocError> {
+    match asked_by(fault) {
+        Some(asked) => asked_spots(alloc, function, &asked),
+        None => Ok(Vec::new(alloc)),
+    }
+}
+
+fn asked_spots(alloc: Global, function: &Function, asked: &Asked) -> Result<Vec<Spot>, AllocError> {
     let mut spots = Vec::new(alloc);
-    let Some((statement, stop, operand)) = asked_by(fault) else {
-        return Ok(spots);
-    };
-    let values = values_at(alloc, function, statement, stop)?;
-    let mut at = operand;
+    let values = values_at(alloc, function, asked.statement, asked.stop)?;
+    let mut at = asked.operand;
     for _ in 0..MOST_SHOWN {
         spots.push(Spot::Expression(at))?;
         match value_at(&values, at) {
