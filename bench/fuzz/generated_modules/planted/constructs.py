@@ -386,7 +386,8 @@ def type_of_loaded_matrix(p):
 @in_function
 def undeclared_member(p):
     struct = some_undeclared(p.r, p.module)
-    members = list(range(len(struct[1])))
+    # a local that takes one that is such a struct itself would be refused first
+    members = [index for index, (_, ty, *_) in enumerate(struct[1]) if not p.module.names_undeclared(ty)]
     p.r.shuffle(members)
     base = p.asked(struct)
     for index in members:
