@@ -88,7 +88,7 @@ giver_text (Ended n) =
     codes "statement " ++ decimal n ++ codes " gives it, in a block that has ended"
 giver_text (Skipped n) =
     codes "statement " ++ decimal n ++ codes " gives it, where a continue may skip it"
-giver_text (Later n) = codes "statement " ++ decimal n ++ codes " gives it, later"
+giver_text (Later n) = codes "statement " ++ decimal n ++ codes " gives it, too late"
 
 abbrev pub root_text : ScopeRoot → List ℕ
 root_text root =

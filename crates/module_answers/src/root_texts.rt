@@ -6,7 +6,7 @@ ghost use Rattle.module_answers.specs.ScopeRoots.{asked_by, asked_root};
 ghost use Rattle.module_answers.specs.ScopeRoots.{giver_by, giver_text, root_after, root_end};
 ghost use Rattle.module_answers.specs.ScopeRoots.{root_in, root_text, scope_root, told_root};
 
-use crate::roots::{Root, Stop, Value, root_of, value_at, values_at};
+use crate::roots::{Root, Stop, Value, root_by, root_of, value_at, values_at};
 use naga_listing::{Spot, entry_point_at, giver_of, item_at};
 use naga_wgsl_out::ir::{Expression, Function, Handle, Module};
 use naga_wgsl_out::wgsl::{FunctionRefusalPosition, RefusalPosition, ScopeFault};
@@ -202,7 +202,7 @@ impl fmt::Display for Giver {
                     number
                 )
             }
-            Giver::Later(number) => write!(f, "statement {} gives it, later", number),
+            Giver::Later(number) => write!(f, "statement {} gives it, too late", number),
         }
     }
 }
@@ -305,8 +305,28 @@ fn asked_spots(alloc: Global, function: &Function, asked: &Asked) -> Result<Vec<
             _ => break,
         }
     }
-    if let Some(number) = giver_of(&function.body, at) {
-        spots.push(Spot::Statement(number))?;
+    match root_by(
+        asked.statement,
+        asked.operand,
+        value_at(&values, asked.operand),
+    ) {
+        Some(root) => push_root(function, root, &mut spots)?,
+        None => {}
     }
     Ok(spots)
+}
+
+/// What is to be seen of a root, however long the way to it is: it, the statement that needed it, and
+/// the one that gives it, as the line has it.
+fn push_root(function: &Function, root: Root, spots: &mut Vec<Spot>) -> Result<(), AllocError> {
+    spots.push(Spot::Expression(root.expression))?;
+    spots.push(Spot::Statement(root.statement))?;
+    let giver = match root.skipped {
+        Some(number) => Some(number),
+        None => giver_of(&function.body, root.expression),
+    };
+    if let Some(number) = giver {
+        spots.push(Spot::Statement(number))?;
+    }
+    Ok(())
 }

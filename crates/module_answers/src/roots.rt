@@ -107,7 +107,11 @@ pub fn value_at(values: &[Value], handle: Handle<Expression>) -> Value
 
 /// Why an expression of which this is known has no value for the statement with this number, if it
 /// has none.
-fn root_by(statement: usize, expression: Handle<Expression>, value: Value) -> Option<Root>
+pub(crate) fn root_by(
+    statement: usize,
+    expression: Handle<Expression>,
+    value: Value,
+) -> Option<Root>
     ensures { result ≡ root_by statement expression value }
 {
     match value {

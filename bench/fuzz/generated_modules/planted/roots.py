@@ -115,7 +115,7 @@ def root_text(f, operand, statement, stop, emitting=None):
     elif giving[0] < end:
         giver = f"statement {giving[0]} gives it, in a block that has ended"
     else:
-        giver = f"statement {giving[0]} gives it, later"
+        giver = f"statement {giving[0]} gives it, too late"
     if (expression, needing) == (operand, statement):
         return giver
     return f"expressions[{expression}] has no value at statement {needing}; {giver}"
