@@ -21,6 +21,7 @@ use std::alloc::{AllocError, Global};
 /// An expression that has no value, since nothing gave it in sight of the statement that needed it.
 #[derive(Clone, Copy, Debug, PartialEq, Eq)]
 pub struct Root {
+    /// The expression.
     pub expression: Handle<Expression>,
     /// The number of the statement that needed it: the one that uses it, or the `Emit` of an
     /// expression of which it is an operand.

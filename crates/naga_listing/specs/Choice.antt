@@ -21,7 +21,7 @@ use Rattle.naga_listing.specs.Named.{named_spots}
 abbrev pub same_spot : Spot → Spot → Bool
 same_spot = eq-value.it
 
--- Is the kind about this?
+-- Is a line of this kind about this?
 abbrev pub is_about : Spot → LineKind → Bool
 is_about s (kind.Item t) = same_spot t s
 is_about s _ = false

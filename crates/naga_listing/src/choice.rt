@@ -130,7 +130,7 @@ fn begins_with_gap(lines: &[Line]) -> bool
     }
 }
 
-/// Whether a line of the list is shown that begins with this kind, by whether one is after it.
+/// Whether a list is shown whose first line is of this kind, by whether one is after it.
 fn opens(kind: &LineKind, shown: bool, opened: bool) -> bool
     ensures { result ≡ (if is_title kind.now then false else (shown || opened)) }
 {

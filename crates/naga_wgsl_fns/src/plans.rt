@@ -119,8 +119,9 @@ fn unplanned_error(alloc: Global, unplanned: Unplanned) -> Error
 
 /// The same plan, or the construct for which there is none, and where it stands. Where several stand,
 /// labels come first, and then it is the first in the order of the text: the signature, the locals,
-/// the statements, a loop's `break if` after all that stands in the loop. On one line it is the first of the rules of scope, the form of the statement, the
-/// expressions from the lowest handle on, the type that is declared, and those that `let`s tell.
+/// the statements, a loop's `break if` after all that stands in the loop. On one line it is the first
+/// of the rules of scope, the form of the statement, the expressions from the lowest handle on, the
+/// type that is declared, and those that `let`s tell.
 pub fn plan_or_refusal<'a>(
     alloc: Global,
     module: &'a Module,
