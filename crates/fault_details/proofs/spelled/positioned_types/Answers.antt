@@ -7,7 +7,8 @@ use Rattle.fault_details.proofs.spelled.positioned_types.Goals as goal
 pub returns-then-eq : goal.returns-then-eq
 returns-then-eq c =
     let m = c.args.«module».now in
-    let same : string_bytes c.in_ok-expected.expected ≡ string_bytes c.in_ok-positioned_got.positioned_got = search rules in
+    let same : string_bytes c.in_ok-expected.expected ≡ string_bytes c.in_ok-positioned_got.positioned_got
+      = search rules in
     inr (
       c.in_ok-expected.ensures,
       subst (IsPositioned m c.args.got.now) (sym same) c.in_ok-positioned_got.ensures,

@@ -41,5 +41,6 @@ returns-in-Ok c =
     c.write_within.ensures.within in
     λ json. wrote json c.args.flags writer given m read info w.answer w.refusal (string_bytes w.sink) answers.0 _ _
     (at_most_seven c.args.flags c.requires.known) c.writer_flags.ensures
-    (as_given c.args.flags given c.requires.known) accepted counted answers.1.faithful answers.1.text answers.1.refusal within
+    (as_given c.args.flags given c.requires.known) accepted counted
+    answers.1.faithful answers.1.text answers.1.refusal within
     c.told_written.ensures
