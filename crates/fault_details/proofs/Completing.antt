@@ -3,12 +3,9 @@
 -- Throughout, m is a module, info what is known of it, f a function, p an entry point, known the
 -- types of several expressions, e is one of them and h its handle, at is a position, and fails says
 -- that a test fails.
-use Rattle.std.proofs.Common.{◌≡◌, ◌∙◌, ◌≤◌, ◌==◌, ◌&&◌, ℕ, zero, suc}
-use Rattle.std.proofs.Common.{Bool, true, List, [], ◌∷◌, length, map, Some, None}
-use Rattle.std.proofs.Common.{IsSome}
-use Rattle.std.proofs.Common.{arith, ap, is_some, nat_lt}
-use Rattle.std.proofs.Common.{option_map, refl, slice_get, sym}
-use Rattle.std.proofs.Common.{zip}
+use Rattle.std.proofs.Common.{◌≡◌, ◌∙◌, ◌≤◌, ◌==◌, ◌&&◌, ℕ, zero, suc, Bool, true, List, [], ◌∷◌}
+use Rattle.std.proofs.Common.{length, map, Some, None, IsSome, arith, ap, is_some, nat_lt}
+use Rattle.std.proofs.Common.{option_map, refl, slice_get, sym, zip}
 use Rattle.std.specs.Prelude.{IsTrue}
 use Rattle.std.specs.List.{list_all}
 use Rattle.std.specs.Option.{option_map_or}
@@ -35,25 +32,20 @@ use Rattle.module_meaning.specs.acceptance.Initialisers.{constant_is_sound, glob
 use Rattle.module_meaning.specs.acceptance.Initialisers.{override_is_sound}
 use Rattle.module_meaning.specs.acceptance.Numbers.{fits_16_bits, resource_fits_32_bits}
 use Rattle.module_meaning.specs.acceptance.Numbers.{workgroup_fits_32_bits}
-use Rattle.module_meaning.specs.acceptance.Ranges.{all_below, all_placed}
-use Rattle.module_meaning.specs.acceptance.Ranges.{constant_in_range, declarations_in_range}
-use Rattle.module_meaning.specs.acceptance.Ranges.{entry_point_in_range, expression_in_range}
-use Rattle.module_meaning.specs.acceptance.Ranges.{function_in_range}
+use Rattle.module_meaning.specs.acceptance.Ranges.{all_below, all_placed, constant_in_range}
+use Rattle.module_meaning.specs.acceptance.Ranges.{declarations_in_range, entry_point_in_range}
+use Rattle.module_meaning.specs.acceptance.Ranges.{expression_in_range, function_in_range}
 use Rattle.module_meaning.specs.acceptance.Ranges.{global_expression_in_range, global_in_range}
-use Rattle.module_meaning.specs.acceptance.Ranges.{initialiser_before, is_below}
-use Rattle.module_meaning.specs.acceptance.Ranges.{module_in_range, module_ranges_fit}
-use Rattle.module_meaning.specs.acceptance.Ranges.{names_in_range}
+use Rattle.module_meaning.specs.acceptance.Ranges.{initialiser_before, is_below, module_in_range}
+use Rattle.module_meaning.specs.acceptance.Ranges.{module_ranges_fit, names_in_range}
 use Rattle.module_meaning.specs.acceptance.Ranges.{override_in_range, resolution_fits}
 use Rattle.module_meaning.specs.acceptance.Ranges.{special_types_fit, types_in_range}
 use Rattle.module_meaning.proofs.Lists.{list_all_at}
 use Rattle.naga_info.proofs.Options.{map_some}
 use Rattle.naga_acceptance.specs.Faults.{ConstantFails, EntryPositionFails, EntryPointFails}
-use Rattle.naga_acceptance.specs.Faults.{FaultIs}
-use Rattle.naga_acceptance.specs.Faults.{FunctionFails, FunctionPositionFails}
-use Rattle.naga_acceptance.specs.Faults.{GlobalExpressionFails}
-use Rattle.naga_acceptance.specs.Faults.{GlobalFails}
-use Rattle.naga_acceptance.specs.Faults.{ItemFails, ModuleFails, OverrideFails, TypeFails}
-use Rattle.naga_acceptance.specs.Faults.{known_of}
+use Rattle.naga_acceptance.specs.Faults.{FaultIs, FunctionFails, FunctionPositionFails}
+use Rattle.naga_acceptance.specs.Faults.{GlobalExpressionFails, GlobalFails, ItemFails, ModuleFails}
+use Rattle.naga_acceptance.specs.Faults.{OverrideFails, TypeFails, known_of}
 use Rattle.naga_acceptance.specs.FirstFaults.{IsOfTypes}
 use Rattle.naga_acceptance.specs.declared.faults.Fault.{Fault}
 use Rattle.naga_acceptance.specs.declared.faults.Fault.TheVariants as fault
@@ -62,15 +54,12 @@ use Rattle.naga_acceptance.specs.declared.faults.FunctionPosition.TheVariants as
 use Rattle.naga_acceptance.specs.declared.faults.FaultPosition.{FaultPosition}
 use Rattle.naga_acceptance.specs.declared.faults.FaultPosition.TheVariants as item
 use Rattle.naga_acceptance.proofs.Finding.{unfit_item}
-use Rattle.fault_details.specs.Reasons.{reason_at}
-use Rattle.fault_details.specs.Reasons.{entry_point_reason, expression_reason, function_reason}
-use Rattle.fault_details.specs.Reasons.{global_reason}
-use Rattle.fault_details.specs.Reasons.{item_reason}
+use Rattle.fault_details.specs.Reasons.{reason_at, entry_point_reason, expression_reason}
+use Rattle.fault_details.specs.Reasons.{function_reason, global_reason, item_reason}
 use Rattle.fault_details.specs.WithReason.{AreNumbered, TypeFaultsHaveReasons}
-use Rattle.fault_details.proofs.Reasoning.{IsKnown, item_before}
-use Rattle.fault_details.proofs.Reasoning.{some_then}
-use Rattle.fault_details.proofs.FunctionReasons.{IsOfItem, function_told, initialiser_told, operands_told}
-use Rattle.fault_details.proofs.FunctionReasons.{own_type_told, placed}
+use Rattle.fault_details.proofs.Reasoning.{IsKnown, item_before, some_then}
+use Rattle.fault_details.proofs.FunctionReasons.{IsOfItem, function_told, initialiser_told}
+use Rattle.fault_details.proofs.FunctionReasons.{operands_told, own_type_told, placed}
 use Rattle.fault_details.proofs.Disagreeing.{disagreement_told}
 
 -- ---- what is known of several functions

@@ -1,5 +1,5 @@
 -- What a type names is there for the context of the module where it is one of so many.
-use Rattle.std.proofs.Common.{◌≡◌, ◌∙◌, ◌↔◌, ℕ, List, length, refl, slice_get, Some, sym}
+use Rattle.std.proofs.Common.{◌≡◌, ◌∙◌, ℕ, List, length, refl, slice_get, Some, sym}
 use Rattle.naga_ir.specs.declared.module.Override.{Override}
 use Rattle.naga_ir.specs.declared.types.Type_.{Type_}
 use Rattle.naga_ir.specs.declared.types.TypeInner.{TypeInner}
@@ -7,7 +7,7 @@ use Rattle.naga_ir.specs.declared.types.TypeInner.TheVariants as inner
 use Rattle.naga_ir.specs.declared.types.ArraySize.{ArraySize}
 use Rattle.naga_ir.specs.declared.types.ArraySize.TheVariants as size
 use Rattle.naga_words.specs.Contexts.{global_context}
-use Rattle.naga_words.specs.Spelling.{Fits, IsInOrder, StandsAfter, knows_override, knows_size}
+use Rattle.naga_words.specs.Spelling.{IsInOrder, StandsAfter, knows_override, knows_size}
 use Rattle.naga_words.specs.Spelling.{length_within, size_within}
 
 module _ (types : List Type_) (overrides : List Override) where
@@ -21,13 +21,6 @@ module _ (types : List Type_) (overrides : List Override) where
   known_within (inner.Array base count stride) = so_many count
   known_within (inner.BindingArray base count) = so_many count
   known_within _ = refl
-
-  pub fits_after : (it : TypeInner) → StandsAfter (length types) (length overrides) it ↔ Fits
-      (global_context types overrides) it
-  fits_after it = (
-    λ stands. record { in_range = stands.before; knows = known_within it ∙ stands.known },
-    λ fits. record { before = fits.in_range; known = sym (known_within it) ∙ fits.knows },
-  )
 
   -- in order, each type stands after those that it names
   pub after_in_order : IsInOrder (global_context types overrides) → (handle : ℕ) (t : Type_) →

@@ -3,22 +3,21 @@
 --
 -- Throughout, m is a module, f a function, known the types of several expressions, e is one of them
 -- and h its handle, n is how many there are, s a statement, and fails says that a test fails.
-use Rattle.std.proofs.Common.{◌≡◌, ◌∙◌, ◌<◌, ◌≤◌, ◌+◌, ◌^◌, ◌%◌, ◌&&◌, ℕ}
-use Rattle.std.proofs.Common.{Bool, true, false, List, [], ◌∷◌, length, Option, Some, None}
-use Rattle.std.proofs.Common.{IsSome}
-use Rattle.std.proofs.Common.{arith, ⊎_elim, ap, is_some, nat_lt, option_and_then}
-use Rattle.std.proofs.Common.{option_map, option_to_list, refl, slice_get, sym, true≢false}
+use Rattle.std.proofs.Common.{◌≡◌, ◌∙◌, ◌<◌, ◌≤◌, ◌+◌, ◌^◌, ◌%◌, ◌&&◌, ℕ, Bool, true, false, List}
+use Rattle.std.proofs.Common.{[], ◌∷◌, length, Option, Some, None, IsSome, arith, ⊎_elim, ap}
+use Rattle.std.proofs.Common.{is_some, nat_lt, option_and_then, option_map, option_to_list, refl}
+use Rattle.std.proofs.Common.{slice_get, sym, true≢false}
 use Rattle.std.specs.Prelude.{⊤, if◌then◌else◌, take}
 use Rattle.std.specs.List.{list_all, enumerate_from}
 use Rattle.std.specs.Option.{option_map_or, option_or}
 use Rattle.std.proofs.lemmas.Bool.{and_parts, and_cases, lt-ltb}
 use Rattle.std.proofs.lemmas.Option.{slice_get_within}
 use Rattle.naga_ir.specs.Operands.{expression_operands, simple_operands, simple_result}
-use Rattle.naga_ir.specs.StatementTree.{SimpleStatement, break, continue, return, store}
-use Rattle.naga_ir.specs.StatementTree.{atomic, call, cooperative_store, subgroup_ballot}
+use Rattle.naga_ir.specs.StatementTree.{SimpleStatement, break, continue, return, store, atomic}
+use Rattle.naga_ir.specs.StatementTree.{call, cooperative_store, subgroup_ballot}
 use Rattle.naga_ir.specs.StatementTree.{subgroup_collective_operation, subgroup_gather}
-use Rattle.naga_ir.specs.StatementTree.{work_group_uniform_load}
-use Rattle.naga_ir.specs.StatementTree.{StatementTree, simple, branch, switch, loop}
+use Rattle.naga_ir.specs.StatementTree.{work_group_uniform_load, StatementTree, simple, branch}
+use Rattle.naga_ir.specs.StatementTree.{switch, loop}
 use Rattle.naga_ir.specs.declared.expression.Expression.{Expression}
 use Rattle.naga_ir.specs.declared.expression.Expression.TheVariants as expression
 use Rattle.naga_ir.specs.declared.module.Function.{Function}
@@ -36,31 +35,25 @@ use Rattle.naga_info.specs.declared.info.TypeResolution.{TypeResolution}
 use Rattle.naga_info.specs.declared.info.TypeResolution.TheVariants.{Handle}
 use Rattle.module_meaning.specs.AlikeTypes.{are_alike}
 use Rattle.module_meaning.specs.acceptance.ExpressionTypes.{ExpectedType, LikeThis, Anything}
-use Rattle.module_meaning.specs.acceptance.ExpressionTypes.{Nothing}
-use Rattle.module_meaning.specs.acceptance.ExpressionTypes.{argument_type, binary_type}
+use Rattle.module_meaning.specs.acceptance.ExpressionTypes.{Nothing, argument_type, binary_type}
 use Rattle.module_meaning.specs.acceptance.ExpressionTypes.{has_its_type, if_any, is_bool}
-use Rattle.module_meaning.specs.acceptance.ExpressionTypes.{is_expected, local_type}
-use Rattle.module_meaning.specs.acceptance.ExpressionTypes.{logical_type, only, vector_of}
-use Rattle.module_meaning.specs.acceptance.ExpressionTypes.{expected_type}
-use Rattle.module_meaning.specs.acceptance.OperandDemands.{is_scalar_or_vector, is_integer, operand_is}
-use Rattle.module_meaning.specs.acceptance.OperandDemands.{is_swizzled, operands_fit}
+use Rattle.module_meaning.specs.acceptance.ExpressionTypes.{is_expected, local_type, logical_type}
+use Rattle.module_meaning.specs.acceptance.ExpressionTypes.{only, vector_of, expected_type}
+use Rattle.module_meaning.specs.acceptance.OperandDemands.{is_scalar_or_vector, is_integer}
+use Rattle.module_meaning.specs.acceptance.OperandDemands.{operand_is, is_swizzled, operands_fit}
 use Rattle.module_meaning.specs.acceptance.Initialisers.{initialiser_fits, local_is_sound}
-use Rattle.module_meaning.specs.acceptance.Ranges.{all_below, block_in_range}
-use Rattle.module_meaning.specs.acceptance.Ranges.{expression_in_range}
+use Rattle.module_meaning.specs.acceptance.Ranges.{all_below, block_in_range, expression_in_range}
 use Rattle.module_meaning.specs.acceptance.Ranges.{expressions_in_range, function_in_range}
-use Rattle.module_meaning.specs.acceptance.Ranges.{is_below, local_in_range}
-use Rattle.module_meaning.specs.acceptance.Ranges.{named_in_range, names_fit, names_in_range}
-use Rattle.module_meaning.specs.acceptance.Ranges.{signature_fits}
+use Rattle.module_meaning.specs.acceptance.Ranges.{is_below, local_in_range, named_in_range}
+use Rattle.module_meaning.specs.acceptance.Ranges.{names_fit, names_in_range, signature_fits}
 use Rattle.module_meaning.specs.acceptance.StatementsFit.{are_passed, calls, is_answered}
 use Rattle.module_meaning.specs.acceptance.StatementsFit.{is_atomic_result, is_call, is_condition}
 use Rattle.module_meaning.specs.acceptance.StatementsFit.{is_result, is_result_if, is_result_of}
 use Rattle.module_meaning.specs.acceptance.StatementsFit.{simple_is_sound}
 use Rattle.module_meaning.proofs.Lists.{list_all_at, placed_at}
-use Rattle.naga_acceptance.specs.Faults.{FunctionPositionFails}
-use Rattle.naga_acceptance.specs.Faults.{UnfitStatement}
+use Rattle.naga_acceptance.specs.Faults.{FunctionPositionFails, UnfitStatement}
 use Rattle.naga_acceptance.specs.TextOrder.{is_in_range, is_sound, case_values_fit_32_bits}
-use Rattle.naga_acceptance.specs.TextOrder.{own_in_range}
-use Rattle.naga_acceptance.specs.TextOrder.{own_is_sound, text_order}
+use Rattle.naga_acceptance.specs.TextOrder.{own_in_range, own_is_sound, text_order}
 use Rattle.naga_acceptance.specs.declared.faults.Fault.{Fault}
 use Rattle.naga_acceptance.specs.declared.faults.Fault.TheVariants as fault
 use Rattle.naga_acceptance.specs.declared.faults.FunctionPosition.{FunctionPosition}
@@ -71,23 +64,19 @@ use Rattle.module_meaning.specs.TypeParts.{component_scalar, has_computed_parts,
 use Rattle.module_meaning.specs.TypeParts.{known_inner, part_count, part_type, pointee_type}
 use Rattle.module_meaning.specs.TypeParts.{points_to_atomic, vector_scalar}
 use Rattle.fault_details.specs.Reasons.{LacksLetter, first_reason, has_letter, letter_reason}
-use Rattle.fault_details.specs.Reasons.{swizzle_reason}
-use Rattle.fault_details.specs.Reasons.{answer_reason, call_reason, class_reason, declared_reason}
-use Rattle.fault_details.specs.Reasons.{expression_reason, function_reason}
-use Rattle.fault_details.specs.Reasons.{index_reason, is_in_class}
-use Rattle.fault_details.specs.Reasons.{need_unless, number_reason, operand_reason, own_reason}
-use Rattle.fault_details.specs.Reasons.{own_type_reason, passed_reason, result_reason}
-use Rattle.fault_details.specs.Reasons.{simple_reason}
-use Rattle.fault_details.specs.Reasons.{statement_reason, type_reason, typeless_reason}
-use Rattle.fault_details.specs.Reasons.{expected_reason}
+use Rattle.fault_details.specs.Reasons.{swizzle_reason, answer_reason, call_reason, class_reason}
+use Rattle.fault_details.specs.Reasons.{declared_reason, expression_reason, function_reason}
+use Rattle.fault_details.specs.Reasons.{index_reason, is_in_class, need_unless, number_reason}
+use Rattle.fault_details.specs.Reasons.{operand_reason, own_reason, own_type_reason, passed_reason}
+use Rattle.fault_details.specs.Reasons.{result_reason, simple_reason, statement_reason, type_reason}
+use Rattle.fault_details.specs.Reasons.{typeless_reason, expected_reason}
 use Rattle.fault_details.specs.declared.words.Counted.TheVariants as counted
 use Rattle.fault_details.specs.declared.words.ListName.TheVariants as list
 use Rattle.fault_details.specs.declared.words.Need.TheVariants as need
 use Rattle.fault_details.specs.declared.words.TypeClass.TheVariants as class
 use Rattle.fault_details.proofs.Reasoning.{IsKnown, call_told, class_told, item_before, none_is}
 use Rattle.fault_details.proofs.Reasoning.{return_told, some_first, some_second, some_then}
-use Rattle.fault_details.proofs.Reasoning.{some_unless}
-use Rattle.fault_details.proofs.Reasoning.{store_told, switch_told, type_told}
+use Rattle.fault_details.proofs.Reasoning.{some_unless, store_told, switch_told, type_told}
 
 -- a kind of fault of types that tells of one item by itself
 abbrev pub IsOfItem : Fault → Type 0

@@ -1,8 +1,7 @@
 -- Each reason is one: each comes from a test that fails.
-use Rattle.std.proofs.Common.{◌≡◌, ◌<◌, ◌==◌, ◌-◌, ℕ, zero, suc, Bool, true, false, List, [], ◌∷◌, arith}
-use Rattle.std.proofs.Common.{Option, Some, None}
-use Rattle.std.proofs.Common.{refl, length, nat_lt, nat_le, not, slice_get, true≢false, sym, eq-eqb}
-use Rattle.std.proofs.Common.{◌∙◌}
+use Rattle.std.proofs.Common.{◌≡◌, ◌<◌, ◌==◌, ◌-◌, ℕ, zero, suc, Bool, true, false, List, [], ◌∷◌}
+use Rattle.std.proofs.Common.{arith, Option, Some, None, refl, length, nat_lt, nat_le, not}
+use Rattle.std.proofs.Common.{slice_get, true≢false, sym, eq-eqb, ◌∙◌}
 use Rattle.std.proofs.lemmas.Bool.{ltb-false, ltb-true, leb-false}
 use Rattle.std.specs.List.{enumerate_from}
 use Rattle.std.specs.Prelude.{if◌then◌else◌, take}
@@ -28,16 +27,19 @@ use Rattle.naga_ir.specs.declared.types.ArraySize.TheVariants as size
 use Rattle.naga_ir.specs.declared.types.TypeInner.{TypeInner}
 use Rattle.naga_ir.specs.declared.types.TypeInner.TheVariants as inner
 use Rattle.naga_ir.specs.declared.expression.SwizzleComponent.{SwizzleComponent}
-use Rattle.module_meaning.specs.acceptance.StatementsFit.{components_pointer}
+use Rattle.module_meaning.specs.acceptance.StatementsFit.{components_pointer, has_case_value}
+use Rattle.module_meaning.specs.acceptance.StatementsFit.{is_result, is_result_of, is_signed}
+use Rattle.module_meaning.specs.acceptance.StatementsFit.{is_unsigned, case_values_differ}
+use Rattle.module_meaning.specs.acceptance.StatementsFit.{last_falls_through}
 use Rattle.module_meaning.specs.TypeIdentity.{component_count}
 use Rattle.naga_info.specs.declared.info.ModuleInfo.{ModuleInfo}
 use Rattle.naga_info.specs.declared.info.TypeResolution.{TypeResolution}
 use Rattle.naga_info.specs.declared.info.TypeResolution.TheVariants.{Handle, Value}
 use Rattle.naga_info.specs.Resolution.{inner_of}
 use Rattle.naga_acceptance.specs.Faults.{known_of, site_of}
-use Rattle.naga_acceptance.specs.FirstUses.{first_below, first_other, first_other_at, first_other_in}
-use Rattle.naga_acceptance.specs.FirstUses.{other_type, other_use, other_use_in, placed_use}
-use Rattle.naga_acceptance.specs.FirstUses.{unless_alike}
+use Rattle.naga_acceptance.specs.FirstUses.{first_below, first_other, first_other_at}
+use Rattle.naga_acceptance.specs.FirstUses.{first_other_in, other_type, other_use, other_use_in}
+use Rattle.naga_acceptance.specs.FirstUses.{placed_use, unless_alike}
 use Rattle.naga_acceptance.specs.Searching.{first_faulty, or_further}
 use Rattle.naga_acceptance.specs.Uses.{is_same_operator, use_in}
 use Rattle.module_meaning.specs.acceptance.AgreeingOperators.{Group, expression_use, groups_of}
@@ -51,37 +53,25 @@ use Rattle.naga_acceptance.specs.declared.faults.FunctionPosition.{FunctionPosit
 use Rattle.naga_acceptance.specs.declared.faults.FunctionPosition.TheVariants as part
 use Rattle.module_meaning.specs.AlikeTypes.{are_alike}
 use Rattle.module_meaning.specs.acceptance.ExpressionTypes.{ExpectedType, LikeThis, Anything}
-use Rattle.module_meaning.specs.acceptance.ExpressionTypes.{Nothing}
-use Rattle.module_meaning.specs.acceptance.ExpressionTypes.{expected_type}
-use Rattle.module_meaning.specs.acceptance.StatementsFit.{has_case_value, is_result, is_result_of}
-use Rattle.module_meaning.specs.acceptance.StatementsFit.{is_signed, is_unsigned}
-use Rattle.module_meaning.specs.acceptance.StatementsFit.{case_values_differ}
-use Rattle.module_meaning.specs.acceptance.StatementsFit.{last_falls_through}
+use Rattle.module_meaning.specs.acceptance.ExpressionTypes.{Nothing, expected_type}
 use Rattle.module_meaning.specs.TypeParts.{known_pointee}
 use Rattle.fault_details.specs.Holds.{IsReason, ReasonsHold}
 use Rattle.fault_details.specs.Reasons.{Reason, Absent, Later, OtherClass, OtherNumber, OtherType}
-use Rattle.fault_details.specs.Reasons.{KnownType, PastParts, LacksLetter, Unexpected}
-use Rattle.fault_details.specs.Reasons.{has_letter, letter_reason, reason_at, swizzle_reason}
-use Rattle.fault_details.specs.Reasons.{use_reason}
+use Rattle.fault_details.specs.Reasons.{KnownType, PastParts, LacksLetter, Unexpected, has_letter}
+use Rattle.fault_details.specs.Reasons.{letter_reason, reason_at, swizzle_reason, use_reason}
 use Rattle.fault_details.specs.Reasons.{absent, class_reason, declared_reason, emitted_reason}
-use Rattle.fault_details.specs.Reasons.{first_reason, index_reason}
-use Rattle.fault_details.specs.Reasons.{initialiser_reason, item_reason, known_reason}
-use Rattle.fault_details.specs.Reasons.{case_value_reason}
-use Rattle.fault_details.specs.Reasons.{case_value_type_reason}
-use Rattle.fault_details.specs.Reasons.{case_value_types_reason, length_reason}
-use Rattle.fault_details.specs.Reasons.{name_reason, names_reason, need_unless, not_before}
-use Rattle.fault_details.specs.Reasons.{number_reason, operand_reason}
-use Rattle.fault_details.specs.Reasons.{own_name_reason, own_reason, own_type_reason, part_reason}
-use Rattle.fault_details.specs.Reasons.{passed_reason}
-use Rattle.fault_details.specs.Reasons.{return_reason, simple_name_reason, simple_reason}
-use Rattle.fault_details.specs.Reasons.{size_reason}
+use Rattle.fault_details.specs.Reasons.{first_reason, index_reason, initialiser_reason, item_reason}
+use Rattle.fault_details.specs.Reasons.{known_reason, case_value_reason, case_value_type_reason}
+use Rattle.fault_details.specs.Reasons.{case_value_types_reason, length_reason, name_reason}
+use Rattle.fault_details.specs.Reasons.{names_reason, need_unless, not_before, number_reason}
+use Rattle.fault_details.specs.Reasons.{operand_reason, own_name_reason, own_reason}
+use Rattle.fault_details.specs.Reasons.{own_type_reason, part_reason, passed_reason, return_reason}
+use Rattle.fault_details.specs.Reasons.{simple_name_reason, simple_reason, size_reason}
 use Rattle.fault_details.specs.Reasons.{statement_name_reason, statement_reason, stored_reason}
-use Rattle.fault_details.specs.Reasons.{type_reason}
-use Rattle.fault_details.specs.Reasons.{typeless_reason, unlike, expected_reason, whole_reason}
-use Rattle.fault_details.specs.Reasons.{function_reason}
-use Rattle.fault_details.specs.Reasons.{expression_reason, entry_point_reason, order_reason}
-use Rattle.fault_details.specs.Reasons.{variables_reason, module_reason}
-use Rattle.fault_details.specs.Reasons.{made_reason, is_in_class, call_reason}
+use Rattle.fault_details.specs.Reasons.{type_reason, typeless_reason, unlike, expected_reason}
+use Rattle.fault_details.specs.Reasons.{whole_reason, function_reason, expression_reason}
+use Rattle.fault_details.specs.Reasons.{entry_point_reason, order_reason, variables_reason}
+use Rattle.fault_details.specs.Reasons.{module_reason, made_reason, is_in_class, call_reason}
 use Rattle.fault_details.specs.Reasons.{answer_reason}
 use Rattle.fault_details.proofs.ScalarsApart.{signed_apart, unsigned_apart}
 use Rattle.fault_details.specs.declared.words.Counted.{Counted}

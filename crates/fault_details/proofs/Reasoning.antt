@@ -3,9 +3,9 @@
 -- Throughout, types are a module's types, known the types of several expressions, r is one of them,
 -- h and x are handles, and fails says that a test fails.
 use Rattle.std.proofs.Common.{◌≡◌, ◌∙◌, ◌≤◌, ◌==◌, ◌&&◌, ℕ, Bool, true, false, List, [], ◌∷◌}
-use Rattle.std.proofs.Common.{length, Option, Some, None, IsSome}
-use Rattle.std.proofs.Common.{arith, ⊎_elim, ap, is_some, nat_lt, not, option_and_then, option_map}
-use Rattle.std.proofs.Common.{refl, slice_get, sym, true≢false}
+use Rattle.std.proofs.Common.{length, Option, Some, None, IsSome, arith, ⊎_elim, ap, is_some}
+use Rattle.std.proofs.Common.{nat_lt, not, option_and_then, option_map, refl, slice_get, sym}
+use Rattle.std.proofs.Common.{true≢false}
 use Rattle.std.specs.Prelude.{if◌then◌else◌}
 use Rattle.std.specs.Option.{option_map_or, option_or}
 use Rattle.std.proofs.lemmas.Bool.{and_parts, and_cases, eqb-true, ltb-true}
@@ -27,17 +27,16 @@ use Rattle.module_meaning.specs.acceptance.OperandDemands.{is_pointer, operand_i
 use Rattle.module_meaning.specs.acceptance.Ranges.{all_below}
 use Rattle.module_meaning.specs.acceptance.StatementsFit.{are_passed, has_case_value, is_returned}
 use Rattle.module_meaning.specs.acceptance.StatementsFit.{is_selection, is_stored, case_value_is_of}
-use Rattle.module_meaning.specs.acceptance.StatementsFit.{case_values_are_of}
-use Rattle.module_meaning.specs.acceptance.StatementsFit.{case_values_differ, case_values_fit}
-use Rattle.module_meaning.specs.acceptance.StatementsFit.{last_falls_through, selection_fits}
-use Rattle.module_meaning.specs.acceptance.StatementsFit.{is_selector_type, value_has_type}
+use Rattle.module_meaning.specs.acceptance.StatementsFit.{case_values_are_of, case_values_differ}
+use Rattle.module_meaning.specs.acceptance.StatementsFit.{case_values_fit, last_falls_through}
+use Rattle.module_meaning.specs.acceptance.StatementsFit.{selection_fits, is_selector_type}
+use Rattle.module_meaning.specs.acceptance.StatementsFit.{value_has_type}
 use Rattle.module_meaning.specs.TypeParts.{known_inner, known_pointee, pointee_type}
 use Rattle.fault_details.specs.Reasons.{Reason, OtherClass, OtherType, Unexpected, class_reason}
 use Rattle.fault_details.specs.Reasons.{is_in_class, case_value_reason, case_value_type_reason}
-use Rattle.fault_details.specs.Reasons.{case_value_types_reason}
-use Rattle.fault_details.specs.Reasons.{need_unless, number_reason, passed_reason, return_reason}
-use Rattle.fault_details.specs.Reasons.{store_reason, stored_reason, switch_reason, type_reason}
-use Rattle.fault_details.specs.Reasons.{unlike}
+use Rattle.fault_details.specs.Reasons.{case_value_types_reason, need_unless, number_reason}
+use Rattle.fault_details.specs.Reasons.{passed_reason, return_reason, store_reason, stored_reason}
+use Rattle.fault_details.specs.Reasons.{switch_reason, type_reason, unlike}
 use Rattle.fault_details.specs.declared.words.Counted.TheVariants as counted
 use Rattle.fault_details.specs.declared.words.Need.{Need}
 use Rattle.fault_details.specs.declared.words.Need.TheVariants as need

@@ -270,10 +270,10 @@ module _ (m : Module) (info : ModuleInfo)
   is_other =
       subst (λ o. IfSome o (IsOtherUse m info at))
       (sym (ap
-        (option_and_then (λ site. option_and_then (λ g. other_use_in m gs g site.1) (slice_get gs site.0))) is_here
+      (option_and_then (λ site. option_and_then (λ g. other_use_in m gs g site.1) (slice_get gs site.0))) is_here
       ∙ ap (option_and_then (λ g. other_use_in m gs g index)) of
       ∙ ap (option_and_then (λ v.
-        option_and_then (λ here. option_map (placed_use m here) (first_other m.types here gs v))
+      option_and_then (λ here. option_map (placed_use m here) (first_other m.types here gs v))
       (slice_get g.known index))) own.1
       ∙ ap (option_and_then (λ here. option_map (placed_use m here) (first_other m.types here gs own.0))) here.1))
       (of_mapped (placed_use m here.0) (IsOtherUse m info at) (first_other m.types here.0 gs own.0)

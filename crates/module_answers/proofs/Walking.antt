@@ -37,14 +37,6 @@ skipped_step n i e values lt =
 none_left : (i e : ℕ) → e < i + 1 → e - i ≡ zero
 none_left i e le = omega (arith, le)
 
-pub given_end : (es : List Expression) (n i e : ℕ) (values : List Value) → e < i + 1 →
-    given_range es n i (e - i) values ≡ values
-given_end es n i e values le = ap (λ c. given_range es n i c values) (none_left i e le)
-
-pub skipped_end : (n i e : ℕ) (values : List Value) → e < i + 1 →
-    skipped_range n i (e - i) values ≡ values
-skipped_end n i e values le = ap (λ c. skipped_range n i c values) (none_left i e le)
-
 -- ---- expressions
 pub first_more : (es : List Expression) (i : ℕ) (e : Expression) (values now : List Value) (v : Value) →
     slice_get es i ≡ Some e → v ≡ first_value values e → now ≡ values ++ (v ∷ []) →

@@ -1,8 +1,7 @@
 -- What is so of the writer's answer is so of want of memory in its place.
 use Rattle.std.proofs.Common.{◌≡◌, ℕ, List, inl, inr, subst, sym}
 use Rattle.std.specs.Prelude.{Err, IfErr, IfSome, IsErrAnd, MatchOption, None, Ok, OnOk, Option}
-use Rattle.std.specs.Prelude.{Result}
-use Rattle.std.specs.Prelude.{Bool, Some, alloc_error}
+use Rattle.std.specs.Prelude.{Result, Bool, Some, alloc_error}
 use Rattle.naga_back.specs.Flags.{annotates_types}
 use Rattle.naga_back.specs.declared.flags.WriterFlags.{WriterFlags}
 use Rattle.naga_info.specs.declared.info.ModuleInfo.{ModuleInfo}

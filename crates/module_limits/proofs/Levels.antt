@@ -1,14 +1,9 @@
 -- When numbers, and the greatest of several, are no more than so many levels.
-use Rattle.std.proofs.Common.{◌≡◌, ℕ, ◌<◌, ◌≤◌, ◌+◌, zero, suc, max, List, [], ◌∷◌, ◌++◌, ◌&&◌, fold, map}
-use Rattle.std.proofs.Common.{length, true, false, refl, ap, sym, ◌∙◌, arith, drop, get_or, nat_le}
+use Rattle.std.proofs.Common.{◌≡◌, ℕ, ◌<◌, ◌≤◌, ◌+◌, zero, suc, max, List, [], ◌∷◌, ◌++◌, fold, map}
+use Rattle.std.proofs.Common.{length, true, false, refl, ap, sym, ◌∙◌, arith, drop, get_or}
 use Rattle.std.specs.List.{enumerate_from}
 use Rattle.std.proofs.lemmas.Bool.{le-leb, leb-true}
-use Rattle.std.proofs.lemmas.Bool.Decides.{leb_tells}
 use Rattle.module_limits.specs.Depths.{greatest, with_depth}
-
--- two are, where each is
-pub within_both : (a b n : ℕ) → nat_le (max a b) n ≡ (nat_le a n && nat_le b n)
-within_both a b n = grind (arith, leb_tells a n, leb_tells b n, leb_tells (max a b) n)
 
 pub greatest_append : (xs ys : List ℕ) → greatest (xs ++ ys) ≡ max (greatest xs) (greatest ys)
 greatest_append [] ys = omega arith

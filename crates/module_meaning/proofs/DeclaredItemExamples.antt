@@ -1,7 +1,7 @@
 -- Examples of what the names of declarations stand for, computed: in types, in the attributes of
 -- entry points and of members, in a text and as a module means it.
-use Rattle.std.proofs.Common.{◌≡◌, ◌==◌, ℕ, Bool, true, false, List, [], ◌∷◌, Option, Some, None, refl}
-use Rattle.std.proofs.Common.{map, Vec, Global, String}
+use Rattle.std.proofs.Common.{◌≡◌, ◌==◌, ℕ, Bool, true, false, List, [], ◌∷◌, Option, Some, None}
+use Rattle.std.proofs.Common.{refl, map, Vec, Global, String}
 use Rattle.std.specs.Prelude.{codes, if◌then◌else◌}
 use Rattle.indexmap.specs.IndexMap.{with_entries}
 use Rattle.naga_ir.specs.declared.module.EntryPoint as ir_entry_point
@@ -26,8 +26,7 @@ use Rattle.wgsl_text.specs.Types.{TypeSpecifier, of_two}
 use Rattle.wgsl_text.specs.WorkedTrees as worked
 use Rattle.text_meaning.specs.Resolution.{Item, StructItem, ValueItem, item_named, member_named}
 use Rattle.text_meaning.specs.Resolution.{place_among, program_initialiser_targets, stage_targets}
-use Rattle.text_meaning.specs.Resolution.{type_items}
-use Rattle.text_meaning.specs.Resolution.{types_are_not_hidden}
+use Rattle.text_meaning.specs.Resolution.{type_items, types_are_not_hidden}
 use Prim.Native.String as native
 use Rattle.text_meaning.specs.Vocabulary.{vocabulary_read}
 use Rattle.module_meaning.specs.DeclaredItems.{handle_items, resolution_items, stage_variables}

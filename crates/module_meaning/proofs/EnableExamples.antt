@@ -2,9 +2,8 @@
 -- cause alone, beside what comes near to it, and one that needs them all. Functions are any. And what
 -- standard compilers ask for besides, in modules with no functions, or with one.
 use Rattle.std.proofs.Common.{◌≡◌, ℕ, Bool, true, false, List, [], ◌∷◌, map, Option, Some, None}
-use Rattle.std.proofs.Common.{codes, take}
+use Rattle.std.proofs.Common.{codes, take, refl, arith, Vec, Global}
 use Rattle.std.specs.List.{filter}
-use Rattle.std.proofs.Common.{refl, arith, Vec, Global}
 use Rattle.naga_ir.specs.declared.binding.Binding.{Binding}
 use Rattle.naga_ir.specs.declared.binding.Binding.TheVariants.{BuiltIn, Location}
 use Rattle.naga_ir.specs.declared.binding.BuiltIn.TheVariants as builtin
@@ -12,9 +11,9 @@ use Rattle.naga_ir.specs.declared.binding.Interpolation.TheVariants as interpola
 use Rattle.naga_info.specs.declared.info.ModuleInfo.{ModuleInfo}
 use Rattle.naga_info.specs.declared.info.TypeResolution.{TypeResolution}
 use Rattle.naga_info.specs.declared.info.TypeResolution.TheVariants as resolution
-use Rattle.naga_ir.specs.StatementTree.{BlockTree, StatementTree, block, branch}
-use Rattle.naga_ir.specs.StatementTree.{case, control_barrier, loop, no_cases, no_statements}
-use Rattle.naga_ir.specs.StatementTree.{return, simple, statement, subgroup_ballot}
+use Rattle.naga_ir.specs.StatementTree.{BlockTree, StatementTree, block, branch, case}
+use Rattle.naga_ir.specs.StatementTree.{control_barrier, loop, no_cases, no_statements, return}
+use Rattle.naga_ir.specs.StatementTree.{simple, statement, subgroup_ballot}
 use Rattle.naga_ir.specs.StatementTree.{subgroup_collective_operation, subgroup_gather, switch}
 use Rattle.naga_ir.specs.declared.expression.Expression as ir
 use Rattle.naga_ir.specs.declared.expression.Expression.TheVariants as expression

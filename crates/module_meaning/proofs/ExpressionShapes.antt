@@ -22,19 +22,14 @@ use Rattle.naga_ir.specs.declared.types.ScalarKind.{ScalarKind}
 use Rattle.naga_info.specs.declared.info.TypeResolution.{TypeResolution}
 use Rattle.module_meaning.specs.ExpressionOperators.{ExpressionContext, cast, cast_to, constructor}
 use Rattle.module_meaning.specs.ExpressionOperators.{matrix_load, is_atomic_pointer, query_operator}
-use Rattle.module_meaning.specs.ExpressionShapes.{Declared, shape_of, applied_shape, applied_or}
-use Rattle.module_meaning.specs.ExpressionShapes.{part_shape, part_selector, own_selector}
-use Rattle.module_meaning.specs.ExpressionShapes.{selector}
 use Rattle.module_meaning.specs.ExpressionOperators.{is_composite, has_parts, type_with}
-use Rattle.module_meaning.specs.ExpressionOperators.{type_known, part_operator}
-use Rattle.naga_info.specs.Resolution.{inner_of, handle_of}
+use Rattle.module_meaning.specs.ExpressionShapes.{Declared, shape_of, applied_shape, applied_or}
+use Rattle.module_meaning.specs.ExpressionShapes.{part_shape, part_selector, own_selector, selector}
 use Rattle.naga_ir.specs.declared.types.TypeInner.{TypeInner}
 use Rattle.naga_ir.specs.declared.types.TypeInner.TheVariants as inner
-use Rattle.module_meaning.specs.OperatorTable.{PartAt}
 use Rattle.module_meaning.specs.OperatorTable.{Operator as TableOperator, BinarySign, Construct}
-use Rattle.module_meaning.specs.OperatorTable.{AtomicLoad}
-use Rattle.module_meaning.specs.OperatorTable.{CooperativeLoad, WithoutForm, ValueOf, Cast}
-use Rattle.module_meaning.specs.OperatorTable.{MatrixLoad, asks, run_word}
+use Rattle.module_meaning.specs.OperatorTable.{AtomicLoad, CooperativeLoad, WithoutForm, ValueOf}
+use Rattle.module_meaning.specs.OperatorTable.{Cast, MatrixLoad, asks, run_word}
 use Rattle.module_meaning.specs.ShapeKinds.{shape_kind}
 use Rattle.module_meaning.specs.Shapes.{operator_shape}
 use Rattle.module_meaning.proofs.ShapeKinds.{operator_kind}
@@ -204,31 +199,3 @@ there d w (inner.ValuePointer (Some size) s space) index = refl
 there d w (inner.ValuePointer None s space) index = refl
 there d w (inner.Vector size s) index = refl
 there d w _ index = refl
-
--- a type that is known has a part where it has parts
-pub there_if : (d : Declared) (w : Option ℕ) (index : ℕ) (o : Option TypeInner) →
-    is_some (option_and_then (λ it. selector d w it index) o) ≡
-    option_map_or (has_parts d.context.types) o false
-there_if d w index None = refl
-there_if d w index (Some it) = there d w it index
-
--- there is a part just where no operator stands for it
-pub parts_agree : (d : Declared) (base index : ℕ) →
-    is_some (part_selector d base index) ≡ is_none (part_operator d.context base index)
-parts_agree d base index =
-    by (d.context.known base)
-    ∙ turned (option_map_or (has_parts d.context.types) (type_known d.context base) false)
-  where
-    by : (o : Option TypeResolution) →
-        is_some
-        (option_and_then
-        (λ r. option_and_then (λ it. selector d (handle_of r) it index)
-        (inner_of r d.context.types)) o) ≡
-        option_map_or (has_parts d.context.types)
-        (option_and_then (λ r. inner_of r d.context.types) o) false
-    by None = refl
-    by (Some r) = there_if d (handle_of r) index (inner_of r d.context.types)
-
-    turned : (b : Bool) → b ≡ is_none (if b then None else Some (WithoutForm (PartAt index)))
-    turned true = refl
-    turned false = refl

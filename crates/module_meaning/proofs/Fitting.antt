@@ -1,7 +1,6 @@
 -- Loops that find out whether each item of a list fits.
-use Rattle.std.proofs.Common.{◌≡◌, ℕ, ◌+◌, ◌<◌, Bool, ◌&&◌, List, [], ◌∷◌}
-use Rattle.std.proofs.Common.{length, refl, ap, slice_index_or}
-use Rattle.std.proofs.Common.{slice_get, Some}
+use Rattle.std.proofs.Common.{◌≡◌, ℕ, ◌+◌, ◌<◌, Bool, ◌&&◌, List, [], ◌∷◌, length, refl, ap}
+use Rattle.std.proofs.Common.{slice_index_or, slice_get, Some}
 use Rattle.std.specs.List.{list_all, enumerate_from}
 use Rattle.std.proofs.lemmas.Option.{slice_get-get_or}
 

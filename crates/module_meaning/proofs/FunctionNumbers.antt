@@ -1,26 +1,24 @@
 -- The functions and entry points of a module by their numbers, and the keys of their names.
 use Rattle.std.proofs.Common.{◌≡◌, ℕ, zero, suc, ◌<◌, ◌≤◌, ◌+◌, ◌-◌, Bool, true, false, List, []}
-use Rattle.std.proofs.Common.{◌∷◌}
-use Rattle.std.proofs.Common.{◌++◌, refl, sym, ap, ◌∙◌, subst, length, Some, slice_get, map, arith}
-use Rattle.std.proofs.Common.{◌⊎◌, inl, inr, nat_lt, zero-add}
+use Rattle.std.proofs.Common.{◌∷◌, ◌++◌, refl, sym, ap, ◌∙◌, subst, length, Some, slice_get, map}
+use Rattle.std.proofs.Common.{arith, ◌⊎◌, inl, inr, nat_lt, zero-add}
 use Rattle.std.specs.Option.{option_map}
 use Rattle.std.specs.Prelude.{if◌then◌else◌}
 use Rattle.std.proofs.lemmas.Bool.{le-ltb, lt-ltb, ltb-false, ltb-true}
 use Rattle.std.proofs.lemmas.List.{length-append, length-map}
 use Rattle.std.proofs.lemmas.Option.{slice_get-map, slice_get_within}
-use Rattle.naga_back.specs.FunctionContext.{argument_key, function_key, local_key}
+use Rattle.naga_back.specs.FunctionContext.{function_key}
 use Rattle.naga_back.specs.declared.context.FunctionType.{FunctionType}
 use Rattle.naga_back.specs.declared.context.FunctionType.TheVariants as item
 use Rattle.naga_info.proofs.Options.{map_some}
 use Rattle.naga_ir.specs.declared.module.EntryPoint.{EntryPoint}
 use Rattle.naga_ir.specs.declared.module.Function.{Function}
 use Rattle.naga_ir.specs.declared.module.Module.{Module}
-use Rattle.naga_names.specs.declared.key.NameKey.TheVariants as key
 use Rattle.naga_info.specs.declared.info.ExpressionInfo.{ExpressionInfo}
 use Rattle.naga_info.specs.declared.info.ModuleInfo.{ModuleInfo}
 use Rattle.module_meaning.specs.FunctionNumbers.{all_functions, all_infos, entry_functions}
-use Rattle.module_meaning.specs.FunctionNumbers.{callee_count, function_number}
-use Rattle.module_meaning.specs.FunctionNumbers.{function_type, IsFunctionOf}
+use Rattle.module_meaning.specs.FunctionNumbers.{callee_count, function_number, function_type}
+use Rattle.module_meaning.specs.FunctionNumbers.{IsFunctionOf}
 
 -- ---- lists one after another
 -- what stands in a list before another stands in one of both
@@ -151,42 +149,3 @@ function_keys_tell (item.Function h) (item.Function k) e = let same : h ≡ k = 
 function_keys_tell (item.EntryPoint h) (item.EntryPoint k) e = let same : h ≡ k = cc in ap item.EntryPoint same
 function_keys_tell (item.Function h) (item.EntryPoint k) e = absurd cc
 function_keys_tell (item.EntryPoint h) (item.Function k) e = absurd cc
-
-pub argument_keys_tell : (a : FunctionType) (i j : ℕ) → argument_key a i ≡ argument_key a j → i ≡ j
-argument_keys_tell (item.Function h) i j e = cc
-argument_keys_tell (item.EntryPoint h) i j e = cc
-
-pub local_keys_tell : (a : FunctionType) (i j : ℕ) → local_key a i ≡ local_key a j → i ≡ j
-local_keys_tell (item.Function h) i j e = cc
-local_keys_tell (item.EntryPoint h) i j e = cc
-
-pub no_argument_is_local : (a b : FunctionType) (i j : ℕ) → argument_key a i ≡ local_key b j → ⊥
-no_argument_is_local (item.Function h) (item.Function k) i j e = cc
-no_argument_is_local (item.Function h) (item.EntryPoint k) i j e = cc
-no_argument_is_local (item.EntryPoint h) (item.Function k) i j e = cc
-no_argument_is_local (item.EntryPoint h) (item.EntryPoint k) i j e = cc
-
-pub no_argument_is_function : (a b : FunctionType) (i : ℕ) → argument_key a i ≡ function_key b → ⊥
-no_argument_is_function (item.Function h) (item.Function k) i e = cc
-no_argument_is_function (item.Function h) (item.EntryPoint k) i e = cc
-no_argument_is_function (item.EntryPoint h) (item.Function k) i e = cc
-no_argument_is_function (item.EntryPoint h) (item.EntryPoint k) i e = cc
-
-pub no_local_is_function : (a b : FunctionType) (i : ℕ) → local_key a i ≡ function_key b → ⊥
-no_local_is_function (item.Function h) (item.Function k) i e = cc
-no_local_is_function (item.Function h) (item.EntryPoint k) i e = cc
-no_local_is_function (item.EntryPoint h) (item.Function k) i e = cc
-no_local_is_function (item.EntryPoint h) (item.EntryPoint k) i e = cc
-
--- nor is one of these that of a type
-pub no_function_is_type : (a : FunctionType) (h : ℕ) → function_key a ≡ key.Type_ h → ⊥
-no_function_is_type (item.Function k) h e = cc
-no_function_is_type (item.EntryPoint k) h e = cc
-
-pub no_argument_is_type : (a : FunctionType) (i h : ℕ) → argument_key a i ≡ key.Type_ h → ⊥
-no_argument_is_type (item.Function k) i h e = cc
-no_argument_is_type (item.EntryPoint k) i h e = cc
-
-pub no_local_is_type : (a : FunctionType) (i h : ℕ) → local_key a i ≡ key.Type_ h → ⊥
-no_local_is_type (item.Function k) i h e = cc
-no_local_is_type (item.EntryPoint k) i h e = cc

@@ -1,8 +1,8 @@
 -- Examples of interfaces, computed: what a text declares beside what a module does, for each kind of
 -- declaration, and texts that declare something else, so that the interface tells them apart.
 use Rattle.std.proofs.Common.{◌≡◌, ◌≢◌, ℕ, ℤ, pos, negsuc, Bool, true, false, List, [], ◌∷◌, ◌==◌}
-use Rattle.std.proofs.Common.{Option, Some, None, refl, arith, sym}
-use Rattle.std.proofs.Common.{map, slice_get, String, Vec, Global, length}
+use Rattle.std.proofs.Common.{Option, Some, None, refl, arith, sym, map, slice_get, String, Vec}
+use Rattle.std.proofs.Common.{Global, length}
 use Rattle.std.specs.Prelude.{codes, if◌then◌else◌}
 use Rattle.std.specs.Option.{is_none, is_some, option_map_or}
 use Rattle.std.specs.Str.{bytes_eq}
@@ -46,16 +46,14 @@ use Rattle.wgsl_text.specs.Declarations.{Program, no_declarations}
 use Rattle.wgsl_text.specs.Expressions.{Expression}
 use Rattle.wgsl_text.specs.Functions.{EntryPoint, Function, NoResult}
 use Rattle.wgsl_text.specs.Statements.{Break, Case, Cases, DefaultCase, LastCaseValue}
-use Rattle.wgsl_text.specs.Statements.{MoreCaseValues}
-use Rattle.wgsl_text.specs.Statements.{NoCases, NoStatements, SignedCase, Statements, Switch, Then}
-use Rattle.wgsl_text.specs.Statements.{UnsignedCase}
+use Rattle.wgsl_text.specs.Statements.{MoreCaseValues, NoCases, NoStatements, SignedCase}
+use Rattle.wgsl_text.specs.Statements.{Statements, Switch, Then, UnsignedCase}
 use Rattle.wgsl_text.specs.Types.{TypeSpecifier}
 use Rattle.wgsl_text.specs.WorkedTrees as worked
 use Rattle.text_meaning.specs.Attributes.{stage_read, Stage, ComputeStage, MeshStage, BuiltinValue}
 use Rattle.text_meaning.specs.Attributes.{StageBinding}
 use Rattle.text_meaning.specs.Interface.{Interface, GlobalInterface, MemberInterface}
-use Rattle.text_meaning.specs.Interface.{OverrideInterface}
-use Rattle.text_meaning.specs.Interface.{interface_read}
+use Rattle.text_meaning.specs.Interface.{OverrideInterface, interface_read}
 use Rattle.text_meaning.specs.Switches.{CaseValueInterface, Signed}
 use Rattle.module_meaning.specs.Interface.{module_interface, stage_of}
 use Rattle.module_meaning.proofs.ModuleShapeExamples.{one}

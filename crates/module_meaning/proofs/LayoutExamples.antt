@@ -1,7 +1,7 @@
 -- Examples of structs that keep the offsets of their members, and of those that can't or need not,
 -- computed: which are concerned, what is written, what stands against them, and texts that keep them.
-use Rattle.std.proofs.Common.{◌≡◌, ℕ, Bool, false, true, List, [], ◌∷◌, None, Option, Some, refl, arith, map}
-use Rattle.std.proofs.Common.{Global, Vec, length, slice_get}
+use Rattle.std.proofs.Common.{◌≡◌, ℕ, Bool, false, true, List, [], ◌∷◌, None, Option, Some, refl}
+use Rattle.std.proofs.Common.{arith, map, Global, Vec, length, slice_get}
 use Rattle.std.specs.Prelude.{codes}
 use Rattle.std.specs.Option.{is_none, is_some, option_and_then, option_map, option_map_or}
 use Rattle.indexmap.specs.IndexMap.{with_entries}
@@ -24,8 +24,7 @@ use Rattle.wgsl_text.specs.Declarations.{Struct}
 use Rattle.wgsl_text.specs.Types.{SizeArgument, Template, TypeArgument, NoTemplateArguments}
 use Rattle.wgsl_text.specs.WorkedTrees as worked
 use Rattle.text_meaning.specs.Layout.{offsets_read, size_of_struct_read, struct_layout_read}
-use Rattle.module_meaning.specs.Layouts.{concerned_members, module_rule}
-use Rattle.module_meaning.specs.Layouts.{span_at, written_size}
+use Rattle.module_meaning.specs.Layouts.{concerned_members, module_rule, span_at, written_size}
 use Rattle.module_meaning.proofs.InterfaceExamples.{two}
 use Rattle.module_meaning.proofs.ModuleShapeExamples.{one}
 

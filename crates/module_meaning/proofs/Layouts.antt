@@ -13,7 +13,7 @@ use Rattle.naga_ir.specs.declared.types.Type_.{Type_}
 use Rattle.naga_ir.specs.declared.types.TypeInner.{TypeInner}
 use Rattle.naga_ir.specs.declared.types.TypeInner.TheVariants as inner
 use Rattle.naga_layout.specs.Tables.{written_rule}
-use Rattle.naga_layout.specs.Types.{StandInOrder, arrays_are_kept, layout_at}
+use Rattle.naga_layout.specs.Types.{StandInOrder}
 use Rattle.naga_layout.specs.Types as laid
 use Rattle.module_meaning.specs.acceptance.Accepted.{is_accepted}
 use Rattle.module_meaning.specs.acceptance.InfoSizes.{sizes_fit, type_is_fit}
@@ -45,19 +45,6 @@ pub rules_alike : (m : Module) (marks : List Bool) →
     ((h : ℕ) → get_or marks h false ≡ is_undeclared m.special_types h) →
     written_rule marks ≡ module_rule m
 rules_alike m marks told = λ i. record { strict = false; declared = λ h. not (told h i) }
-
--- so types are laid out alike
-pub rule_by_marks : (m : Module) (marks : List Bool) →
-    ((h : ℕ) → get_or marks h false ≡ is_undeclared m.special_types h) → (h : ℕ) →
-    layout_at (written_rule marks) m.types h ≡ layout_at (module_rule m) m.types h
-rule_by_marks m marks told h = ap (λ rule. layout_at rule m.types h) (rules_alike m marks told)
-
--- and the same arrays have WGSL's stride
-pub strides_by_marks : (m : Module) (marks : List Bool) →
-    ((h : ℕ) → get_or marks h false ≡ is_undeclared m.special_types h) → (h : ℕ) →
-    arrays_are_kept (written_rule marks) m.types h ≡ arrays_are_kept (module_rule m) m.types h
-strides_by_marks m marks told h =
-    ap (λ rule. arrays_are_kept rule m.types h) (rules_alike m marks told)
 
 -- ---- accepted modules
 -- the parts of an accepted module's types stand before them

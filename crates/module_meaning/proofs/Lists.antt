@@ -1,8 +1,7 @@
 -- Lists whose items all pass a test, and what stands in two lists in a row.
 use Rattle.std.proofs.Common.{◌≡◌, ℕ, zero, suc, ◌+◌, Bool, true, List, [], ◌∷◌, refl, sym, ap, ◌∙◌}
-use Rattle.std.proofs.Common.{Option, Some, None, slice_get, arith, ◌++◌, ◌⊎◌, inl, inr}
+use Rattle.std.proofs.Common.{Some, slice_get, arith, ◌++◌, ◌⊎◌, inl, inr}
 use Rattle.std.specs.List.{list_all, enumerate_from}
-use Rattle.std.specs.Option.{is_some}
 use Rattle.std.proofs.lemmas.Bool.{and_from, and_parts}
 
 -- the item at an index passes
@@ -36,11 +35,6 @@ placed_at test n (y ∷ xs) (suc h) x all here =
     let at : n + suc h ≡ (n + 1) + h = omega arith
     in ap (λ k. test k x) at ∙ placed_at test (n + 1) xs h x
     (and_parts (test n y) (list_all (λ p. test p.0 p.1) (enumerate_from (n + 1) xs)) all).1 here
-
--- there is an item
-pub some_word : (o : Option (List ℕ)) → is_some o ≡ true → (w : List ℕ) × (o ≡ Some w)
-some_word (Some w) is = (w, refl)
-some_word None is = absurd cc
 
 -- what stands in two lists in a row stands in one of them
 pub in_row : {X : Type 0} (xs ys : List X) (i : ℕ) (x : X) → slice_get (xs ++ ys) i ≡ Some x →

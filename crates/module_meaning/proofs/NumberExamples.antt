@@ -1,8 +1,7 @@
 -- What the tests of Numbers answer where acceptance asks them, by examples: a number beside the
 -- first that its type has not, and a pattern of four letters beside one of three.
 use Rattle.std.proofs.Common.{◌≡◌, ℕ, ◌^◌, ◌-◌, pos, negsuc, true, false, List, [], ◌∷◌, Option}
-use Rattle.std.proofs.Common.{Some, None}
-use Rattle.std.proofs.Common.{refl, arith, length, Vec, Global}
+use Rattle.std.proofs.Common.{Some, None, refl, arith, length, Vec, Global}
 use Rattle.naga_ir.specs.StatementTree.{CaseTrees, no_cases, case, no_statements}
 use Rattle.naga_ir.specs.declared.binding.Binding.{Binding}
 use Rattle.naga_ir.specs.declared.binding.Binding.TheVariants as binding
@@ -23,8 +22,8 @@ use Rattle.naga_ir.specs.declared.types.VectorSize.TheVariants as vector
 use Rattle.naga_info.specs.declared.info.TypeResolution.TheVariants.{Value}
 use Rattle.module_meaning.specs.acceptance.Numbers.{binding_fits_32_bits, member_fits_32_bits}
 use Rattle.module_meaning.specs.acceptance.Ranges.{cases_in_range, entry_point_in_range}
-use Rattle.module_meaning.specs.acceptance.Ranges.{function_in_range}
-use Rattle.module_meaning.specs.acceptance.Ranges.{global_in_range, names_in_range, signature_fits}
+use Rattle.module_meaning.specs.acceptance.Ranges.{function_in_range, global_in_range}
+use Rattle.module_meaning.specs.acceptance.Ranges.{names_in_range, signature_fits}
 use Rattle.module_meaning.specs.acceptance.Ranges.{override_in_range, resolution_in_range}
 use Rattle.module_meaning.specs.acceptance.Ranges.{types_in_range}
 

@@ -1,8 +1,8 @@
 -- Examples of what the places of a module are made of, computed, where no expression leads to any.
 --
 -- Throughout, a module has these types and this function, and all else that it has is any.
-use Rattle.std.proofs.Common.{◌≡◌, ℕ, pos, true, List, [], ◌∷◌, Some, None, refl, arith}
-use Rattle.std.proofs.Common.{map, codes, Vec, Global}
+use Rattle.std.proofs.Common.{◌≡◌, ℕ, pos, true, List, [], ◌∷◌, Some, None, refl, arith, map, codes}
+use Rattle.std.proofs.Common.{Vec, Global}
 use Rattle.std.specs.Fmt.{digits}
 use Rattle.naga_ir.specs.declared.module.Function as ir_function
 use Rattle.naga_ir.specs.declared.module.FunctionArgument.{FunctionArgument}
@@ -23,9 +23,8 @@ use Rattle.module_meaning.specs.FunctionShapes.{function_shape}
 use Rattle.module_meaning.specs.ModuleShapes.{module_shape}
 use Rattle.module_meaning.specs.PlaceParts.{place_parts, pointee_parts, member_word}
 use Rattle.module_meaning.specs.Types.{local_pointer}
-use Rattle.shader_runs.specs.Value.{Parts, NoParts, Elements, Components, Members}
-use Rattle.shader_runs.specs.Value.{Place, Rooted, LocalRoot, Part, At, Pointer, has_types}
-use Rattle.shader_runs.specs.Value.{ElementAt, step_to}
+use Rattle.shader_runs.specs.Value.{Parts, NoParts, Elements, Components, Members, Place, Rooted}
+use Rattle.shader_runs.specs.Value.{LocalRoot, Part, At, Pointer, has_types, ElementAt, step_to}
 use Rattle.module_meaning.proofs.ModuleShapeExamples.{one}
 
 -- a vector of no items

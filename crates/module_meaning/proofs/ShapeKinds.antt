@@ -1,13 +1,10 @@
 -- The runs' words for shapes are tests of their kind.
 --
 -- Throughout, o is a shape, if there is one.
-use Rattle.std.proofs.Common.{◌≡◌, ◌≢◌, ℕ, true, false, List, [], Option, Some, None, refl}
+use Rattle.std.proofs.Common.{◌≡◌, ◌≢◌, ℕ, true, false, List, Option, Some, None, refl}
 use Rattle.naga_ir.specs.declared.kind.ExpressionKind.TheVariants as kind
-use Rattle.shader_runs.specs.Program.{Expression, Constant, Operator}
-use Rattle.shader_runs.specs.Program.{Access, AccessIndex, Swizzle, Logical, Result}
-use Rattle.shader_runs.specs.Program.{operands_of}
+use Rattle.shader_runs.specs.Program.{Expression, Operator, Access, AccessIndex, Swizzle, Logical}
 use Rattle.shader_runs.specs.Program.{is_pure}
-use Rattle.shader_runs.specs.Scope.{is_constant_leaf}
 use Rattle.module_meaning.specs.ShapeKinds.{shape_kind}
 use Rattle.module_meaning.specs.OperatorTable.{Operator as TableOperator}
 use Rattle.module_meaning.specs.Shapes.{operator_shape}
@@ -19,10 +16,6 @@ pub operator_kind : (op : TableOperator) (xs : List ℕ) →
 operator_kind op xs = operator_any (λ s. shape_kind (Some s) ≡ kind.Pure) op xs (λ j l r. refl) refl
 
 -- ---- the runs' words for shapes
-pub result_operands : (o : Option Expression) → shape_kind o ≡ kind.Result → operands_of o ≡ []
-result_operands (Some Result) is = refl
-result_operands None is = refl
-result_operands (Some _) is = absurd cc
 
 -- an operator
 pub pure_kind : (o : Option Expression) → shape_kind o ≡ kind.Pure → is_pure o ≡ true
@@ -42,16 +35,3 @@ other_kind (Some (Swizzle letters vector)) other = absurd (other refl)
 other_kind (Some (Logical circuit left right)) other = absurd (other refl)
 other_kind (Some _) other = refl
 other_kind None other = refl
-
--- a constant
-pub constant_kind : (o : Option Expression) → shape_kind o ≡ kind.Constant →
-    is_constant_leaf o ≡ true
-constant_kind (Some (Constant tree)) is = refl
-constant_kind (Some _) is = absurd cc
-constant_kind None is = absurd cc
-
-pub no_constant_kind : (o : Option Expression) → shape_kind o ≢ kind.Constant →
-    is_constant_leaf o ≡ false
-no_constant_kind (Some (Constant tree)) other = absurd (other refl)
-no_constant_kind (Some _) other = refl
-no_constant_kind None other = refl

@@ -26,9 +26,8 @@ use Rattle.module_meaning.specs.AlikeTypes.{handle_key}
 use Rattle.module_meaning.specs.acceptance.Initialisers.{initialiser_fits}
 use Rattle.module_meaning.specs.acceptance.OperandDemands.{operand_is, points_to_components}
 use Rattle.module_meaning.specs.acceptance.StatementsFit.{is_condition, is_selection, is_stored}
-use Rattle.module_meaning.specs.acceptance.StatementsFit.{is_returned}
-use Rattle.module_meaning.specs.acceptance.StatementsFit.{is_result, is_result_of, is_call}
-use Rattle.module_meaning.specs.acceptance.StatementsFit.{are_passed, is_answered}
+use Rattle.module_meaning.specs.acceptance.StatementsFit.{is_returned, is_result, is_result_of}
+use Rattle.module_meaning.specs.acceptance.StatementsFit.{is_call, are_passed, is_answered}
 use Rattle.module_meaning.specs.acceptance.StatementsFit.{is_atomic_result, is_uniform_load_result}
 use Rattle.module_meaning.specs.acceptance.StatementsFit.{is_ballot_result, is_subgroup_result}
 use Rattle.module_meaning.specs.acceptance.StatementsFit.{statement_is_sound}

@@ -2,8 +2,8 @@
 -- runs as no module does that goes on there.
 --
 -- Throughout, a module has one function, which does nothing, and its text has such a line in it.
-use Rattle.std.proofs.Common.{◌≡◌, Bool, true, false, List, [], ◌∷◌, Option, None, refl}
-use Rattle.std.proofs.Common.{sym, ap, ◌∙◌, codes}
+use Rattle.std.proofs.Common.{◌≡◌, Bool, true, false, List, [], ◌∷◌, Option, None, refl, sym, ap}
+use Rattle.std.proofs.Common.{◌∙◌, codes}
 use Rattle.std.proofs.lemmas.Bool.{false≢true}
 use Rattle.std.specs.Prelude.{◌||◌, cond}
 use Rattle.naga_ir.specs.StatementTree.{no_statements}
@@ -18,8 +18,7 @@ use Rattle.shader_runs.specs.Premises.{IsTyped, SettingsFit}
 use Rattle.shader_runs.specs.Program as shapes
 use Rattle.shader_runs.specs.Text.{before, last, no_more, Perform}
 use Rattle.shader_runs.specs.TextRun.{follow_all, is_operation, MeansNothing, NamesFunction}
-use Rattle.shader_runs.specs.TextRun.{no_names}
-use Rattle.shader_runs.specs.TextRun.{Operates, respond_by_use, word_use, Words, WordUse}
+use Rattle.shader_runs.specs.TextRun.{no_names, Operates, respond_by_use, word_use, Words, WordUse}
 use Rattle.shader_runs.proofs.Update.{same_bytes_self}
 use Rattle.text_meaning.specs.Abstraction.{program_read}
 use Rattle.text_meaning.specs.Vocabulary.{vocabulary_read}

@@ -1,8 +1,8 @@
 -- What a type is told by can be read off its numbers, so that two types have the same numbers only
 -- where they are the same.
-use Rattle.std.proofs.Common.{◌≡◌, ℕ, ◌≤◌, suc, Bool, true, false, List, [], ◌∷◌, drop, refl}
-use Rattle.std.proofs.Common.{sym, ap, ◌∙◌, arith, zero, Option, Some, None, true≢false}
-use Rattle.std.proofs.Common.{◌==◌, slice_get, get_or}
+use Rattle.std.proofs.Common.{◌≡◌, ℕ, ◌≤◌, suc, Bool, true, false, List, [], ◌∷◌, drop, refl, sym}
+use Rattle.std.proofs.Common.{ap, ◌∙◌, arith, zero, Option, Some, None, true≢false, ◌==◌, slice_get}
+use Rattle.std.proofs.Common.{get_or}
 use Rattle.std.proofs.Math.Bridge.{le_prop}
 use Rattle.std.specs.Prelude.{if◌then◌else◌}
 use Rattle.std.specs.Option.{option_map}
@@ -37,9 +37,8 @@ use Rattle.module_meaning.specs.TypeIdentity.{Identity, Nothing, StructAt, Itsel
 use Rattle.module_meaning.specs.TypeIdentity.{kind_number, component_count, components_number}
 use Rattle.module_meaning.specs.TypeIdentity.{cooperative_number, role_number, space_number}
 use Rattle.module_meaning.specs.TypeIdentity.{space_bits, dimension_number, length_kind}
-use Rattle.module_meaning.specs.TypeIdentity.{length_number}
-use Rattle.module_meaning.specs.TypeIdentity.{inner_code, identity, identity_at, identity_code}
-use Rattle.module_meaning.specs.TypeIdentity.{word_of_unspelled_type}
+use Rattle.module_meaning.specs.TypeIdentity.{length_number, inner_code, identity, identity_at}
+use Rattle.module_meaning.specs.TypeIdentity.{identity_code, word_of_unspelled_type}
 
 -- ---- what each number stands for
 abbrev pub truth_of : ℕ → Bool

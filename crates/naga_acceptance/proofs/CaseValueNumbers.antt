@@ -6,16 +6,15 @@ use Rattle.std.proofs.Common.{◌≡◌, ◌≢◌, ℕ, ℤ, zero, suc, ◌+◌
 use Rattle.std.proofs.Common.{Bool, true, false, ◌&&◌, List, [], ◌∷◌, ◌++◌, length, refl, sym, ap}
 use Rattle.std.proofs.Common.{◌∙◌, subst, arith, ◌⊎◌, inl, inr, ◌%◌, slice_index, slice_index_or}
 use Rattle.std.proofs.Common.{slice_set, get_or}
-use Rattle.std.specs.Prelude.{not, nat_lt, ◌||◌, if◌then◌else◌, MatchBool}
-use Rattle.std.specs.Prelude.{Result, Ok, Err, MatchResult}
+use Rattle.std.specs.Prelude.{not, nat_lt, ◌||◌, if◌then◌else◌, MatchBool, Result, Ok, Err}
+use Rattle.std.specs.Prelude.{MatchResult}
 use Rattle.std.specs.Result.{is_ok}
 use Rattle.std.specs.List.{count_by}
 use Rattle.std.specs.List.Sorted.{IsPermutation, IsNonDecreasing, IsBinarySearchResult}
 use Rattle.std.specs.Ordering.{int_eq, nat_cmp}
 use Rattle.std.proofs.lemmas.Bool.{and_right, cases_eq, cases_lt, or_parts, or_cases, lt-ltb}
-use Rattle.std.proofs.lemmas.Bool.{le-ltb}
-use Rattle.std.proofs.lemmas.Bool.{ltb-true, eqb-false, false≢true}
-use Rattle.std.proofs.lemmas.Bool.{ltb-false, eqb-true, eq-eqb, ne_eqb}
+use Rattle.std.proofs.lemmas.Bool.{le-ltb, ltb-true, eqb-false, false≢true, ltb-false, eqb-true}
+use Rattle.std.proofs.lemmas.Bool.{eq-eqb, ne_eqb}
 use Rattle.std.proofs.lemmas.List.{get_or-set_same, get_or-set_other}
 use Rattle.std.proofs.lemmas.Bool.Decides.{Decides-int_eq}
 use Rattle.std.proofs.lemmas.List.Recursion.{is_count_by}
@@ -29,8 +28,7 @@ use Rattle.module_meaning.specs.acceptance.StatementsFit.{has_case_value, is_sam
 use Rattle.module_meaning.specs.acceptance.StatementsFit.{case_values_differ}
 use Rattle.naga_acceptance.specs.declared.case_value_numbers.TheConstants.{CELLS}
 use Rattle.naga_acceptance.specs.CaseValues.{number_of, numbers_of, times, shares, IsTwice}
-use Rattle.naga_acceptance.specs.CaseValues.{AreApart}
-use Rattle.naga_acceptance.specs.CaseValues.{AreMarked, AreOnce}
+use Rattle.naga_acceptance.specs.CaseValues.{AreApart, AreMarked, AreOnce}
 
 -- ---- how often a number stands there
 

@@ -18,10 +18,9 @@ use Rattle.std.proofs.lemmas.List.{drop_more}
 use Rattle.naga_ir.specs.Operands.{expression_operands, statement_operands, block_operands}
 use Rattle.naga_ir.specs.Operands.{cases_operands}
 use Rattle.naga_acceptance.specs.Counts.{with_use, with_uses, used_again, with_counts_from}
-use Rattle.naga_acceptance.specs.Counts.{use_count}
-use Rattle.naga_acceptance.specs.Counts.{without_uses, operand_positions, with_counts}
-use Rattle.naga_info.specs.UseCounts.{greatest_count}
+use Rattle.naga_acceptance.specs.Counts.{use_count, without_uses, operand_positions, with_counts}
 use Rattle.naga_acceptance.specs.Counts.{all_with_counts, functions_of}
+use Rattle.naga_info.specs.UseCounts.{greatest_count}
 
 pub with_use_set : (es : List ExpressionInfo) (handle : ℕ) (d : ExpressionInfo) → handle < length es →
     slice_set es handle (used_again (slice_index_or es handle d)) ≡ with_use es handle

@@ -3,8 +3,7 @@
 -- Throughout, m is a module, info what is known of it, f a function, p an entry point or a pair, e
 -- an expression, h a handle, and kind a kind of fault.
 use Rattle.std.proofs.Common.{◌≡◌, ◌==◌, ℕ, Bool, true, false, List, [], ◌∷◌, length, sym, subst}
-use Rattle.std.proofs.Common.{zip}
-use Rattle.std.proofs.Common.{Option, Some, None, true≢false}
+use Rattle.std.proofs.Common.{zip, Option, Some, None, true≢false}
 use Rattle.std.specs.Prelude.{IsTrue}
 use Rattle.std.specs.List.{enumerate_from}
 use Rattle.std.specs.Option.{IfSome, is_some, option_map, option_or}
@@ -19,12 +18,11 @@ use Rattle.naga_info.specs.declared.info.ExpressionInfo.{ExpressionInfo}
 use Rattle.naga_info.specs.declared.info.ModuleInfo.{ModuleInfo}
 use Rattle.naga_acceptance.specs.Faults.{Fails, FaultIs, entry_names_fit}
 use Rattle.naga_acceptance.specs.FirstFaults.{IsDisagreement, IsFirst, IsFirstFault, IsOfTypes}
-use Rattle.naga_acceptance.specs.FirstFaults.{Named, Needed, Disagreeing}
-use Rattle.naga_acceptance.specs.FirstFaults.{at, at_entry_point, at_expression, at_function}
-use Rattle.naga_acceptance.specs.FirstFaults.{declarations_range_fault, entry_point_range_fault}
-use Rattle.naga_acceptance.specs.FirstFaults.{entry_point_sizes_fault, entry_points_range_fault}
-use Rattle.naga_acceptance.specs.FirstFaults.{expression_range_fault, first_known_fault}
-use Rattle.naga_acceptance.specs.FirstFaults.{first_unknown}
+use Rattle.naga_acceptance.specs.FirstFaults.{Named, Needed, Disagreeing, at, at_entry_point}
+use Rattle.naga_acceptance.specs.FirstFaults.{at_expression, at_function, declarations_range_fault}
+use Rattle.naga_acceptance.specs.FirstFaults.{entry_point_range_fault, entry_point_sizes_fault}
+use Rattle.naga_acceptance.specs.FirstFaults.{entry_points_range_fault, expression_range_fault}
+use Rattle.naga_acceptance.specs.FirstFaults.{first_known_fault, first_unknown}
 use Rattle.naga_acceptance.specs.FirstFaults.{function_range_fault, function_sizes_fault}
 use Rattle.naga_acceptance.specs.FirstFaults.{functions_range_fault, global_expression_range_fault}
 use Rattle.naga_acceptance.specs.FirstFaults.{info_fault, items_range_fault, known_fault}
@@ -42,10 +40,9 @@ use Rattle.module_meaning.specs.acceptance.InfoSizes.{entry_point_size_fits, fun
 use Rattle.module_meaning.specs.acceptance.InfoSizes.{type_is_fit}
 use Rattle.module_meaning.specs.acceptance.Ranges.{all_below, constant_in_range, global_in_range}
 use Rattle.module_meaning.specs.acceptance.Ranges.{initialiser_before, local_in_range}
-use Rattle.module_meaning.specs.acceptance.Ranges.{module_ranges_fit, names_fit}
-use Rattle.module_meaning.specs.acceptance.Ranges.{names_in_range, numbers_in_range}
-use Rattle.module_meaning.specs.acceptance.Ranges.{override_in_range, parts_before}
-use Rattle.module_meaning.specs.acceptance.Ranges.{resolution_fits, signature_fits}
+use Rattle.module_meaning.specs.acceptance.Ranges.{module_ranges_fit, names_fit, names_in_range}
+use Rattle.module_meaning.specs.acceptance.Ranges.{numbers_in_range, override_in_range}
+use Rattle.module_meaning.specs.acceptance.Ranges.{parts_before, resolution_fits, signature_fits}
 use Rattle.module_meaning.specs.acceptance.Ranges.{special_types_fit}
 use Rattle.module_meaning.specs.acceptance.Soundness.{module_is_sound}
 use Rattle.naga_acceptance.proofs.Finding.{Finds}

@@ -2,12 +2,11 @@
 -- else it fails there.
 use Rattle.module_meaning.proofs.SideBySide.{item_beside, zip_parts}
 use Rattle.std.proofs.Common.{◌≡◌, ℕ, Bool, true, false, ◌&&◌, ◌==◌, ◌+◌, List, [], ◌∷◌, length}
-use Rattle.std.proofs.Common.{map, refl, ap, sym, ◌∙◌}
-use Rattle.std.proofs.Common.{slice_get, Option, Some, None}
+use Rattle.std.proofs.Common.{map, refl, ap, sym, ◌∙◌, slice_get, Option, Some, None, subst}
+use Rattle.std.proofs.Common.{true≢false}
 use Rattle.std.specs.Option.{IfSome, is_none, is_some, option_map, option_map_or}
 use Rattle.std.specs.Result.{result_err}
 use Rattle.std.specs.List.{list_all, enumerate_from, zip}
-use Rattle.std.proofs.Common.{subst, true≢false}
 use Rattle.std.proofs.lemmas.Bool.{and_left, and_right, eqb-true}
 use Rattle.std.proofs.lemmas.List.{length-map}
 use Rattle.std.proofs.lemmas.Option.{slice_get-map}
@@ -21,8 +20,8 @@ use Rattle.naga_info.specs.declared.info.ExpressionInfo.{ExpressionInfo}
 use Rattle.naga_info.specs.declared.info.ModuleInfo.{ModuleInfo}
 use Rattle.naga_info.specs.declared.info.TypeResolution.{TypeResolution}
 use Rattle.naga_acceptance.specs.Faults.{EntryPositionFails, ExpressionFails, Fails}
-use Rattle.naga_acceptance.specs.Faults.{FunctionPositionFails, Unfit}
-use Rattle.naga_acceptance.specs.Faults.{entry_names_fit, known_of, names_there, numeral_fits}
+use Rattle.naga_acceptance.specs.Faults.{FunctionPositionFails, Unfit, entry_names_fit, known_of}
+use Rattle.naga_acceptance.specs.Faults.{names_there, numeral_fits}
 use Rattle.naga_acceptance.specs.FirstFaults.{at, at_entry_point, at_expression, at_function}
 use Rattle.naga_acceptance.specs.FirstFaults.{declarations_range_fault, declarations_sound_fault}
 use Rattle.naga_acceptance.specs.FirstFaults.{entry_point_range_fault, entry_point_sizes_fault}
@@ -35,8 +34,7 @@ use Rattle.naga_acceptance.specs.FirstFaults.{functions_range_fault, functions_s
 use Rattle.naga_acceptance.specs.FirstFaults.{global_expression_range_fault, info_fault}
 use Rattle.naga_acceptance.specs.FirstFaults.{initialisers_fault, items_range_fault, known_fault}
 use Rattle.naga_acceptance.specs.FirstFaults.{module_range_fault, names_fault, ranges_fault}
-use Rattle.naga_acceptance.specs.FirstFaults.{sizes_fault}
-use Rattle.naga_acceptance.specs.FirstFaults.{sound_fault, types_range_fault}
+use Rattle.naga_acceptance.specs.FirstFaults.{sizes_fault, sound_fault, types_range_fault}
 use Rattle.naga_acceptance.specs.Searching.{first_faulty, first_unfit}
 use Rattle.naga_acceptance.specs.TextOrder.{is_in_range, is_sound, numbered, text_order}
 use Rattle.naga_acceptance.specs.declared.faults.Fault.{Fault}
@@ -51,8 +49,8 @@ use Rattle.module_meaning.specs.acceptance.ExpressionTypes.{has_its_type}
 use Rattle.module_meaning.specs.acceptance.InfoSizes.{all_known, all_paired, entry_point_size_fits}
 use Rattle.module_meaning.specs.acceptance.InfoSizes.{function_size_fits, sizes_fit, type_is_fit}
 use Rattle.module_meaning.specs.acceptance.Initialisers.{constant_is_sound, global_is_sound}
-use Rattle.module_meaning.specs.acceptance.Initialisers.{initialisers_fit}
-use Rattle.module_meaning.specs.acceptance.Initialisers.{local_is_sound, override_is_sound}
+use Rattle.module_meaning.specs.acceptance.Initialisers.{initialisers_fit, local_is_sound}
+use Rattle.module_meaning.specs.acceptance.Initialisers.{override_is_sound}
 use Rattle.module_meaning.specs.acceptance.OperandDemands.{operands_fit}
 use Rattle.module_meaning.specs.acceptance.Numbers.{workgroup_fits_32_bits}
 use Rattle.module_meaning.specs.acceptance.Ranges.{all_below, block_in_range, constant_in_range}
@@ -60,23 +58,19 @@ use Rattle.module_meaning.specs.acceptance.Ranges.{declarations_in_range, entry_
 use Rattle.module_meaning.specs.acceptance.Ranges.{expression_in_range, expressions_in_range}
 use Rattle.module_meaning.specs.acceptance.Ranges.{function_in_range, global_expression_in_range}
 use Rattle.module_meaning.specs.acceptance.Ranges.{global_in_range, initialiser_before}
-use Rattle.module_meaning.specs.acceptance.Ranges.{local_in_range}
-use Rattle.module_meaning.specs.acceptance.Ranges.{is_below, module_in_range, module_ranges_fit}
-use Rattle.module_meaning.specs.acceptance.Ranges.{names_fit}
-use Rattle.module_meaning.specs.acceptance.Ranges.{names_in_range, numbers_in_range}
-use Rattle.module_meaning.specs.acceptance.Ranges.{override_in_range}
-use Rattle.module_meaning.specs.acceptance.Ranges.{parts_before}
-use Rattle.module_meaning.specs.acceptance.Ranges.{resolution_fits, signature_fits}
-use Rattle.module_meaning.specs.acceptance.Ranges.{special_types_fit}
-use Rattle.module_meaning.specs.acceptance.Ranges.{types_in_range}
+use Rattle.module_meaning.specs.acceptance.Ranges.{local_in_range, is_below, module_in_range}
+use Rattle.module_meaning.specs.acceptance.Ranges.{module_ranges_fit, names_fit, names_in_range}
+use Rattle.module_meaning.specs.acceptance.Ranges.{numbers_in_range, override_in_range}
+use Rattle.module_meaning.specs.acceptance.Ranges.{parts_before, resolution_fits, signature_fits}
+use Rattle.module_meaning.specs.acceptance.Ranges.{special_types_fit, types_in_range}
 use Rattle.module_meaning.specs.acceptance.Soundness.{declarations_are_sound, entry_point_is_sound}
-use Rattle.module_meaning.specs.acceptance.Soundness.{function_is_sound}
-use Rattle.module_meaning.specs.acceptance.Soundness.{module_is_sound, typed_function_is_sound}
+use Rattle.module_meaning.specs.acceptance.Soundness.{function_is_sound, module_is_sound}
+use Rattle.module_meaning.specs.acceptance.Soundness.{typed_function_is_sound}
 use Rattle.module_meaning.specs.acceptance.StatementsFit.{body_is_sound}
-use Rattle.naga_acceptance.proofs.Finding.{AtItem, Finds, finds_faulty, finds_map}
-use Rattle.naga_acceptance.proofs.Finding.{finds_statement, finds_or, finds_plain}
-use Rattle.naga_acceptance.proofs.Finding.{finds_plain_faulty, finds_same, finds_test, finds_unfit}
-use Rattle.naga_acceptance.proofs.Finding.{finds_unless, finds_weaker, unfit_item, unfit_at}
+use Rattle.naga_acceptance.proofs.Finding.{AtItem, Finds, finds_faulty, finds_map, finds_statement}
+use Rattle.naga_acceptance.proofs.Finding.{finds_or, finds_plain, finds_plain_faulty, finds_same}
+use Rattle.naga_acceptance.proofs.Finding.{finds_test, finds_unfit, finds_unless, finds_weaker}
+use Rattle.naga_acceptance.proofs.Finding.{unfit_item, unfit_at}
 use Rattle.naga_acceptance.proofs.Walking.{block_range, block_sound}
 
 left_true : (a b : Bool) → a && b ≡ true → a ≡ true

@@ -21,9 +21,8 @@ use Rattle.naga_ir.specs.declared.types.Type_.{Type_}
 use Rattle.naga_info.specs.declared.info.ExpressionInfo.{ExpressionInfo}
 use Rattle.naga_info.specs.declared.info.ModuleInfo.{ModuleInfo}
 use Rattle.module_meaning.specs.acceptance.AgreeingOperators.{Group, expression_use, uses_of}
-use Rattle.module_meaning.specs.acceptance.AgreeingOperators.{function_group}
-use Rattle.module_meaning.specs.acceptance.AgreeingOperators.{function_groups, further_groups_of}
-use Rattle.module_meaning.specs.acceptance.AgreeingOperators.{groups_of}
+use Rattle.module_meaning.specs.acceptance.AgreeingOperators.{function_group, function_groups}
+use Rattle.module_meaning.specs.acceptance.AgreeingOperators.{further_groups_of, groups_of}
 use Rattle.naga_acceptance.specs.Uses.{joined_below, use_in, first_uses, group_uses, earlier_uses}
 
 -- ---- lists joined

@@ -46,14 +46,6 @@ module _ {X Y : Type 0} (xs : List X) (ys : List Y) where
         ap (list_all (λ p. test p.0 p.1)) (pair_step i x d in_xs in_ys here)
         ∙ ap (λ b. b && list_all (λ p. test p.0 p.1) (zip (drop (i + 1) xs) (drop (i + 1) ys))) fails
 
-    pub all_next : (i : ℕ) (x : X) (d : Y) → i < length xs → i < length ys → slice_get xs i ≡ Some x →
-        test x (slice_index_or ys i d) ≡ true
-        → list_all (λ p. test p.0 p.1) (zip (drop i xs) (drop i ys)) ≡ list_all (λ p. test p.0 p.1)
-        (zip (drop (i + 1) xs) (drop (i + 1) ys))
-    all_next i x d in_xs in_ys here fits =
-        ap (list_all (λ p. test p.0 p.1)) (pair_step i x d in_xs in_ys here)
-        ∙ ap (λ b. b && list_all (λ p. test p.0 p.1) (zip (drop (i + 1) xs) (drop (i + 1) ys))) fits
-
   module _ {F : Type 0} (fault : X → Y → Option F) where
     pub faulty_here : (i : ℕ) (x : X) (d : Y) (found : F) → i < length xs → i < length ys → slice_get xs i
         ≡ Some x → fault x (slice_index_or ys i d) ≡ Some found

@@ -1,7 +1,7 @@
 -- Whether a module is accepted doesn't depend on the counts: it asks what is known of expressions for
 -- their types alone.
-use Rattle.std.proofs.Common.{◌≡◌, ℕ, suc, ◌+◌, Bool, ◌&&◌, List, [], ◌∷◌, ◌++◌, length, map}
-use Rattle.std.proofs.Common.{refl, ap, ◌∙◌, ◌==◌}
+use Rattle.std.proofs.Common.{◌≡◌, ℕ, suc, ◌+◌, Bool, ◌&&◌, List, [], ◌∷◌, ◌++◌, length, map, refl}
+use Rattle.std.proofs.Common.{ap, ◌∙◌, ◌==◌}
 use Rattle.std.specs.List.{list_all, flat_map, zip}
 use Rattle.naga_ir.specs.declared.module.Function.{Function}
 use Rattle.naga_ir.specs.declared.module.Module.{Module}
@@ -20,8 +20,7 @@ use Rattle.module_meaning.specs.acceptance.Soundness.{declarations_are_sound, en
 use Rattle.module_meaning.specs.acceptance.Soundness.{function_is_sound, module_is_sound}
 use Rattle.module_meaning.specs.acceptance.Soundness.{typed_function_is_sound}
 use Rattle.naga_acceptance.specs.Counts.{all_with_counts, functions_of, operand_positions}
-use Rattle.naga_acceptance.specs.Counts.{use_count}
-use Rattle.naga_acceptance.specs.Counts.{with_counts, with_counts_from}
+use Rattle.naga_acceptance.specs.Counts.{use_count, with_counts, with_counts_from}
 use Rattle.naga_acceptance.proofs.Counting.{length-all_with_counts}
 
 -- the counts don't change the types, nor how many there are

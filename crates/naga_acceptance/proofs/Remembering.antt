@@ -2,29 +2,24 @@
 --
 -- Throughout, types are a module's types, gs its groups, os are uses, v, w and x are among them or
 -- new, o is a use or a site that may be there, table has slots, and a site tells where a use stands.
-use Rattle.std.proofs.Common.{◌≡◌, ◌≢◌, ℕ, zero, suc, ◌+◌, ◌<◌, ◌%◌, ◌==◌, Bool, true, false}
-use Rattle.std.proofs.Common.{List, [], ◌∷◌, ◌++◌, length, refl, ap, sym, ◌∙◌, subst, arith, Some}
-use Rattle.std.proofs.Common.{None}
+use Rattle.std.proofs.Common.{◌≡◌, ◌≢◌, ℕ, zero, suc, ◌+◌, ◌<◌, ◌%◌, ◌==◌, Bool, true, false, List}
+use Rattle.std.proofs.Common.{[], ◌∷◌, ◌++◌, length, refl, ap, sym, ◌∙◌, subst, arith, Some, None}
 use Rattle.std.proofs.Common.{Option, slice_get, slice_set, slice_index_or, replicate, ◌⊎◌, inl}
-use Rattle.std.proofs.Common.{inr}
-use Rattle.std.proofs.Common.{ltb}
+use Rattle.std.proofs.Common.{inr, ltb}
 use Rattle.std.specs.List.{list_all}
 use Rattle.std.specs.Option.{is_some, option_and_then, option_to_list}
 use Rattle.std.specs.Str.{bytes_eq}
 use Rattle.std.proofs.lemmas.Bool.{eqb-true, eqb-false, ltb-true, ltb-false, false≢true}
-use Rattle.std.proofs.lemmas.List.{length-set, get_or-set_same, get_or-set_other}
-use Rattle.std.proofs.lemmas.List.{length-replicate}
+use Rattle.std.proofs.lemmas.List.{length-set, get_or-set_same, get_or-set_other, length-replicate}
 use Rattle.std.proofs.lemmas.Option.{slice_get_within, same_Some}
 use Rattle.naga_ir.specs.declared.types.Type_.{Type_}
 use Rattle.module_meaning.specs.acceptance.AgreeingOperators.{Group}
 use Rattle.module_meaning.specs.acceptance.Operations.{Operation, agrees, all_agree}
 use Rattle.naga_acceptance.specs.declared.agreeing.Probe.TheVariants.{Empty, Seen, Full}
 use Rattle.naga_acceptance.specs.declared.agreeing.Site.{Site}
-use Rattle.naga_acceptance.specs.Uses.{is_same_operator, use_at, hash_of, slot_after}
-use Rattle.naga_acceptance.specs.Uses.{site_after, site_answer, first_answer, all_mixed}
-use Rattle.naga_acceptance.specs.Uses.{lists_mixed}
-use Rattle.naga_acceptance.specs.Uses.{IsAmong, IsSiteOf, IsHashed, ArePassed, Probes, IsFound}
-use Rattle.naga_acceptance.specs.Uses.{Remembers}
+use Rattle.naga_acceptance.specs.Uses.{is_same_operator, use_at, hash_of, slot_after, site_after}
+use Rattle.naga_acceptance.specs.Uses.{site_answer, first_answer, all_mixed, lists_mixed, IsAmong}
+use Rattle.naga_acceptance.specs.Uses.{IsSiteOf, IsHashed, ArePassed, Probes, IsFound, Remembers}
 use Rattle.naga_acceptance.proofs.Agreement.{same_parts, same_from, first_by, new_agrees}
 use Rattle.naga_acceptance.proofs.Agreement.{seen_agrees}
 use Rattle.naga_acceptance.proofs.Groups.{in_front, at_sum}

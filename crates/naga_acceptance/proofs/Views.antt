@@ -1,9 +1,7 @@
 -- What two types are told by is the same where their levels are, one after another.
 use Rattle.std.proofs.Common.{◌≡◌, ◌≤◌, ℕ, suc, Bool, true, false, ◌&&◌, not, List, [], ◌∷◌, ◌++◌}
-use Rattle.std.proofs.Common.{refl}
-use Rattle.std.proofs.Common.{sym, ap, ◌∙◌, arith, Option, Some, None, unwrap_or, slice_get}
+use Rattle.std.proofs.Common.{refl, sym, ap, ◌∙◌, arith, Option, Some, None, unwrap_or, slice_get}
 use Rattle.std.proofs.Common.{true≢false}
-use Rattle.std.proofs.lemmas.Bool.{eqb-false, ne_eqb, and_left, not-true}
 use Rattle.std.specs.Option.{option_map, is_some}
 use Rattle.std.specs.Prelude.{if◌then◌else◌}
 use Rattle.std.specs.Str.{bytes_eq}
@@ -22,8 +20,7 @@ use Rattle.naga_acceptance.specs.declared.alike.Over.TheVariants.{Nothing, Type_
 use Rattle.naga_acceptance.specs.declared.alike.Over.TheVariants.{Value as ValueOver}
 use Rattle.naga_acceptance.specs.declared.alike.Top.{Top}
 use Rattle.naga_acceptance.specs.Views.{numbers, over_key, top_key, next_key, rank}
-use Rattle.naga_acceptance.specs.Views.{unsupported_code}
-use Rattle.naga_acceptance.specs.Views.{is_whole, identity_numbers}
+use Rattle.naga_acceptance.specs.Views.{unsupported_code, is_whole, identity_numbers}
 
 -- ---- levels
 six : (a b c d e f r : Bool) → (a && (b && (c && (d && (e && (f && r))))))
@@ -92,12 +89,6 @@ module _ (types : List Type_) where
       ∙ rests x.level y.level (over_key types x.over) (over_key types y.over) (over_goes_on o x lx ex so)
       (over_goes_on p y ly ey sp))
 
-  -- one that goes on is not the same as one that ends
-  goes_on_apart : (l : Level) (o : Option (List ℕ)) → is_some o ≡ true →
-      bytes_eq (unwrap_or (following l o) []) [] ≡ false
-  goes_on_apart l None e = absurd (true≢false (sym e))
-  goes_on_apart l (Some xs) e = refl
-
   ends_apart : (l : Level) (o : Option (List ℕ)) → is_some o ≡ true → bytes_eq [] (unwrap_or (following l o) []) ≡ false
   ends_apart l None e = absurd (true≢false (sym e))
   ends_apart l (Some xs) e = refl
@@ -111,16 +102,6 @@ module _ (types : List Type_) where
       ∙ (ap (λ w. bytes_eq [] (unwrap_or w [])) (over_is p y ly ey) ∙ ends_apart y.level (over_key types y.over)
       (over_goes_on p y ly ey sp))
 
-  pub second_ends : (o p : Over) (x : Top) → suc (rank x.over) ≤ rank o → next_key o (top_key types (Some x))
-      ≡ over_key types o →
-      next_key p None ≡ over_key types p →
-      is_some (over_key types o) ≡ true → is_some (over_key types p) ≡ true →
-      bytes_eq (unwrap_or (over_key types o) []) (unwrap_or (over_key types p) []) ≡ false
-  second_ends o p x lx ex ep so sp =
-      ap (λ w. bytes_eq (unwrap_or (over_key types o) []) (unwrap_or w [])) (over_ends p ep sp)
-      ∙ (ap (λ w. bytes_eq (unwrap_or w []) []) (over_is o x lx ex)
-      ∙ goes_on_apart x.level (over_key types x.over) (over_goes_on o x lx ex so))
-
   pub both_end : (o p : Over) → next_key o None ≡ over_key types o → next_key p None ≡ over_key types p →
       is_some (over_key types o) ≡ true → is_some (over_key types p) ≡ true →
       bytes_eq (unwrap_or (over_key types o) []) (unwrap_or (over_key types p) []) ≡ true
@@ -129,16 +110,6 @@ module _ (types : List Type_) where
       ∙ ap (λ w. bytes_eq [] (unwrap_or w [])) (over_ends p ep sp)
 
   -- ---- whole types
-
-  -- what tells a type with a form, and one without
-  pub formed_identity : (r : TypeResolution) (x : Top) → top_key types (Some x) ≡ type_key types r →
-      is_some (over_key types x.over) ≡ true → identity_numbers types (Formed x) ≡ type_identity types r
-  formed_identity r x e some = by (type_key types r) (over_key types x.over) (sym e) some _
-    where
-      by : (s p : Option (List ℕ)) → s ≡ following x.level p → is_some p ≡ true → (u : List ℕ) →
-          unwrap_or (following x.level p) [] ≡ unwrap_or s u
-      by s None es sp u = absurd (true≢false (sym sp))
-      by s (Some xs) es sp u = sym (ap (λ o. unwrap_or o u) es)
 
   pub distinguished_by : (r : TypeResolution) → type_key types r ≡ None → type_identity types r
       ≡ 32 ∷ identity_code (identity types r)
@@ -158,33 +129,6 @@ module _ (types : List Type_) where
           is_some p && not (nat_eq x.level.tag 32) ≡ true
       by None sp plain = absurd (true≢false (sym sp))
       by (Some xs) sp plain = plain
-
-  pub both_formed : (x y : Top) → is_some (over_key types x.over) ≡ true → is_some (over_key types y.over) ≡ true →
-      bytes_eq (identity_numbers types (Formed x)) (identity_numbers types (Formed y)) ≡ bytes_eq
-      (numbers x.level) (numbers y.level) && bytes_eq (unwrap_or (over_key types x.over) [])
-      (unwrap_or (over_key types y.over) [])
-  both_formed x y sx sy = rests x.level y.level (over_key types x.over) (over_key types y.over) sx sy
-
-  blank_apart : (l : Level) (p : Option (List ℕ)) (v : List ℕ) → is_some p && not (nat_eq l.tag 32) ≡ true →
-      bytes_eq (unwrap_or (following l p) []) (32 ∷ v) ≡ false
-  blank_apart l None v whole = absurd (true≢false (sym whole))
-  blank_apart l (Some xs) v whole = and_left (nat_eq l.tag 32) _ (not-true (nat_eq l.tag 32) whole)
-
-  apart_blank : (l : Level) (p : Option (List ℕ)) (v : List ℕ) → is_some p && not (nat_eq l.tag 32) ≡ true →
-      bytes_eq (32 ∷ v) (unwrap_or (following l p) []) ≡ false
-  apart_blank l None v whole = absurd (true≢false (sym whole))
-  apart_blank l (Some xs) v whole =
-      and_left (nat_eq 32 l.tag) _
-      (ne_eqb 32 l.tag (λ e. eqb-false l.tag 32 (not-true (nat_eq l.tag 32) whole) (sym e)))
-
-  pub formed_apart : (x : Top) (l : Option Level) → is_whole types (Formed x) ≡ true →
-      bytes_eq (identity_numbers types (Formed x)) (identity_numbers types (Unsupported l)) ≡ false
-  formed_apart x l whole = blank_apart x.level (over_key types x.over) (unsupported_code (option_map numbers l)) whole
-
-  pub unsupported_apart : (l : Option Level) (x : Top) → is_whole types (Formed x) ≡ true →
-      bytes_eq (identity_numbers types (Unsupported l)) (identity_numbers types (Formed x)) ≡ false
-  unsupported_apart l x whole = apart_blank x.level (over_key types x.over)
-      (unsupported_code (option_map numbers l)) whole
 
   -- ---- what tells a type without a form
   pub unsupported_identity : (h : ℕ) (t : Type_) (l : Level) → slice_get types h ≡ Some t →

@@ -201,14 +201,6 @@ module _ (m : Module) (f : Function) (known : List TypeResolution) where
         joined (is_sound m f known) (statements_in breaks continues b) (case_statements breaks continues cs)
         (block_sound breaks continues b) (cases_sound breaks continues cs)
 
--- no statement is found where the body fits
-pub range_fits : (callees expressions : ℕ) (b : BlockTree) →
-    is_none (result_err (numbered (is_in_range callees expressions) 0 (text_order b)))
-    ≡ block_in_range callees expressions b
-range_fits callees expressions b =
-    numbered_fits (is_in_range callees expressions) 0 (text_order b)
-    ∙ sym (block_range callees expressions false false b)
-
 pub sound_fits : (m : Module) (f : Function) (known : List TypeResolution) →
     is_none (result_err (numbered (is_sound m f known) 0 (text_order f.body))) ≡ body_is_sound m f known
 sound_fits m f known =

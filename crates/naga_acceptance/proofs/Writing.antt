@@ -43,12 +43,6 @@ IsWritten-more target initial xs i y h w is =
       kept_length = length-set xs i y ∙ w.kept_length;
     }
 
-pub IsWritten-all : {X : Type 0} (target initial xs : List X) → IsWritten target initial xs (length xs) → xs ≡ target
-IsWritten-all target initial xs w =
-    let enough : length xs ≤ length xs = omega arith
-    in let target_enough : length target ≤ length xs = omega (arith, w.same_length, w.kept_length)
-    in sym (take_all (length xs) xs enough) ∙ w.done ∙ take_all (length xs) target target_enough
-
 -- a place that stays as it was
 pub IsWritten-kept : {X : Type 0} (target initial xs : List X) (i : ℕ) (d : X) →
     i < length initial → IsWritten target initial xs i →

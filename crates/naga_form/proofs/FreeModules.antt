@@ -6,8 +6,8 @@
 -- Throughout, m is a module and info what is known of it, k is the number of a function f, es is
 -- what is known of its expressions, callees are the functions before it and own its names.
 use Rattle.module_meaning.specs.Names.{TypesAreDistinguished}
-use Rattle.std.proofs.Common.{◌≡◌, ℕ, true, List, [], ◌∷◌, length, Some}
-use Rattle.std.proofs.Common.{refl, sym, ap, ◌∙◌, subst, slice_get, arith}
+use Rattle.std.proofs.Common.{◌≡◌, ℕ, true, List, [], ◌∷◌, length, Some, refl, sym, ap, ◌∙◌, subst}
+use Rattle.std.proofs.Common.{slice_get, arith}
 use Rattle.std.specs.Prelude.{IsTrue}
 use Rattle.naga_ir.specs.declared.module.Function as ir_function
 use Rattle.naga_ir.specs.declared.module.Module as ir_module
@@ -47,8 +47,7 @@ use Rattle.naga_form.proofs.names.FreeNames.{free_within, free_distinct, free_fu
 use Rattle.naga_form.proofs.names.FreeNames.{free_constants_distinct, function_not_hidden}
 use Rattle.naga_form.proofs.names.FreeWords.{free_request}
 use Rattle.naga_form.proofs.statements.FunctionsFit.{AllAfter, Tells, all_from, all_distinguished}
-use Rattle.naga_form.proofs.statements.FunctionsFit.{named}
-use Rattle.naga_form.proofs.statements.FunctionsFit.{regular_at, shape_numbered, stand_after}
+use Rattle.naga_form.proofs.statements.FunctionsFit.{named, regular_at, shape_numbered, stand_after}
 use Rattle.naga_form.proofs.statements.FunctionsFit.{worded_at}
 use Rattle.naga_form.proofs.operators.Leaves.{leaves}
 use Rattle.naga_form.proofs.operators.Ordered.{ordered}

@@ -1,14 +1,14 @@
 -- A module meets what the law of runs asks of it, under its names.
-use Rattle.std.proofs.Common.{[], ◌≡◌, ℕ, suc, ◌+◌, ◌<◌, Bool, true, false, List, ◌∷◌, length}
-use Rattle.std.proofs.Common.{Some, refl, sym, ap, subst, ◌∙◌, arith, add-one}
+use Rattle.std.proofs.Common.{[], ◌≡◌, ℕ, suc, ◌+◌, ◌<◌, Bool, true, false, List, ◌∷◌, length, Some}
+use Rattle.std.proofs.Common.{refl, sym, ap, subst, ◌∙◌, arith, add-one}
 use Rattle.std.specs.Prelude.{IsTrue, slice_get}
 use Rattle.std.specs.List.{list_all}
 use mathlib.Core.List.{reverse_aux}
 use Rattle.std.proofs.lemmas.List.{length-reverse}
-use Rattle.std.proofs.lemmas.Bool.{and_from}
+use Rattle.std.proofs.lemmas.Bool.{and_from, and_parts}
 use Rattle.naga_ir.specs.declared.module.Function as ir_function
 use Rattle.naga_ir.specs.declared.module.Module.{Module}
-use Rattle.module_meaning.specs.ModuleShapes.{module_shape}
+use Rattle.module_meaning.specs.ModuleShapes.{module_shape, variable_shape}
 use Rattle.naga_info.specs.declared.info.ExpressionInfo.{ExpressionInfo}
 use Rattle.naga_info.specs.declared.info.ModuleInfo.{ModuleInfo}
 use Rattle.module_meaning.proofs.SideBySide.{zip_parts}
@@ -17,9 +17,10 @@ use Rattle.naga_form.proofs.names.Names.{one_function}
 use Rattle.module_meaning.specs.FunctionNumbers.{all_functions, all_infos}
 use Rattle.naga_names.proofs.Refusal.{element}
 use Rattle.shader_runs.specs.Program as shapes
-use Rattle.shader_runs.specs.Scope.{Naming, fits_function}
+use Rattle.shader_runs.specs.Scope.{Naming, fits_function, ModuleNames}
 use Rattle.shader_runs.specs.Form.{functions_of}
-use Rattle.shader_runs.specs.Premises.{ConstantsFit}
+use Rattle.shader_runs.specs.Premises.{ConstantsFit, ConstantInRange, EachWord}
+use Rattle.shader_runs.specs.Premises.{ModuleNamesAreDistinct, OperatesOutside}
 use Rattle.shader_runs.specs.Correct.{ModuleFits}
 use Rattle.shader_runs.proofs.Names.{length-functions_of}
 use Rattle.shader_runs.proofs.Update.{and_left, and_right}
@@ -32,23 +33,17 @@ use Rattle.module_meaning.specs.Written.{AllWrittenHaveForms}
 use Rattle.naga_form.proofs.Facts.{further, from_start}
 use Rattle.naga_form.proofs.statements.EmptyCases.{no_case_falls}
 use Rattle.naga_form.proofs.names.NamedFits.{is_free}
-use Rattle.naga_form.proofs.declarations.ConstantsFit.{constants_are_typed}
+use Rattle.naga_form.proofs.declarations.ConstantsFit.{constants_are_typed, constants_fit}
 use Rattle.naga_form.proofs.statements.FunctionsFit.{IsFree, AllAfter, all_fit_freely}
 use Rattle.naga_form.proofs.statements.AcceptedFunctions.{all_counted, functions_known, group_at}
 use Rattle.naga_form.proofs.operators.Leaves.{ConstantsAreTyped}
 use Rattle.module_meaning.specs.acceptance.Accepted.{is_accepted}
-use Rattle.std.proofs.lemmas.Bool.{and_parts}
 use Rattle.naga_form.proofs.declarations.AcceptedGroups.{types_are_fit}
 use Rattle.naga_form.proofs.statements.ScopeRules.{same_functions}
 use Rattle.module_meaning.specs.ExpressionContexts.{declared, global_tree, types_known}
-use Rattle.module_meaning.specs.ModuleShapes.{variable_shape}
-use Rattle.shader_runs.specs.Premises.{ConstantInRange, EachWord, ModuleNamesAreDistinct}
-use Rattle.shader_runs.specs.Premises.{OperatesOutside}
 use Rattle.shader_runs.specs.Program.{ConstantTree}
-use Rattle.shader_runs.specs.Scope.{ModuleNames}
 use Rattle.naga_form.proofs.declarations.ConstantInitialisers.{initialiser_of}
 use Rattle.naga_form.proofs.operators.ConstantTrees.{global_tree_in_range}
-use Rattle.naga_form.proofs.declarations.ConstantsFit.{constants_fit}
 use Rattle.naga_form.proofs.Fits.{mapped_length}
 use Rattle.naga_form.proofs.names.FixedNames.{constants_tell}
 use Rattle.naga_form.proofs.names.ItemKeys.{CountsItems}

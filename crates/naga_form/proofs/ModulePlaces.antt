@@ -2,8 +2,7 @@
 -- its handles: the shapes of the expressions, and the types of their values.
 use Rattle.module_meaning.specs.Names.{TypesAreDistinguished}
 use Rattle.std.proofs.Common.{◌≡◌, ℕ, zero, suc, ◌+◌, List, [], ◌∷◌, refl, sym, ap, ◌∙◌, map}
-use Rattle.std.proofs.Common.{length}
-use Rattle.std.proofs.Common.{Some, None, slice_get, arith, ◌⊎◌, inl, inr}
+use Rattle.std.proofs.Common.{length, Some, None, slice_get, arith, ◌⊎◌, inl, inr}
 use Rattle.std.specs.Prelude.{IsTrue, reverse}
 use mathlib.Core.List.{reverse_aux}
 use Rattle.std.specs.Option.{option_map}

@@ -11,15 +11,13 @@ use Rattle.module_meaning.proofs.Lists.{list_all_at}
 use Rattle.module_meaning.proofs.ExpressionForms.{spelled_of_spellable}
 use Rattle.naga_form.proofs.statements.AcceptedFunctions.{bindings_are_in_range, entry_info_among}
 use Rattle.naga_form.proofs.statements.AcceptedFunctions.{locals_are_in_range, of_number}
-use Rattle.naga_form.proofs.statements.AcceptedFunctions.{ranges_are}
-use Rattle.naga_form.proofs.statements.AcceptedFunctions.{soundness_is}
+use Rattle.naga_form.proofs.statements.AcceptedFunctions.{ranges_are, soundness_is}
 use Rattle.naga_form.proofs.declarations.Attributes.{passing_io, passing_is}
 use Rattle.naga_form.proofs.declarations.DeclaredPrograms.{constants_are, overrides_are}
-use Rattle.naga_form.proofs.declarations.DeclaredPrograms.{stage_there, structs_are}
-use Rattle.naga_form.proofs.declarations.DeclaredPrograms.{variables_are, written_constants}
+use Rattle.naga_form.proofs.declarations.DeclaredPrograms.{stage_there, structs_are, variables_are}
+use Rattle.naga_form.proofs.declarations.DeclaredPrograms.{written_constants}
 use Rattle.std.proofs.Common.{◌≡◌, ℕ, ◌<◌, ◌≤◌, suc, Bool, true, false, List, [], ◌∷◌, length, refl}
-use Rattle.std.proofs.Common.{sym}
-use Rattle.std.proofs.Common.{ap, ◌∙◌, arith, nat_lt, ◌+◌, Option, Some, None, ◌^◌, map}
+use Rattle.std.proofs.Common.{sym, ap, ◌∙◌, arith, nat_lt, ◌+◌, Option, Some, None, ◌^◌, map}
 use Rattle.std.proofs.Common.{nat_le, add-zero, zero-add, cond}
 use Rattle.std.specs.Prelude.{IsTrue, slice_get}
 use Rattle.std.specs.List.{list_all, AllByRecursion, filter}
@@ -63,8 +61,7 @@ use Rattle.naga_info.specs.declared.info.TypeResolution.TheVariants.{Handle}
 use Rattle.naga_info.specs.declared.info.TypeResolution.{TypeResolution}
 use Rattle.naga_form.proofs.Facts.{further, from_start}
 use Rattle.naga_form.proofs.names.Names.{item_is_identifier, function_item, argument_item}
-use Rattle.naga_form.proofs.names.Names.{function_there}
-use Rattle.naga_form.proofs.names.Names.{argument_there, local_item, local_there}
+use Rattle.naga_form.proofs.names.Names.{function_there, argument_there, local_item, local_there}
 use Rattle.naga_form.proofs.names.NumberedNames.{numbered_is}
 use Rattle.module_meaning.proofs.FunctionNumbers.{entry_point_among, function_among, info_among}
 use Rattle.module_meaning.specs.FunctionNumbers.{all_functions, all_infos}

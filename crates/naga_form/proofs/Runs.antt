@@ -25,7 +25,7 @@ use Rattle.module_meaning.specs.FunctionShapes.{function_shapes}
 use Rattle.module_meaning.specs.ModuleShapes.{module_shape}
 use Rattle.module_meaning.specs.Names.{AreLabelNames, expression_name, function_name, LabelNames}
 use Rattle.module_meaning.specs.Names.{module_names}
-use Rattle.module_meaning.specs.Namings.{namings, namings_from, namings_under, outer_names}
+use Rattle.module_meaning.specs.Namings.{namings_from, namings_under, outer_names}
 use Rattle.module_meaning.specs.Premises.{ScopesHold}
 use Rattle.module_meaning.specs.Written.{AllWrittenHaveForms, WrittenHaveForms}
 use Rattle.naga_form.specs.Declarations.{program_under, written_program}
@@ -92,14 +92,6 @@ reads_as_shapes_under m info flags named accepted declarations have =
           (ap reverse each
           ∙ sym (form_functions-map (reverse listed) ∙ map-reverse form_function listed)) i;
     }
-
-pub reads_as_shapes : (m : Module) (info : ModuleInfo) (flags : WriterFlags) →
-    IsTrue (is_accepted m info) → DeclarationsHaveForms m →
-    AllWrittenHaveForms (annotates_types flags) m info → program_read (written_program m info flags) ≡
-    form_module (module_shape m info) (outer_names (module_names m) m)
-    (namings (module_names m) m info)
-reads_as_shapes m info flags accepted declarations have =
-    reads_as_shapes_under m info flags (expression_name m) accepted declarations have
 
 -- ---- runs
 pub runs_as_under : (m : Module) (info : ModuleInfo) (flags : WriterFlags) (named : LabelNames) →

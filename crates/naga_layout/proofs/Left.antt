@@ -5,7 +5,7 @@
 use Rattle.std.proofs.Common.{◌≡◌, ◌∙◌, ◌*◌, ℕ, zero, suc, Bool, true, false, List, [], ◌∷◌, Option, Some, None}
 use Rattle.std.proofs.Common.{◌+◌, ap, arith, drop, length, max, refl, slice_get, subst, sym}
 use Rattle.std.specs.Prelude.{◌&&◌, ◌==◌, ⊤, if◌then◌else◌, unwrap_or}
-use Rattle.std.specs.Option.{is_none, option_and_then, option_map, option_map_or, option_or, IfSome}
+use Rattle.std.specs.Option.{is_none, option_and_then, option_map, option_map_or, IfSome}
 use Rattle.naga_ir.specs.declared.types.Scalar.{Scalar}
 use Rattle.naga_ir.specs.declared.types.StructMember.{StructMember}
 use Rattle.naga_ir.specs.declared.types.Type_.{Type_}
@@ -16,8 +16,6 @@ use Rattle.wgsl_layout.proofs.Rounding.{first_greatest, greater}
 use Rattle.wgsl_layout.specs.Capped.{IsAlignment, IsGreatest, capped, capped_member}
 use Rattle.wgsl_layout.specs.Members.{are_kept, ended, greatest_placed, is_aligned, last_of}
 use Rattle.wgsl_layout.specs.Members.{stands_after, written_members}
-use Rattle.wgsl_layout.specs.Faults.{first_fault, goes_on, own_fault}
-use Rattle.wgsl_layout.specs.declared.members.Misplaced.{Misplaced}
 use Rattle.wgsl_layout.specs.Rules.{array_layout, matrix_layout, scalar_layout, stride_of, struct_layout, vector_layout}
 use Rattle.wgsl_layout.specs.declared.layouts.Layout.{Layout}
 use Rattle.wgsl_layout.specs.declared.layouts.Placed.{Placed}
@@ -278,83 +276,7 @@ cell_aligned rule types h o is = subst IsAlignedIf (sym is) (by (layout_at rule 
     by (Some l) aligned = aligned
 
 -- ---- faults
--- the first fault from a member on
-abbrev pub faults_from : (f : ℕ → Option Layout) → (before : Option Placed) → (found : Option Misplaced) →
-    List StructMember → Option Misplaced
-faults_from f before found ks = option_and_then (first_fault before found) (placed_members f ks)
-
-fault_more : (b : Option Placed) (found : Option Misplaced) (p : Placed) (ps : List Placed) →
-    first_fault b found (p ∷ ps) ≡ (if goes_on b p then first_fault (Some p) (option_or found (own_fault b p))
-    ps else None)
-fault_more None found p ps = refl
-fault_more (Some b) found p ps = refl
-
-pub one_fault_more : (f : ℕ → Option Layout) (ms : List StructMember) (i : ℕ) (k : StructMember)
-    (b : Option Placed) (found : Option Misplaced) (q : Placed) (before : Option Placed)
-    (own whole : Option Misplaced) →
-    drop i ms ≡ k ∷ drop (i + 1) ms →
-    before ≡ option_map capped_member b → whole ≡ faults_from f b found (drop i ms) →
-    Some q ≡ option_map capped_member (placed_member f k) →
-    ((b : Option Placed) (p : Placed) → before ≡ option_map capped_member b → q ≡ capped_member p →
-    true ≡ goes_on b p) →
-    ((b : Option Placed) (p : Placed) → before ≡ option_map capped_member b → q ≡ capped_member p →
-    own ≡ own_fault b p) →
-    (x : Option Placed) × (Some q ≡ option_map capped_member x) ×
-    (whole ≡ faults_from f x (option_or found own) (drop (i + 1) ms))
-one_fault_more f ms i k b found q before own whole left held is placed goes owns =
-    let some = found_member (placed_member f k) q placed in
-    let p = some.0 in (
-      Some p,
-      ap (λ q. Some q) some.2,
-      is ∙ (ap (faults_from f b found) left
-          ∙ (ap (λ o. option_and_then (first_fault b found)
-          (option_and_then (λ p. option_map (λ ps. p ∷ ps) (placed_members f (drop (i + 1) ms))) o)) some.1
-          ∙ (by p (placed_members f (drop (i + 1) ms)) (sym (goes b p held some.2))
-          ∙ ap (λ w. faults_from f (Some p) (option_or found w) (drop (i + 1) ms)) (sym (owns b p held some.2))))),
-    )
-  where
-    by : (p : Placed) (ms : Option (List Placed)) → goes_on b p ≡ true →
-        option_and_then (first_fault b found) (option_map (λ ps. p ∷ ps) ms) ≡
-        option_and_then (first_fault (Some p) (option_or found (own_fault b p))) ms
-    by p None on = refl
-    by p (Some ps) on =
-        fault_more b found p ps
-        ∙ ap (λ x. if x then first_fault (Some p) (option_or found (own_fault b p)) ps else None) on
-
--- there is none where the offsets aren't to be kept
-pub no_fault_more : (f : ℕ → Option Layout) (ms : List StructMember) (i : ℕ) (k : StructMember)
-    (b : Option Placed) (found : Option Misplaced) (q : Placed) (before : Option Placed) (whole : Option Misplaced) →
-    drop i ms ≡ k ∷ drop (i + 1) ms →
-    before ≡ option_map capped_member b → whole ≡ faults_from f b found (drop i ms) →
-    Some q ≡ option_map capped_member (placed_member f k) →
-    ((b : Option Placed) (p : Placed) → before ≡ option_map capped_member b → q ≡ capped_member p →
-    false ≡ goes_on b p) →
-    whole ≡ None
-no_fault_more f ms i k b found q before whole left held is placed goes =
-    let some = found_member (placed_member f k) q placed in
-    let p = some.0 in
-    is ∙ (ap (faults_from f b found) left
-    ∙ (ap (λ o. option_and_then (first_fault b found)
-    (option_and_then (λ p. option_map (λ ps. p ∷ ps) (placed_members f (drop (i + 1) ms))) o)) some.1
-    ∙ by p (placed_members f (drop (i + 1) ms)) (sym (goes b p held some.2))))
-  where
-    by : (p : Placed) (ms : Option (List Placed)) → goes_on b p ≡ false →
-        option_and_then (first_fault b found) (option_map (λ ps. p ∷ ps) ms) ≡ None
-    by p None on = refl
-    by p (Some ps) on =
-        fault_more b found p ps
-        ∙ ap (λ x. if x then first_fault (Some p) (option_or found (own_fault b p)) ps else None) on
 
 no_member : (o : Option Placed) → None ≡ option_map capped_member o → o ≡ None
 no_member None is = refl
 no_member (Some p) is = absurd (grind (arith, is))
-
-pub no_row_more : (f : ℕ → Option Layout) (ms : List StructMember) (i : ℕ) (k : StructMember)
-    (b : Option Placed) (found whole : Option Misplaced) →
-    drop i ms ≡ k ∷ drop (i + 1) ms → whole ≡ faults_from f b found (drop i ms) →
-    None ≡ option_map capped_member (placed_member f k) → whole ≡ None
-no_row_more f ms i k b found whole left is placed =
-    is ∙ (ap (faults_from f b found) left
-    ∙ ap (λ o. option_and_then (first_fault b found)
-    (option_and_then (λ p. option_map (λ ps. p ∷ ps) (placed_members f (drop (i + 1) ms))) o))
-    (no_member (placed_member f k) placed))

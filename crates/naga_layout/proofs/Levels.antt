@@ -3,8 +3,7 @@
 -- Throughout, types are a module's types, h is the handle of one, t a type of the module, it a type by
 -- itself, k a member, f and g tell layouts of types, and l is a layout.
 use Rattle.std.proofs.Common.{◌≡◌, ◌<◌, ◌≤◌, ◌∙◌, ◌*◌, ℕ, zero, suc, Bool, true, false, List, []}
-use Rattle.std.proofs.Common.{◌∷◌, Option, Some, None}
-use Rattle.std.proofs.Common.{ap, arith, refl, slice_get, subst, sym}
+use Rattle.std.proofs.Common.{◌∷◌, Option, Some, None, ap, arith, refl, slice_get, subst, sym}
 use Rattle.std.specs.Prelude.{◌&&◌, IsTrue, if◌then◌else◌, nat_lt}
 use Rattle.std.specs.List.{list_all}
 use Rattle.std.specs.Option.{is_none, option_and_then, option_map}

@@ -4,8 +4,7 @@
 -- the layouts that users are told, g those by another rule, x what one of the first is, and y what one of
 -- the others is.
 use Rattle.std.proofs.Common.{◌≡◌, ◌∙◌, ℕ, zero, suc, Bool, true, false, List, [], ◌∷◌, Option}
-use Rattle.std.proofs.Common.{Some, None}
-use Rattle.std.proofs.Common.{ap, refl, slice_get, sym}
+use Rattle.std.proofs.Common.{Some, None, ap, refl, slice_get, sym}
 use Rattle.std.specs.Prelude.{◌==◌, if◌then◌else◌}
 use Rattle.std.specs.Option.{is_none, option_and_then, option_map, option_map_or}
 use Rattle.std.proofs.lemmas.Option.{same_Some}

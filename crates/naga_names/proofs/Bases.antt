@@ -1,7 +1,6 @@
 -- What every base looks like: a word that ends in no `_`.
 use Rattle.std.proofs.Common.{◌≡◌, ℕ, ◌<◌, ◌≤◌, suc, Bool, true, false, cond, not, ◌&&◌, List, []}
-use Rattle.std.proofs.Common.{◌∷◌, ◌++◌, length, drop, refl, sym, ap, ◌∙◌}
-use Rattle.std.proofs.Common.{arith, zero, codes, ◌+◌}
+use Rattle.std.proofs.Common.{◌∷◌, ◌++◌, length, drop, refl, sym, ap, ◌∙◌, arith, zero, codes, ◌+◌}
 use Rattle.std.proofs.Common.{◌-◌, ◌==◌, replicate}
 use Rattle.std.specs.Bool.{nat_eq}
 use Rattle.std.specs.List.{list_all, starts_with, list_any, flat_map}
@@ -15,9 +14,9 @@ use borrow.Author.Tests.{eqb-true}
 use Rattle.naga_keywords.specs.Plain.{is_identifier_char, is_word}
 use Rattle.naga_names.specs.Label.{is_numeric, after_numerics, is_mark, is_foreign, hexadecimal}
 use Rattle.naga_names.specs.Label.{by_number, character_spelling, begins_separated}
-use Rattle.naga_names.specs.Label.{without_repeated_underscores, begins_foreign}
-use Rattle.naga_names.specs.Label.{spelling, ends_separated, kept_before}
-use Rattle.naga_names.specs.Label.{without_last_separators, or_unnamed, kept_off, base_of}
+use Rattle.naga_names.specs.Label.{without_repeated_underscores, begins_foreign, spelling}
+use Rattle.naga_names.specs.Label.{ends_separated, kept_before, without_last_separators, or_unnamed}
+use Rattle.naga_names.specs.Label.{kept_off, base_of}
 use Rattle.ucd_category.proofs.Computing.{ucd_category}
 use Rattle.naga_names.proofs.Label.{character_spelling-mark, character_spelling-plain}
 use Rattle.naga_names.proofs.Label.{character_spelling-foreign, spelling-body, hexadecimal_glyph}

@@ -369,13 +369,6 @@ spelling-alphanumeric cs c test plain =
     let parts = or_parts (is_mark c) (c == 95) test in
     spelling-plain cs c parts.0 (ap (λ b. b || c == 95) plain) parts.1
 
-pub foreign-from_tests : (c : ℕ) → (is_mark c || c == 95) ≡ false → is_ascii_alphanumeric c ≡ false →
-    is_foreign c ≡ true
-foreign-from_tests c test plain =
-    let parts = or_parts (is_mark c) (c == 95) test in
-    ap (λ b. not b && not (is_ascii_alphanumeric c || c == 95)) parts.0 ∙ ap (λ b. not (b || c == 95)) plain
-    ∙ ap not parts.1
-
 -- what `{:04x}` writes
 pub padded-hexadecimal : (c : ℕ) → padded_integral (format_spec 32 0 4 4 (2 ^ 64 - 1)) false []
     (digits 16 false c) ≡ hexadecimal c

@@ -1,10 +1,10 @@
 -- The members of one struct, which are named by themselves, among the items of their module, and
 -- their names after a `reset`.
-use Rattle.std.proofs.Common.{◌≡◌, ℕ, ◌<◌, ◌≤◌, suc, Bool, true, false, cond, ◌&&◌, List, [], ◌∷◌}
+use Rattle.std.proofs.Common.{◌≡◌, ℕ, ◌<◌, ◌≤◌, suc, true, false, cond, ◌&&◌, List, [], ◌∷◌}
 use Rattle.std.proofs.Common.{◌++◌, length, take, drop, refl, sym, ap, subst, ◌∙◌, append_assoc}
 use Rattle.std.proofs.Common.{arith, zero, ◌+◌, map, Some, ◌-◌, ◌^◌, slice_get, get_or, append-nil}
 use Rattle.std.proofs.Common.{unwrap_or}
-use Rattle.std.specs.List.{list_all, flat_map, scan, fold, enumerate_from}
+use Rattle.std.specs.List.{flat_map, scan, fold, enumerate_from}
 use Rattle.std.specs.Map.{update, update_all}
 use Rattle.std.proofs.Math.Seq.{drop-append_seam}
 use Rattle.std.proofs.lemmas.List.{length-append, map-append, take-append-drop, take_more}
@@ -40,7 +40,6 @@ use Rattle.naga_names.proofs.Reset.{labels_of-append, scan-push, not_below, or_n
 use Rattle.naga_names.proofs.Reset.{items_at, entries_grown}
 use Rattle.std.specs.Prelude.{◌⊎◌}
 use mathlib.Core.Logic.{inl, inr}
-use Rattle.std.proofs.lemmas.Bool.{and_parts}
 use Rattle.std.proofs.lemmas.List.FromFn.{length-enumerate_from}
 use Rattle.std.proofs.lemmas.Option.{slice_get_within, none-some}
 use Rattle.naga_ir.specs.declared.module.Module.{Module}
@@ -337,14 +336,6 @@ outside_again inside old last new uses words within same last_is kept uses_are w
     (λ i. record ((last_is ∙ kept) i) { uses = uses_are i; builtin_identifiers = words_are i }) ∙ same
 
 -- Their names after a `reset`.
-
--- what is found in a list passes the test that all of it passes
-all_at : (test : LabelledItem → Bool) (xs : List LabelledItem) (i : ℕ) (x : LabelledItem) → list_all test xs
-    ≡ true → slice_get xs i ≡ Some x → test x ≡ true
-all_at test [] i x all e = absurd (none-some x e)
-all_at test (y ∷ xs) zero x all e = subst (λ z. test z ≡ true) (ap (λ o. unwrap_or o y) e)
-    (and_parts (test y) (list_all test xs) all).0
-all_at test (y ∷ xs) (suc i) x all e = all_at test xs i x (and_parts (test y) (list_all test xs) all).1 e
 
 pub reserved_plain : HasPlainEnds (set.from_list (map (λ word. word.now) RESERVED.now))
 reserved_plain = plain_ends (map (λ word. word.now) RESERVED.now) (words_are (map (λ word. word.now) RESERVED.now) refl)

@@ -1,7 +1,7 @@
 -- What every name looks like, and that a name tells its base and its number.
-use Rattle.std.proofs.Common.{◌≡◌, ℕ, ◌+◌, Bool, true, false, not, ◌&&◌, ◌||◌, ◌==◌}
-use Rattle.std.proofs.Common.{cond, List, [], ◌∷◌, ◌++◌, get_or, drop, codes, refl, sym, ap, ◌∙◌}
-use Rattle.std.proofs.Common.{arith, append_assoc, append-nil, All}
+use Rattle.std.proofs.Common.{◌≡◌, ℕ, ◌+◌, Bool, true, false, not, ◌&&◌, ◌||◌, ◌==◌, cond, List, []}
+use Rattle.std.proofs.Common.{◌∷◌, ◌++◌, get_or, drop, codes, refl, sym, ap, ◌∙◌, arith}
+use Rattle.std.proofs.Common.{append_assoc, append-nil, All}
 use Rattle.std.specs.List.{list_all, starts_with}
 use Rattle.std.specs.Bool.{nat_eq}
 use Rattle.std.specs.Prelude.{◌⊎◌}
@@ -19,19 +19,16 @@ use Rattle.std.proofs.lemmas.Map.Text.{is_eq-slice_cmp}
 use Rattle.std.proofs.lemmas.Bool.{and_parts, and_from, true≢false, or_parts}
 use Rattle.std.proofs.Math.Bool.{and-false}
 use Rattle.naga_names.proofs.Label.{get_or-last, ends_separated-push, is_text, is_text-decimal}
-use Rattle.naga_names.proofs.Label.{is_text-numeral, all_digits-numeral}
-use Rattle.naga_names.proofs.Label.{all_digits-decimal}
-use Rattle.naga_names.proofs.Bases.{base_is_word, base_ends, begins_double}
+use Rattle.naga_names.proofs.Label.{is_text-numeral, all_digits-numeral, all_digits-decimal}
+use Rattle.naga_names.proofs.Bases.{base_is_word, base_ends, begins_double, base_not_double}
 use Rattle.naga_names.proofs.Numerals.{numeral_injective}
-use Rattle.naga_names.proofs.Bases.{base_not_double}
 use Rattle.naga_names.specs.Label.{ends_separated, after_numerics, spelling}
 use Rattle.naga_names.specs.Label.{without_last_separators, or_unnamed, kept_off, base_of}
 use Rattle.naga_keywords.specs.Plain.{is_identifier_char, is_word, is_identifier}
 use Rattle.naga_keywords.specs.Plain.{is_empty_or_separated, HasPlainEnds, IsPlain}
 use Rattle.naga_keywords.specs.Words.{in_lower_case}
 use Rattle.naga_names.specs.Naming.{Names, label_base, is_taken, ends_in_digit, first_name}
-use Rattle.naga_names.specs.Naming.{later_name, name_of_base, labels_with_base, name_after}
-use Rattle.naga_names.specs.Naming.{numeral}
+use Rattle.naga_names.specs.Naming.{later_name, name_of_base, labels_with_base, name_after, numeral}
 
 -- ---- the last character
 -- the text ends in a character that passes

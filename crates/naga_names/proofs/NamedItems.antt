@@ -1,8 +1,8 @@
 -- The names of a list of items: where they stand, that none comes twice, and what a map has of
 -- them.
-use Rattle.std.proofs.Common.{◌≡◌, ℕ, ◌+◌, ◌<◌, zero, suc, string_bytes, List, [], ◌∷◌}
-use Rattle.std.proofs.Common.{◌++◌, map, take, Some, None, true, false, cond, refl, ap, sym, subst}
-use Rattle.std.proofs.Common.{◌∙◌, arith, codes, append_assoc, append-nil, slice_get}
+use Rattle.std.proofs.Common.{◌≡◌, ℕ, ◌+◌, ◌<◌, zero, suc, string_bytes, List, [], ◌∷◌, ◌++◌, map}
+use Rattle.std.proofs.Common.{take, Some, None, false, cond, refl, ap, sym, subst, ◌∙◌, arith}
+use Rattle.std.proofs.Common.{codes, append_assoc, append-nil, slice_get}
 use Rattle.std.specs.Prelude.{◌⊎◌}
 use mathlib.Core.Logic.{inl, inr}
 use Rattle.std.specs.List.{AllByRecursion, IsDistinct, scan, flat_map, enumerate_from}
@@ -25,12 +25,11 @@ use Rattle.naga_names.specs.Naming.{Names, name_after, label_or}
 use Rattle.naga_names.specs.Keys.{NameMap, same_key}
 use Rattle.naga_names.specs.Reset.{LabelledItem, is_member, item_name, labels_of, named_items}
 use Rattle.naga_names.specs.Reset.{members_of, labelled_members, labelled_type, type_label}
-use Rattle.naga_names.specs.Reset.{is_external, labelled_parts, labelled_types, labelled_argument}
-use Rattle.naga_names.specs.Reset.{labelled_arguments, labelled_locals, labelled_function}
-use Rattle.naga_names.specs.Reset.{labelled_functions, labelled_entry_arguments}
-use Rattle.naga_names.specs.Reset.{labelled_entry_locals, labelled_entry_point}
-use Rattle.naga_names.specs.Reset.{labelled_entry_points, labelled_global, labelled_globals}
-use Rattle.naga_names.specs.Reset.{labelled_declarations, value_label, type_name}
+use Rattle.naga_names.specs.Reset.{labelled_types, labelled_argument, labelled_arguments}
+use Rattle.naga_names.specs.Reset.{labelled_locals, labelled_function, labelled_functions}
+use Rattle.naga_names.specs.Reset.{labelled_entry_arguments, labelled_entry_locals}
+use Rattle.naga_names.specs.Reset.{labelled_entry_point, labelled_entry_points, labelled_global}
+use Rattle.naga_names.specs.Reset.{labelled_globals, labelled_declarations, value_label, type_name}
 use Rattle.naga_names.specs.Reset.{labelled_constants, labelled_overrides, labelled_values}
 use Rattle.naga_names.specs.Reset.{labelled_items, PutsInto, HasNamedItems}
 use Rattle.naga_names.proofs.Reset.{labels_of-around, item_name-outside}
@@ -184,16 +183,6 @@ pub put_at : (start : Names) (before now : NameMap) (items : List LabelledItem) 
     now item.0 ≡ Some (name_after start (labels_of (take i items)) item.1)
 put_at start before now items put apart i item e outside = item_put start before now items put apart i item e
     ∙ ap Some (item_name-outside start (take i items) item.0 item.1 outside)
-
--- a map has at a key that no item has what it had
-pub put_elsewhere : (start : Names) (before now : NameMap) (items : List LabelledItem) →
-    PutsInto before (named_items start items) now → AreApart items →
-    (key : NameKey) → AllByRecursion (λ y. same_key key y.0 ≡ false) items → now key ≡ before key
-put_elsewhere start before now items put apart k none =
-    put.finds k
-    ∙ update_all_distinct same_key_laws same_key (λ x y. refl) before (named_items start items) k
-    (keys_distinct start [] items apart)
-    ∙ ap (λ o. option_or o (before k)) (name_absent start items k none)
 
 -- ---- where an item stands
 -- the item is one of these
@@ -424,23 +413,6 @@ module _ (start : Names) («module» : Module) where
       in_argument h function n argument (key.FunctionArgument h n, label_or argument.name (codes "param")) e a
       (stands_first _ _ refl)
 
-  -- a part of an argument that is an external image
-  pub argument_part_stands : (h : ℕ) (function : Function) (n : ℕ) (argument : FunctionArgument)
-      (part : LabelledItem) → slice_get «module».functions h ≡ Some function →
-      slice_get function.arguments.items n ≡ Some argument →
-      is_external «module».types argument.ty ≡ true →
-      Stands (labelled_parts (key.ExternalTextureFunctionArgument h n)
-      (label_or argument.name (codes "param"))) part → Stands (labelled_items start «module») part
-  argument_part_stands h function n argument part e a external s =
-      in_argument h function n argument part e a
-      (stands_right ((key.FunctionArgument h n, label_or argument.name (codes "param")) ∷ [])
-      (cond (is_external «module».types argument.ty)
-      (labelled_parts (key.ExternalTextureFunctionArgument h n)
-      (label_or argument.name (codes "param"))) []) part
-      (subst (λ b. Stands
-      (cond b (labelled_parts (key.ExternalTextureFunctionArgument h n)
-      (label_or argument.name (codes "param"))) []) part) (sym external) s))
-
   pub local_stands : (h : ℕ) (function : Function) (l : ℕ) (local : LocalVariable) →
       slice_get «module».functions h ≡ Some function →
       slice_get function.local_variables l ≡ Some local →
@@ -478,22 +450,6 @@ module _ (start : Names) («module» : Module) where
       )
   global_stands g global e = in_global g global (key.GlobalVariable g, label_or global.name (codes "global")) e
       (stands_first _ _ refl)
-
-  -- a part of a global that is an external image
-  pub global_part_stands : (g : ℕ) (global : GlobalVariable) (part : LabelledItem) →
-      slice_get «module».global_variables g ≡ Some global →
-      is_external «module».types global.ty ≡ true →
-      Stands (labelled_parts (key.ExternalTextureGlobalVariable g)
-      (label_or global.name (codes "global"))) part → Stands (labelled_items start «module») part
-  global_part_stands g global part e external s =
-      in_global g global part e
-      (stands_right ((key.GlobalVariable g, label_or global.name (codes "global")) ∷ [])
-      (cond (is_external «module».types global.ty)
-      (labelled_parts (key.ExternalTextureGlobalVariable g)
-      (label_or global.name (codes "global"))) []) part
-      (subst (λ b. Stands
-      (cond b (labelled_parts (key.ExternalTextureGlobalVariable g)
-      (label_or global.name (codes "global"))) []) part) (sym external) s))
 
   pub constant_stands : (c : ℕ) (constant : Constant) →
       slice_get «module».constants c ≡ Some constant →
@@ -543,25 +499,6 @@ module _ (start : Names) (before : NameMap) («module» : Module) (names : Names
       let place = item_names_tell start (labelled_items start «module») s.place t.place a b s.there t.there
       s.outside t.outside one in
       same_Some a b (sym s.there ∙ ap (slice_get (labelled_items start «module»)) place ∙ t.there)
-
-  -- a function has its name, and each of its arguments
-  pub function_named : (h : ℕ) (function : Function) → slice_get «module».functions h ≡ Some function →
-      (name : List ℕ) × (now (key.Function h) ≡ Some name)
-  function_named h function e = (
-    _,
-    named_there (key.Function h, label_or function.name (codes "function"))
-        (function_stands start «module» h function e),
-  )
-
-  pub argument_named : (h : ℕ) (function : Function) (n : ℕ) (argument : FunctionArgument) →
-      slice_get «module».functions h ≡ Some function →
-      slice_get function.arguments.items n ≡ Some argument → (name : List ℕ) ×
-      (now (key.FunctionArgument h n) ≡ Some name)
-  argument_named h function n argument e a = (
-    _,
-    named_there (key.FunctionArgument h n, label_or argument.name (codes "param"))
-        (argument_stands start «module» h function n argument e a),
-  )
 
   pub type_named : (t : ℕ) (ty : Type_) → slice_get «module».types t ≡ Some ty → (name : List ℕ)
       × (now (key.Type_ t) ≡ Some name)

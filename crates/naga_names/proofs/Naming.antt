@@ -1,8 +1,8 @@
 -- A map of counters, seen as the uses of each base; names by the uses so far, and by the labels so
 -- far.
 use Rattle.std.proofs.Common.{◌≡◌, ℕ, ◌<◌, ◌≤◌, Bool, true, false, cond, List, [], ◌∷◌, ◌++◌, refl}
-use Rattle.std.proofs.Common.{sym, ap, subst, ◌∙◌, arith, ◌+◌, map, Option, Some, None, add-zero}
-use Rattle.std.proofs.Common.{◌^◌, ◌==◌, unwrap_or, String, HashMap, string_bytes}
+use Rattle.std.proofs.Common.{sym, ap, subst, ◌∙◌, arith, ◌+◌, map, Some, None, add-zero, ◌^◌}
+use Rattle.std.proofs.Common.{unwrap_or, String, HashMap, string_bytes}
 use Rattle.std.specs.FinMap as finite
 use Rattle.std.specs.HashMap.{get_by_text, UpdatesBy}
 use Rattle.std.specs.Map.{lookup}
@@ -13,10 +13,8 @@ use Rattle.std.specs.String.{string_eq}
 use Rattle.std.specs.Cmp.Lexicographic.{slice_cmp, nat_list_cmp_total, nat_list_eq_equiv}
 use Rattle.std.specs.Cmp.Lexicographic.{bytes_decides}
 use Rattle.std.proofs.lemmas.Map.Text.{is_eq-slice_cmp, hash_map_updates_text}
-use Rattle.naga_names.specs.Naming.{name_after, Uses, uses_of, Names, label_base, first_name}
-use Rattle.naga_names.specs.Naming.{later_name, name_of_base, name_of, with_use, with_use_of_base}
-use Rattle.naga_names.specs.Naming.{labels_with_base, HasNamed}
-use Rattle.std.proofs.lemmas.Bool.Decides.{nat_tests}
+use Rattle.naga_names.specs.Naming.{name_after, Uses, uses_of, Names, label_base, name_of_base}
+use Rattle.naga_names.specs.Naming.{name_of, with_use, with_use_of_base, labels_with_base, HasNamed}
 use Rattle.std.proofs.lemmas.List.Sums.{sum_by_push}
 
 abbrev one_more : ℕ → ℕ
@@ -91,38 +89,6 @@ has_named_nothing names none = record {
   few = λ base. omega arith;
 }
 
--- a label that has the base b
-pub with_use_is : (names : Names) (label b : List ℕ) (n : ℕ) (after : Uses) →
-    b ≡ label_base names label → uses_of names.uses b ≡ n →
-    after ≡ finite.insert names.uses b (n + 1) →
-    record names { uses = after } ≡ with_use names label
-unfolding with_use
-with_use_is names label b n after base_is uses_are is =
-    (λ i. record names {
-      uses = (is ∙ ap (λ m. finite.insert names.uses b (m + 1)) (sym uses_are)
-          ∙ ap (λ d. finite.insert names.uses d (uses_of names.uses d + 1)) base_is) i;
-    })
-
-pub name_of-first : (names : Names) (label b : List ℕ) → b ≡ label_base names label → uses_of names.uses b ≡ 0 →
-    first_name names b ≡ name_of names label
-unfolding name_of
-name_of-first names label b base_is unused =
-    sym (ap (name_of_base names b) unused) ∙ ap (λ d. name_of_base names d (uses_of names.uses d)) base_is
-
-pub name_of-later : (names : Names) (label b : List ℕ) (n : ℕ) → b ≡ label_base names label →
-    uses_of names.uses b ≡ n + 1 → later_name b (n + 1) ≡ name_of names label
-unfolding name_of
-name_of-later names label b n base_is used =
-    sym (ap (name_of_base names b) used ∙ later (n + 1 == 0) (omega_false n))
-    ∙ ap (λ d. name_of_base names d (uses_of names.uses d)) base_is
-  where
-    omega_false : (n : ℕ) → (n + 1 == 0) ≡ false
-    omega_false n = grind (arith, nat_tests)
-
-    later : (t : Bool) → t ≡ false → cond t (first_name names b) (later_name b (n + 1)) ≡ later_name b (n + 1)
-    later true e = absurd (cc)
-    later false e = refl
-
 pub name_of-after : (names : Names) (earlier : List (List ℕ)) (label : List ℕ) → HasNamed names earlier →
     name_of names label ≡ name_after names earlier label
 unfolding name_of
@@ -168,14 +134,6 @@ has_named-push names earlier label room has = record {
         sum_by_push (λ l. cond (bytes_eq (label_base names l) base) 1 0) earlier label
         ∙ ap (λ t. labels_with_base names earlier base + cond t 1 0) differs in
         omega (arith, pushed, has.few base)
-
-pub uses_of-unused : (uses : Uses) (b : List ℕ) (later : Option ℕ) → option_map (λ n. n + 1) later
-    ≡ finite.get uses b → later ≡ None → uses_of uses b ≡ 0
-uses_of-unused uses b later is none = ap (λ u. unwrap_or u 0) (sym is ∙ ap (option_map (λ n. n + 1)) none)
-
-pub uses_of-used : (uses : Uses) (b : List ℕ) (later : Option ℕ) (n : ℕ) → option_map (λ n. n + 1) later
-    ≡ finite.get uses b → later ≡ Some n → uses_of uses b ≡ n + 1
-uses_of-used uses b later n is some = ap (λ u. unwrap_or u 0) (sym is ∙ ap (option_map (λ n. n + 1)) some)
 
 -- a label that has the base b
 module _ (names : Names) (label b : List ℕ) (base_is : b ≡ label_base names label) where

@@ -4,8 +4,7 @@
 -- Throughout, k and j are how many digits may be written, n is the number and after what stands
 -- after its digits.
 use Rattle.std.proofs.Common.{◌≡◌, ℕ, zero, suc, ◌+◌, ◌-◌, ◌*◌, ◌/◌, ◌%◌, ◌^◌, ◌<◌, ◌==◌, ap, sym}
-use Rattle.std.proofs.Common.{refl}
-use Rattle.std.proofs.Common.{Bool, true, false, cond, List, [], ◌∷◌, ◌∙◌, arith}
+use Rattle.std.proofs.Common.{refl, Bool, true, false, cond, List, [], ◌∷◌, ◌∙◌, arith}
 use Rattle.std.specs.Fmt.{decimal, digits, digits_onto, digit_glyph}
 use Rattle.std.proofs.lemmas.Bool.Decides.{nat_tests}
 use native.Mathlib.Nat.{pow-zero, pow-suc}

@@ -15,10 +15,9 @@ use Rattle.naga_names.specs.declared.key.NameKey.TheVariants as key
 use Rattle.naga_names.specs.Naming.{Names}
 use Rattle.naga_names.specs.Keys.{NameMap, same_key}
 use Rattle.naga_names.specs.Reset.{LabelledItem, item_name, HasNamedItems, type_names_in}
-use Rattle.naga_names.specs.Reset.{member_label}
-use Rattle.naga_names.specs.Reset.{members_of, labelled_type, labelled_types, labelled_entry_points}
-use Rattle.naga_names.specs.Reset.{labelled_functions, labelled_globals, labelled_declarations}
-use Rattle.naga_names.specs.Reset.{type_label, type_name}
+use Rattle.naga_names.specs.Reset.{member_label, members_of, labelled_type, labelled_types}
+use Rattle.naga_names.specs.Reset.{labelled_entry_points, labelled_functions, labelled_globals}
+use Rattle.naga_names.specs.Reset.{labelled_declarations, type_label, type_name}
 use Rattle.naga_names.proofs.Keys.{all_append, unlike_types, types_apart, declarations_apart}
 use Rattle.naga_names.proofs.Reset.{not_below}
 use Rattle.naga_names.proofs.NamedItems.{place_left, item_put, type_among_types, name_found}

@@ -17,10 +17,9 @@ use Rattle.naga_ir.specs.declared.module.Function as ir_function
 use Rattle.naga_ir.specs.declared.module.Module.{Module}
 use Rattle.naga_info.specs.declared.info.ExpressionInfo.{ExpressionInfo}
 use Rattle.naga_info.specs.declared.info.ModuleInfo.{ModuleInfo}
-use Rattle.shader_runs.specs.Program.{Function, expression_of, operands_of}
-use Rattle.shader_runs.specs.Program.{is_pure}
-use Rattle.shader_runs.specs.Scope.{all_constant, constant_test}
-use Rattle.shader_runs.specs.Scope.{is_constant_below, start_availability, at_start}
+use Rattle.shader_runs.specs.Program.{Function, expression_of, operands_of, is_pure}
+use Rattle.shader_runs.specs.Scope.{all_constant, constant_test, is_constant_below}
+use Rattle.shader_runs.specs.Scope.{start_availability, at_start}
 use Rattle.shader_runs.specs.Premises.{AllBelow}
 use Rattle.module_meaning.specs.FunctionShapes.{function_shape}
 use Rattle.module_meaning.specs.Names.{numbered_name}
@@ -30,10 +29,8 @@ use Rattle.naga_form.proofs.ModulePlaces.{no_expression_at, shapes_length}
 use Rattle.naga_scope.specs.declared.points.Availability.{Availability}
 use Rattle.naga_scope.specs.declared.points.Availability.TheVariants.{Absent}
 use Rattle.naga_scope.specs.Availabilities.{availability_of, handles_of, is_everywhere}
-use Rattle.naga_scope.specs.Availabilities.{is_constant_by}
-use Rattle.naga_scope.specs.Availabilities.{first_availability, is_constant_kind, is_pure_kind}
-use Rattle.naga_scope.specs.Availabilities.{kind_at}
-use Rattle.naga_scope.specs.Availabilities.{operands_at}
+use Rattle.naga_scope.specs.Availabilities.{is_constant_by, first_availability, is_constant_kind}
+use Rattle.naga_scope.specs.Availabilities.{is_pure_kind, kind_at, operands_at}
 use Rattle.naga_scope.proofs.ShapeKinds.{constant_at, pure_at, pure_operands}
 
 -- ---- tests of the operands

@@ -2,12 +2,11 @@
 use Rattle.std.proofs.Common.{◌≡◌, ℕ, zero, suc, ◌+◌, ◌-◌, ◌<◌, ◌≤◌, ◌&&◌, ◌||◌, Bool, true, false}
 use Rattle.std.proofs.Common.{nat_eq, List, [], ◌∷◌, length, get_or, refl, sym, ap, ap₂, ◌∙◌, arith}
 use Rattle.std.proofs.Common.{slice_set, eqb-true, add-one}
-use Rattle.std.specs.Prelude.{cond, Err}
+use Rattle.std.specs.Prelude.{cond, Err, ◌⊎◌}
 use Rattle.std.specs.Result.{result_and}
 use Rattle.std.specs.Option.{is_some}
 use Rattle.std.proofs.lemmas.Bool.{cases_lt, eqb-false}
 use mathlib.Core.Logic.{inl, inr}
-use Rattle.std.specs.Prelude.{◌⊎◌}
 use Rattle.std.proofs.lemmas.List.{get_or-set_other, set-get_or}
 use Rattle.std.proofs.lemmas.Grind.{get_or-set_at}
 use Rattle.std.proofs.lemmas.Option.{slice_get_past}
@@ -19,31 +18,28 @@ use Rattle.naga_info.specs.declared.info.ExpressionInfo.{ExpressionInfo}
 use Rattle.naga_info.specs.declared.info.ModuleInfo.{ModuleInfo}
 use Rattle.naga_names.specs.Keys.{NameMap}
 use Rattle.shader_runs.specs.World.{update}
-use Rattle.shader_runs.specs.Program.{Function, binds, binds_as, expression_of}
-use Rattle.shader_runs.specs.Program.{operands_of, from}
+use Rattle.shader_runs.specs.Program.{Function, binds, binds_as, expression_of, operands_of, from}
 use Rattle.shader_runs.specs.Program.{is_pure, is_emittable}
 use Rattle.shader_runs.specs.Scope as runs
-use Rattle.shader_runs.specs.Scope.{Naming, Handles, is_new, usable_all}
-use Rattle.shader_runs.specs.Scope.{with_emitted_handle, after_one}
+use Rattle.shader_runs.specs.Scope.{Naming, Handles, is_new, usable_all, with_emitted_handle}
+use Rattle.shader_runs.specs.Scope.{after_one}
 use Rattle.module_meaning.specs.ExpressionLabels.{label_of}
 use Rattle.module_meaning.specs.Names.{numbered_name}
 use Rattle.naga_form.proofs.Fits.{named_is}
 use Rattle.naga_form.proofs.ModulePlaces.{no_expression_at}
 use Rattle.naga_scope.specs.declared.points.BoundName.{BoundName}
 use Rattle.naga_scope.specs.declared.points.Availability.{Availability}
-use Rattle.naga_scope.specs.declared.points.Availability.TheVariants.{Absent}
-use Rattle.naga_scope.specs.declared.points.Availability.TheVariants.{Bound}
+use Rattle.naga_scope.specs.declared.points.Availability.TheVariants.{Absent, Bound}
 use Rattle.naga_scope.specs.Availabilities.{availability_of, handles_of, kind_at}
-use Rattle.naga_scope.specs.Availabilities.{unbound_availability}
-use Rattle.naga_scope.specs.Availabilities.{emitted_availability, is_emittable_kind, name_of_bound}
-use Rattle.naga_scope.specs.Availabilities.{next_name, operands_at}
+use Rattle.naga_scope.specs.Availabilities.{unbound_availability, emitted_availability}
+use Rattle.naga_scope.specs.Availabilities.{is_emittable_kind, name_of_bound, next_name}
+use Rattle.naga_scope.specs.Availabilities.{operands_at, KeepsStart}
 use Rattle.naga_scope.specs.ScopeChecks.{Checked, check_bound, check_emitted, check_operands}
 use Rattle.naga_scope.specs.ScopeChecks.{unless}
 use Rattle.naga_scope.specs.declared.scope_faults.ScopeFault.TheVariants.{IntroducedBefore}
 use Rattle.naga_scope.specs.declared.scope_faults.ScopeFault.TheVariants.{NeedsNoEmit}
 use Rattle.naga_scope.proofs.Offsets.{checked_operands}
 use Rattle.naga_scope.proofs.ShapeKinds.{emittable_at}
-use Rattle.naga_scope.specs.Availabilities.{KeepsStart}
 use Rattle.module_meaning.specs.Premises.{OperandsStandBefore}
 
 -- ---- a table with another cell

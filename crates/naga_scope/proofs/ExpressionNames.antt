@@ -1,8 +1,7 @@
 -- Labels that are named one after another.
 use Rattle.std.proofs.Common.{◌≡◌, ◌≤◌, ◌^◌, ◌++◌, ◌∙◌, ℕ, List, [], ◌∷◌, append-nil, append_assoc}
-use Rattle.std.proofs.Common.{ap, refl}
-use Rattle.std.proofs.Common.{arith, length-append, subst, sym}
-use Rattle.std.specs.Prelude.{Err, IfErr, Ok, OnOk, Result}
+use Rattle.std.proofs.Common.{ap, refl, arith, length-append, subst, sym}
+use Rattle.std.specs.Prelude.{Err, Ok, OnOk, Result}
 use Rattle.module_meaning.specs.ExpressionLabels.{SomeLabelIsFull}
 use Rattle.naga_names.proofs.NameShapes.{counted_more}
 use Rattle.naga_names.specs.Naming.{HasNamed, Names, Uses, label_base, labels_with_base, name_after}
@@ -10,9 +9,8 @@ use Rattle.naga_names.specs.Naming.{with_use}
 use Rattle.naga_names.specs.Refusal.{IsRefusalOf}
 use Rattle.naga_names.specs.declared.error.NamerError.{NamerError}
 use Rattle.naga_names.specs.declared.error.NamerError.TheVariants.{Full, KeyFull, Memory}
-use Rattle.naga_scope.specs.ExpressionNames.{HasBegunLabels, HasOtherUses}
-use Rattle.naga_scope.specs.ExpressionNames.{IsRefusalOfLabels, NamesLabels, RefusesLabels}
-use Rattle.naga_scope.specs.ExpressionNames.{names_following}
+use Rattle.naga_scope.specs.ExpressionNames.{HasBegunLabels, HasOtherUses, IsRefusalOfLabels}
+use Rattle.naga_scope.specs.ExpressionNames.{NamesLabels, RefusesLabels, names_following}
 
 -- ---- names of labels
 -- uses are nothing to names
@@ -243,10 +241,6 @@ refused_begun r = record { words = r.words; some = r.some }
 pub ok_then : {X E : Type 0} {P Q : Type 0} (r : Result X E) → (P → Q) → OnOk r P → OnOk r Q
 ok_then (Ok x) then holds = then holds
 ok_then (Err e) then holds = tt
-
-pub err_then : {X E : Type 0} {P Q : E → Type 0} (r : Result X E) → ((e : E) → P e → Q e) → IfErr r P → IfErr r Q
-err_then (Ok x) then holds = tt
-err_then (Err e) then holds = then e holds
 
 -- ---- a loop that names labels
 -- the labels are some that are named, and those that are left

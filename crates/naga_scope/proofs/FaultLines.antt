@@ -1,8 +1,7 @@
 -- The lines on which statements break rules of scope, and the first of several.
 use Rattle.std.proofs.Common.{◌≡◌, ◌⊎◌, inl, inr, ⊎_elim, ℕ, zero, suc, ◌+◌, ◌<◌, ◌≤◌, Bool, true}
-use Rattle.std.proofs.Common.{false}
-use Rattle.std.proofs.Common.{List, [], ◌∷◌, ◌++◌, length, Some, refl, sym, subst, ap, ◌∙◌, arith}
-use Rattle.std.proofs.Common.{length-append}
+use Rattle.std.proofs.Common.{false, List, [], ◌∷◌, ◌++◌, length, Some, refl, sym, subst, ap, ◌∙◌}
+use Rattle.std.proofs.Common.{arith, length-append}
 use Rattle.std.proofs.lemmas.Bool.{false≢true, leb-true, ltb-true}
 use Rattle.std.proofs.lemmas.Option.{same_Some}
 use Rattle.std.specs.Prelude.{IsTrue, IsFalse, slice_get}
@@ -12,8 +11,7 @@ use Rattle.naga_scope.specs.Lines.{is_before}
 use Rattle.naga_scope.specs.declared.lines.Line.{Line}
 use Rattle.naga_scope.specs.declared.lines.Line.TheVariants as line
 use Rattle.naga_scope.specs.ScopeFaults.{Standing, inside, standing, case_standing, IsOperandOf}
-use Rattle.naga_scope.specs.ScopeFaults.{is_loop}
-use Rattle.naga_scope.specs.ScopeFaults.{BreaksWith, IsScopeFault, number_after}
+use Rattle.naga_scope.specs.ScopeFaults.{is_loop, BreaksWith, IsScopeFault, number_after}
 use Rattle.naga_scope.specs.declared.scope_faults.ScopeFault.{ScopeFault}
 use Rattle.naga_scope.specs.declared.scope_faults.ScopeFault.TheVariants.{FirstValue, Operand}
 use Rattle.naga_scope.specs.declared.scope_faults.ScopeFault.TheVariants.{BreakIf, EmittedOperand}
@@ -22,16 +20,15 @@ use Rattle.naga_scope.specs.declared.scope_faults.ScopeFault.TheVariants.{NeedsN
 use Rattle.naga_scope.proofs.HeldScope.{AllHold, OwnHolds, own_breaks_none}
 use Rattle.naga_scope.proofs.LineOrder.{Ends, ends_of, not_before_itself}
 use Rattle.shader_runs.specs.Program.{Statement, Block, If, Switch, Loop, Statements, end, then}
-use Rattle.shader_runs.specs.Program.{Cases}
-use Rattle.shader_runs.specs.Program.{no_case, case, Function, binds}
+use Rattle.shader_runs.specs.Program.{Cases, no_case, case, Function, binds}
 use Rattle.shader_runs.specs.ScopeRules.{IntroducedHandle, Emitted, ScopeState, start_state}
 use Rattle.shader_runs.specs.ScopeRules.{following, after_turn, WasIntroduced}
 use Rattle.shader_runs.specs.ScopeFaults.{UsesAt, emitted_operand, IntroducesAt, emitted, as_result}
 use Rattle.shader_runs.specs.ScopeFaults.{BreaksScope, out_of_scope, introduced_before}
-use Rattle.shader_runs.specs.ScopeFaults.{not_emittable}
-use Rattle.shader_runs.specs.ScopeFaults.{IsCaseBody, this_case, later_case, StandsIn, stands_first}
-use Rattle.shader_runs.specs.ScopeFaults.{later, in_block, in_accept, in_reject, in_case, in_loop}
-use Rattle.shader_runs.specs.ScopeFaults.{in_continuing, HasScopeFault, in_first_value, in_body}
+use Rattle.shader_runs.specs.ScopeFaults.{not_emittable, IsCaseBody, this_case, later_case}
+use Rattle.shader_runs.specs.ScopeFaults.{StandsIn, stands_first, later, in_block, in_accept}
+use Rattle.shader_runs.specs.ScopeFaults.{in_reject, in_case, in_loop, in_continuing, HasScopeFault}
+use Rattle.shader_runs.specs.ScopeFaults.{in_first_value, in_body}
 
 -- ---- lines of a part of a body
 -- a line that begins with a statement of this number or a later one,

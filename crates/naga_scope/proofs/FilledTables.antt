@@ -1,9 +1,8 @@
 -- What is looked up of a module, by one pass over its types and one over its own expressions.
-use Rattle.std.proofs.Common.{◌≡◌, ◌≤◌, ◌<◌, ◌+◌, ◌&&◌, ◌||◌, ℕ, zero, suc, Bool, true, false}
-use Rattle.std.proofs.Common.{List, [], ◌∷◌, ◌++◌, Option, Some, None, refl, sym, ap, ap₂, ◌∙◌}
-use Rattle.std.proofs.Common.{arith}
-use Rattle.std.proofs.Common.{below_more, length, nat_eq, nat_lt, replicate, slice_get}
-use Rattle.std.proofs.Common.{slice_set, subst}
+use Rattle.std.proofs.Common.{◌≡◌, ◌≤◌, ◌<◌, ◌+◌, ◌&&◌, ◌||◌, ℕ, zero, suc, Bool, true, false, List}
+use Rattle.std.proofs.Common.{[], ◌∷◌, ◌++◌, Option, Some, None, refl, sym, ap, ap₂, ◌∙◌, arith}
+use Rattle.std.proofs.Common.{below_more, length, nat_eq, nat_lt, replicate, slice_get, slice_set}
+use Rattle.std.proofs.Common.{subst}
 use Rattle.std.specs.Prelude.{IsTrue, if◌then◌else◌}
 use Rattle.std.specs.List.{list_all, list_any}
 use Rattle.std.specs.Option.{is_none, is_some, option_and_then, option_map, option_map_or}
@@ -22,8 +21,8 @@ use Rattle.module_meaning.specs.acceptance.Ranges.{is_below, parts_before, parts
 use Rattle.module_meaning.specs.acceptance.Ranges.{special_types_fit, types_in_range}
 use Rattle.module_meaning.specs.TypeIdentity.{level}
 use Rattle.module_meaning.specs.Undeclared.{handle_names_undeclared, is_undeclared}
-use Rattle.module_meaning.specs.Undeclared.{names_undeclared}
-use Rattle.module_meaning.specs.Undeclared.{names_undeclared_by, names_undeclared_within}
+use Rattle.module_meaning.specs.Undeclared.{names_undeclared, names_undeclared_by}
+use Rattle.module_meaning.specs.Undeclared.{names_undeclared_within}
 use Rattle.naga_form.proofs.declarations.AcceptedGroups.{types_range}
 use Rattle.naga_form.proofs.types.AlikeParts.{at_depth, parts_stand}
 use Rattle.naga_form.proofs.declarations.OwnExpressions.{declared_in_range}
@@ -48,8 +47,7 @@ use Rattle.naga_scope.proofs.Marking.{just_marked}
 use Rattle.naga_scope.proofs.WrittenConstants.{MarksBelow, globals_in_order}
 use Rattle.naga_scope.specs.Marks.{MarksAlso, is_marked, is_one_of}
 use Rattle.naga_scope.specs.Tables.{AreRepresentatives, ItemsStandInOrder, MarksNaming}
-use Rattle.naga_scope.specs.Tables.{MarksSpelled}
-use Rattle.naga_scope.specs.Tables.{MarksUndeclared, is_marked_over, is_marked_type}
+use Rattle.naga_scope.specs.Tables.{MarksSpelled, MarksUndeclared, is_marked_over, is_marked_type}
 use Rattle.naga_scope.specs.Tables.{is_spelled_alone, item_is_spelled, representative_at}
 use Rattle.naga_scope.specs.Tables.{representative_over, spelled_over, type_is_spelled}
 use Rattle.naga_scope.specs.Tables.{undeclared_handles}

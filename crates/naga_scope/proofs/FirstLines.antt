@@ -1,9 +1,9 @@
 -- Tables of the first lines that write expressions, one write after another.
-use Rattle.std.proofs.Common.{◌≡◌, ◌<◌, ◌≤◌, ◌⊎◌, inl, inr, ℕ, suc, zero, ◌+◌, Bool, true, false}
+use Rattle.std.proofs.Common.{◌≡◌, ◌<◌, ◌⊎◌, inl, inr, ℕ, suc, zero, ◌+◌, Bool, true, false}
 use Rattle.std.proofs.Common.{List, [], ◌∷◌, ◌++◌, ◌&&◌, ◌||◌, Option, Some, None, refl, sym, ap, ◌∙◌}
 use Rattle.std.proofs.Common.{append-nil, append_assoc, arith, length, map, nat_eq, nat_lt}
 use Rattle.std.proofs.Common.{eqb-true, replicate, subst, ap₂}
-use Rattle.std.proofs.lemmas.Bool.{cases_order, eq-eqb, lt-ltb, ltb-true}
+use Rattle.std.proofs.lemmas.Bool.{cases_order, eq-eqb, lt-ltb}
 use Rattle.std.proofs.Math.Bool.{or-false}
 use Rattle.std.proofs.lemmas.Grind.{get_or-set_at}
 use Rattle.std.proofs.lemmas.List.{get_or-set_other, length-map, length-set, map-append}
@@ -130,38 +130,6 @@ module _ (last : Line) where
             ∙ both (is_marked (marks_to last lines) h) (is_up_to last line))
         by h (inr (inl lt)) = unlike h (λ same. omega (arith, lt, same))
         by h (inr (inr lt)) = unlike h (λ same. omega (arith, lt, same))
-
-    pub none_noted : length lines ≤ i → MarksAlso (marks_to last lines) (handles_to last ((line, i) ∷ []))
-        (marks_to last lines)
-    none_noted past = record { size = refl; marks = λ h. by h (nat_lt h (length (marks_to last lines))) refl }
-      where
-        nothing : (a b : Bool) → a ≡ (a || (b && false))
-        nothing true b = refl
-        nothing false true = refl
-        nothing false false = refl
-
-        out : (h : ℕ) → is_one_of (handles_to last ((line, i) ∷ [])) h ≡ false → (c : Bool) →
-            is_marked (marks_to last lines) h ≡ (is_marked (marks_to last lines) h
-            || (is_one_of (handles_to last ((line, i) ∷ [])) h && c))
-        out h is c = sym (ap (λ b. is_marked (marks_to last lines) h || (b && c)) is
-            ∙ or-false (is_marked (marks_to last lines) h))
-
-        by : (h : ℕ) (b : Bool) → nat_lt h (length (marks_to last lines)) ≡ b →
-            is_marked (marks_to last lines) h ≡ marked_with (marks_to last lines) (handles_to last ((line, i) ∷ [])) h
-        by h true is =
-            let lt = ltb-true h (length (marks_to last lines)) is in
-            let size = marks_size lines in
-            out h (marks_of_one line i h ∙ ap (λ b. is_up_to last line && b)
-            (other_index h i (λ same. omega (arith, lt, size, past, same))) ∙ none (is_up_to last line))
-            (nat_lt h (length (marks_to last lines)))
-          where
-            none : (b : Bool) → (b && false) ≡ false
-            none true = refl
-            none false = refl
-        by h false is =
-            nothing (is_marked (marks_to last lines) h) (is_one_of (handles_to last ((line, i) ∷ [])) h)
-            ∙ ap (λ c. is_marked (marks_to last lines) h
-            || (is_one_of (handles_to last ((line, i) ∷ [])) h && c)) (sym is)
 
 -- ---- several writes
 pub writes_none : (lines : List (Option Line)) → WritesAlso lines [] lines

@@ -1,7 +1,6 @@
 -- The first statement without a form is there where not all have one.
-use Rattle.std.proofs.Common.{◌≡◌, ◌⊎◌, inl, inr, ℕ, zero, suc, ◌<◌, Bool, true}
-use Rattle.std.proofs.Common.{false, List, [], ◌∷◌}
-use Rattle.std.proofs.Common.{Option, Some, None, ◌&&◌, ◌||◌, refl, sym, ap, ◌∙◌, arith}
+use Rattle.std.proofs.Common.{◌≡◌, ◌⊎◌, inl, inr, ℕ, zero, suc, ◌<◌, Bool, true, false, List, []}
+use Rattle.std.proofs.Common.{◌∷◌, Option, Some, None, ◌&&◌, ◌||◌, refl, sym, ap, ◌∙◌, arith}
 use Rattle.std.proofs.Common.{slice_get}
 use Rattle.std.specs.Prelude.{IsTrue, IsFalse, not}
 use Rattle.std.specs.Option.{is_none, is_some, option_or}
@@ -10,15 +9,15 @@ use Rattle.module_meaning.specs.StatementForms.{block_has_forms, cases_have_form
 use Rattle.module_meaning.specs.StatementForms.{statement_has_form}
 use Rattle.module_meaning.specs.StatementShapes.{change_of}
 use Rattle.naga_ir.specs.StatementTree.{SimpleStatement, image_atomic, ray_query}
-use Rattle.naga_ir.specs.StatementTree.{subgroup_collective_operation}
-use Rattle.naga_ir.specs.StatementTree.{StatementTree, simple, switch, BlockTree}
-use Rattle.naga_ir.specs.StatementTree.{CaseTrees, no_cases, case, has_no_statements}
+use Rattle.naga_ir.specs.StatementTree.{subgroup_collective_operation, StatementTree, simple}
+use Rattle.naga_ir.specs.StatementTree.{switch, BlockTree, CaseTrees, no_cases, case}
+use Rattle.naga_ir.specs.StatementTree.{has_no_statements}
 use Rattle.naga_scope.proofs.InOrder.{all_of, gathered}
 use Rattle.naga_scope.specs.UnsupportedStatements.{FindsUnsupported, FormedBefore, IsUnsupportedAt}
-use Rattle.naga_scope.specs.UnsupportedStatements.{LacksForm, SomeCaseFalls}
-use Rattle.naga_scope.specs.UnsupportedStatements.{falls_unsupported, first_unsupported}
-use Rattle.naga_scope.specs.UnsupportedStatements.{unsupported_case, unsupported_statement}
-use Rattle.naga_scope.specs.UnsupportedStatements.{own_unsupported, simple_unsupported, unless}
+use Rattle.naga_scope.specs.UnsupportedStatements.{LacksForm, SomeCaseFalls, falls_unsupported}
+use Rattle.naga_scope.specs.UnsupportedStatements.{first_unsupported, unsupported_case}
+use Rattle.naga_scope.specs.UnsupportedStatements.{unsupported_statement, own_unsupported}
+use Rattle.naga_scope.specs.UnsupportedStatements.{simple_unsupported, unless}
 use Rattle.naga_ir.specs.InOrder.{trees_in}
 use Rattle.naga_scope.specs.declared.statements.UnsupportedStatement.{UnsupportedStatement}
 

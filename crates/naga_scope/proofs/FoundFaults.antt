@@ -1,8 +1,8 @@
 -- Where the check of the rules of scope finds a fault, a statement breaks a rule with it, and none does
 -- so on a line before.
-use Rattle.std.proofs.Common.{◌≡◌, ⊎_elim, ℕ, zero, suc, ◌+◌, ◌<◌, ◌^◌, Bool, true, false}
-use Rattle.std.proofs.Common.{List, [], ◌∷◌, ◌++◌, length, Option, Some, None}
-use Rattle.std.proofs.Common.{refl, sym, subst, ap, ◌∙◌, arith, length-append}
+use Rattle.std.proofs.Common.{◌≡◌, ⊎_elim, ℕ, zero, suc, ◌+◌, ◌<◌, ◌^◌, Bool, true, false, List, []}
+use Rattle.std.proofs.Common.{◌∷◌, ◌++◌, length, Option, Some, None, refl, sym, subst, ap, ◌∙◌}
+use Rattle.std.proofs.Common.{arith, length-append}
 use Rattle.std.proofs.Math.Nat.{mod-eq_of_lt}
 use Rattle.std.proofs.lemmas.Bool.{and_parts, ltb-true}
 use Rattle.std.proofs.lemmas.Option.{same_Some}
@@ -11,29 +11,26 @@ use Rattle.std.specs.Result.{is_ok, result_and}
 use Rattle.naga_scope.specs.Earliest.{line_of_fault}
 use Rattle.naga_scope.specs.Lines.{is_before}
 use Rattle.naga_scope.specs.declared.lines.Line.TheVariants as line
-use Rattle.naga_scope.specs.ScopeChecks.{unless, onward, next_number, check_use}
-use Rattle.naga_scope.specs.ScopeChecks.{check_uses, check_break}
-use Rattle.naga_scope.specs.ScopeChecks.{check_use_if, check_operands, check_bound, check_emitted}
-use Rattle.naga_scope.specs.ScopeChecks.{check_emit, check_result, check_statement, check_all}
-use Rattle.naga_scope.specs.ScopeChecks.{check_cases, check_first, check_first_values}
+use Rattle.naga_scope.specs.ScopeChecks.{unless, onward, next_number, check_use, check_uses}
+use Rattle.naga_scope.specs.ScopeChecks.{check_break, check_use_if, check_operands, check_bound}
+use Rattle.naga_scope.specs.ScopeChecks.{check_emitted, check_emit, check_result, check_statement}
+use Rattle.naga_scope.specs.ScopeChecks.{check_all, check_cases, check_first, check_first_values}
 use Rattle.naga_scope.specs.ScopeChecks.{check_function}
 use Rattle.naga_scope.specs.ScopeFaults.{Standing, inside, standing, case_standing, IsOperandOf}
-use Rattle.naga_scope.specs.ScopeFaults.{is_loop}
-use Rattle.naga_scope.specs.ScopeFaults.{BreaksWith, IsScopeFault}
+use Rattle.naga_scope.specs.ScopeFaults.{is_loop, BreaksWith, IsScopeFault}
 use Rattle.naga_scope.specs.declared.scope_faults.ScopeFault.{ScopeFault}
 use Rattle.naga_scope.specs.declared.scope_faults.ScopeFault.TheVariants.{FirstValue, Operand}
 use Rattle.naga_scope.specs.declared.scope_faults.ScopeFault.TheVariants.{BreakIf, EmittedOperand}
 use Rattle.naga_scope.specs.declared.scope_faults.ScopeFault.TheVariants.{IntroducedBefore}
 use Rattle.naga_scope.specs.declared.scope_faults.ScopeFault.TheVariants.{NeedsNoEmit}
 use Rattle.naga_scope.proofs.FaultLines.{Among, FirstAmong, ended, first_left, first_right, inner}
-use Rattle.naga_scope.proofs.FaultLines.{inside_loop}
-use Rattle.naga_scope.proofs.FaultLines.{itself, nested_all, nested_first, nested_inside, never}
+use Rattle.naga_scope.proofs.FaultLines.{inside_loop, itself, nested_all, nested_first}
+use Rattle.naga_scope.proofs.FaultLines.{nested_inside, never}
 use Rattle.naga_scope.proofs.HeldScope.{all_hold, both_hold, statement_holds, used}
 use Rattle.naga_scope.proofs.ScopeChecks.{IsNumber, all_number, all_ok, and_err, done_err}
-use Rattle.naga_scope.proofs.ScopeChecks.{emitted_ok}
-use Rattle.naga_scope.proofs.ScopeChecks.{first_ok, first_values_ok, further_is, next_is}
-use Rattle.naga_scope.proofs.ScopeChecks.{onward_err}
-use Rattle.naga_scope.proofs.ScopeChecks.{statement_number, statement_ok, unless_err, use_ok}
+use Rattle.naga_scope.proofs.ScopeChecks.{emitted_ok, first_ok, first_values_ok, further_is}
+use Rattle.naga_scope.proofs.ScopeChecks.{next_is, onward_err, statement_number, statement_ok}
+use Rattle.naga_scope.proofs.ScopeChecks.{unless_err, use_ok}
 use Rattle.shader_runs.specs.Program.{Statement, Emit, Store, Block, If, Switch, Loop, Return, Act}
 use Rattle.shader_runs.specs.Program.{Jumps, Statements, end, then, Cases, no_case, case, Function}
 use Rattle.shader_runs.specs.Program.{expression_of, operands_of, binds, from, is_emittable}
@@ -41,12 +38,12 @@ use Rattle.shader_runs.specs.Scope.{Handles, Naming, before_local, bound_name, a
 use Rattle.shader_runs.specs.Scope.{usable, after_one, after, first_values_fit, usable_if}
 use Rattle.shader_runs.specs.Scope.{after_all, named_after, named_by, named_by_all}
 use Rattle.shader_runs.specs.Premises.{AllBelow}
-use Rattle.shader_runs.specs.ScopeRules.{IntroducedHandle, Emitted, AsResult, ScopeState, start_state}
-use Rattle.shader_runs.specs.ScopeRules.{following_one, following, after_turn, WasIntroduced}
-use Rattle.shader_runs.specs.ScopeFaults.{IsOutOfScopeAt, UsesAt}
-use Rattle.shader_runs.specs.ScopeFaults.{stored_pointer, stored_value, condition, selector}
-use Rattle.shader_runs.specs.ScopeFaults.{break_if, returned, operand, IntroducesAt, emitted}
-use Rattle.shader_runs.specs.ScopeFaults.{as_result}
+use Rattle.shader_runs.specs.ScopeRules.{IntroducedHandle, Emitted, AsResult, ScopeState}
+use Rattle.shader_runs.specs.ScopeRules.{start_state, following_one, following, after_turn}
+use Rattle.shader_runs.specs.ScopeRules.{WasIntroduced}
+use Rattle.shader_runs.specs.ScopeFaults.{IsOutOfScopeAt, UsesAt, stored_pointer, stored_value}
+use Rattle.shader_runs.specs.ScopeFaults.{condition, selector, break_if, returned, operand}
+use Rattle.shader_runs.specs.ScopeFaults.{IntroducesAt, emitted, as_result}
 use Rattle.shader_runs.proofs.ScopeFaults.{gives_emitted}
 use Rattle.shader_runs.proofs.ScopeRules.{Tracks, false_is_not_true, tracks_emitted, may_emit_rule}
 use Rattle.shader_runs.proofs.ScopeRules.{tracks_after, tracks_turn, tracks_start}

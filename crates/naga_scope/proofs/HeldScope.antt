@@ -1,7 +1,6 @@
 -- Where a check of scope finds nothing in statements, none of them breaks a rule.
-use Rattle.std.proofs.Common.{◌≡◌, ℕ, zero, suc, ◌+◌, List, [], ◌∷◌, ◌++◌, Option}
-use Rattle.std.proofs.Common.{Some, None}
-use Rattle.std.proofs.Common.{sym, subst, ◌∙◌}
+use Rattle.std.proofs.Common.{◌≡◌, ℕ, zero, suc, ◌+◌, List, [], ◌∷◌, ◌++◌, Option, Some, None, sym}
+use Rattle.std.proofs.Common.{subst, ◌∙◌}
 use Rattle.std.proofs.lemmas.Bool.{and_parts, false≢true}
 use Rattle.std.proofs.lemmas.Option.{same_Some}
 use Rattle.std.specs.Prelude.{IsTrue, slice_get}
@@ -9,20 +8,17 @@ use Rattle.shader_runs.specs.Program.{Statement, Emit, Store, Block, If, Switch,
 use Rattle.shader_runs.specs.Program.{Jumps, Statements, end, then, Cases, no_case, case, Function}
 use Rattle.shader_runs.specs.Program.{expression_of, operands_of, from, is_emittable}
 use Rattle.shader_runs.specs.Scope.{Handles, Naming, after, after_all, after_one, bound_name, fits}
-use Rattle.shader_runs.specs.Scope.{fits_all}
-use Rattle.shader_runs.specs.Scope.{fits_cases, may_emit, may_emit_all, may_give}
-use Rattle.shader_runs.specs.Scope.{named_after, named_by}
-use Rattle.shader_runs.specs.Scope.{named_by_all, usable, usable_all, usable_if}
+use Rattle.shader_runs.specs.Scope.{fits_all, fits_cases, may_emit, may_emit_all, may_give}
+use Rattle.shader_runs.specs.Scope.{named_after, named_by, named_by_all, usable, usable_all}
+use Rattle.shader_runs.specs.Scope.{usable_if}
 use Rattle.shader_runs.specs.ScopeFaults.{BreaksScope, IntroducesAt, UsesAt, after_some, as_result}
-use Rattle.shader_runs.specs.ScopeFaults.{break_if}
-use Rattle.shader_runs.specs.ScopeFaults.{condition, emitted, emitted_operand, introduced_before}
-use Rattle.shader_runs.specs.ScopeFaults.{not_emittable}
-use Rattle.shader_runs.specs.ScopeFaults.{operand, out_of_scope, returned, selector, stored_pointer}
-use Rattle.shader_runs.specs.ScopeFaults.{stored_value}
+use Rattle.shader_runs.specs.ScopeFaults.{break_if, condition, emitted, emitted_operand}
+use Rattle.shader_runs.specs.ScopeFaults.{introduced_before, not_emittable, operand, out_of_scope}
+use Rattle.shader_runs.specs.ScopeFaults.{returned, selector, stored_pointer, stored_value}
 use Rattle.shader_runs.specs.ScopeRules.{EachInScope, Emitted, InScope, InScopeIf, IntroducedHandle}
-use Rattle.shader_runs.specs.ScopeRules.{MayEmitEach, MayResult, ScopeState, WasIntroduced, after_turn}
-use Rattle.shader_runs.specs.ScopeRules.{and_handle}
-use Rattle.shader_runs.specs.ScopeRules.{following, following_one, handle_of, no_handle}
+use Rattle.shader_runs.specs.ScopeRules.{MayEmitEach, MayResult, ScopeState, WasIntroduced}
+use Rattle.shader_runs.specs.ScopeRules.{after_turn, and_handle, following, following_one}
+use Rattle.shader_runs.specs.ScopeRules.{handle_of, no_handle}
 use Rattle.shader_runs.proofs.ScopeFaults.{each_at, emit_at}
 use Rattle.shader_runs.proofs.ScopeRules.{Tracks, may_emit_rule, tracks_after, tracks_emitted}
 use Rattle.shader_runs.proofs.ScopeRules.{tracks_turn}

@@ -1,20 +1,15 @@
 -- The check over the locals, and over statements without blocks.
-use Rattle.std.proofs.Common.{◌≡◌, ℕ, ◌+◌, Bool, true, false, Option, None, Some, List, [], ◌∷◌}
-use Rattle.std.proofs.Common.{map, length, refl, sym, ap}
+use Rattle.std.proofs.Common.{◌≡◌, ℕ, Bool, true, false, Option, None, Some, List, [], ◌∷◌}
+use Rattle.std.proofs.Common.{length, refl, sym}
 use Rattle.std.specs.Prelude.{Result, Ok, Err}
 use Rattle.std.specs.Result.{result_and}
-use Rattle.std.specs.List.{enumerate_from}
 use Rattle.std.specs.Option.{option_to_list}
-use Rattle.module_meaning.specs.ExpressionLabels.{labels_in}
 use Rattle.module_meaning.specs.ExpressionOperators.{ExpressionContext, is_atomic_pointer}
-use Rattle.module_meaning.specs.FunctionShapes.{statement_shape}
 use Rattle.module_meaning.specs.StatementShapes.{simple_shape, store_shape}
-use Rattle.module_meaning.specs.Written.{simple_lets, simple_roots}
+use Rattle.module_meaning.specs.Written.{simple_roots}
 use Rattle.naga_ir.specs.Operands.{simple_operands, simple_result}
 use Rattle.naga_ir.specs.StatementTree.{SimpleStatement, emit, return, simple, store}
 use Rattle.naga_ir.specs.StatementViews.{tree_of}
-use Rattle.naga_ir.specs.declared.module.Function as ir_function
-use Rattle.naga_ir.specs.declared.module.LocalVariable.{LocalVariable}
 use Rattle.naga_ir.specs.declared.statement.Range.{Range}
 use Rattle.naga_ir.specs.declared.statement.Statement.{Statement}
 use Rattle.naga_ir.specs.declared.statement.Statement.TheVariants as statement_variant
@@ -24,10 +19,6 @@ use Rattle.naga_scope.specs.declared.scope_faults.ScopeFault.{ScopeFault}
 use Rattle.shader_runs.specs.Scope.{Naming, Handles, after, after_result, named_by}
 
 -- ---- first values
-pub first_values_listed : (n : ℕ) (ls : List LocalVariable) → map (λ p. p.1.init) (enumerate_from n ls)
-    ≡ map (λ l. l.init) ls
-first_values_listed n [] = refl
-first_values_listed n (l ∷ ls) = ap (λ os. l.init ∷ os) (first_values_listed (n + 1) ls)
 
 -- an `Emit`
 abbrev pub is_emit : SimpleStatement → Bool
@@ -79,9 +70,6 @@ module _ (n : Naming) (a : ExpressionContext) where
   stored_named true p v k = refl
   stored_named false p v k = refl
 
-  pub store_after : (p v k : ℕ) (s : Handles) → s ≡ after n k (statement_shape a (simple (store p v))) s
-  store_after p v k s = stored_after (is_atomic_pointer a p) p v k s
-
   -- so is any other that is no `Emit` for its operands and its result
   pub act_checks : (st : SimpleStatement) → is_emit st ≡ false → (k number : ℕ) (s : Handles) →
       check_statement n k number (simple_shape a st) s ≡ checked_act number (simple_operands st) (simple_result st) s
@@ -109,19 +97,10 @@ pub act_changes : (st : SimpleStatement) → is_emit st ≡ false → simple_cha
 act_changes (emit first end) other = absurd cc
 act_changes _ other = refl
 
-pub act_lets : (bound : ℕ → Bool) (st : SimpleStatement) → is_emit st ≡ false → simple_lets bound st
-    ≡ option_to_list (simple_result st)
-act_lets bound (emit first end) other = absurd cc
-act_lets bound _ other = refl
-
 pub act_roots : (bound : ℕ → Bool) (st : SimpleStatement) → is_emit st ≡ false → simple_roots bound st
     ≡ simple_operands st
 act_roots bound (emit first end) other = absurd cc
 act_roots bound _ other = refl
-
-pub act_labels : (f : ir_function.Function) (st : SimpleStatement) → is_emit st ≡ false → labels_in f (simple st) ≡ []
-act_labels f (emit first end) other = absurd cc
-act_labels f _ other = refl
 
 -- a statement that is none with blocks and no `Emit` is such a one
 pub record IsAct (st : Statement) : Type 0 where

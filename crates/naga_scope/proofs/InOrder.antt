@@ -1,8 +1,8 @@
 -- What a definition tells of a block by recursion over statements, blocks and cases is what is told of
 -- the list of its statements, each by itself.
-use Rattle.std.proofs.Common.{◌≡◌, ℕ, ◌+◌, ◌<◌, ◌≤◌, Bool, true, false, ◌&&◌, ◌||◌, List, [], ◌∷◌, ◌++◌}
-use Rattle.std.proofs.Common.{Option, refl, sym, ap, ◌∙◌, arith, append-nil, append_assoc, drop, length}
-use Rattle.std.proofs.Common.{Some, slice_get, slice_index_or, suc, zero}
+use Rattle.std.proofs.Common.{◌≡◌, ℕ, ◌+◌, ◌<◌, ◌≤◌, Bool, true, false, ◌&&◌, ◌||◌, List, [], ◌∷◌}
+use Rattle.std.proofs.Common.{◌++◌, Option, refl, sym, ap, ◌∙◌, arith, append-nil, append_assoc}
+use Rattle.std.proofs.Common.{drop, length, Some, slice_get, slice_index_or, suc, zero}
 use Rattle.std.proofs.lemmas.List.{drop_all}
 use Rattle.std.proofs.Math.Bool.{and-true, and_assoc, or-false, or_assoc, or_comm}
 use Rattle.std.proofs.lemmas.List.Folds.{list_any-append}
@@ -23,10 +23,8 @@ use Rattle.naga_ir.specs.declared.module.Function.{Function}
 use Rattle.naga_ir.specs.declared.statement.Statement.{Statement}
 use Rattle.naga_ir.specs.declared.statement.SwitchValue.{SwitchValue}
 use Rattle.naga_scope.specs.Changes.{block_changes, cases_changes, statement_changes}
-use Rattle.naga_ir.specs.InOrder.{case_trees}
-use Rattle.naga_scope.specs.InOrder.{own_changes, own_labels, own_lets, own_roots}
-use Rattle.naga_ir.specs.InOrder.{trees_in, trees_inside, trees_of}
-use Rattle.naga_scope.specs.InOrder.{roots_with}
+use Rattle.naga_ir.specs.InOrder.{case_trees, trees_in, trees_inside, trees_of}
+use Rattle.naga_scope.specs.InOrder.{own_changes, own_labels, own_lets, own_roots, roots_with}
 use Rattle.naga_scope.specs.Marks.{is_one_of}
 
 -- ---- for all that is told alike

@@ -6,9 +6,8 @@ use Rattle.std.specs.Prelude.{IsTrue}
 use Rattle.std.proofs.lemmas.Bool.{eqb-true, eqb-false}
 use Rattle.std.proofs.lemmas.List.{append-nil, take-append-drop, take-take, get_or-set_other}
 use Rattle.std.proofs.lemmas.List.{get_or-take, length-set, set-set, set_comm, set-get_or}
-use Rattle.std.proofs.lemmas.List.{get_or-set_same}
-use Rattle.std.proofs.lemmas.List.{take_more, drop_more, drop-append-le, take_at, drop_at, take_all}
-use Rattle.std.proofs.lemmas.List.{drop_all, length-take-le, length-append}
+use Rattle.std.proofs.lemmas.List.{get_or-set_same, take_more, drop_more, drop-append-le, take_at}
+use Rattle.std.proofs.lemmas.List.{drop_at, take_all, drop_all, length-take-le, length-append}
 use Rattle.std.proofs.lemmas.Option.{slice_get-get_or}
 use Rattle.std.proofs.lemmas.Grind.{get_or-set_at}
 use Rattle.naga_scope.specs.Availabilities.{TextPoint, availability_of, emitted_availability}

@@ -1,10 +1,9 @@
 -- Marks of the handles of a list, one after another.
 use Rattle.std.proofs.Common.{◌≡◌, ℕ, Bool, true, false, List, [], ◌∷◌, ◌++◌, ◌&&◌, ◌||◌, refl, sym}
-use Rattle.std.proofs.Common.{ap, ◌∙◌, length, nat_eq, nat_lt, suc, ◌+◌}
-use Rattle.std.proofs.Common.{append-nil, append_assoc, subst}
+use Rattle.std.proofs.Common.{ap, ◌∙◌, length, nat_eq, nat_lt, suc, ◌+◌, append-nil, append_assoc}
+use Rattle.std.proofs.Common.{subst, replicate, zero}
 use Rattle.std.specs.Prelude.{if◌then◌else◌}
 use Rattle.naga_scope.specs.Marks.{MarksAlso, MarksJust, is_marked, is_one_of, marked_with}
-use Rattle.std.proofs.Common.{replicate, zero}
 
 -- in turn is as all together
 one_then : (m e a l : Bool) → ((m || ((e || false) && l)) || (a && l)) ≡ (m || ((e || a) && l))
@@ -15,26 +14,11 @@ one_then false true false true = refl
 one_then false true false false = refl
 one_then false false a l = refl
 
-none_then : (m a l : Bool) → ((m || (false && l)) || (a && l)) ≡ (m || (a && l))
-none_then true a l = refl
-none_then false a l = refl
-
 pub marked_none : (m l : Bool) → m ≡ (m || (false && l))
 marked_none true l = refl
 marked_none false l = refl
 
 module _ (old new : List Bool) (size : length new ≡ length old) (h : ℕ) where
-  -- with the first of some, and then with the others
-  pub marked_then : (b : Bool) (x : ℕ) (xs : List ℕ) →
-      is_marked new h ≡ marked_with old (if b then x ∷ [] else []) h →
-      marked_with new xs h ≡ marked_with old (if b then x ∷ xs else xs) h
-  marked_then true x xs is =
-      (λ i. is i || (is_one_of xs h && nat_lt h (size i)))
-      ∙ one_then (is_marked old h) (nat_eq h x) (is_one_of xs h) (nat_lt h (length old))
-  marked_then false x xs is =
-      (λ i. is i || (is_one_of xs h && nat_lt h (size i)))
-      ∙ none_then (is_marked old h) (is_one_of xs h) (nat_lt h (length old))
-
   -- with some, and then with others
   pub marked_both : (xs ys : List ℕ) → is_marked new h ≡ marked_with old xs h →
       marked_with new ys h ≡ marked_with old (xs ++ ys) h

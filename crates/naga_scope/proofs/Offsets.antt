@@ -1,17 +1,15 @@
 -- An offset that is written out as a constant is in scope from the start of a function to its end, so
 -- that it is no matter whether it is taken for an operand.
-use Rattle.std.proofs.Common.{◌≡◌, ℕ, zero, suc, ◌<◌, ◌&&◌, ◌||◌, true, List, [], ◌∷◌}
-use Rattle.std.proofs.Common.{◌++◌, length, Option, Some, None, refl, sym, ap, ap₂, ◌∙◌}
-use Rattle.std.proofs.Common.{arith, subst, slice_get}
+use Rattle.std.proofs.Common.{◌≡◌, ℕ, zero, suc, ◌<◌, ◌&&◌, ◌||◌, true, List, [], ◌∷◌, ◌++◌, length}
+use Rattle.std.proofs.Common.{Option, Some, None, refl, sym, ap, ap₂, ◌∙◌, arith, subst, slice_get}
 use Rattle.std.specs.Option.{is_some, option_and_then, option_map_or, option_to_list}
 use Rattle.std.specs.Prelude.{if◌then◌else◌}
 use Rattle.std.specs.Result.{result_and}
 use Rattle.std.proofs.lemmas.Option.{slice_get_within}
 use Rattle.module_meaning.proofs.ExpressionShapes.{shape_operands}
 use Rattle.module_meaning.specs.ExpressionOperators.{constructor}
-use Rattle.module_meaning.specs.ExpressionShapes.{Declared, built, constant_tree}
-use Rattle.module_meaning.specs.ExpressionShapes.{shape_of, tree_over, tree_then, tree_within}
-use Rattle.module_meaning.specs.ExpressionShapes.{trees_of}
+use Rattle.module_meaning.specs.ExpressionShapes.{Declared, built, constant_tree, shape_of}
+use Rattle.module_meaning.specs.ExpressionShapes.{tree_over, tree_then, tree_within, trees_of}
 use Rattle.module_meaning.specs.FunctionShapes.{function_shape}
 use Rattle.module_meaning.specs.OperatorTable.{Operator, Splat}
 use Rattle.module_meaning.specs.Premises.{OperandsStandBefore}
@@ -34,11 +32,7 @@ use Rattle.naga_scope.specs.Availabilities.{usable_by}
 use Rattle.naga_scope.specs.ScopeChecks.{Checked, check_operands, unless}
 use Rattle.naga_scope.specs.declared.scope_faults.ScopeFault.TheVariants.{EmittedOperand}
 use Rattle.shader_runs.specs.Program.{ConstantTree, Function, expression_of, operands_of}
-use Rattle.shader_runs.specs.Scope.{Handles}
-use Rattle.shader_runs.specs.Scope.{all_constant}
-use Rattle.shader_runs.specs.Scope.{is_present}
-use Rattle.shader_runs.specs.Scope.{start_availability}
-use Rattle.shader_runs.specs.Scope.{usable}
+use Rattle.shader_runs.specs.Scope.{Handles, all_constant, is_present, start_availability, usable}
 
 -- ---- a function of a module
 module _ (m : Module) (info : ModuleInfo) (f : ir_function.Function) (es : List ExpressionInfo)

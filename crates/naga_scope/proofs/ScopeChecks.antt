@@ -1,19 +1,17 @@
 -- The check of the rules of scope finds no fault exactly where they hold, and numbers statements in the
 -- order of the text.
 use Rattle.std.proofs.Common.{◌≡◌, ◌⊎◌, inl, inr, ℕ, zero, suc, ◌+◌, ◌%◌, ◌^◌, Bool, true, false}
-use Rattle.std.proofs.Common.{not}
-use Rattle.std.proofs.Common.{List, [], ◌∷◌, ◌++◌, length, Option, Some, None, ◌&&◌, ◌||◌}
+use Rattle.std.proofs.Common.{not, List, [], ◌∷◌, ◌++◌, length, Option, Some, None, ◌&&◌, ◌||◌}
 use Rattle.std.proofs.Common.{refl, sym, subst, ap, ◌∙◌, true≢false, arith, length-append}
 use Rattle.std.proofs.Math.Nat.{mod-add-mod}
 use Rattle.std.specs.Prelude.{IsTrue, IsFalse, Result, Ok, Err}
 use Rattle.std.specs.Hash.DefaultHasher.{wrapping_add}
 use Rattle.std.specs.Result.{IsErrAnd, is_ok, result_and}
 use Rattle.naga_scope.specs.ScopeChecks.{Checked, unless, onward, next_number, check_use}
-use Rattle.naga_scope.specs.ScopeChecks.{check_uses, check_break}
-use Rattle.naga_scope.specs.ScopeChecks.{check_use_if, check_operands, check_bound, check_emitted}
-use Rattle.naga_scope.specs.ScopeChecks.{check_emit, check_result, check_statement, check_all}
-use Rattle.naga_scope.specs.ScopeChecks.{check_cases, check_first, check_first_values}
-use Rattle.naga_scope.specs.ScopeChecks.{check_function}
+use Rattle.naga_scope.specs.ScopeChecks.{check_uses, check_break, check_use_if, check_operands}
+use Rattle.naga_scope.specs.ScopeChecks.{check_bound, check_emitted, check_emit, check_result}
+use Rattle.naga_scope.specs.ScopeChecks.{check_statement, check_all, check_cases, check_first}
+use Rattle.naga_scope.specs.ScopeChecks.{check_first_values, check_function}
 use Rattle.naga_scope.specs.ScopeFaults.{inside, standing, case_standing}
 use Rattle.naga_scope.specs.declared.scope_faults.ScopeFault.{ScopeFault}
 use Rattle.naga_scope.specs.declared.scope_faults.ScopeFault.TheVariants.{FirstValue, Operand}
@@ -23,11 +21,10 @@ use Rattle.naga_scope.specs.declared.scope_faults.ScopeFault.TheVariants.{NeedsN
 use Rattle.shader_runs.specs.Program.{Statement, Emit, Store, Block, If, Switch, Loop, Return, Act}
 use Rattle.shader_runs.specs.Program.{Jumps, Statements, end, then, Cases, no_case, case, Function}
 use Rattle.shader_runs.specs.Program.{expression_of, operands_of, binds, from, is_emittable}
-use Rattle.shader_runs.specs.Scope.{Handles, Naming, before_local, at_start, is_new}
-use Rattle.shader_runs.specs.Scope.{usable, usable_all, usable_if, after_one, after}
-use Rattle.shader_runs.specs.Scope.{after_all, named_after, named_by, named_by_all, may_emit}
-use Rattle.shader_runs.specs.Scope.{may_emit_all, may_give, fits, fits_all, fits_cases}
-use Rattle.shader_runs.specs.Scope.{first_values_fit, fits_function}
+use Rattle.shader_runs.specs.Scope.{Handles, Naming, before_local, at_start, is_new, usable}
+use Rattle.shader_runs.specs.Scope.{usable_all, usable_if, after_one, after, after_all, named_after}
+use Rattle.shader_runs.specs.Scope.{named_by, named_by_all, may_emit, may_emit_all, may_give, fits}
+use Rattle.shader_runs.specs.Scope.{fits_all, fits_cases, first_values_fit, fits_function}
 use Rattle.shader_runs.specs.ScopeRules.{ScopeState, following, after_turn}
 
 -- ---- the check finds no fault where all is in scope
@@ -204,9 +201,6 @@ onward_of : (next : ℕ → Result ℕ ScopeFault) (r : Result ℕ ScopeFault) (
     (n : ℕ) × (r ≡ Ok n) × (next n ≡ Ok y)
 onward_of next (Ok n) y is = (n, refl, is)
 onward_of next (Err x) y is = absurd cc
-
-is_ok_of : {T : Type 0} (r : Result T ScopeFault) (x : T) → r ≡ Ok x → IsTrue (is_ok r)
-is_ok_of r x is = ap is_ok is
 
 -- ---- numbers
 -- n is this number modulo 2^64

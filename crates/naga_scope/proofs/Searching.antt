@@ -40,15 +40,6 @@ module _ {X : Type 0} (HasForm : (i : ℕ) → X → Type 0) (xs : List X) where
     pub stands : (i : ℕ) → slice_get items i ≡ slice_get xs (place + i)
     pub passed : Passed place
 
-  pub all_left : (rest : List (ℕ × X)) → rest ≡ enumerate_from 0 xs → Left rest
-  all_left rest is = record {
-    items = xs;
-    place = 0;
-    numbered = is;
-    stands = λ i. let same : i ≡ 0 + i = omega arith in ap (slice_get xs) same;
-    passed = none_passed;
-  }
-
   -- the first that is left stands in the arena, and so do the others after it
   record Turn (h : ℕ) (x : X) (rest : List (ℕ × X)) (place : ℕ) : Type 0 where
     at : h ≡ place

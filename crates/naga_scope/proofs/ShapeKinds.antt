@@ -1,7 +1,7 @@
 -- The shapes of a function's expressions have the kinds and the operands of these, and a `let` binds
 -- what is used as often as its kind asks.
-use Rattle.std.proofs.Common.{◌≡◌, ℕ, Bool, ◌&&◌, ◌||◌, true, false, List, [], ◌∷◌}
-use Rattle.std.proofs.Common.{nat_lt, Option, Some, None, refl, sym, ap, ◌∙◌}
+use Rattle.std.proofs.Common.{◌≡◌, ℕ, Bool, ◌&&◌, ◌||◌, true, false, List, [], ◌∷◌, nat_lt, Option}
+use Rattle.std.proofs.Common.{Some, None, refl, sym, ap, ◌∙◌}
 use Rattle.std.specs.Prelude.{slice_get, if◌then◌else◌}
 use Rattle.std.specs.Option.{is_some, option_map_or}
 use Rattle.naga_ir.specs.Kinds.{kind_of}
@@ -14,15 +14,13 @@ use Rattle.naga_ir.specs.declared.module.Function as ir_function
 use Rattle.naga_ir.specs.declared.module.Module.{Module}
 use Rattle.naga_info.specs.declared.info.ExpressionInfo.{ExpressionInfo}
 use Rattle.naga_info.specs.declared.info.ModuleInfo.{ModuleInfo}
-use Rattle.shader_runs.specs.Program.{Expression, Load, AccessIndex}
-use Rattle.shader_runs.specs.Program.{Constant, Request, Result}
-use Rattle.shader_runs.specs.Program.{operands_of}
-use Rattle.shader_runs.specs.Program.{Function, expression_of, is_counted, is_named, binds}
-use Rattle.shader_runs.specs.Scope.{Handles, Availability, is_present, is_constant_leaf}
-use Rattle.shader_runs.specs.Scope.{usable, usable_as}
+use Rattle.shader_runs.specs.Program.{Expression, Load, AccessIndex, Constant, Request, Result}
+use Rattle.shader_runs.specs.Program.{operands_of, Function, expression_of, is_counted, is_named}
+use Rattle.shader_runs.specs.Program.{binds, is_emittable, is_pure}
+use Rattle.shader_runs.specs.Scope.{Handles, Availability, is_present, is_constant_leaf, usable}
+use Rattle.shader_runs.specs.Scope.{usable_as}
 use Rattle.shader_runs.specs.Value.{Selector}
-use Rattle.module_meaning.specs.ExpressionOperators.{ExpressionContext}
-use Rattle.module_meaning.specs.ExpressionOperators.{is_atomic_pointer}
+use Rattle.module_meaning.specs.ExpressionOperators.{ExpressionContext, is_atomic_pointer}
 use Rattle.module_meaning.specs.ExpressionShapes.{Declared, shape_of, applied_or, applied_shape}
 use Rattle.module_meaning.specs.ExpressionShapes.{part_selector, part_shape}
 use Rattle.module_meaning.specs.LetCounts.{is_bound_by_uses, uses_of}
@@ -41,7 +39,6 @@ use Rattle.naga_form.proofs.statements.WellFormed.{applied_any}
 use Rattle.naga_scope.specs.Availabilities.{kind_at, operands_at, is_pure_kind, is_constant_kind}
 use Rattle.naga_scope.specs.Availabilities.{is_emittable_kind, usable_by}
 use Rattle.naga_ir.specs.declared.expression.ImageQuery.{ImageQuery}
-use Rattle.shader_runs.specs.Program.{is_emittable, is_pure}
 
 -- ---- the runs' words for shapes are tests of their kind
 pure_shape : (o : Option Expression) → is_pure o ≡ is_pure_kind (shape_kind o)

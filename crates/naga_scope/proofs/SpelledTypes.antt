@@ -1,8 +1,7 @@
 -- What a search for a type without a form says of the types that the text of a function spells.
 use Rattle.std.proofs.Common.{◌≡◌, ◌<◌, ◌+◌, ℕ, zero, suc, Bool, true, false, ◌&&◌, List, [], ◌∷◌}
-use Rattle.std.proofs.Common.{◌++◌, nat_eq}
-use Rattle.std.proofs.Common.{drop, length, map, slice_index_or, Option, Some, None, refl, sym, ap}
-use Rattle.std.proofs.Common.{subst, ◌∙◌, arith}
+use Rattle.std.proofs.Common.{◌++◌, nat_eq, drop, length, map, slice_index_or, Option, Some, None}
+use Rattle.std.proofs.Common.{refl, sym, ap, subst, ◌∙◌, arith}
 use Rattle.std.specs.Prelude.{IsFalse, IsSomeAnd, IsTrue, ◌⊎◌, cond, if◌then◌else◌, not, slice_get}
 use mathlib.Core.Logic.{inl, inr}
 use Rattle.std.specs.List.{IsAmong, enumerate_from, filter, find, flat_map}
@@ -177,10 +176,6 @@ among_there (y ∷ ys) (suc i) x at =
 neither : {X : Type 0} (a b : Option X) → option_or a b ≡ None → (a ≡ None) × (b ≡ None)
 neither None b is = (refl, is)
 neither (Some x) b is = absurd cc
-
-either_one : {X : Type 0} (a b : Option X) (x : X) → option_or a b ≡ Some x → (a ≡ Some x) ⊎ (b ≡ Some x)
-either_one None b x is = inr is
-either_one (Some y) b x is = inl is
 
 -- ---- lists in parts
 module _ {X : Type 0} (p : X → Bool) where

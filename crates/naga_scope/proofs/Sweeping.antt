@@ -165,8 +165,3 @@ module _ (es : List Expression) (roots : List ℕ) (first : List Bool) where
 
 -- ---- other lists of the same handles
 module _ (es : List Expression) where
-  pub written_by : (roots other : List ℕ) → ((h : ℕ) → is_one_of roots h ≡ is_one_of other h) → (h : ℕ) →
-      IsWritten es roots h → IsWritten es other h
-  written_by roots other same h (Root _ is) = Root h (one_among other h (sym (same h) ∙ among_one roots h is))
-  written_by roots other same x (OperandOf h _ e written at among) =
-      OperandOf h x e (written_by roots other same h written) at among

@@ -7,9 +7,8 @@ use Rattle.module_meaning.specs.ExpressionOperators.{ExpressionContext, is_atomi
 use Rattle.module_meaning.specs.FunctionShapes.{cases_shape, statement_shape, statements_shape}
 use Rattle.module_meaning.specs.StatementShapes.{store_shape}
 use Rattle.naga_ir.specs.StatementTree.{continue, store, StatementTree, simple, block, branch}
-use Rattle.naga_ir.specs.StatementTree.{switch, loop}
-use Rattle.naga_ir.specs.StatementTree.{BlockTree, no_statements, statement, CaseTrees, no_cases}
-use Rattle.naga_ir.specs.StatementTree.{case, statement_size, block_size}
+use Rattle.naga_ir.specs.StatementTree.{switch, loop, BlockTree, no_statements, statement}
+use Rattle.naga_ir.specs.StatementTree.{CaseTrees, no_cases, case, statement_size, block_size}
 use Rattle.naga_ir.specs.StatementViews.{block_of, tree_of}
 use Rattle.naga_ir.specs.declared.statement.Statement.{Statement}
 use Rattle.naga_scope.specs.Changes.{block_changes, statement_changes}
@@ -19,15 +18,13 @@ use Rattle.naga_scope.specs.ScopeChecks.{check_all, check_statement, onward}
 use Rattle.naga_scope.specs.Walks.{after_each}
 use Rattle.naga_scope.specs.declared.scope_faults.ScopeFault.{ScopeFault}
 use Rattle.shader_runs.specs.Program as shapes
-use Rattle.shader_runs.specs.Program.{Statements, binds, expression_of, from, operands_of}
-use Rattle.shader_runs.specs.Program.{is_pure}
+use Rattle.shader_runs.specs.Program.{Statements, binds, expression_of, from, operands_of, is_pure}
 use Rattle.shader_runs.specs.Scope.{Absent, Availability, Barred, Bound, Everywhere, Handles}
 use Rattle.shader_runs.specs.Scope.{Inline, Names, Naming, after, after_all, after_emit, after_one}
-use Rattle.shader_runs.specs.Scope.{after_result}
-use Rattle.shader_runs.specs.Scope.{availability_without_name, bound_name, forgotten_handles}
-use Rattle.shader_runs.specs.Scope.{forgotten_if, forgotten_one, is_new, named_after, named_by}
-use Rattle.shader_runs.specs.Scope.{named_by_all}
-use Rattle.shader_runs.specs.Scope.{usable_all, with_emitted_handle}
+use Rattle.shader_runs.specs.Scope.{after_result, availability_without_name, bound_name}
+use Rattle.shader_runs.specs.Scope.{forgotten_handles, forgotten_if, forgotten_one, is_new}
+use Rattle.shader_runs.specs.Scope.{named_after, named_by, named_by_all, usable_all}
+use Rattle.shader_runs.specs.Scope.{with_emitted_handle}
 use Rattle.shader_runs.specs.World.{update}
 
 -- ---- by number

@@ -1,8 +1,7 @@
 -- What a search through a module's declarations says of them.
 use Rattle.std.proofs.Common.{◌≡◌, ℕ, ◌+◌, ◌-◌, ◌<◌, ◌≤◌, Bool, true, false, Option, Some, None}
-use Rattle.std.proofs.Common.{refl, sym, ap, ◌∙◌, subst}
-use Rattle.std.proofs.Common.{List, length, slice_get, nat_lt, arith, inl, inr, not, MatchOption}
-use Rattle.std.proofs.Common.{Vec, Global}
+use Rattle.std.proofs.Common.{refl, sym, ap, ◌∙◌, subst, List, length, slice_get, nat_lt, arith}
+use Rattle.std.proofs.Common.{inl, inr, not, MatchOption, Vec, Global}
 use Rattle.std.specs.Prelude.{IfNone, IfSome, IsTrue, if◌then◌else◌}
 use Rattle.std.specs.Option.{is_some, option_and_then}
 use Rattle.std.proofs.lemmas.Bool.{false≢true, le-ltb, lt-ltb}
@@ -10,9 +9,8 @@ use Rattle.std.proofs.lemmas.Option.{slice_get_within}
 use Rattle.module_meaning.proofs.FunctionNumbers.{entry_point_among, function_among, which_function}
 use Rattle.module_meaning.proofs.FunctionNumbers.{IsNumbered, OfEntryPoint, OfFunction}
 use Rattle.module_meaning.specs.DeclarationForms.{DeclarationsHaveForms, HeadHasForm}
-use Rattle.module_meaning.specs.DeclarationForms.{IsDeclaredType}
-use Rattle.module_meaning.specs.DeclarationForms.{IsInitialiser, IsMemberBinding, IsPassed}
-use Rattle.module_meaning.specs.DeclarationForms.{binding_has_form, entry_point_numbered}
+use Rattle.module_meaning.specs.DeclarationForms.{IsDeclaredType, IsInitialiser, IsMemberBinding}
+use Rattle.module_meaning.specs.DeclarationForms.{IsPassed, binding_has_form, entry_point_numbered}
 use Rattle.module_meaning.specs.DeclarationForms.{stage_has_form}
 use Rattle.module_meaning.specs.DeclarationForms.IsDeclaredType.{OfConstant as ConstantType}
 use Rattle.module_meaning.specs.DeclarationForms.IsDeclaredType.{OfMember as MemberType}

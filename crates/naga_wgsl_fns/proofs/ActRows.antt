@@ -1,7 +1,6 @@
 -- The texts of statements that ask for something, and of barriers, from what is written of them in turn.
 use Rattle.std.proofs.Common.{◌≡◌, ℕ, ◌*◌, Bool, true, false, List, [], ◌∷◌, ◌++◌, codes, replicate}
-use Rattle.std.proofs.Common.{Option, Some, None, IsTrue}
-use Rattle.std.proofs.Common.{refl, sym, ap, ◌∙◌, append_assoc}
+use Rattle.std.proofs.Common.{Option, Some, None, IsTrue, refl, sym, ap, ◌∙◌, append_assoc}
 use Rattle.std.proofs.lemmas.List.{append-nil}
 use Rattle.naga_back.specs.Indentation.{indentation}
 use Rattle.module_meaning.specs.FunctionShapes.{statement_shape}
@@ -27,8 +26,8 @@ use Rattle.wgsl_text.specs.Text.{text}
 use Rattle.wgsl_text.specs.Types.{Named, TypeSpecifier}
 use Rattle.naga_wgsl_fns.specs.Expressions.{form_at, operands_left}
 use Rattle.naga_wgsl_fns.specs.FunctionText.{context, handles_in, let_annotation, naming, source}
-use Rattle.naga_wgsl_fns.specs.Statements.{act_text, barrier_text, barriers_text, line_start, line_text}
-use Rattle.naga_wgsl_fns.specs.Statements.{lines_text, outcome_text, statement_text}
+use Rattle.naga_wgsl_fns.specs.Statements.{act_text, barrier_text, barriers_text, line_start}
+use Rattle.naga_wgsl_fns.specs.Statements.{line_text, lines_text, outcome_text, statement_text}
 use Rattle.naga_wgsl_fns.specs.Types.{annotation_if, let_annotation_text}
 use Rattle.naga_wgsl_fns.specs.declared.functions.FunctionText.{FunctionText}
 use Rattle.naga_wgsl_fns.proofs.StatementRows.{indentation_row, one_line}

@@ -18,10 +18,9 @@ use Rattle.naga_words.specs.Output.{joined_texts}
 use Rattle.wgsl_text.proofs.Text.{text-append}
 use Rattle.wgsl_text.specs.Attributes.{Attribute, BlendSource, Interpolate, Invariant, Location}
 use Rattle.wgsl_text.specs.Attributes.{Interpolated, Numbered, NumberedAttribute, PerPrimitive}
-use Rattle.wgsl_text.specs.Attributes.{Plain, PlainAttribute, Worded, WordedAttribute}
-use Rattle.wgsl_text.specs.Attributes.{Builtin, attribute_pieces, attributes_pieces}
-use Rattle.wgsl_text.specs.Attributes.{numbered_attribute_word, plain_attribute_word}
-use Rattle.wgsl_text.specs.Attributes.{worded_attribute_word}
+use Rattle.wgsl_text.specs.Attributes.{Plain, PlainAttribute, Worded, WordedAttribute, Builtin}
+use Rattle.wgsl_text.specs.Attributes.{attribute_pieces, attributes_pieces, numbered_attribute_word}
+use Rattle.wgsl_text.specs.Attributes.{plain_attribute_word, worded_attribute_word}
 use Rattle.wgsl_text.specs.Text.{text}
 use Rattle.wgsl_words.specs.Words.{builtin_word}
 use Rattle.naga_wgsl_fns.specs.Attributes.{attributes_text, binding_text, interpolated_text}

@@ -1,8 +1,6 @@
 -- The texts of blocks and of choices, from what is written of them in turn.
-use Rattle.std.proofs.Common.{cond}
-use Rattle.std.proofs.Common.{◌≡◌, ℕ, ◌*◌, suc, Bool, true, false, List, [], ◌∷◌, ◌++◌, codes}
-use Rattle.std.proofs.Common.{replicate}
-use Rattle.std.proofs.Common.{refl, sym, ap, ◌∙◌, append_assoc}
+use Rattle.std.proofs.Common.{cond, ◌≡◌, ℕ, ◌*◌, suc, Bool, true, false, List, [], ◌∷◌, ◌++◌, codes}
+use Rattle.std.proofs.Common.{replicate, refl, sym, ap, ◌∙◌, append_assoc}
 use Rattle.std.proofs.lemmas.List.{append-nil}
 use Rattle.naga_back.specs.Indentation.{indentation}
 use Rattle.naga_form.specs.Expressions.{value_form}
@@ -20,8 +18,8 @@ use Rattle.wgsl_text.specs.Statements as tree
 use Rattle.wgsl_text.specs.Text.{text}
 use Rattle.naga_wgsl_fns.specs.FunctionText.{let_annotation, naming, source}
 use Rattle.naga_wgsl_fns.specs.Statements.{around_text, block_text, braces_text, else_text}
-use Rattle.naga_wgsl_fns.specs.Statements.{line_start, line_text}
-use Rattle.naga_wgsl_fns.specs.Statements.{lines_text, named_following, statement_text}
+use Rattle.naga_wgsl_fns.specs.Statements.{line_start, line_text, lines_text, named_following}
+use Rattle.naga_wgsl_fns.specs.Statements.{statement_text}
 use Rattle.naga_wgsl_fns.specs.declared.functions.FunctionText.{FunctionText}
 use Rattle.naga_wgsl_fns.proofs.StatementRows.{indentation_row, one_line}
 

@@ -1,7 +1,7 @@
 -- The text of a constant, by its name or its initialiser, and from what is written of that in turn.
 use Rattle.std.proofs.Common.{◌≡◌, ℕ, ◌<◌, Bool, true, false, List, [], ◌∷◌, length, Option, Some}
-use Rattle.std.proofs.Common.{None, codes, refl, sym, ap, ap₂, ◌∙◌, map, slice_get}
-use Rattle.std.proofs.Common.{subst}
+use Rattle.std.proofs.Common.{None, codes, refl, sym, ap, ap₂, ◌∙◌, map, slice_get, subst, Global}
+use Rattle.std.proofs.Common.{Vec}
 use Rattle.std.specs.Prelude.{◌||◌, if◌then◌else◌, unwrap_or}
 use Rattle.std.specs.List.{AllByRecursion, list_all}
 use Rattle.std.specs.Option.{is_some, option_map_or}
@@ -30,7 +30,6 @@ use Rattle.naga_ir.specs.declared.expression.Expression.TheVariants as expressio
 use Rattle.naga_ir.specs.declared.expression.Literal.{Literal}
 use Rattle.naga_ir.specs.declared.module.Constant as ir_constant
 use Rattle.naga_ir.specs.declared.types.VectorSize.{VectorSize}
-use Rattle.std.proofs.Common.{Global, Vec}
 use Rattle.naga_ir.specs.declared.module.Module.{Module}
 use Rattle.naga_scope.proofs.WrittenConstants.{global_same, globals_in_order}
 use Rattle.naga_scope.specs.Marks.{GlobalsStandInOrder}

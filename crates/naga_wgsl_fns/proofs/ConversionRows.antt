@@ -1,6 +1,6 @@
 -- The text of a conversion, from what is written of it in turn.
-use Rattle.std.proofs.Common.{◌≡◌, ℕ, Bool, true, false, List, [], ◌++◌, Option, Some}
-use Rattle.std.proofs.Common.{codes, refl, sym, ap, subst, ◌∙◌}
+use Rattle.std.proofs.Common.{◌≡◌, ℕ, Bool, true, false, List, [], ◌++◌, Option, Some, codes, refl}
+use Rattle.std.proofs.Common.{sym, ap, subst, ◌∙◌}
 use Rattle.std.proofs.lemmas.Option.{same_Some}
 use Rattle.std.specs.Prelude.{slice_get, unwrap_or, if◌then◌else◌}
 use Rattle.module_meaning.specs.Conversions.{conversion_target, keeps_bits}
@@ -12,7 +12,7 @@ use Rattle.naga_form.proofs.operators.AllowedParts.{conversion}
 use Rattle.naga_form.proofs.operators.Operators.{bits_text, cast_called, conversion_is}
 use Rattle.naga_form.proofs.operators.Operators.{typed_notation}
 use Rattle.naga_form.proofs.types.WrittenTypes.{tree_there}
-use Rattle.naga_form.specs.Expressions.{cast_tree}
+use Rattle.naga_form.specs.Expressions.{cast_tree, value_forms}
 use Rattle.naga_info.specs.declared.info.TypeResolution.{TypeResolution}
 use Rattle.naga_info.specs.declared.info.TypeResolution.TheVariants.{Value}
 use Rattle.naga_ir.specs.declared.expression.Expression as ir
@@ -24,13 +24,12 @@ use Rattle.naga_scope.specs.declared.points.Availability.{Availability}
 use Rattle.naga_words.specs.Output.{joined_texts}
 use Rattle.naga_wgsl_fns.proofs.ExpressionRows.{own_typed}
 use Rattle.naga_wgsl_fns.specs.Expressions.{bitcast_text, callee_text, cast_text, conversion_callee}
-use Rattle.naga_wgsl_fns.specs.Expressions.{form_at}
-use Rattle.naga_wgsl_fns.specs.Expressions.{made_text, operands_at, operands_text, own_text}
+use Rattle.naga_wgsl_fns.specs.Expressions.{form_at, made_text, operands_at, operands_text}
+use Rattle.naga_wgsl_fns.specs.Expressions.{own_text}
 use Rattle.naga_wgsl_fns.specs.FunctionText.{CanWrite, IsInText, context, expressions}
 use Rattle.naga_wgsl_fns.specs.FunctionText.{type_names_of}
 use Rattle.naga_wgsl_fns.specs.Types.{resolution_text}
 use Rattle.naga_wgsl_fns.specs.declared.functions.FunctionText.{FunctionText}
-use Rattle.naga_form.specs.Expressions.{value_forms}
 use Rattle.wgsl_text.proofs.Expressions.{call_text as call_row_text}
 use Rattle.wgsl_text.specs.Expressions.{operands as arguments_of}
 use Rattle.wgsl_text.specs.Reading.{type_layout}

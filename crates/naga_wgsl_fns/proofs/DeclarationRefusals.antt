@@ -11,10 +11,9 @@ use Rattle.module_meaning.specs.DeclarationForms.{IsInitialiser}
 use Rattle.module_meaning.specs.DeclarationForms.IsInitialiser.{OfConstant, OfOverride, OfVariable}
 use Rattle.module_meaning.specs.acceptance.InfoSizes.{sizes_fit, type_is_fit}
 use Rattle.module_meaning.specs.acceptance.Ranges.{constant_in_range, declarations_in_range}
-use Rattle.module_meaning.specs.acceptance.Ranges.{global_in_range}
-use Rattle.module_meaning.specs.acceptance.Ranges.{is_below, module_in_range, module_ranges_fit}
-use Rattle.module_meaning.specs.acceptance.Ranges.{override_in_range, special_types_fit}
-use Rattle.module_meaning.specs.acceptance.Ranges.{types_in_range}
+use Rattle.module_meaning.specs.acceptance.Ranges.{global_in_range, is_below, module_in_range}
+use Rattle.module_meaning.specs.acceptance.Ranges.{module_ranges_fit, override_in_range}
+use Rattle.module_meaning.specs.acceptance.Ranges.{special_types_fit, types_in_range}
 use Rattle.naga_form.proofs.declarations.OwnExpressions.{initialiser_within}
 use Rattle.naga_info.specs.declared.info.ModuleInfo.{ModuleInfo}
 use Rattle.naga_ir.specs.declared.binding.Binding.TheVariants as binding
@@ -25,9 +24,9 @@ use Rattle.naga_scope.specs.declared.declarations.UnsupportedDeclaration.TheVari
 use Rattle.naga_scope.specs.declared.declarations.UnsupportedHead.{UnsupportedHead}
 use Rattle.naga_scope.specs.declared.declarations.UnsupportedHead.TheVariants as head
 use Rattle.naga_wgsl_fns.specs.DeclarationRefusals.{NamesDeclaration, NamesUnsupportedDeclaration}
-use Rattle.naga_wgsl_fns.specs.DeclarationRefusals.{NamesUnsupportedHead, NamesHead}
-use Rattle.naga_wgsl_fns.specs.DeclarationRefusals.{OfBinding, OfHead, OfInitialiser, OfMember}
-use Rattle.naga_wgsl_fns.specs.DeclarationRefusals.{OfOffsets, OfStage, OfStride, OfType}
+use Rattle.naga_wgsl_fns.specs.DeclarationRefusals.{NamesUnsupportedHead, NamesHead, OfBinding}
+use Rattle.naga_wgsl_fns.specs.DeclarationRefusals.{OfHead, OfInitialiser, OfMember, OfOffsets}
+use Rattle.naga_wgsl_fns.specs.DeclarationRefusals.{OfStage, OfStride, OfType}
 use Rattle.naga_wgsl_fns.specs.declared.refusals.error.Error.{Error}
 
 -- the initialiser that there is stands before these many

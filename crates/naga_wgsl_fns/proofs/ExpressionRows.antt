@@ -1,22 +1,26 @@
 -- The text of an expression by its kind and by where it stands, and from what is written of it in
 -- turn.
 use Rattle.module_meaning.specs.ExpressionForms.{expression_has_own_form}
-use Rattle.naga_wgsl_fns.proofs.Preconditions.{IsNoOther, expression_formed}
+use Rattle.naga_wgsl_fns.proofs.Preconditions.{IsNoOther, expression_formed, ordered}
 use Rattle.std.proofs.Common.{◌≡◌, ℕ, zero, suc, ◌<◌, Bool, true, false, List, [], ◌∷◌, length}
-use Rattle.std.proofs.Common.{Option, Some}
-use Rattle.std.proofs.Common.{None, codes, refl, sym, ap, ◌∙◌, append_assoc, arith, get_or}
-use Rattle.std.specs.Prelude.{IsTrue, slice_get, if◌then◌else◌, unwrap_or}
+use Rattle.std.proofs.Common.{Option, Some, None, codes, refl, sym, ap, ◌∙◌, append_assoc, arith}
+use Rattle.std.proofs.Common.{get_or, map}
+use Rattle.std.specs.Prelude.{IsTrue, slice_get, if◌then◌else◌, unwrap_or, ◌||◌}
 use Rattle.std.specs.Option.{is_some, option_and_then, option_map, option_map_or, option_to_list}
 use Rattle.std.specs.List.{AllByRecursion}
-use Rattle.std.specs.Prelude.{◌||◌}
-use Rattle.std.proofs.Common.{map}
 use Rattle.module_meaning.specs.ExpressionOperators.{is_depth_image, level_of, sample_operator}
-use Rattle.module_meaning.specs.ExpressionOperators.{type_known}
+use Rattle.module_meaning.specs.ExpressionOperators.{type_known, applied_operator, called_word}
+use Rattle.module_meaning.specs.ExpressionOperators.{constructor, load_operator, own_operator}
+use Rattle.module_meaning.specs.ExpressionOperators.{query_operator, is_atomic_pointer}
 use Rattle.naga_form.proofs.operators.Images.{without_offset}
 use Rattle.naga_form.specs.Expressions.{constant_form, sampling_operands, zero_is_whole}
+use Rattle.naga_form.specs.Expressions.{operator_type, PlainForm, ValueForm, as_value, as_reference}
+use Rattle.naga_form.specs.Expressions.{value_forms, applied_plain, no_form, own_plain, own_if}
+use Rattle.naga_form.specs.Expressions.{availability_plain, plain_below, plain_form, unnamed_form}
+use Rattle.naga_form.specs.Expressions.{value_form, Source, is_handle_variable, part_plain}
+use Rattle.naga_form.specs.Expressions.{is_pointer, selected_part, variable_plain}
 use Rattle.naga_form.specs.Images.{sampling_form}
-use Rattle.naga_ir.specs.Operands.{level_operands}
-use Rattle.naga_ir.specs.Operands.{expression_operands, query_operands}
+use Rattle.naga_ir.specs.Operands.{level_operands, expression_operands, query_operands}
 use Rattle.naga_ir.specs.declared.expression.ImageQuery.{ImageQuery}
 use Rattle.naga_ir.specs.declared.expression.ImageQuery.TheVariants as image_query
 use Rattle.naga_ir.specs.declared.expression.Expression as ir
@@ -27,51 +31,43 @@ use Rattle.shader_runs.specs.Premises.{AllBelow}
 use Rattle.shader_runs.specs.Scope.{Handles, Naming}
 use Rattle.wgsl_words.specs.Words.{operator_text, unary_text}
 use Rattle.naga_form.proofs.operators.Operators.{constructor_called, operator_row, query_is_called}
-use Rattle.naga_form.proofs.operators.Operators.{typed_notation}
-use Rattle.naga_form.proofs.operators.Operators.{unary_row}
+use Rattle.naga_form.proofs.operators.Operators.{typed_notation, unary_row}
 use Rattle.module_meaning.specs.Names.{module_names, numbered_name}
 use Rattle.naga_form.proofs.types.SameValues.{or_nothing}
 use Rattle.naga_names.specs.declared.key.NameKey.TheVariants as key
-use Rattle.module_meaning.specs.ExpressionOperators.{applied_operator, called_word, constructor}
-use Rattle.module_meaning.specs.ExpressionOperators.{load_operator, own_operator, query_operator}
 use Rattle.module_meaning.specs.AlikeTypes.{is_spelled}
 use Rattle.naga_info.specs.declared.info.TypeResolution.TheVariants.{Handle}
 use Rattle.naga_form.proofs.types.WrittenTypes.{tree_there}
-use Rattle.naga_form.specs.Expressions.{operator_type}
 use Rattle.naga_form.specs.TypeTrees.{type_tree}
-use Rattle.wgsl_text.specs.Types.{TypeSpecifier}
-use Rattle.wgsl_text.specs.Expressions.{Call}
+use Rattle.wgsl_text.specs.Types.{TypeSpecifier, Named as NamedType}
+use Rattle.wgsl_text.specs.Expressions.{Call, Member, Constant, Expression, Name, Dereference}
+use Rattle.wgsl_text.specs.Expressions.{operands as arguments_of, Index}
 use Rattle.naga_wgsl_fns.specs.Types.{type_text}
-use Rattle.naga_wgsl_fns.specs.Expressions.{made_text, made_type}
-use Rattle.naga_wgsl_fns.specs.FunctionText.{named_in}
-use Rattle.naga_wgsl_fns.specs.FunctionText.{type_names_of}
-use Rattle.module_meaning.specs.ExpressionOperators.{is_atomic_pointer}
+use Rattle.naga_wgsl_fns.specs.Expressions.{made_text, made_type, member_text, address_text}
+use Rattle.naga_wgsl_fns.specs.Expressions.{applied_text, called_text, form_at, global_address_text}
+use Rattle.naga_wgsl_fns.specs.Expressions.{global_reference_text, global_value_text, load_text}
+use Rattle.naga_wgsl_fns.specs.Expressions.{next_operand_text, operands_at, operands_left}
+use Rattle.naga_wgsl_fns.specs.Expressions.{operands_text, own_form, own_text, pointed_text}
+use Rattle.naga_wgsl_fns.specs.Expressions.{reference_text, spaced_text, value_text, base_of}
+use Rattle.naga_wgsl_fns.specs.Expressions.{part_reference_text, part_value_text}
+use Rattle.naga_wgsl_fns.specs.Expressions.{plain_address_text, plain_text, plain_tree}
+use Rattle.naga_wgsl_fns.specs.FunctionText.{named_in, type_names_of, CanWrite, IsInText, context}
+use Rattle.naga_wgsl_fns.specs.FunctionText.{expressions, handles_in, naming, source}
 use Rattle.module_meaning.specs.OperatorTable.{AtomicLoad, Operator, operator_word, own_word}
-use Rattle.module_meaning.specs.OperatorTable.{run_word}
-use Rattle.module_meaning.specs.OperatorTable.{WithoutForm, zero_is_written}
+use Rattle.module_meaning.specs.OperatorTable.{run_word, WithoutForm, zero_is_written, PartAt}
 use Rattle.naga_form.specs.Operators.{Called, Infix, Notation, Prefix, applied_form, notation}
-use Rattle.naga_form.specs.Operators.{operator_form}
-use Rattle.naga_form.specs.Operators.{unary_form}
+use Rattle.naga_form.specs.Operators.{operator_form, unary_form}
 use Rattle.module_meaning.specs.Premises.{OperandsStandBefore}
-use Rattle.module_meaning.specs.ExpressionShapes.{swizzle_letters}
-use Rattle.naga_wgsl_fns.specs.Expressions.{member_text}
-use Rattle.wgsl_text.specs.Expressions.{Member}
-use Rattle.wgsl_text.specs.Expressions.{Constant, Expression, Name, Dereference}
-use Rattle.wgsl_text.specs.Expressions.{operands as arguments_of}
+use Rattle.module_meaning.specs.ExpressionShapes.{swizzle_letters, part_selector}
 use Rattle.wgsl_text.specs.Literals.{Truth}
-use Rattle.wgsl_text.specs.Types.{Named as NamedType}
-use Rattle.naga_form.specs.Expressions.{PlainForm, ValueForm, as_value, as_reference, value_forms}
-use Rattle.naga_form.specs.Expressions.{applied_plain, no_form, own_plain, own_if}
-use Rattle.naga_form.specs.Expressions.{availability_plain}
-use Rattle.naga_form.specs.Expressions.{plain_below, plain_form, unnamed_form, value_form, Source}
 use Rattle.wgsl_text.proofs.Expressions.{name_text, binary_text as binary_row_text}
-use Rattle.wgsl_text.proofs.Expressions.{unary_text as unary_row_text}
-use Rattle.wgsl_text.proofs.Expressions.{call_text as call_row_text}
+use Rattle.wgsl_text.proofs.Expressions.{unary_text as unary_row_text, call_text as call_row_text}
 use Rattle.wgsl_text.proofs.Expressions.{argument_text as argument_row_text}
 use Rattle.wgsl_text.proofs.Expressions.{next_argument_text as next_argument_row_text}
 use Rattle.wgsl_text.proofs.Expressions.{address_text as address_row_text, dereference_text}
 use Rattle.naga_scope.specs.Availabilities.{availability_of}
 use Rattle.naga_wgsl_fns.specs.Names.{bound_text, name_of_global, name_of_override}
+use Rattle.naga_wgsl_fns.specs.Names.{name_of_argument, name_of_local}
 use Rattle.naga_scope.specs.declared.points.Availability.{Availability}
 use Rattle.naga_scope.specs.declared.points.Availability.TheVariants.{Absent, Barred, Everywhere}
 use Rattle.naga_scope.specs.declared.points.Availability.TheVariants.{Inline, Bound}
@@ -80,25 +76,8 @@ use Rattle.naga_wgsl_fns.specs.Constants.{constant_text}
 use Rattle.naga_wgsl_fns.specs.Literals.{literal_text}
 use Rattle.wgsl_text.specs.Reading.{expression_layout}
 use Rattle.naga_wgsl_fns.specs.declared.functions.FunctionText.{FunctionText}
-use Rattle.naga_wgsl_fns.specs.FunctionText.{CanWrite, IsInText, context, expressions, handles_in}
-use Rattle.naga_wgsl_fns.specs.FunctionText.{naming, source}
-use Rattle.naga_wgsl_fns.specs.Names.{name_of_argument, name_of_local}
-use Rattle.naga_wgsl_fns.specs.Expressions.{address_text, applied_text, called_text, form_at}
-use Rattle.naga_wgsl_fns.specs.Expressions.{global_address_text, global_reference_text}
-use Rattle.naga_wgsl_fns.specs.Expressions.{global_value_text, load_text}
-use Rattle.naga_wgsl_fns.specs.Expressions.{next_operand_text, operands_at, operands_left}
-use Rattle.naga_wgsl_fns.specs.Expressions.{operands_text, own_form, own_text}
-use Rattle.naga_wgsl_fns.specs.Expressions.{pointed_text, reference_text, spaced_text, value_text}
 use Rattle.naga_wgsl_fns.proofs.PartForms.{part_form, referred_part, valued_part}
 use Rattle.naga_wgsl_fns.proofs.VariableRows.{handle_variable_reference, kept_reference}
-use Rattle.naga_wgsl_fns.proofs.Preconditions.{ordered}
-use Rattle.naga_wgsl_fns.specs.Expressions.{base_of, part_reference_text, part_value_text}
-use Rattle.naga_wgsl_fns.specs.Expressions.{plain_address_text, plain_text, plain_tree}
-use Rattle.naga_form.specs.Expressions.{is_handle_variable, part_plain, is_pointer, selected_part}
-use Rattle.naga_form.specs.Expressions.{variable_plain}
-use Rattle.module_meaning.specs.ExpressionShapes.{part_selector}
-use Rattle.module_meaning.specs.OperatorTable.{PartAt}
-use Rattle.wgsl_text.specs.Expressions.{Index}
 use Rattle.wgsl_text.proofs.Types.{named_text}
 
 -- ---- handles below another

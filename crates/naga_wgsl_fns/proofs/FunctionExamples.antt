@@ -5,8 +5,7 @@
 -- Throughout, a module has these two functions and this override, and neither constants nor variables.
 -- All else that it has is any, and so are what it takes and gives, and what stands in it.
 use Rattle.std.proofs.Common.{◌≡◌, ℕ, pos, Bool, false, true, List, [], ◌∷◌, ◌++◌, Some, refl}
-use Rattle.std.proofs.Common.{arith}
-use Rattle.std.proofs.Common.{Vec, Global}
+use Rattle.std.proofs.Common.{arith, Vec, Global}
 use Rattle.std.specs.Prelude.{Ok}
 use Rattle.naga_ir.specs.StatementTree.{no_statements, ray_query, simple, statement}
 use Rattle.naga_ir.specs.declared.expression.Expression.TheVariants as expression
@@ -31,8 +30,7 @@ use Rattle.naga_form.proofs.names.ExpressionNames.{names_of_each_are}
 use Rattle.naga_form.specs.Declarations.{program_under}
 use Rattle.naga_back.specs.Flags.{annotates_types}
 use Rattle.naga_wgsl_fns.specs.Items.{AreNamesOfText, FunctionWriting, IsMeantUnder}
-use Rattle.naga_wgsl_fns.specs.Items.{IsWritableFunction}
-use Rattle.naga_wgsl_fns.specs.Items.{named_following}
+use Rattle.naga_wgsl_fns.specs.Items.{IsWritableFunction, named_following}
 
 -- One program has the texts of all functions, each of which was written by itself after labels of its
 -- own: there are names of which each text's are a part.

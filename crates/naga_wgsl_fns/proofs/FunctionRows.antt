@@ -1,9 +1,9 @@
 -- Each function of an accepted module of which all that is written has a form can be written; and the
 -- texts of its parts, from what is written of them in turn.
 use Rattle.std.proofs.Common.{◌≡◌, ℕ, ◌+◌, ◌-◌, ◌<◌, ◌≤◌, ◌==◌, zero, suc, add-one, arith, ne_eqb}
-use Rattle.std.proofs.Common.{false, Option, None, Some, refl, sym, ap, subst, ◌∙◌, codes}
-use Rattle.std.proofs.Common.{List, [], ◌∷◌, ◌++◌, append_assoc, drop, length}
-use Rattle.std.proofs.Common.{slice_get, slice_index_or, get_or, map, string_bytes, ◌^◌}
+use Rattle.std.proofs.Common.{false, Option, None, Some, refl, sym, ap, subst, ◌∙◌, codes, List, []}
+use Rattle.std.proofs.Common.{◌∷◌, ◌++◌, append_assoc, drop, length, slice_get, slice_index_or}
+use Rattle.std.proofs.Common.{get_or, map, string_bytes, ◌^◌}
 use Rattle.std.specs.declared.string.String.{String}
 use Rattle.std.specs.Prelude.{if◌then◌else◌, unwrap_or, vec_len, IsTrue}
 use Rattle.std.specs.List.{list_all}
@@ -32,6 +32,7 @@ use Rattle.naga_names.proofs.Refusal.{element}
 use Rattle.module_meaning.proofs.Lists.{list_all_at, placed_at}
 use Rattle.naga_form.proofs.statements.AcceptedFunctions.{of_number, ranges_of}
 use Rattle.module_meaning.specs.FunctionNumbers.{IsFunctionOf, all_functions, all_infos}
+use Rattle.module_meaning.specs.FunctionNumbers.{function_number}
 use Rattle.wgsl_text.proofs.Functions.{value_text as value_row_text, locals_text as local_row_text}
 use Rattle.wgsl_text.proofs.Functions.{function_text as function_row_text}
 use Rattle.naga_names.specs.Keys.{names_in}
@@ -51,11 +52,9 @@ use Rattle.naga_wgsl_fns.specs.declared.refusals.error.Error.{Error}
 use Rattle.wgsl_text.specs.Reading.{expression_layout, type_layout}
 use Rattle.wgsl_text.specs.Text.{text}
 use Rattle.naga_wgsl_fns.specs.declared.functions.FunctionText.{FunctionText}
-use Rattle.naga_wgsl_fns.specs.FunctionText.{handles_in, named_in, number}
+use Rattle.naga_wgsl_fns.specs.FunctionText.{handles_in, named_in, number, CanWrite, source, naming}
+use Rattle.naga_wgsl_fns.specs.FunctionText.{let_annotation, type_names_of}
 use Rattle.naga_back.specs.Flags.{annotates_types}
-use Rattle.naga_wgsl_fns.specs.FunctionText.{CanWrite, source, naming}
-use Rattle.naga_wgsl_fns.specs.FunctionText.{let_annotation}
-use Rattle.naga_wgsl_fns.specs.FunctionText.{type_names_of}
 use Rattle.naga_wgsl_fns.specs.Names.{name_of_argument, name_of_function, name_of_local}
 use Rattle.naga_wgsl_fns.specs.Types.{type_text}
 use Rattle.naga_wgsl_fns.specs.Expressions.{value_text}
@@ -73,7 +72,6 @@ use Rattle.naga_form.specs.Attributes.{passing_attributes}
 use Rattle.naga_form.proofs.statements.WrittenFunctions.{entry_point_at}
 use Rattle.naga_back.specs.declared.context.FunctionType.TheVariants as item
 use Rattle.naga_ir.specs.declared.module.EntryPoint.{EntryPoint}
-use Rattle.module_meaning.specs.FunctionNumbers.{function_number}
 use Rattle.wgsl_text.specs.Attributes.{attributes_pieces}
 
 -- ---- what is wanted
@@ -360,14 +358,6 @@ pub no_entry_point : (m : Module) (h : ℕ) → h < length m.functions → entry
 no_entry_point m h lt =
     ap (λ b. if b then None else slice_get m.entry_points.items (h - length m.functions))
     (lt-ltb h (length m.functions) lt)
-
-pub no_stage_row : (f : FunctionText) → CanWrite f → (h : ℕ) → f.ty ≡ item.Function h →
-    stage_before f.shader.now (number f) ≡ []
-no_stage_row f can h is =
-    let m = f.shader.now in
-    let lt = subst (λ ty. IsFunctionOf ty m) is can.there in
-    ap (λ ty. stage_before m (function_number m ty)) is
-    ∙ ap (λ o. option_map_or (stage_text m) o []) (no_entry_point m h lt)
 
 -- the entry points are as many as their list is long
 pub point_within : (m : Module) (j : ℕ) → j < vec_len m.entry_points →

@@ -8,14 +8,12 @@ use Rattle.std.specs.Option.{is_some, option_map_or, option_to_list}
 use Rattle.std.proofs.lemmas.Bool.{and_parts}
 use Rattle.std.proofs.lemmas.List.{append-nil}
 use Rattle.module_meaning.specs.ExpressionOperators.{level_of, sample_operator}
-use Rattle.module_meaning.specs.OperatorTable.{Sample, Splat, if_word, run_word}
-use Rattle.module_meaning.specs.OperatorTable.{zero_is_written}
+use Rattle.module_meaning.specs.OperatorTable.{Sample, Splat, if_word, run_word, zero_is_written}
 use Rattle.module_meaning.specs.WrittenOut.{is_written_out, written_out_over, written_out_within}
 use Rattle.naga_form.specs.ConstantForms.{constant_form_over, constant_form_within}
-use Rattle.naga_form.specs.ConstantForms.{no_constant_form}
-use Rattle.naga_form.specs.ConstantForms.{built_form}
-use Rattle.naga_form.specs.Expressions.{as_value, constant_form, own_if, own_plain}
-use Rattle.naga_form.specs.Expressions.{value_forms, zero_is_whole}
+use Rattle.naga_form.specs.ConstantForms.{no_constant_form, built_form}
+use Rattle.naga_form.specs.Expressions.{as_value, constant_form, own_if, own_plain, value_forms}
+use Rattle.naga_form.specs.Expressions.{zero_is_whole}
 use Rattle.naga_form.specs.Images.{component_number, component_then, gathered_component}
 use Rattle.naga_form.specs.Images.{operands_then, sampling_form, sampling_word, zero_then}
 use Rattle.naga_form.specs.Operators.{applied_form, notation}
@@ -30,8 +28,7 @@ use Rattle.naga_scope.specs.declared.points.Availability.{Availability}
 use Rattle.naga_words.specs.Output.{joined_texts}
 use Rattle.naga_wgsl_fns.proofs.ExpressionRows.{cell_form}
 use Rattle.naga_wgsl_fns.proofs.Preconditions.{all_before}
-use Rattle.naga_wgsl_fns.specs.Expressions.{form_at, next_operand_text}
-use Rattle.naga_wgsl_fns.specs.Expressions.{own_text, value_text}
+use Rattle.naga_wgsl_fns.specs.Expressions.{form_at, next_operand_text, own_text, value_text}
 use Rattle.naga_wgsl_fns.specs.FunctionText.{CanWrite, context, expressions, naming, source}
 use Rattle.naga_wgsl_fns.specs.FunctionText.{type_names_of}
 use Rattle.naga_wgsl_fns.specs.Images.{component_text, depths_at, furthers_text, head_text}

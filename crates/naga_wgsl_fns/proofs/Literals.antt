@@ -7,14 +7,13 @@ use Rattle.naga_words.specs.Output.{joined_texts}
 use Rattle.float_numerals.specs.declared.decimal.Decimal.{Decimal}
 use Rattle.float_numerals.specs.Texts as numeral_texts
 use Rattle.float_numerals.specs.Texts.{double_exponent, double_fraction, double_whole}
-use Rattle.float_numerals.specs.Texts.{fraction_digits, whole_digits}
+use Rattle.float_numerals.specs.Texts.{fraction_digits, whole_digits, fraction_text}
 use Rattle.naga_form.specs.Literals.{power_form}
-use Rattle.float_numerals.specs.Texts.{fraction_text}
 use Rattle.wgsl_text.specs.Text.{power_text, precision_text, text}
 use Rattle.wgsl_text.specs.Token as token
 use Rattle.wgsl_text.specs.Token.{Double, Half, Precision, Single, TokenPiece}
-use Rattle.naga_wgsl_fns.specs.Literals.{i32_text, i64_text, i16_text, u16_text}
-use Rattle.naga_wgsl_fns.specs.Literals.{f16_text, f32_text, f64_text}
+use Rattle.naga_wgsl_fns.specs.Literals.{i32_text, i64_text, i16_text, u16_text, f16_text, f32_text}
+use Rattle.naga_wgsl_fns.specs.Literals.{f64_text}
 
 pub least_integer_row : i32_text (negsuc 2147483647) ≡ codes "i32(-2147483648)"
 unfolding i32_text digits

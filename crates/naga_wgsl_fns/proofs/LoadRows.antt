@@ -1,7 +1,7 @@
 -- The texts of loads: by whether an atomic is loaded, and of a cooperative matrix from what is written
 -- of it in turn.
-use Rattle.std.proofs.Common.{◌≡◌, ℕ, Bool, true, false, List, [], ◌∷◌, ◌++◌, Some}
-use Rattle.std.proofs.Common.{codes, ap, refl, sym, ◌∙◌}
+use Rattle.std.proofs.Common.{◌≡◌, ℕ, Bool, true, false, List, [], ◌∷◌, ◌++◌, Some, codes, ap, refl}
+use Rattle.std.proofs.Common.{sym, ◌∙◌}
 use Rattle.std.specs.Prelude.{slice_get, unwrap_or, if◌then◌else◌}
 use Rattle.std.specs.Option.{option_map_or}
 use Rattle.module_meaning.specs.AlikeTypes.{is_spelled}
@@ -29,10 +29,9 @@ use Rattle.naga_scope.specs.declared.points.Availability.{Availability}
 use Rattle.naga_words.specs.Output.{joined_texts}
 use Rattle.naga_wgsl_fns.proofs.ExpressionRows.{own_typed}
 use Rattle.naga_wgsl_fns.specs.Expressions.{applied_text, called_text, form_at, load_text}
-use Rattle.naga_wgsl_fns.specs.Expressions.{load_word}
-use Rattle.naga_wgsl_fns.specs.Expressions.{made_text, matrix_callee, matrix_callee_text}
-use Rattle.naga_wgsl_fns.specs.Expressions.{operands_at}
-use Rattle.naga_wgsl_fns.specs.Expressions.{operands_text, own_text, reference_text, taking_text}
+use Rattle.naga_wgsl_fns.specs.Expressions.{load_word, made_text, matrix_callee, matrix_callee_text}
+use Rattle.naga_wgsl_fns.specs.Expressions.{operands_at, operands_text, own_text, reference_text}
+use Rattle.naga_wgsl_fns.specs.Expressions.{taking_text}
 use Rattle.naga_wgsl_fns.specs.FunctionText.{CanWrite, IsInText, context, expressions}
 use Rattle.naga_wgsl_fns.specs.FunctionText.{type_names_of}
 use Rattle.naga_wgsl_fns.specs.Types.{resolution_text}

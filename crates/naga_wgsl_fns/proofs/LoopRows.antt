@@ -1,8 +1,6 @@
 -- The texts of loops, from what is written of them in turn, and what a loop's body leaves.
-use Rattle.std.proofs.Common.{cond}
-use Rattle.std.proofs.Common.{◌≡◌, ℕ, ◌*◌, suc, Bool, true, false, List, [], ◌∷◌, ◌++◌, codes}
-use Rattle.std.proofs.Common.{replicate, Option, Some, None}
-use Rattle.std.proofs.Common.{refl, sym, ap, ◌∙◌, append_assoc}
+use Rattle.std.proofs.Common.{cond, ◌≡◌, ℕ, ◌*◌, suc, Bool, true, false, List, [], ◌∷◌, ◌++◌, codes}
+use Rattle.std.proofs.Common.{replicate, Option, Some, None, refl, sym, ap, ◌∙◌, append_assoc}
 use Rattle.std.specs.Option.{option_map}
 use Rattle.naga_back.specs.Indentation.{indentation}
 use Rattle.naga_form.specs.Expressions.{value_form}
@@ -24,8 +22,8 @@ use Rattle.naga_wgsl_fns.specs.FunctionText.{CanWrite, let_annotation, naming, s
 use Rattle.naga_wgsl_fns.specs.Statements.{after_statement, after_statements, around_text}
 use Rattle.naga_wgsl_fns.specs.Statements.{block_text, braces_text, continuing_text, last_text}
 use Rattle.naga_wgsl_fns.specs.Statements.{left_to_continuing, line_start, lines_text}
-use Rattle.naga_wgsl_fns.specs.Statements.{named_following, named_after_statement}
-use Rattle.naga_wgsl_fns.specs.Statements.{statement_text, turn_text}
+use Rattle.naga_wgsl_fns.specs.Statements.{named_following, named_after_statement, statement_text}
+use Rattle.naga_wgsl_fns.specs.Statements.{turn_text}
 use Rattle.naga_wgsl_fns.specs.declared.functions.FunctionText.{FunctionText}
 use Rattle.naga_wgsl_fns.proofs.BlockRows.{braces_lines}
 use Rattle.naga_wgsl_fns.proofs.StatementRows.{block_row as statements_row, indentation_row}

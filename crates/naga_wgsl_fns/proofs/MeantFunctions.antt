@@ -3,9 +3,8 @@
 -- Throughout, ps are entry points from the number g on, ess says what is known of each, i is the place
 -- of one among them, and named tells the names of the labels that front ends gave.
 use Rattle.std.proofs.Common.{◌≡◌, ℕ, zero, suc, ◌+◌, ◌∙◌, Bool, List, [], ◌∷◌, ◌++◌, Some, ap}
-use Rattle.std.proofs.Common.{arith}
-use Rattle.std.proofs.Common.{◌<◌, ◌≤◌, ◌||◌, None, Option, false, length, nat_eq, refl, slice_get}
-use Rattle.std.proofs.Common.{subst, sym, true, unwrap_or}
+use Rattle.std.proofs.Common.{arith, ◌<◌, ◌≤◌, ◌||◌, None, Option, false, length, nat_eq, refl}
+use Rattle.std.proofs.Common.{slice_get, subst, sym, true, unwrap_or}
 use Rattle.std.specs.List.{list_any}
 use Rattle.std.specs.Option.{option_map_or}
 use Rattle.std.specs.Prelude.{IsTrue, if◌then◌else◌}

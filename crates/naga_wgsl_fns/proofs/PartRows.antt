@@ -2,65 +2,57 @@
 use Rattle.std.proofs.Common.{◌≡◌, ℕ, zero, suc, Bool, true, false, List, [], ◌∷◌, ◌++◌, length}
 use Rattle.std.proofs.Common.{Option, Some, None, codes, refl, sym, ap, ◌∙◌, get_or, map}
 use Rattle.std.proofs.lemmas.List.{append-nil}
-use Rattle.std.specs.Prelude.{slice_get, if◌then◌else◌}
+use Rattle.std.specs.Prelude.{slice_get, if◌then◌else◌, decimal}
 use Rattle.std.specs.Option.{is_some, option_map_or}
-use Rattle.naga_ir.specs.Operands.{expression_operands}
+use Rattle.naga_ir.specs.Operands.{expression_operands, cooperative_operands, query_operands}
 use Rattle.naga_ir.specs.declared.expression.Expression as ir
 use Rattle.naga_ir.specs.declared.expression.Expression.TheVariants as expression
 use Rattle.naga_ir.specs.declared.expression.SwizzleComponent.{SwizzleComponent}
 use Rattle.naga_ir.specs.declared.operators.UnaryOperator.{UnaryOperator}
 use Rattle.naga_ir.specs.declared.types.VectorSize.{VectorSize}
 use Rattle.naga_ir.specs.declared.types.VectorSize.TheVariants.{Bi, Tri, Quad}
-use Rattle.module_meaning.specs.ExpressionShapes.{letter, swizzle_letters}
+use Rattle.module_meaning.specs.ExpressionShapes.{letter, swizzle_letters, part_selector}
 use Rattle.naga_scope.specs.declared.points.Availability.{Availability}
 use Rattle.naga_words.specs.Output.{joined_texts}
 use Rattle.naga_wgsl_fns.specs.declared.functions.FunctionText.{FunctionText}
 use Rattle.naga_wgsl_fns.specs.Expressions.{base_text, form_at, is_signed, letter_at, member_text}
-use Rattle.naga_wgsl_fns.specs.Expressions.{parenthesized_text, value_text}
-use Rattle.naga_wgsl_fns.specs.Expressions.{base_of, index_text, number_text, part_base, part_end}
-use Rattle.naga_wgsl_fns.specs.Expressions.{selector_end, selector_of, selector_text}
-use Rattle.naga_wgsl_fns.specs.Expressions.{named_member_text}
-use Rattle.module_meaning.specs.Names.{constant_name, global_name, module_names, name_in}
-use Rattle.naga_names.specs.declared.key.NameKey.TheVariants as key
-use Rattle.std.proofs.lemmas.Option.{same_Some}
+use Rattle.naga_wgsl_fns.specs.Expressions.{parenthesized_text, value_text, base_of, index_text}
+use Rattle.naga_wgsl_fns.specs.Expressions.{number_text, part_base, part_end, selector_end}
+use Rattle.naga_wgsl_fns.specs.Expressions.{selector_of, selector_text, named_member_text}
 use Rattle.naga_wgsl_fns.specs.Expressions.{part_base_text, part_end_text, part_reference_text}
 use Rattle.naga_wgsl_fns.specs.Expressions.{part_value_text, plain_address_text, plain_text}
 use Rattle.naga_wgsl_fns.specs.Expressions.{plain_tree, pointed_text, reference_text, word_text}
-use Rattle.naga_form.proofs.operators.Operators.{query_is_called}
-use Rattle.module_meaning.specs.ExpressionOperators.{query_operator}
-use Rattle.naga_ir.specs.Operands.{cooperative_operands, query_operands}
+use Rattle.naga_wgsl_fns.specs.Expressions.{own_form}
+use Rattle.module_meaning.specs.Names.{constant_name, global_name, module_names, name_in}
+use Rattle.module_meaning.specs.Names.{numbered_name}
+use Rattle.naga_names.specs.declared.key.NameKey.TheVariants as key
+use Rattle.std.proofs.lemmas.Option.{same_Some}
+use Rattle.naga_form.proofs.operators.Operators.{query_is_called, IsCalled, cast_called}
+use Rattle.naga_form.proofs.operators.Operators.{constructor_called, load_called}
+use Rattle.module_meaning.specs.ExpressionOperators.{query_operator, ExpressionContext}
+use Rattle.module_meaning.specs.ExpressionOperators.{applied_operator, load_operator}
+use Rattle.module_meaning.specs.ExpressionOperators.{is_atomic_pointer, type_known}
 use Rattle.naga_wgsl_fns.proofs.PartForms.{part_form, part_unsigned, selected_unsigned}
 use Rattle.naga_wgsl_fns.proofs.PartForms.{tree_of_part}
 use Rattle.naga_form.specs.Expressions.{is_handle_variable, no_form, part_plain, is_pointer}
-use Rattle.naga_form.specs.Expressions.{selected_part}
-use Rattle.naga_form.specs.Expressions.{variable_plain}
-use Rattle.module_meaning.specs.ExpressionShapes.{part_selector}
-use Rattle.module_meaning.specs.OperatorTable.{PartAt}
+use Rattle.naga_form.specs.Expressions.{selected_part, variable_plain, as_value, PlainForm, Source}
+use Rattle.naga_form.specs.Expressions.{ValueForm, applied_plain, as_reference, operator_type}
+use Rattle.naga_form.specs.Expressions.{own_if, own_plain, plain_below, plain_form}
+use Rattle.naga_form.specs.Expressions.{availability_plain, value_forms}
+use Rattle.module_meaning.specs.OperatorTable.{PartAt, AtomicLoad, Operator, WithoutForm}
 use Rattle.shader_runs.specs.Value.{MemberNamed, Selector}
-use Rattle.std.specs.Prelude.{decimal}
 use Rattle.wgsl_text.proofs.Expressions.{address_text as address_row_text}
-use Rattle.naga_form.specs.Expressions.{as_value}
 use Rattle.wgsl_text.proofs.Expressions.{member_text as member_row_text}
 use Rattle.wgsl_text.proofs.Text.{text-append}
 use Rattle.wgsl_text.specs.Expressions as tree
-use Rattle.module_meaning.specs.ExpressionOperators.{ExpressionContext, applied_operator}
 use Rattle.module_meaning.specs.ExpressionContexts.{expression_context}
 use Rattle.naga_form.specs.ConstantForms.{constant_form_over, global_form, global_form_within}
 use Rattle.naga_form.specs.ConstantForms.{constant_form_by, no_constant_form, written_constant_form}
 use Rattle.naga_ir.specs.declared.module.Constant as ir_constant
 use Rattle.naga_ir.specs.declared.module.Module.{Module}
 use Rattle.naga_words.specs.Contexts.{Names as TypeNames}
-use Rattle.naga_wgsl_fns.specs.FunctionText.{named_in}
-use Rattle.naga_wgsl_fns.specs.FunctionText.{type_names_of}
-use Rattle.module_meaning.specs.ExpressionOperators.{load_operator, is_atomic_pointer}
-use Rattle.module_meaning.specs.OperatorTable.{AtomicLoad, Operator, WithoutForm}
-use Rattle.module_meaning.specs.Names.{numbered_name}
-use Rattle.naga_form.specs.Expressions.{PlainForm, Source, ValueForm, applied_plain, as_reference}
-use Rattle.module_meaning.specs.ExpressionOperators.{type_known}
-use Rattle.naga_form.proofs.operators.Operators.{IsCalled, cast_called, constructor_called}
-use Rattle.naga_form.proofs.operators.Operators.{load_called}
-use Rattle.naga_form.specs.Expressions.{operator_type, own_if, own_plain, plain_below, plain_form}
-use Rattle.naga_form.specs.Expressions.{availability_plain, value_forms}
+use Rattle.naga_wgsl_fns.specs.FunctionText.{named_in, type_names_of, CanWrite, IsInText, context}
+use Rattle.naga_wgsl_fns.specs.FunctionText.{expressions, handles_in, naming, source}
 use Rattle.naga_form.specs.TypeTrees.{type_tree}
 use Rattle.naga_form.specs.Operators.{applied_form, notation}
 use Rattle.naga_info.specs.declared.info.TypeResolution.TheVariants.{Handle}
@@ -68,9 +60,6 @@ use Rattle.naga_scope.specs.Availabilities.{availability_of}
 use Rattle.naga_scope.specs.declared.points.BoundName.{BoundName}
 use Rattle.naga_scope.specs.declared.points.Availability.TheVariants as cell
 use Rattle.naga_wgsl_fns.proofs.ExpressionRows.{cell_form}
-use Rattle.naga_wgsl_fns.specs.Expressions.{own_form}
-use Rattle.naga_wgsl_fns.specs.FunctionText.{CanWrite, IsInText, context, expressions, handles_in}
-use Rattle.naga_wgsl_fns.specs.FunctionText.{naming, source}
 use Rattle.shader_runs.specs.Scope.{Handles, Naming, Bound as RunNamed}
 use Rattle.shader_runs.specs.Scope.{Availability as RunAvailability}
 use Rattle.wgsl_text.specs.Literals.{Truth}

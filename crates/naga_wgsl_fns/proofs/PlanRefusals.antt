@@ -1,24 +1,36 @@
 -- What a plan of a function says, and what is told of one that has none.
 use Rattle.naga_scope.specs.declared.plan.PlanError.TheVariants.{StatementWithoutForm}
-use Rattle.naga_wgsl_fns.specs.Refusals.{NamesStatement}
+use Rattle.naga_scope.specs.declared.plan.PlanError.TheVariants.{LetWithoutForm, OutOfScope}
+use Rattle.naga_scope.specs.declared.plan.PlanError.TheVariants.{TypeWithoutForm, Unnamed}
+use Rattle.naga_scope.specs.declared.plan.PlanError.TheVariants.{WithoutForm}
+use Rattle.naga_wgsl_fns.specs.Refusals.{NamesStatement, ExpressionNamesAreFullIn, IsErrorOfNames}
+use Rattle.naga_wgsl_fns.specs.Refusals.{IsFault, IsWritableAt, IsOfPlan, IsPlanRefusal}
+use Rattle.naga_wgsl_fns.specs.Refusals.{HasUnsupportedIn, NamesConversion, NamesExpression}
+use Rattle.naga_wgsl_fns.specs.Refusals.{NamesUnsupportedType, NamesPart, NamesType, NamesUnspelled}
+use Rattle.naga_wgsl_fns.specs.Refusals.{NamesUnsupported, NamesLiteral, NamesMatrix, converted}
+use Rattle.naga_wgsl_fns.specs.Refusals.{NamesItemsOf, NamesGlobal, OfConstant, OfLiteral}
+use Rattle.naga_wgsl_fns.specs.Refusals.{OfOperand, OfOperation, OfType, pointed_scalar}
+use Rattle.naga_wgsl_fns.specs.Refusals.{TellsPlanError}
 use Rattle.naga_scope.specs.declared.statements.UnsupportedStatement.TheVariants as unsupported_statement
 use Rattle.naga_scope.specs.declared.statements.UnsupportedStatement.{UnsupportedStatement}
 use Rattle.naga_scope.proofs.FormedStatements.{some_unsupported}
 use Rattle.naga_form.proofs.statements.AcceptedFunctions.{accepted_at, function_there}
-use Rattle.naga_form.proofs.statements.AcceptedFunctions.{names_are_in_range}
+use Rattle.naga_form.proofs.statements.AcceptedFunctions.{names_are_in_range, all_counted}
 use Rattle.module_meaning.specs.acceptance.Ranges.{names_in_range}
 use Rattle.std.proofs.lemmas.Bool.{ltb-true}
-use Rattle.std.proofs.Common.{◌≡◌, ◌<◌, ◌∙◌, ℕ, Bool, false, true, zero, suc, List, [], ◌∷◌}
-use Rattle.std.proofs.Common.{None, Option, Some, ap, arith, inl, inr, length, refl, subst}
-use Rattle.std.proofs.Common.{codes, sym, ◌++◌}
+use Rattle.std.proofs.Common.{◌≡◌, ◌<◌, ◌∙◌, ℕ, Bool, false, true, zero, suc, List, [], ◌∷◌, None}
+use Rattle.std.proofs.Common.{Option, Some, ap, arith, inl, inr, length, refl, subst, codes, sym}
+use Rattle.std.proofs.Common.{◌++◌}
 use Rattle.std.specs.Prelude.{IfSome, IsFalse, IsSomeAnd, IsTrue, slice_get}
 use Rattle.std.specs.Option.{option_map_or}
 use Rattle.std.proofs.lemmas.Option.{slice_get_within}
 use Rattle.naga_ir.specs.declared.expression.Expression.{Expression}
 use Rattle.naga_ir.specs.declared.expression.Expression.TheVariants.{AccessIndex, As, Compose}
-use Rattle.naga_ir.specs.declared.expression.Expression.TheVariants.{Literal, Math}
-use Rattle.naga_ir.specs.declared.expression.Expression.TheVariants.{ImageSample, ImageLoad}
-use Rattle.naga_ir.specs.declared.expression.Expression.TheVariants.{Relational, ZeroValue}
+use Rattle.naga_ir.specs.declared.expression.Expression.TheVariants.{Literal, Math, ImageSample}
+use Rattle.naga_ir.specs.declared.expression.Expression.TheVariants.{ImageLoad, Relational}
+use Rattle.naga_ir.specs.declared.expression.Expression.TheVariants.{ZeroValue, Constant}
+use Rattle.naga_ir.specs.declared.expression.Expression.TheVariants.{GlobalVariable}
+use Rattle.naga_ir.specs.declared.expression.Expression.TheVariants.{CooperativeLoad}
 use Rattle.naga_ir.specs.declared.expression.Literal.{Literal as LiteralValue}
 use Rattle.naga_ir.specs.declared.expression.Literal.TheVariants as literal
 use Rattle.naga_ir.specs.declared.module.Function as ir_function
@@ -30,14 +42,13 @@ use Rattle.shader_runs.specs.ScopeFaults.{HasScopeFault}
 use Rattle.shader_runs.specs.ScopeRules.{ScopeHolds}
 use Rattle.shader_runs.proofs.ScopeFaults.{fault_is_no_rule}
 use Rattle.module_meaning.specs.acceptance.Accepted.{is_accepted}
-use Rattle.module_meaning.specs.ExpressionForms.{expression_has_form}
+use Rattle.module_meaning.specs.ExpressionForms.{expression_has_form, known_passes}
 use Rattle.module_meaning.proofs.Lists.{list_all_at}
 use Rattle.module_meaning.specs.LackingScalars.{lacking_scalar}
 use Rattle.module_meaning.specs.Written.{IsSpelledIn}
 use Rattle.module_meaning.specs.FunctionNumbers.{all_functions, all_infos}
 use Rattle.module_meaning.specs.FunctionShapes.{function_shape, function_shapes}
 use Rattle.module_meaning.specs.Undeclared.{is_spellable, names_undeclared}
-use Rattle.naga_form.proofs.statements.AcceptedFunctions.{all_counted}
 use Rattle.naga_info.specs.declared.info.TypeResolution.{TypeResolution}
 use Rattle.naga_info.specs.declared.info.TypeResolution.TheVariants.{Handle}
 use Rattle.naga_ir.specs.declared.types.Scalar.{Scalar}
@@ -54,9 +65,6 @@ use Rattle.naga_scope.specs.Plans.{HasScopeFaultIn, IsPlanOf, IsRefusalToPlanOf,
 use Rattle.naga_scope.proofs.FaultLines.{fault_breaks}
 use Rattle.naga_scope.specs.declared.scope_faults.ScopeFault.{ScopeFault}
 use Rattle.naga_scope.specs.declared.plan.PlanError.{PlanError}
-use Rattle.naga_scope.specs.declared.plan.PlanError.TheVariants.{LetWithoutForm, OutOfScope}
-use Rattle.naga_scope.specs.declared.plan.PlanError.TheVariants.{TypeWithoutForm, Unnamed}
-use Rattle.naga_scope.specs.declared.plan.PlanError.TheVariants.{WithoutForm}
 use Rattle.naga_scope.specs.declared.plan.PlanError.TheVariants as plan_error
 use Rattle.naga_scope.proofs.Planned.{shape_found}
 use Rattle.naga_scope.proofs.SpelledTypes.{declared_is_spelled}
@@ -66,28 +74,13 @@ use Rattle.naga_wgsl_fns.specs.declared.refusals.error.Error.TheVariants.{Custom
 use Rattle.naga_words.specs.declared.sink.SinkError.{SinkError}
 use Rattle.naga_wgsl_fns.specs.DeclarationRefusals.{NamesDeclaration, NamesHead}
 use Rattle.naga_wgsl_fns.specs.DeclarationRefusals.NamesDeclaration.{OfHead, OfInitialiser}
-use Rattle.naga_wgsl_fns.specs.DeclarationRefusals.NamesDeclaration.{OfMember}
-use Rattle.naga_wgsl_fns.specs.DeclarationRefusals.NamesDeclaration.{OfOffsets, OfStride}
+use Rattle.naga_wgsl_fns.specs.DeclarationRefusals.NamesDeclaration.{OfMember, OfOffsets, OfStride}
 use Rattle.naga_wgsl_fns.specs.DeclarationRefusals.NamesDeclaration.{OfType as OfDeclaredType}
 use Rattle.naga_wgsl_fns.specs.DeclarationRefusals.NamesHead.{OfBinding, OfStage}
 use Rattle.naga_wgsl_fns.specs.Errors.{IsCustom}
-use Rattle.naga_wgsl_fns.specs.Refusals.{ExpressionNamesAreFullIn, IsErrorOfNames, IsFault}
-use Rattle.naga_wgsl_fns.specs.Refusals.{IsWritableAt}
-use Rattle.naga_wgsl_fns.specs.Refusals.{IsOfPlan, IsPlanRefusal}
-use Rattle.naga_wgsl_fns.specs.Refusals.{HasUnsupportedIn, NamesConversion, NamesExpression}
-use Rattle.naga_wgsl_fns.specs.Refusals.{NamesUnsupportedType, NamesPart, NamesType}
-use Rattle.naga_wgsl_fns.specs.Refusals.{NamesUnspelled}
 use Rattle.module_meaning.specs.ExpressionOperators.{has_parts}
-use Rattle.module_meaning.specs.ExpressionForms.{known_passes}
-use Rattle.naga_wgsl_fns.specs.Refusals.{NamesUnsupported, NamesLiteral, NamesMatrix, converted}
-use Rattle.naga_wgsl_fns.specs.Refusals.{NamesItemsOf, NamesGlobal, OfConstant, OfLiteral}
-use Rattle.naga_wgsl_fns.specs.Refusals.{OfOperand, OfOperation, OfType, pointed_scalar}
-use Rattle.naga_ir.specs.declared.expression.Expression.TheVariants.{Constant, GlobalVariable}
 use Rattle.wgsl_layout.specs.declared.members.Misplaced.TheVariants.{OffAlignment, Overlapping}
 use Rattle.naga_ir.specs.declared.module.Constant as constant
-use Rattle.naga_ir.specs.declared.expression.Expression.TheVariants.{CooperativeLoad}
-use Rattle.naga_ir.specs.declared.types.Scalar.{Scalar}
-use Rattle.naga_wgsl_fns.specs.Refusals.{TellsPlanError}
 use Rattle.naga_wgsl_fns.specs.Constructs.{IsToldAs}
 use Rattle.naga_wgsl_fns.specs.Unplanned.{IsRefusedFor, IsUnplanned, TellsUnplanned}
 use Rattle.naga_wgsl_fns.specs.declared.plans.Unplanned.{Unplanned}

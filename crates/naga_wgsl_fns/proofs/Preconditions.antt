@@ -1,9 +1,9 @@
 -- What the parts of a function want, from what the function wants.
-use Rattle.std.proofs.Common.{Vec, Global}
-use Rattle.std.proofs.Common.{◌≡◌, ℕ, ◌+◌, Bool, ◌<◌, true, false, List, [], ◌++◌, codes, length}
-use Rattle.std.proofs.Common.{Option, Some, None, refl, sym, ap, subst, ◌∙◌, IsTrue, arith}
-use Rattle.std.proofs.lemmas.Option.{same_Some}
-use Rattle.std.specs.Prelude.{◌&&◌, ◌||◌, not, slice_get, cond, nat_lt, unwrap_or}
+use Rattle.std.proofs.Common.{Vec, Global, ◌≡◌, ℕ, ◌+◌, Bool, ◌<◌, true, false, List, [], ◌++◌}
+use Rattle.std.proofs.Common.{codes, length, Option, Some, None, refl, sym, ap, subst, ◌∙◌, IsTrue}
+use Rattle.std.proofs.Common.{arith, max, ◌∷◌}
+use Rattle.std.proofs.lemmas.Option.{same_Some, slice_get_within}
+use Rattle.std.specs.Prelude.{◌&&◌, ◌||◌, not, slice_get, cond, nat_lt, unwrap_or, if◌then◌else◌}
 use Rattle.std.specs.Option.{is_some, option_map, option_map_or, option_and_then, option_to_list}
 use Rattle.std.proofs.lemmas.Bool.{and_parts, ltb-true}
 use Rattle.naga_ir.specs.Operands.{expression_operands, level_operands}
@@ -29,9 +29,8 @@ use Rattle.module_meaning.proofs.Lists.{list_all_at}
 use Rattle.module_meaning.proofs.ExpressionForms.{spelled_of_spellable, has_form_parts}
 use Rattle.module_meaning.specs.Sampling.{own_offset_has_form}
 use Rattle.naga_ir.specs.declared.expression.SampleLevel.{SampleLevel}
-use Rattle.std.proofs.Common.{Bool, max}
-use Rattle.naga_wgsl_fns.specs.FunctionText.{named_in}
-use Rattle.naga_wgsl_fns.specs.FunctionText.{AreInText}
+use Rattle.naga_wgsl_fns.specs.FunctionText.{named_in, AreInText, source, CanWrite, IsInText, IsLet}
+use Rattle.naga_wgsl_fns.specs.FunctionText.{context, naming, callees, number}
 use Rattle.module_meaning.specs.FunctionShapes.{statement_shape}
 use Rattle.module_meaning.specs.Names.{module_names, name_in, numbered_name}
 use Rattle.module_meaning.specs.AlikeTypes.{is_spelled}
@@ -45,11 +44,11 @@ use Rattle.naga_form.proofs.types.PartTypes.{known_before}
 use Rattle.naga_info.specs.declared.info.ModuleInfo.{ModuleInfo}
 use Rattle.naga_words.specs.Spelling.{is_struct}
 use Rattle.module_meaning.specs.ExpressionOperators.{has_parts, is_composite, type_known}
+use Rattle.module_meaning.specs.ExpressionOperators.{called_word}
 use Rattle.module_meaning.specs.ExpressionShapes.{Declared, component_letters, own_selector}
 use Rattle.module_meaning.specs.ExpressionShapes.{part_selector, selector}
 use Rattle.naga_form.proofs.operators.AllowedParts.{LoadedMatrix, conversion, known_base}
-use Rattle.naga_form.proofs.operators.AllowedParts.{loaded_matrix}
-use Rattle.naga_form.proofs.operators.AllowedParts.{selector_is, whole_is}
+use Rattle.naga_form.proofs.operators.AllowedParts.{loaded_matrix, selector_is, whole_is}
 use Rattle.naga_form.proofs.operators.AllowedParts.{type_known_is as known_type_is}
 use Rattle.naga_ir.specs.declared.types.ScalarKind.{ScalarKind}
 use Rattle.module_meaning.specs.Conversions.{conversion_target}
@@ -66,15 +65,11 @@ use Rattle.naga_names.specs.Keys.{names_in}
 use Rattle.naga_names.specs.Reset.{members_of}
 use Rattle.naga_names.specs.declared.key.NameKey.TheVariants as key
 use Rattle.module_meaning.specs.Undeclared.{is_spellable, member_is_written, names_undeclared}
-use Rattle.module_meaning.specs.Undeclared.{part_has_form_at}
-use Rattle.module_meaning.specs.Undeclared.{whole_known, whole_of}
+use Rattle.module_meaning.specs.Undeclared.{part_has_form_at, whole_known, whole_of}
 use Rattle.shader_runs.specs.Value.{MemberNamed}
 use Rattle.wgsl_text.specs.Words.{stands_in}
 use Rattle.naga_wgsl_fns.specs.Expressions.{base_of, is_of_components, struct_at, struct_known}
 use Rattle.naga_wgsl_fns.specs.Expressions.{has_components, is_vector, selector_of}
-use Rattle.naga_wgsl_fns.specs.FunctionText.{source}
-use Rattle.std.proofs.lemmas.Option.{slice_get_within}
-use Rattle.std.specs.Prelude.{if◌then◌else◌}
 use Rattle.module_meaning.specs.acceptance.Ranges.{is_below, local_in_range, names_in_range}
 use Rattle.module_meaning.specs.acceptance.Ranges.{resolution_fits}
 use Rattle.module_meaning.specs.Premises.{OperandsStandBefore}
@@ -94,14 +89,10 @@ use Rattle.naga_form.specs.Types.{annotated_type}
 use Rattle.wgsl_text.specs.Reading.{type_layout}
 use Rattle.wgsl_text.specs.Types.{Named, TypeSpecifier}
 use Rattle.naga_wgsl_fns.specs.declared.functions.FunctionText.{FunctionText}
-use Rattle.naga_wgsl_fns.specs.FunctionText.{CanWrite, IsInText, IsLet, context, naming}
 use Rattle.naga_back.specs.Flags.{annotates_types}
-use Rattle.module_meaning.specs.ExpressionOperators.{called_word}
-use Rattle.naga_wgsl_fns.specs.FunctionText.{callees, number}
 use Rattle.module_meaning.specs.Written.{IsWrittenIn, OfArgument, OfLet, OfLocal, OfResult}
 use Rattle.naga_form.proofs.statements.WrittenHandles.{all_front, all_rest, written_are_closed}
 use Rattle.std.specs.List.{AllByRecursion}
-use Rattle.std.proofs.Common.{◌∷◌}
 use Rattle.naga_wgsl_fns.specs.Types.{annotation_text, resolution_text, let_annotation_text}
 use Rattle.naga_wgsl_fns.specs.Types.{annotation_if}
 

@@ -1,6 +1,6 @@
 -- A binding, written by itself.
 use Rattle.std.proofs.Common.{◌≡◌, ◌++◌, ℕ, List, [], append-nil, inl, inr, refl, sym}
-use Rattle.std.specs.Prelude.{Err, IfErr, IsFalse, IsTrue, Ok, OnErr, OnOk, Result}
+use Rattle.std.specs.Prelude.{Err, IfErr, IsFalse, IsTrue, Ok, OnErr, OnOk, Result, Some}
 use Rattle.naga_ir.specs.declared.binding.Binding.{Binding}
 use Rattle.naga_ir.specs.declared.binding.Binding.TheVariants.{BuiltIn, Location}
 use Rattle.text_meaning.specs.Attributes.{stage_binding_read}
@@ -14,7 +14,6 @@ use Rattle.naga_wgsl_fns.specs.Bindings.{BindingWriting}
 use Rattle.naga_wgsl_fns.specs.DeclarationRefusals.{NamesBuiltin}
 use Rattle.naga_wgsl_fns.specs.Errors.{IsWant}
 use Rattle.naga_wgsl_fns.specs.declared.refusals.error.Error.{Error}
-use Rattle.std.specs.Prelude.{Some}
 
 -- the attributes of a binding that has a form say how it is bound
 binding_means : (b : Binding) → IsTrue (binding_has_form b) →

@@ -18,8 +18,7 @@ use Rattle.wgsl_text.specs.Text.{tokens}
 use Rattle.wgsl_text.proofs.Reading.{expression_has_one_reading}
 use Rattle.naga_wgsl_fns.specs.Constants.{global_text}
 use Rattle.naga_wgsl_fns.specs.Errors.{IsWant}
-use Rattle.naga_wgsl_fns.specs.GlobalExpressions.{AppendsTheValue, GlobalWriting}
-use Rattle.naga_wgsl_fns.specs.GlobalExpressions.{IsGlobalRefusal}
+use Rattle.naga_wgsl_fns.specs.GlobalExpressions.{AppendsTheValue, GlobalWriting, IsGlobalRefusal}
 use Rattle.naga_wgsl_fns.specs.Refusals.{NamesGlobal}
 use Rattle.naga_wgsl_fns.specs.declared.refusals.error.Error.{Error}
 use Rattle.naga_wgsl_fns.specs.declared.refusals.error.Error.TheVariants.{FmtError, Memory}

@@ -1,9 +1,7 @@
 -- A function that is written by itself.
 use Rattle.std.proofs.Common.{◌≡◌, ◌+◌, ◌<◌, ◌^◌, ◌∙◌, ◌++◌, ℕ, Bool, List, [], None, Some}
-use Rattle.std.proofs.Common.{append-nil}
-use Rattle.std.proofs.Common.{ap, append_assoc, arith, drop, inl, inr, length, refl, slice_get}
-use Rattle.std.proofs.Common.{subst, sym}
-use Rattle.std.proofs.Common.{codes, take, unwrap_or, ◌∷◌}
+use Rattle.std.proofs.Common.{append-nil, ap, append_assoc, arith, drop, inl, inr, length, refl}
+use Rattle.std.proofs.Common.{slice_get, subst, sym, codes, take, unwrap_or, ◌∷◌}
 use Rattle.std.specs.Prelude.{Err, IfErr, IsErrAnd, IsTrue, Ok, OnErr, OnOk, Result}
 use Rattle.std.specs.Option.{option_map_or}
 use Rattle.std.proofs.lemmas.Bool.{leb-true}

@@ -4,8 +4,7 @@
 -- overrides, knows says which overrides are known, f gives the parts of the type at a handle, h is
 -- the handle of a type, it one by itself, and levels is how deep types may name one another.
 use Rattle.std.proofs.Common.{◌≡◌, ℕ, zero, suc, Bool, true, false, List, [], ◌∷◌, ◌++◌, Option}
-use Rattle.std.proofs.Common.{Some}
-use Rattle.std.proofs.Common.{None, refl, sym, ap, ◌∙◌, codes, slice_get, not}
+use Rattle.std.proofs.Common.{Some, None, refl, sym, ap, ◌∙◌, codes, slice_get, not}
 use Rattle.std.specs.Prelude.{if◌then◌else◌, IsTrue}
 use Rattle.std.specs.Option.{is_some, option_map}
 use Rattle.std.proofs.lemmas.Bool.{and_from}
@@ -25,11 +24,10 @@ use Rattle.naga_ir.specs.declared.types.VectorSize.{VectorSize}
 use Rattle.naga_names.specs.Keys.{NameMap}
 use Rattle.naga_words.specs.Contexts.{Names, names_context, names_of, writer_context}
 use Rattle.naga_words.specs.Segments.{HasWritten, IsText, NoSegments, WordThen, ShownThen}
-use Rattle.naga_words.specs.Segments.{known_text}
-use Rattle.naga_words.specs.Segments.{Segment, Word, Shown, Missing}
+use Rattle.naga_words.specs.Segments.{known_text, Segment, Word, Shown, Missing}
 use Rattle.naga_words.specs.Spelling.{found_segments_by, inner_segments_by, is_struct}
-use Rattle.naga_words.specs.Spelling.{length_segments}
-use Rattle.naga_words.specs.Spelling.{pointer_segments, segments_within, type_segments}
+use Rattle.naga_words.specs.Spelling.{length_segments, pointer_segments, segments_within}
+use Rattle.naga_words.specs.Spelling.{type_segments}
 use Rattle.naga_words.specs.Values.{access_segments, image_segments, pointer_in, scalar_segments_of}
 use Rattle.naga_words.specs.Values.{template_segments, value_pointer_segments, value_segments}
 use Rattle.naga_words.specs.Words.{cooperative_word, image_word, matrix_word, role_tail}

@@ -2,8 +2,7 @@
 --
 -- Throughout, m is a module, e an entry point of it, and front is what stands in front of a variable.
 use Rattle.std.proofs.Common.{◌≡◌, ◌∙◌, ◌++◌, ◌==◌, ℕ, List, [], ◌∷◌, append_assoc, ap, arith}
-use Rattle.std.proofs.Common.{codes}
-use Rattle.std.proofs.Common.{decimal, get_or, length, refl, slice_get, sym, true, zero, suc}
+use Rattle.std.proofs.Common.{codes, decimal, get_or, length, refl, slice_get, sym, true, zero, suc}
 use Rattle.std.specs.Prelude.{◌&&◌, Option, Some, None, IsTrue}
 use Rattle.std.specs.List.{list_all}
 use Rattle.std.specs.Option.{option_map}
@@ -20,9 +19,8 @@ use Rattle.module_meaning.specs.Names.{global_name, module_names}
 use Rattle.module_meaning.specs.acceptance.AgreeingOperators.{module_operators_agree}
 use Rattle.module_meaning.specs.acceptance.InfoSizes.{sizes_fit, type_is_fit}
 use Rattle.module_meaning.specs.acceptance.Ranges.{all_placed, declarations_in_range}
-use Rattle.module_meaning.specs.acceptance.Ranges.{entry_point_in_range}
-use Rattle.module_meaning.specs.acceptance.Ranges.{function_in_range, is_below, module_in_range}
-use Rattle.module_meaning.specs.acceptance.Ranges.{module_ranges_fit}
+use Rattle.module_meaning.specs.acceptance.Ranges.{entry_point_in_range, function_in_range}
+use Rattle.module_meaning.specs.acceptance.Ranges.{is_below, module_in_range, module_ranges_fit}
 use Rattle.module_meaning.specs.acceptance.Soundness.{module_is_sound}
 use Rattle.naga_form.specs.Attributes.{attribute_of, payload_attributes, size_attributes}
 use Rattle.naga_form.specs.Attributes.{stage_attributes}
@@ -35,8 +33,8 @@ use Rattle.wgsl_text.specs.Text.{text}
 use Rattle.naga_wgsl_fns.proofs.AttributeRows.{attributes_then, no_attributes, worded_alone}
 use Rattle.naga_wgsl_fns.proofs.AttributeRows.{worded_front}
 use Rattle.naga_wgsl_fns.specs.Attributes.{attributes_text, worded_text}
-use Rattle.naga_wgsl_fns.specs.Stages.{StageIsThere, compute_text, hit_text, output_text}
-use Rattle.naga_wgsl_fns.specs.Stages.{size_text, stage_text, variable_text}
+use Rattle.naga_wgsl_fns.specs.Stages.{StageIsThere, compute_text, hit_text, output_text, size_text}
+use Rattle.naga_wgsl_fns.specs.Stages.{stage_text, variable_text}
 
 -- what an entry point of an accepted module names is there
 pub stage_is_there : (m : Module) (info : ModuleInfo) → IsTrue (is_accepted m info) → (i : ℕ)

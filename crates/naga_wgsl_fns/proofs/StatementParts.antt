@@ -1,16 +1,16 @@
 -- What a statement wants of its function, its parts want too.
 use Rattle.std.specs.List.{AllByRecursion}
-use Rattle.std.specs.Prelude.{cond}
+use Rattle.std.specs.Prelude.{cond, ◌&&◌, ◌||◌, nat_lt, not}
 use Rattle.naga_scope.specs.Continues.{before_continue, from_continue, holds_continue}
-use Rattle.naga_ir.specs.StatementTree.{simple, store}
+use Rattle.naga_ir.specs.StatementTree.{simple, store, StatementTree, block, branch, switch, loop}
+use Rattle.naga_ir.specs.StatementTree.{BlockTree, no_statements, statement, CaseTrees, no_cases}
+use Rattle.naga_ir.specs.StatementTree.{case, has_no_statements}
 use Rattle.std.proofs.Common.{◌≡◌, ℕ, Bool, true, false, List, [], ◌∷◌, ◌++◌, Option, Some, None}
-use Rattle.std.proofs.Common.{IsTrue}
-use Rattle.std.proofs.Common.{length, subst, refl, sym, ◌+◌, ◌<◌, drop, slice_index_or}
+use Rattle.std.proofs.Common.{IsTrue, length, subst, refl, sym, ◌+◌, ◌<◌, drop, slice_index_or}
 use Rattle.naga_ir.specs.StatementViews.{block_of, tree_of}
 use Rattle.naga_ir.specs.declared.statement.Statement.{Statement}
 use Rattle.naga_ir.proofs.Listed.{first_of}
 use Rattle.shader_runs.proofs.Update.{and_both}
-use Rattle.std.specs.Prelude.{◌&&◌, ◌||◌, nat_lt, not}
 use Rattle.std.specs.Option.{option_to_list}
 use Rattle.std.proofs.lemmas.Bool.{and_parts}
 use Rattle.module_meaning.specs.acceptance.Numbers.{case_value_fits_32_bits}
@@ -21,9 +21,6 @@ use Rattle.module_meaning.specs.StatementForms.{statement_has_form}
 use Rattle.module_meaning.specs.Written.{block_lets, block_roots, cases_lets, cases_roots}
 use Rattle.module_meaning.specs.Written.{statement_lets, statement_roots}
 use Rattle.naga_form.proofs.statements.WrittenHandles.{all_front, all_rest}
-use Rattle.naga_ir.specs.StatementTree.{StatementTree, block, branch, switch, loop, BlockTree}
-use Rattle.naga_ir.specs.StatementTree.{no_statements, statement}
-use Rattle.naga_ir.specs.StatementTree.{CaseTrees, no_cases, case, has_no_statements}
 use Rattle.naga_ir.specs.declared.statement.SwitchValue.{SwitchValue}
 use Rattle.naga_wgsl_fns.specs.FunctionText.{AreInText, CanWriteBlock, CanWriteCases}
 use Rattle.naga_wgsl_fns.specs.FunctionText.{CanWriteStatement, IsInText, IsLet, bound, callees}

@@ -1,23 +1,22 @@
 -- The texts of statements, from what is written of them in turn.
 use Rattle.module_meaning.specs.Written.{statement_roots}
 use Rattle.naga_scope.specs.Changes.{statement_changes}
-use Rattle.naga_ir.specs.StatementTree.{call}
+use Rattle.naga_ir.specs.StatementTree.{call, SimpleStatement, BlockTree, StatementTree, emit}
+use Rattle.naga_ir.specs.StatementTree.{return, simple, statement, store, block, branch, switch}
+use Rattle.naga_ir.specs.StatementTree.{loop, no_statements}
 use Rattle.naga_ir.specs.declared.flags.Barrier.{Barrier}
-use Rattle.naga_ir.specs.StatementTree.{SimpleStatement}
 use Rattle.module_meaning.specs.StatementShapes.{simple_shape, store_shape}
-use Rattle.wgsl_text.specs.Expressions.{NoArguments}
-use Rattle.shader_runs.specs.Scope.{after, after_result, named_by}
+use Rattle.wgsl_text.specs.Expressions.{NoArguments, Expression, expression_pieces, operands}
+use Rattle.shader_runs.specs.Scope.{after, after_result, named_by, Handles, after_emit, after_one}
+use Rattle.shader_runs.specs.Scope.{bound_name, named_after, named_after_all}
 use Rattle.naga_ir.specs.Operands.{own_operands, own_result}
 use Rattle.module_meaning.specs.ExpressionOperators.{ExpressionContext, is_atomic_pointer}
 use Rattle.std.proofs.Common.{◌≡◌, ℕ, ◌+◌, ◌-◌, ◌<◌, ◌≤◌, ◌*◌, zero, suc, Bool, true, false, List}
 use Rattle.std.proofs.Common.{[], ◌∷◌, ◌++◌, Option, None, Some, length, refl, sym, ap, ◌∙◌, arith}
-use Rattle.std.proofs.Common.{codes, replicate, drop, slice_index_or}
-use Rattle.std.proofs.Common.{append_assoc, IsTrue}
+use Rattle.std.proofs.Common.{codes, replicate, drop, slice_index_or, append_assoc, IsTrue}
 use Rattle.std.specs.Prelude.{cond, nat_le}
 use Rattle.std.proofs.lemmas.Bool.{and_parts, leb-true}
 use Rattle.std.proofs.lemmas.List.{append-nil, drop_all}
-use Rattle.naga_ir.specs.StatementTree.{BlockTree, StatementTree, emit, return, simple, statement}
-use Rattle.naga_ir.specs.StatementTree.{store, block, branch, switch, loop, no_statements}
 use Rattle.std.specs.Option.{option_map, option_to_list}
 use Rattle.naga_ir.specs.StatementViews.{tree_of, block_of}
 use Rattle.naga_ir.specs.declared.statement.Statement.{Statement}
@@ -28,18 +27,14 @@ use Rattle.shader_runs.specs.Program as shapes
 use Rattle.shader_runs.specs.Program.{binds, from}
 use Rattle.shader_runs.specs.Form.{word_of}
 use Rattle.shader_runs.specs.ProgramRun.{barrier_words}
-use Rattle.shader_runs.specs.Scope.{Handles, after_emit, after_one}
-use Rattle.shader_runs.specs.Scope.{bound_name, named_after, named_after_all}
 use Rattle.module_meaning.specs.FunctionShapes.{statement_shape}
 use Rattle.wgsl_text.specs.Types.{TypeSpecifier, Named as NamedType}
-use Rattle.wgsl_text.specs.Expressions.{Expression, expression_pieces, operands}
 use Rattle.naga_form.specs.Expressions.{as_value, as_reference, plain_form, value_form, value_forms}
 use Rattle.naga_form.specs.Expressions.{unnamed_form}
-use Rattle.wgsl_text.specs.Statements.{Statements, NoStatements, Then}
-use Rattle.wgsl_text.specs.Statements.{CallStatement}
+use Rattle.wgsl_text.specs.Statements.{Statements, NoStatements, Then, CallStatement}
 use Rattle.naga_form.specs.Statements.{act_line, barrier_lines, cases_form, let_form, then_if}
-use Rattle.naga_form.specs.Statements.{lets_form, jump_form, loop_form}
-use Rattle.naga_form.specs.Statements.{line_form, lines_form, optional_form, shape_form}
+use Rattle.naga_form.specs.Statements.{lets_form, jump_form, loop_form, line_form, lines_form}
+use Rattle.naga_form.specs.Statements.{optional_form, shape_form}
 use Rattle.wgsl_text.proofs.Statements.{let_text as let_row_text, typed_let_text, assign_text}
 use Rattle.wgsl_text.proofs.Statements.{return_text as return_row_text, then_text}
 use Rattle.wgsl_text.specs.Statements as tree
@@ -49,17 +44,14 @@ use Rattle.naga_words.specs.Output.{joined_texts}
 use Rattle.wgsl_text.specs.Reading.{type_layout}
 use Rattle.wgsl_text.specs.Text.{text}
 use Rattle.naga_wgsl_fns.specs.declared.functions.FunctionText.{FunctionText}
-use Rattle.naga_wgsl_fns.specs.FunctionText.{context, handles_in, let_annotation}
-use Rattle.naga_wgsl_fns.specs.FunctionText.{naming, source}
+use Rattle.naga_wgsl_fns.specs.FunctionText.{context, handles_in, let_annotation, naming, source}
 use Rattle.naga_wgsl_fns.specs.Names.{next_name_text}
 use Rattle.naga_wgsl_fns.specs.Expressions.{own_text, reference_text, value_text}
 use Rattle.naga_wgsl_fns.specs.Statements.{after_statement, around_text, assignment_text}
-use Rattle.naga_wgsl_fns.specs.Statements.{block_text}
-use Rattle.naga_wgsl_fns.specs.Statements.{emitted_text, let_line, let_text, lets_text}
-use Rattle.naga_wgsl_fns.specs.Statements.{left_to_continuing}
-use Rattle.naga_wgsl_fns.specs.Statements.{line_start, line_text, lines_text, named_following}
-use Rattle.naga_wgsl_fns.specs.Statements.{named_after_statement}
-use Rattle.naga_wgsl_fns.specs.Statements.{act_text, act_word, is_act, statement_text, word_in}
+use Rattle.naga_wgsl_fns.specs.Statements.{block_text, emitted_text, let_line, let_text, lets_text}
+use Rattle.naga_wgsl_fns.specs.Statements.{left_to_continuing, line_start, line_text, lines_text}
+use Rattle.naga_wgsl_fns.specs.Statements.{named_following, named_after_statement, act_text}
+use Rattle.naga_wgsl_fns.specs.Statements.{act_word, is_act, statement_text, word_in}
 use Rattle.naga_wgsl_fns.specs.Types.{let_annotation_text, annotation_if}
 
 -- ---- lines

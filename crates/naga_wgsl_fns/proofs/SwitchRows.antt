@@ -1,12 +1,13 @@
 -- The texts of switches, from what is written of them in turn.
-use Rattle.std.proofs.Common.{◌==◌, ne_eqb}
-use Rattle.naga_wgsl_fns.specs.Statements.{stands_alone}
-use Rattle.std.specs.Prelude.{if◌then◌else◌}
-use Rattle.std.proofs.Common.{◌-◌, zero, arith}
-use Rattle.std.proofs.Common.{◌≡◌, ℕ, ℤ, pos, negsuc, ◌*◌, ◌+◌, ◌<◌, ◌≤◌, suc, Bool, true, false}
-use Rattle.std.proofs.Common.{List, [], ◌∷◌, ◌++◌, codes, decimal}
+use Rattle.std.proofs.Common.{◌==◌, ne_eqb, ◌-◌, zero, arith, ◌≡◌, ℕ, ℤ, pos, negsuc, ◌*◌, ◌+◌, ◌<◌}
+use Rattle.std.proofs.Common.{◌≤◌, suc, Bool, true, false, List, [], ◌∷◌, ◌++◌, codes, decimal}
 use Rattle.std.proofs.Common.{replicate, refl, sym, ap, ◌∙◌, append_assoc, drop, take, length}
 use Rattle.std.proofs.Common.{slice_index_or}
+use Rattle.naga_wgsl_fns.specs.Statements.{stands_alone, around_text, block_text, case_text}
+use Rattle.naga_wgsl_fns.specs.Statements.{cases_text, group_start, group_text, case_value_text}
+use Rattle.naga_wgsl_fns.specs.Statements.{labels_of, line_start, named_following, statement_text}
+use Rattle.naga_wgsl_fns.specs.Statements.{waiting_text}
+use Rattle.std.specs.Prelude.{if◌then◌else◌}
 use Rattle.std.specs.Fmt.{signed_decimal}
 use Rattle.std.proofs.lemmas.List.{append-nil, drop_all}
 use Rattle.naga_back.specs.Indentation.{indentation}
@@ -29,10 +30,6 @@ use Rattle.wgsl_text.specs.Statements as tree
 use Rattle.wgsl_text.specs.Text.{text}
 use Rattle.wgsl_text.specs.Token.{Colon, mark}
 use Rattle.naga_wgsl_fns.specs.FunctionText.{let_annotation, naming, source}
-use Rattle.naga_wgsl_fns.specs.Statements.{around_text, block_text, case_text, cases_text}
-use Rattle.naga_wgsl_fns.specs.Statements.{group_start, group_text, case_value_text, labels_of}
-use Rattle.naga_wgsl_fns.specs.Statements.{line_start, named_following, statement_text}
-use Rattle.naga_wgsl_fns.specs.Statements.{waiting_text}
 use Rattle.naga_wgsl_fns.specs.declared.functions.FunctionText.{FunctionText}
 use Rattle.naga_wgsl_fns.proofs.StatementRows.{indentation_row, one_line}
 use Rattle.naga_ir.proofs.Listed.{drop_first, first_case}

@@ -1,37 +1,28 @@
 -- The handles that a function's statements and locals write by themselves are in its text.
-use Rattle.naga_form.proofs.statements.WrittenHandles.{all_among}
-use Rattle.module_meaning.specs.Written.{block_lets}
-use Rattle.naga_wgsl_fns.specs.FunctionText.{CanWriteBlock}
-use Rattle.std.proofs.Common.{subst}
-use Rattle.naga_wgsl_fns.specs.FunctionText.{CanWriteStatement, AreLets, IsLet}
-use Rattle.module_meaning.specs.Written.{simple_lets}
-use Rattle.naga_ir.specs.Operands.{own_result}
-use Rattle.std.proofs.Common.{ap, sym, ◌∙◌}
-use Rattle.std.specs.Prelude.{◌&&◌, nat_lt}
+use Rattle.naga_form.proofs.statements.WrittenHandles.{all_among, written_are_closed}
+use Rattle.module_meaning.specs.Written.{block_lets, simple_lets, IsWrittenIn, block_roots}
+use Rattle.module_meaning.specs.Written.{cases_roots, simple_roots, statement_roots}
+use Rattle.naga_wgsl_fns.specs.FunctionText.{CanWriteBlock, CanWriteStatement, AreLets, IsLet}
+use Rattle.naga_wgsl_fns.specs.FunctionText.{AreInText, CanWrite, bound, callees}
+use Rattle.std.proofs.Common.{subst, ap, sym, ◌∙◌, ◌≡◌, ℕ, suc, zero, ◌<◌, ◌≤◌, ◌+◌, ◌-◌, Bool}
+use Rattle.std.proofs.Common.{true, false, List, [], ◌∷◌, ◌++◌, Option, Some, None, IsTrue, length}
+use Rattle.std.proofs.Common.{arith, refl}
+use Rattle.naga_ir.specs.Operands.{own_result, simple_result, simple_operands}
+use Rattle.std.specs.Prelude.{◌&&◌, nat_lt, if◌then◌else◌, slice_get}
 use Rattle.std.proofs.lemmas.Bool.{and_parts, ltb-true}
 use Rattle.module_meaning.specs.acceptance.Numbers.{case_value_fits_32_bits}
 use Rattle.module_meaning.specs.acceptance.Ranges.{all_below, block_in_range, cases_in_range}
 use Rattle.module_meaning.specs.acceptance.Ranges.{is_below, statement_in_range}
-use Rattle.module_meaning.specs.Written.{IsWrittenIn, block_roots, cases_roots, simple_roots}
-use Rattle.module_meaning.specs.Written.{statement_roots}
-use Rattle.naga_ir.specs.Operands.{simple_result, simple_operands}
-use Rattle.naga_ir.specs.StatementTree.{SimpleStatement, emit}
-use Rattle.naga_ir.specs.StatementTree.{StatementTree, simple, block, branch, switch, loop}
-use Rattle.naga_ir.specs.StatementTree.{BlockTree, no_statements, statement}
+use Rattle.naga_ir.specs.StatementTree.{SimpleStatement, emit, StatementTree, simple, block, branch}
+use Rattle.naga_ir.specs.StatementTree.{switch, loop, BlockTree, no_statements, statement}
 use Rattle.naga_ir.specs.StatementTree.{CaseTrees, no_cases, case}
 use Rattle.naga_wgsl_fns.proofs.StatementRows.{emit_within}
-use Rattle.std.proofs.Common.{◌≡◌, ℕ, suc, zero, ◌<◌, ◌≤◌, ◌+◌, ◌-◌, Bool, true, false, List, []}
-use Rattle.std.proofs.Common.{◌∷◌, ◌++◌}
-use Rattle.std.proofs.Common.{Option, Some, None, IsTrue, length, arith, refl}
-use Rattle.std.specs.Prelude.{if◌then◌else◌, slice_get}
 use Rattle.std.specs.List.{AllByRecursion, filter}
 use Rattle.std.specs.Option.{option_to_list}
 use Rattle.naga_form.proofs.statements.AcceptedFunctions.{ranges_are}
-use Rattle.naga_form.proofs.statements.WrittenHandles.{written_are_closed}
 use Rattle.naga_ir.specs.declared.module.LocalVariable.{LocalVariable}
 use Rattle.shader_runs.specs.Program.{from}
 use Rattle.naga_wgsl_fns.proofs.Preconditions.{first_within}
-use Rattle.naga_wgsl_fns.specs.FunctionText.{AreInText, CanWrite, bound, callees}
 use Rattle.naga_wgsl_fns.specs.declared.functions.FunctionText.{FunctionText}
 use Rattle.module_meaning.proofs.StatementRanges.{operands_below, result_below}
 

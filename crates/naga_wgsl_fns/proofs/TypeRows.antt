@@ -13,12 +13,12 @@ use Rattle.naga_form.proofs.types.TypeTrees.{only_text, lacks_unknown, type_row,
 use Rattle.naga_names.specs.Keys.{NameMap, names_in}
 use Rattle.naga_info.specs.declared.info.TypeResolution.{TypeResolution}
 use Rattle.naga_info.specs.declared.info.TypeResolution.TheVariants as resolution
-use Rattle.naga_words.specs.Segments.{Segment, Word, Shown, Missing}
-use Rattle.naga_words.specs.Segments.{IsText, before_missing, known_text, lacks}
+use Rattle.naga_words.specs.Segments.{Segment, Word, Shown, Missing, IsText, before_missing}
+use Rattle.naga_words.specs.Segments.{known_text, lacks}
 use Rattle.naga_words.proofs.SegmentWriting.{reason_as}
 use Rattle.naga_words.specs.Contexts.{names_of, names_context}
-use Rattle.naga_words.specs.Spelling.{FitsResolution, IsInOrder}
-use Rattle.naga_words.specs.Spelling.{knows_override, type_segments, resolution_segments}
+use Rattle.naga_words.specs.Spelling.{FitsResolution, IsInOrder, knows_override, type_segments}
+use Rattle.naga_words.specs.Spelling.{resolution_segments, knows_size, length_within}
 use Rattle.naga_words.specs.Sink.{IsAfter}
 use Rattle.naga_form.specs.TypeTrees.{resolution_tree}
 use Rattle.naga_words.specs.declared.error.TypeTextError.{TypeTextError}
@@ -26,9 +26,8 @@ use Rattle.wgsl_text.specs.Reading.{type_layout}
 use Rattle.module_meaning.specs.Names.{HasNamesOf, module_names}
 use Rattle.naga_words.specs.Output.{AppendsUnlessWanting, AppendsText, HasAppended}
 use Rattle.naga_words.specs.Output.{AppendsSegmentsUnlessWanting, AppendsSegments}
-use Rattle.naga_words.specs.Output.{HasAppendedSegments}
-use Rattle.naga_words.specs.Output.{OutputView}
-use Rattle.naga_words.specs.Output.{SpelledSegments, Wrote, joined_texts}
+use Rattle.naga_words.specs.Output.{HasAppendedSegments, OutputView, SpelledSegments, Wrote}
+use Rattle.naga_words.specs.Output.{joined_texts}
 use Rattle.naga_wgsl_fns.specs.declared.functions.FunctionText.{FunctionText}
 use Rattle.naga_wgsl_fns.specs.FunctionText.{CanWrite}
 use Rattle.naga_wgsl_fns.specs.ModuleText.{CanWriteOf}
@@ -36,13 +35,11 @@ use Rattle.naga_wgsl_fns.proofs.ModuleTexts.{can_of}
 use Rattle.module_meaning.specs.AlikeTypes.{key_within, found_key_by, handle_key, is_spelled}
 use Rattle.module_meaning.specs.acceptance.Ranges.{resolution_fits}
 use Rattle.module_meaning.specs.Types.{type_names}
-use Rattle.naga_form.proofs.types.PartTypes.{known_before, known_within, named_alike}
-use Rattle.naga_form.proofs.types.PartTypes.{type_before}
+use Rattle.naga_form.proofs.types.PartTypes.{known_before, known_within, named_alike, type_before}
 use Rattle.naga_form.proofs.types.WrittenTypes.{resolution_same, tree_there}
 use Rattle.naga_ir.specs.declared.module.Module.{Module}
 use Rattle.naga_ir.specs.declared.types.ArraySize.{ArraySize}
 use Rattle.naga_ir.specs.declared.types.ArraySize.TheVariants as size
-use Rattle.naga_words.specs.Spelling.{knows_size, length_within}
 use Rattle.std.proofs.lemmas.Bool.{ltb-true}
 use Rattle.naga_wgsl_fns.specs.Types.{annotation_text, resolution_text, spelled_text, type_text}
 

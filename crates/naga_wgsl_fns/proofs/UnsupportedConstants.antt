@@ -1,8 +1,7 @@
 -- What is told of a constant that has no form.
 use Rattle.std.proofs.Common.{◌≡◌, ℕ, zero, suc, ◌<◌, ◌≤◌, ◌&&◌, ◌||◌, Bool, true, false, List, []}
-use Rattle.std.proofs.Common.{◌∷◌, Option, Some, None}
-use Rattle.std.proofs.Common.{refl, sym, ap, ap₂, ◌∙◌, arith, length, map, slice_get, subst}
-use Rattle.std.proofs.Common.{true≢false}
+use Rattle.std.proofs.Common.{◌∷◌, Option, Some, None, refl, sym, ap, ap₂, ◌∙◌, arith, length, map}
+use Rattle.std.proofs.Common.{slice_get, subst, true≢false}
 use Rattle.std.specs.Prelude.{IsSomeAnd, if◌then◌else◌, not}
 use Rattle.std.specs.List.{IsAmong, find, list_all}
 use Rattle.std.specs.Option.{is_none, is_some, option_and_then, option_map_or}
@@ -10,8 +9,8 @@ use Rattle.std.proofs.lemmas.Bool.{not-false, not-true, or_parts}
 use Rattle.module_meaning.proofs.Stepwise.{by_those_before}
 use Rattle.module_meaning.specs.Undeclared.{is_spellable}
 use Rattle.module_meaning.specs.ExpressionForms.{constant_has_form, global_has_form}
-use Rattle.module_meaning.specs.ExpressionForms.{global_has_form_over}
-use Rattle.module_meaning.specs.ExpressionForms.{global_has_form_within, literal_has_form}
+use Rattle.module_meaning.specs.ExpressionForms.{global_has_form_over, global_has_form_within}
+use Rattle.module_meaning.specs.ExpressionForms.{literal_has_form}
 use Rattle.naga_info.specs.declared.info.TypeResolution.TheVariants.{Handle}
 use Rattle.naga_ir.specs.Operands.{expression_operands}
 use Rattle.naga_ir.specs.declared.expression.Expression.{Expression}

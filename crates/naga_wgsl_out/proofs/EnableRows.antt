@@ -11,8 +11,7 @@ use Rattle.naga_words.specs.Output.{joined_texts}
 use Rattle.module_meaning.specs.Enables.{Extension, extensions}
 use Rattle.naga_wgsl_out.specs.declared.enables.Enables.{Enables}
 use Rattle.naga_wgsl_out.specs.Enables.{enables_of, enables_text, end_text, is_any, line_text}
-use Rattle.naga_wgsl_out.specs.Enables.{is_any_after}
-use Rattle.naga_wgsl_out.specs.Enables.{words_among, words_found}
+use Rattle.naga_wgsl_out.specs.Enables.{is_any_after, words_among, words_found}
 
 pub line_row : (word : List ℕ) → line_text true word ≡ joined_texts (codes "enable ") (joined_texts word (codes ";\n"))
 unfolding joined_texts

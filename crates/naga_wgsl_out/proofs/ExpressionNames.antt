@@ -1,7 +1,7 @@
 -- What a namer that goes on with the labels of a function knows of them.
-use Rattle.std.proofs.Common.{◌≡◌, ◌+◌, ◌<◌, ◌∙◌, ◌++◌, ℕ, List, [], ◌∷◌, Some}
-use Rattle.std.proofs.Common.{None, Option, append-nil, append_assoc, ap, length, refl}
-use Rattle.std.proofs.Common.{Bool, slice_get, subst, sym, take}
+use Rattle.std.proofs.Common.{◌≡◌, ◌+◌, ◌<◌, ◌∙◌, ◌++◌, ℕ, List, [], ◌∷◌, Some, None, Option}
+use Rattle.std.proofs.Common.{append-nil, append_assoc, ap, length, refl, Bool, slice_get, subst}
+use Rattle.std.proofs.Common.{sym, take}
 use Rattle.std.specs.Option.{option_map_or}
 use Rattle.std.proofs.lemmas.List.Concat.{flat_map-append}
 use Rattle.std.proofs.lemmas.List.{take_more}
@@ -10,11 +10,9 @@ use Rattle.naga_names.proofs.Refusal.{element}
 use Rattle.naga_ir.specs.declared.module.Function.{Function}
 use Rattle.naga_ir.specs.declared.module.Module.{Module}
 use Rattle.naga_names.specs.Naming.{HasNamed, Names}
-use Rattle.module_meaning.specs.ExpressionLabels.{expression_labels}
-use Rattle.module_meaning.specs.ExpressionLabels.{all_expression_labels}
+use Rattle.module_meaning.specs.ExpressionLabels.{expression_labels, all_expression_labels}
 use Rattle.module_meaning.specs.FunctionNumbers.{all_functions}
-use Rattle.module_meaning.specs.Names.{expression_name, item_labels, labels_before}
-use Rattle.module_meaning.specs.Names.{labels_named_in}
+use Rattle.module_meaning.specs.Names.{expression_name, item_labels, labels_before, labels_named_in}
 use Rattle.naga_scope.specs.ExpressionNames.{NamesLabels}
 use Rattle.naga_scope.specs.Plans.{AreExpressionNames, IsPlanOf, Planned}
 use Rattle.naga_info.specs.declared.info.ModuleInfo.{ModuleInfo}

@@ -1,8 +1,7 @@
 -- What was written is faithful to the module.
-use Rattle.std.proofs.Common.{◌≡◌, ◌<◌, ◌∙◌, ◌++◌, ℕ, Bool, false, List, [], ◌∷◌, Ok, Err}
-use Rattle.std.proofs.Common.{ap, append-nil, drop, inl, inr, length, subst, sym, None, Option}
-use Rattle.std.proofs.Common.{Some, refl}
-use Rattle.std.proofs.Common.{slice_get}
+use Rattle.std.proofs.Common.{◌≡◌, ◌<◌, ◌∙◌, ◌++◌, ℕ, Bool, false, List, [], ◌∷◌, Ok, Err, ap}
+use Rattle.std.proofs.Common.{append-nil, drop, inl, inr, length, subst, sym, None, Option, Some}
+use Rattle.std.proofs.Common.{refl, slice_get}
 use Rattle.std.proofs.lemmas.Option.{slice_get_within}
 use Rattle.naga_ir.specs.declared.module.Function.{Function}
 use Rattle.std.specs.Prelude.{◌⊎◌, IfErr, IsErrAnd, IsTrue, OnErr, OnOk, Result}
@@ -35,16 +34,14 @@ use Rattle.naga_back.specs.declared.flags.WriterFlags.{WriterFlags}
 use Rattle.naga_back.specs.Flags.{annotates_types}
 use Rattle.naga_wgsl_out.specs.Writing.{HasPlan, MetNoPlan, WritesFunctions, WroteFunctions}
 use Rattle.naga_wgsl_out.specs.Writing.{WroteFunctionsBefore, front_text, lines_before}
-use Rattle.naga_wgsl_out.specs.Writing.{module_lines}
-use Rattle.naga_wgsl_out.specs.Writing.{AppendsItsText, written_text}
+use Rattle.naga_wgsl_out.specs.Writing.{module_lines, AppendsItsText, written_text}
 use Rattle.naga_wgsl_out.proofs.Functions.{lines_after, lines_split, written_lines}
 use Rattle.naga_wgsl_out.proofs.ModuleScopes.{all_planned_counted, all_planned_formed}
-use Rattle.naga_wgsl_out.proofs.ModuleScopes.{all_planned_hold}
-use Rattle.naga_wgsl_out.proofs.ModuleScopes.{fault_refuses, fault_reported}
+use Rattle.naga_wgsl_out.proofs.ModuleScopes.{all_planned_hold, fault_refuses, fault_reported}
 use Rattle.naga_wgsl_fns.specs.Refusals.{TellsOfForm, TellsOfFullNamer, TellsOfModule, TellsOfScope}
 use Rattle.naga_wgsl_out.specs.ModuleRefusals.{ComesBeforeText, HasAllNames, IsNamesRefusal}
-use Rattle.naga_wgsl_out.specs.ModuleRefusals.{ItemsAreFull}
-use Rattle.naga_wgsl_out.specs.ModuleRefusals.{IsRefusal, NamerIsFull, TellsOfFunction}
+use Rattle.naga_wgsl_out.specs.ModuleRefusals.{ItemsAreFull, IsRefusal, NamerIsFull}
+use Rattle.naga_wgsl_out.specs.ModuleRefusals.{TellsOfFunction}
 use Rattle.naga_wgsl_out.proofs.ExpressionNames.{none_past}
 use Rattle.naga_wgsl_out.proofs.ReportedNames.{keys_come_first}
 use Rattle.naga_wgsl_out.specs.Headline.{EachReading, FaithfulWriting, MatchesModule}

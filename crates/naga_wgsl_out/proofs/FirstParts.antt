@@ -1,6 +1,5 @@
 -- What stands at a part of a function keeps it from being written, and the first stands at one part.
-use Rattle.std.proofs.Common.{◌≡◌, ◌<◌, ◌⊎◌, inl, inr, ℕ, Bool, true, false, List}
-use Rattle.std.proofs.Common.{[], Option, Some}
+use Rattle.std.proofs.Common.{◌≡◌, ◌<◌, ◌⊎◌, inl, inr, ℕ, Bool, true, false, List, [], Option, Some}
 use Rattle.std.proofs.Common.{None, ap, arith, nat_lt, refl, slice_get, subst, sym, ◌∙◌}
 use Rattle.std.proofs.lemmas.Bool.{false≢true, ltb-false, ltb-true}
 use Rattle.std.specs.List.{IsAmong}
@@ -26,12 +25,10 @@ use Rattle.naga_scope.specs.Earliest.{line_of}
 use Rattle.naga_scope.specs.InOrder.{own_lets}
 use Rattle.naga_scope.specs.Lines.{IsWrittenAt, is_before, lets_at}
 use Rattle.naga_scope.specs.Plans.{ComesBefore, IsFirstInText, IsFirstOfKind, IsFirstToPlan}
-use Rattle.naga_scope.specs.Plans.{NothingAt, kind_of}
-use Rattle.naga_scope.specs.Plans.{checked_scope, kind_rank}
+use Rattle.naga_scope.specs.Plans.{NothingAt, kind_of, checked_scope, kind_rank}
 use Rattle.naga_scope.specs.SpelledTypes.{declared_unsupported, own_annotated}
-use Rattle.naga_scope.specs.UnsupportedStatements.{LacksForm, SomeCaseFalls}
-use Rattle.naga_scope.specs.UnsupportedStatements.{falls_unsupported, own_unsupported}
-use Rattle.naga_scope.specs.UnsupportedStatements.{unsupported_case}
+use Rattle.naga_scope.specs.UnsupportedStatements.{LacksForm, SomeCaseFalls, falls_unsupported}
+use Rattle.naga_scope.specs.UnsupportedStatements.{own_unsupported, unsupported_case}
 use Rattle.naga_scope.specs.declared.lines.Line.{Line}
 use Rattle.naga_scope.specs.declared.lines.Line.TheVariants as lines
 use Rattle.naga_scope.specs.declared.plan.PlanError.{PlanError}

@@ -1,6 +1,6 @@
 -- What is a refusal isn't nothing, and the first stands at one place.
-use Rattle.std.proofs.Common.{◌≡◌, ◌<◌, ◌+◌, ℕ, Bool, true, false, List, Option, Some, None}
-use Rattle.std.proofs.Common.{ap, arith, inl, inr, length, refl, slice_get, subst, sym, ◌∙◌}
+use Rattle.std.proofs.Common.{◌≡◌, ◌<◌, ◌+◌, ℕ, Bool, true, false, List, Option, Some, None, ap}
+use Rattle.std.proofs.Common.{arith, inl, inr, length, refl, slice_get, subst, sym, ◌∙◌}
 use Rattle.std.proofs.lemmas.Bool.{false≢true}
 use Rattle.std.specs.Option.{option_and_then}
 use Rattle.std.specs.Prelude.{IfSome, if◌then◌else◌}
@@ -16,8 +16,7 @@ use Rattle.module_meaning.specs.DeclarationForms.IsInitialiser.{OfVariable as Va
 use Rattle.module_meaning.specs.DeclarationForms.IsMemberBinding.{OfMember as MemberBinding}
 use Rattle.module_meaning.specs.DeclarationForms.IsPassed.{OfArgument, OfResult}
 use Rattle.module_meaning.specs.FunctionNumbers.{all_functions, all_infos}
-use Rattle.module_meaning.specs.Layouts.{concerned_members, concerned_of}
-use Rattle.module_meaning.specs.Layouts.{module_rule}
+use Rattle.module_meaning.specs.Layouts.{concerned_members, concerned_of, module_rule}
 use Rattle.module_meaning.specs.ExpressionForms.{global_has_form}
 use Rattle.module_meaning.specs.Undeclared.{is_spellable}
 use Rattle.naga_info.specs.declared.info.ModuleInfo.{ModuleInfo}
@@ -39,12 +38,9 @@ use Rattle.naga_scope.proofs.UnsupportedDeclarations.{entry_point_lacks}
 use Rattle.naga_scope.specs.Declarations.{ConstantHasForm, EntryPointHasForm, HaveFormsBefore}
 use Rattle.naga_scope.specs.Declarations.{IsUnsupportedConstant, IsUnsupportedHead}
 use Rattle.naga_scope.specs.Declarations.{IsUnsupportedFunction, IsUnsupportedHeadOf}
-use Rattle.naga_scope.specs.Declarations.{IsUnsupportedIn}
-use Rattle.naga_scope.specs.Declarations.{IsUnsupportedPassed, IsUnsupportedStruct}
-use Rattle.naga_scope.specs.Declarations.{IsUnsupportedType}
-use Rattle.naga_scope.specs.Declarations.{IsUnsupportedValue, PassedHasForm, StructHasForm}
-use Rattle.naga_scope.specs.Declarations.{TypeHasForm}
-use Rattle.naga_scope.specs.Declarations.{ValueHasForm, concerned_among}
+use Rattle.naga_scope.specs.Declarations.{IsUnsupportedIn, IsUnsupportedPassed, IsUnsupportedStruct}
+use Rattle.naga_scope.specs.Declarations.{IsUnsupportedType, IsUnsupportedValue, PassedHasForm}
+use Rattle.naga_scope.specs.Declarations.{StructHasForm, TypeHasForm, ValueHasForm, concerned_among}
 use Rattle.naga_scope.specs.Plans.{IsFirstToPlan}
 use Rattle.naga_scope.specs.declared.declarations.DeclarationPosition.{DeclarationPosition}
 use Rattle.naga_scope.specs.declared.declarations.DeclarationPosition.TheVariants as declared

@@ -1,10 +1,9 @@
 -- The text of a module from those of its functions and entry points.
 use Rattle.std.proofs.Common.{◌≡◌, ◌+◌, ◌-◌, ◌<◌, ◌≤◌, ◌∙◌, ◌++◌, ◌^◌, ℕ, zero, suc, List, [], ◌∷◌}
-use Rattle.std.proofs.Common.{Some}
-use Rattle.std.proofs.Common.{Bool, true, false, None, Option, nat_lt}
-use Rattle.std.proofs.Common.{append-nil, append_assoc, add-one, ap, arith, below_more, codes, drop}
-use Rattle.std.proofs.Common.{drop-cons, get_or, inl, inr, length, pred, refl, slice_get, subst}
-use Rattle.std.proofs.Common.{Err, Ok, Result, sym, take, unwrap_or}
+use Rattle.std.proofs.Common.{Some, Bool, true, false, None, Option, nat_lt, append-nil}
+use Rattle.std.proofs.Common.{append_assoc, add-one, ap, arith, below_more, codes, drop, drop-cons}
+use Rattle.std.proofs.Common.{get_or, inl, inr, length, pred, refl, slice_get, subst, Err, Ok}
+use Rattle.std.proofs.Common.{Result, sym, take, unwrap_or}
 use Rattle.std.specs.Prelude.{◌⊎◌, IsErrAnd, IsTrue, if◌then◌else◌}
 use Rattle.std.specs.List.{enumerate_from}
 use Rattle.std.specs.Option.{option_map_or}
@@ -26,13 +25,13 @@ use Rattle.naga_back.specs.declared.context.FunctionType.TheVariants as item
 use Rattle.wgsl_text.specs.Attributes.{attributes_pieces}
 use Rattle.wgsl_text.specs.Token.{LineEnd, Piece}
 use Rattle.wgsl_text.specs.Functions.{entry_point_pieces, entry_points_pieces, function_pieces}
-use Rattle.wgsl_text.specs.Functions.{functions_pieces}
-use Rattle.wgsl_text.specs.Functions.{EntryPoint as EntryPointTree, Function as FunctionTree}
+use Rattle.wgsl_text.specs.Functions.{functions_pieces, EntryPoint as EntryPointTree}
+use Rattle.wgsl_text.specs.Functions.{Function as FunctionTree}
 use Rattle.naga_form.specs.Attributes.{stage_attributes}
 use Rattle.naga_form.specs.Declarations.{entry_point_form, entry_points_form, written_program}
 use Rattle.naga_form.specs.Functions.{function_form, functions_form}
 use Rattle.wgsl_text.proofs.Text.{text-append}
-use Rattle.naga_names.proofs.Refusal.{element}
+use Rattle.naga_names.proofs.Refusal.{element, run_out_unfit}
 use Rattle.naga_form.proofs.statements.AcceptedFunctions.{entry_points_counted, functions_counted}
 use Rattle.naga_form.proofs.statements.AcceptedFunctions.{entry_info_among}
 use Rattle.wgsl_text.specs.Text.{text}
@@ -55,20 +54,18 @@ use Rattle.naga_wgsl_fns.specs.Refusals.{IsFault, IsPlanRefusal, TellsOfModule}
 use Rattle.naga_wgsl_out.specs.Declarations.{declarations_of, declarations_text}
 use Rattle.naga_wgsl_out.specs.Enables.{enables_text}
 use Rattle.naga_wgsl_out.proofs.DeclarationRows.{layout_row}
-use Rattle.naga_wgsl_out.specs.ModuleRefusals.{HasNamedBefore}
-use Rattle.naga_wgsl_out.specs.Writing.{HasNoPlan, HasPlan, IsNamedPlan, MetNoPlan}
-use Rattle.naga_wgsl_out.specs.Writing.{WritesFunctions, WritesNext, WroteFunctions, WroteNext}
-use Rattle.naga_wgsl_out.specs.Writing.{front_text, line_at, line_after}
-use Rattle.naga_wgsl_out.specs.Writing.{line_of, lines_before, lines_of, module_lines, written_text}
+use Rattle.naga_wgsl_out.specs.ModuleRefusals.{HasNamedBefore, KeyIsOutOfRange}
+use Rattle.naga_wgsl_out.specs.Writing.{HasNoPlan, HasPlan, IsNamedPlan, MetNoPlan, WritesFunctions}
+use Rattle.naga_wgsl_out.specs.Writing.{WritesNext, WroteFunctions, WroteNext, front_text, line_at}
+use Rattle.naga_wgsl_out.specs.Writing.{line_after, line_of, lines_before, lines_of, module_lines}
+use Rattle.naga_wgsl_out.specs.Writing.{written_text}
 use Rattle.naga_wgsl_out.proofs.ExpressionNames.{named_plan, none_full}
 use Rattle.naga_wgsl_fns.proofs.PlanRefusals.{fault_fails}
 use Rattle.naga_wgsl_out.proofs.ModuleScopes.{has_plan_holds}
 use Rattle.module_meaning.proofs.FunctionNumbers.{info_among, type_of_entry_point, type_of_function}
 use Rattle.naga_form.proofs.statements.WrittenFunctions.{entry_point_at}
 use Rattle.naga_wgsl_fns.proofs.FunctionRows.{no_entry_point}
-use Rattle.naga_names.proofs.Refusal.{run_out_unfit}
 use Rattle.naga_names.proofs.Reset.{enumerate_from-append}
-use Rattle.naga_wgsl_out.specs.ModuleRefusals.{KeyIsOutOfRange}
 
 -- ---- the lines of functions and of entry points
 module _ (m : Module) (info : ModuleInfo) (flags : WriterFlags)

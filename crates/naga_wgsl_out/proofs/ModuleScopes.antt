@@ -1,7 +1,6 @@
 -- The rules of scope in the functions of a module, one by one and in all.
-use Rattle.std.proofs.Common.{◌≡◌, ◌<◌, ◌^◌, ℕ, Bool, true, zero, suc, List, [], ◌∷◌}
-use Rattle.std.proofs.Common.{Some, arith, inl, inr, length, nat_le}
-use Rattle.std.proofs.Common.{◌∙◌, sym}
+use Rattle.std.proofs.Common.{◌≡◌, ◌<◌, ◌^◌, ℕ, Bool, true, zero, suc, List, [], ◌∷◌, Some, arith}
+use Rattle.std.proofs.Common.{inl, inr, length, nat_le, ◌∙◌, sym}
 use Rattle.std.proofs.lemmas.Bool.{false≢true}
 use Rattle.std.specs.Prelude.{IfSome, IsTrue, slice_get}
 use Rattle.std.proofs.lemmas.Option.{slice_get_within}
@@ -27,16 +26,13 @@ use Rattle.naga_wgsl_fns.specs.declared.refusals.error.Error.TheVariants.{Custom
 use Rattle.naga_wgsl_fns.specs.declared.refusals.error.Error.TheVariants.{Unimplemented}
 use Rattle.naga_wgsl_fns.specs.declared.refusals.error.Error.TheVariants.{Unsupported}
 use Rattle.naga_wgsl_fns.specs.declared.refusals.error.Error.TheVariants.{UnsupportedRelationalFunction}
-use Rattle.naga_wgsl_fns.specs.Refusals.{IsFault, IsWritableAt}
-use Rattle.naga_wgsl_fns.specs.Refusals.{HasUnsupportedIn}
+use Rattle.naga_wgsl_fns.specs.Refusals.{IsFault, IsWritableAt, HasUnsupportedIn, NamesUnsupported}
+use Rattle.naga_wgsl_fns.specs.Refusals.{TellsOfModule, TellsOfScope}
 use Rattle.naga_wgsl_fns.specs.DeclarationRefusals.{NamesDeclaration}
 use Rattle.naga_wgsl_fns.specs.DeclarationRefusals.NamesDeclaration.{OfHead, OfInitialiser}
-use Rattle.naga_wgsl_fns.specs.DeclarationRefusals.NamesDeclaration.{OfMember}
-use Rattle.naga_wgsl_fns.specs.DeclarationRefusals.NamesDeclaration.{OfOffsets, OfStride}
+use Rattle.naga_wgsl_fns.specs.DeclarationRefusals.NamesDeclaration.{OfMember, OfOffsets, OfStride}
 use Rattle.naga_wgsl_fns.specs.DeclarationRefusals.NamesDeclaration.{OfType as OfDeclaredType}
 use Rattle.naga_wgsl_fns.specs.DeclarationRefusals.NamesHead.{OfBinding, OfStage}
-use Rattle.naga_wgsl_fns.specs.Refusals.{NamesUnsupported}
-use Rattle.naga_wgsl_fns.specs.Refusals.{TellsOfModule, TellsOfScope}
 use Rattle.naga_scope.specs.Plans.{HasScopeFaultIn}
 use Rattle.naga_wgsl_fns.proofs.PlanRefusals.{declaration_is_no_sink, fault_fails, named}
 use Rattle.naga_wgsl_fns.proofs.PlanRefusals.{planned_holds, unsupported_fails}

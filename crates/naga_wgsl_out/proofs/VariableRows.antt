@@ -3,8 +3,7 @@
 -- Throughout, m is a module, h the handle of a variable v of it, and access what may be done with what
 -- lives in a space.
 use Rattle.std.proofs.Common.{◌≡◌, ◌∙◌, ◌++◌, ◌==◌, ℕ, Bool, true, false, List, [], ◌∷◌}
-use Rattle.std.proofs.Common.{append_assoc}
-use Rattle.std.proofs.Common.{ap, codes, decimal, length, map, refl, slice_get, sym}
+use Rattle.std.proofs.Common.{append_assoc, ap, codes, decimal, length, map, refl, slice_get, sym}
 use Rattle.std.specs.List.{enumerate_from}
 use Rattle.std.specs.Prelude.{IsTrue, None, Option, Some}
 use Rattle.std.proofs.lemmas.List.{append-nil}

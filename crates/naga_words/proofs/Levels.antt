@@ -8,8 +8,7 @@ use Rattle.wgsl_words.specs.Words.{space_word, space_access_word}
 use Rattle.naga_words.specs.Segments.{Segment, Word}
 use Rattle.naga_words.specs.Spelling.{Context, IsInOrder, is_struct, end_of_base, pointer_segments}
 use Rattle.naga_words.specs.Spelling.{array_segments, inner_segments_by, named_segments_by}
-use Rattle.naga_words.specs.Spelling.{found_segments_by}
-use Rattle.naga_words.specs.Spelling.{segments_within, type_segments}
+use Rattle.naga_words.specs.Spelling.{found_segments_by, segments_within, type_segments}
 
 module _ (f g : ℕ → List Segment) (n : ℕ) (same : (k : ℕ) → k < n → f k ≡ g k) where
   -- spellings that agree on the types that it names agree on the whole

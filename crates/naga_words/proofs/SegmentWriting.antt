@@ -1,17 +1,15 @@
 -- Texts in segments, written one after another to an output, and what a want then says of them.
-use Rattle.std.proofs.Common.{◌≡◌, ℕ, ◌<◌, true, false, Bool, List, [], ◌∷◌, ◌++◌}
-use Rattle.std.proofs.Common.{Option, Some, None, append_assoc, refl, sym, ap, subst, ◌∙◌}
+use Rattle.std.proofs.Common.{◌≡◌, ℕ, ◌<◌, true, false, Bool, List, [], ◌∷◌, ◌++◌, Option, Some}
+use Rattle.std.proofs.Common.{None, append_assoc, refl, sym, ap, subst, ◌∙◌}
 use Rattle.std.specs.Option.{is_some}
 use Rattle.std.proofs.lemmas.List.{append-nil}
 use Rattle.naga_words.specs.Output.{AppendsUnlessWanting, AppendsText, IsReason, HasAppended}
 use Rattle.naga_words.specs.Output.{AppendsSegmentsUnlessWanting, AppendsSegments}
-use Rattle.naga_words.specs.Output.{HasAppendedSegments}
-use Rattle.naga_words.specs.Output.{OutputView, SpelledSegments}
-use Rattle.naga_words.specs.Output.{Wrote}
+use Rattle.naga_words.specs.Output.{HasAppendedSegments, OutputView, SpelledSegments, Wrote}
 use Rattle.naga_words.proofs.Writing.{after_first, after_then}
 use Rattle.naga_words.specs.Segments.{Segment, Word, Shown, Missing, IsRefused, lacks}
-use Rattle.naga_words.specs.Segments.{before_missing}
-use Rattle.naga_words.specs.Segments.{IsText, NoSegments, WordThen, ShownThen, HasWritten, HasBegun}
+use Rattle.naga_words.specs.Segments.{before_missing, IsText, NoSegments, WordThen, ShownThen}
+use Rattle.naga_words.specs.Segments.{HasWritten, HasBegun}
 use Rattle.naga_words.specs.declared.error.TypeTextError.{TypeTextError}
 use Rattle.naga_words.specs.declared.error.TypeTextError.TheVariants.{Sink, Memory, NoForm}
 use Rattle.naga_words.specs.declared.sink.SinkError.TheVariants.{Failed, Memory as SinkMemory}

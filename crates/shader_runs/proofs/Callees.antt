@@ -13,25 +13,20 @@ use Rattle.shader_runs.specs.Outcome.{Done, Broke, Returned, ReachedOrHalted, Gi
 use Rattle.shader_runs.specs.Outcome.{after_switch, and_then, branch_by, or_stuck, turn, turns}
 use Rattle.shader_runs.specs.Outcome.{with_integer}
 use Rattle.shader_runs.specs.Program.{Action, Asked, Called, Access, AccessIndex, Cases, no_case}
-use Rattle.shader_runs.specs.Program.{case}
-use Rattle.shader_runs.specs.Program.{Constant, Emit, Expression, Function}
-use Rattle.shader_runs.specs.Program.{Block, If, Switch, Loop, Return, Act, Store, CaseValue, Load}
-use Rattle.shader_runs.specs.Program.{Logical}
-use Rattle.shader_runs.specs.Program.{Numbered, Operator, Request, Statement, Statements, Swizzle}
-use Rattle.shader_runs.specs.Program.{end}
-use Rattle.shader_runs.specs.Program.{expression_of, from, handle_type, is_counted}
-use Rattle.shader_runs.specs.Program.{operands_of, then, Jumps}
+use Rattle.shader_runs.specs.Program.{case, Constant, Emit, Expression, Function, Block, If, Switch}
+use Rattle.shader_runs.specs.Program.{Loop, Return, Act, Store, CaseValue, Load, Logical, Numbered}
+use Rattle.shader_runs.specs.Program.{Operator, Request, Statement, Statements, Swizzle, end}
+use Rattle.shader_runs.specs.Program.{expression_of, from, handle_type, is_counted, operands_of}
+use Rattle.shader_runs.specs.Program.{then, Jumps}
 use Rattle.shader_runs.specs.ProgramRun.{Call, EmittedValues, action_answer, after_load}
-use Rattle.shader_runs.specs.ProgramRun.{after_request}
-use Rattle.shader_runs.specs.ProgramRun.{also, computed_value, constant_values, constants_kept}
-use Rattle.shader_runs.specs.ProgramRun.{emit}
-use Rattle.shader_runs.specs.ProgramRun.{emit_as, first_used, first_used_all, gathered_value}
-use Rattle.shader_runs.specs.ProgramRun.{has_case_value, if_counted, joined_values, case_value_if}
-use Rattle.shader_runs.specs.ProgramRun.{leave}
-use Rattle.shader_runs.specs.ProgramRun.{return_outcome, run, run_all, run_body, run_cases}
-use Rattle.shader_runs.specs.ProgramRun.{run_from_entry, run_on, same_case_value, used_value}
-use Rattle.shader_runs.specs.ProgramRun.{used_value_as, used_values, with_first, with_pointer}
-use Rattle.shader_runs.specs.ProgramRun.{constant_as, constant_below, with_result}
+use Rattle.shader_runs.specs.ProgramRun.{after_request, also, computed_value, constant_values}
+use Rattle.shader_runs.specs.ProgramRun.{constants_kept, emit, emit_as, first_used, first_used_all}
+use Rattle.shader_runs.specs.ProgramRun.{gathered_value, has_case_value, if_counted, joined_values}
+use Rattle.shader_runs.specs.ProgramRun.{case_value_if, leave, return_outcome, run, run_all}
+use Rattle.shader_runs.specs.ProgramRun.{run_body, run_cases, run_from_entry, run_on}
+use Rattle.shader_runs.specs.ProgramRun.{same_case_value, used_value, used_value_as, used_values}
+use Rattle.shader_runs.specs.ProgramRun.{with_first, with_pointer, constant_as, constant_below}
+use Rattle.shader_runs.specs.ProgramRun.{with_result}
 
 module _ (c : Call) (told : List Function) (body : Statements) where
   -- the same call, of which others are told as its callees, and of which this is the body

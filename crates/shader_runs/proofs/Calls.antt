@@ -11,29 +11,26 @@ use Rattle.shader_runs.specs.Value.{Bytes, same_bytes, PartTypes, ValueType, has
 use Rattle.shader_runs.specs.World.{Event, Entry, entries, World, Meaning, Environment, bind}
 use Rattle.shader_runs.specs.Outcome.{Stuck, ReachedOrHalted, Gives, Halts, answer, reach}
 use Rattle.shader_runs.specs.Program.{ConstantTree, Fixed, NamedConstant, Constructed, Indexing}
-use Rattle.shader_runs.specs.Program.{Picking, Joining}
-use Rattle.shader_runs.specs.Program.{ConstantTrees, no_constant, constant, Expression, Constant}
-use Rattle.shader_runs.specs.Program.{Operator, Request, Function, argument_count, local_count}
-use Rattle.shader_runs.specs.Program.{function_numbered, expression_of, handle_type, operands_of}
-use Rattle.shader_runs.specs.Program.{from, Statement, Emit, Block, If, Switch, Loop, Statements}
-use Rattle.shader_runs.specs.Program.{end, then, Cases, no_case, case, Module, any_continue}
+use Rattle.shader_runs.specs.Program.{Picking, Joining, ConstantTrees, no_constant, constant}
+use Rattle.shader_runs.specs.Program.{Expression, Constant, Operator, Request, Function}
+use Rattle.shader_runs.specs.Program.{argument_count, local_count, function_numbered, expression_of}
+use Rattle.shader_runs.specs.Program.{handle_type, operands_of, from, Statement, Emit, Block, If}
+use Rattle.shader_runs.specs.Program.{Switch, Loop, Statements, end, then, Cases, no_case, case}
+use Rattle.shader_runs.specs.Program.{Module, any_continue}
 use Rattle.shader_runs.specs.ProgramRun.{Call, EmittedValues, constants_kept, run_if_arguments_fit}
-use Rattle.shader_runs.specs.ProgramRun.{used_value, with_first}
-use Rattle.shader_runs.specs.ProgramRun.{first_used, first_used_all, run_from_entry, run_all}
-use Rattle.shader_runs.specs.ProgramRun.{run_body}
-use Rattle.shader_runs.specs.ProgramRun.{run_call}
-use Rattle.shader_runs.specs.TextRun.{Scope, Words, WordUse, AsksForEvent, Operates}
-use Rattle.shader_runs.specs.TextRun.{value_of, with_parameters, with_variables, with_globals}
-use Rattle.shader_runs.specs.TextRun.{no_names, respond_by_use, put_first, first_followed}
-use Rattle.shader_runs.specs.TextRun.{first_then, first_of_each, entered_by, follow_all}
-use Rattle.shader_runs.specs.TextRun.{follow_body, follow_call, is_operation}
+use Rattle.shader_runs.specs.ProgramRun.{used_value, with_first, first_used, first_used_all}
+use Rattle.shader_runs.specs.ProgramRun.{run_from_entry, run_all, run_body, run_call}
+use Rattle.shader_runs.specs.TextRun.{Scope, Words, WordUse, AsksForEvent, Operates, value_of}
+use Rattle.shader_runs.specs.TextRun.{with_parameters, with_variables, with_globals, no_names}
+use Rattle.shader_runs.specs.TextRun.{respond_by_use, put_first, first_followed, first_then}
+use Rattle.shader_runs.specs.TextRun.{first_of_each, entered_by, follow_all, follow_body}
+use Rattle.shader_runs.specs.TextRun.{follow_call, is_operation}
 use Rattle.shader_runs.specs.Scope.{ModuleNames, Naming, usable, usable_if, named_after}
 use Rattle.shader_runs.specs.Scope.{named_after_all, named_by, named_by_all, named_by_cases}
 use Rattle.shader_runs.specs.Scope.{at_start, before_local, first_values_fit, fits_all}
 use Rattle.shader_runs.specs.Scope.{fits_function}
 use Rattle.shader_runs.specs.Form.{names_from, variables_from, globals_from, value_at, value_if}
-use Rattle.shader_runs.specs.Form.{form_all, form_function, form_functions}
-use Rattle.shader_runs.specs.Form.{functions_of}
+use Rattle.shader_runs.specs.Form.{form_all, form_function, form_functions, functions_of}
 use Rattle.shader_runs.specs.Premises.{FixedName, ArgumentName, LocalName, ConstantName, GlobalName}
 use Rattle.shader_runs.specs.Premises.{NameKey, FixedKey, NumberedKey, NamedKey, fixed_name}
 use Rattle.shader_runs.specs.Premises.{IsFixedName, IsName, StandsFree, ConstantWords}
@@ -55,8 +52,7 @@ use Rattle.shader_runs.proofs.Start.{start_stands}
 use Rattle.shader_runs.proofs.Names.{parameter_other, parameter_at, variable_place, variable_other}
 use Rattle.shader_runs.proofs.Names.{variable_at, one_more_variable, take_one_more, globals_other}
 use Rattle.shader_runs.proofs.Names.{globals_at, held, length-names_from, length-functions_of}
-use Rattle.shader_runs.proofs.Names.{forms_named, length-form_functions}
-use Rattle.shader_runs.proofs.Names.{module_names_in_scope}
+use Rattle.shader_runs.proofs.Names.{forms_named, length-form_functions, module_names_in_scope}
 
 pick_alike : {A : Type 0} (R : A → Type 0) (a b : Bool) (x x' y y' : ReachedOrHalted A) → a ≡ b →
     (b ≡ true → Answers R x x') → (b ≡ false → Answers R y y') → Answers R (cond b x y) (cond a x' y')

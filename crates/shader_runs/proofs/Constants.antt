@@ -15,20 +15,17 @@ use Rattle.shader_runs.specs.Program.{ConstantTree, Module, constant_count, over
 use Rattle.shader_runs.specs.ProgramRun.{also, operator_value, tree_value, constant_value}
 use Rattle.shader_runs.specs.Text.{Tree, TextFunction, TextModule}
 use Rattle.shader_runs.specs.TextRun.{Denotation, Words, Scope, as_value, word_answer}
-use Rattle.shader_runs.specs.TextRun.{with_parameters}
-use Rattle.shader_runs.specs.TextRun.{with_globals, no_names, names_function}
+use Rattle.shader_runs.specs.TextRun.{with_parameters, with_globals, no_names, names_function}
 use Rattle.shader_runs.specs.Constants.{known_value, found_with, found_after, all_found}
-use Rattle.shader_runs.specs.Constants.{environment_of}
-use Rattle.shader_runs.specs.Constants.{is_declared, initialised_name, with_constants}
-use Rattle.shader_runs.specs.Constants.{scope_with, initialiser_value, scope_after, module_scope}
-use Rattle.shader_runs.specs.Constants.{initialiser_words, module_initialiser_value}
+use Rattle.shader_runs.specs.Constants.{environment_of, is_declared, initialised_name}
+use Rattle.shader_runs.specs.Constants.{with_constants, scope_with, initialiser_value, scope_after}
+use Rattle.shader_runs.specs.Constants.{module_scope, initialiser_words, module_initialiser_value}
 use Rattle.shader_runs.specs.Constants.{text_initialiser_value, value_denoted}
 use Rattle.shader_runs.specs.Scope.{ModuleNames}
 use Rattle.shader_runs.specs.Form.{constant_form, names_from, globals_from, constants_from}
 use Rattle.shader_runs.specs.Form.{form_module_with}
 use Rattle.shader_runs.specs.Premises.{OperatesOutside, EachLeaf, EachWord, IsLiteral, ConstantsFit}
-use Rattle.shader_runs.specs.Premises.{ConstantInRange}
-use Rattle.shader_runs.specs.Premises.{SettingsFit, EnvironmentFits, IsTyped}
+use Rattle.shader_runs.specs.Premises.{ConstantInRange, SettingsFit, EnvironmentFits, IsTyped}
 use Rattle.shader_runs.specs.Correct.{AreNamed, IsSolution, ConstantsAreComputed}
 use Rattle.shader_runs.proofs.Update.{and_both, same_bytes_apart, has_types_length}
 use Rattle.shader_runs.proofs.Relation.{TypedValue, as_denoted}
@@ -38,8 +35,7 @@ use Rattle.shader_runs.proofs.Form.{has_type_at}
 use Rattle.shader_runs.proofs.Ranks.{count_below, count_rises, count_misses}
 use Rattle.shader_runs.proofs.Names.{with_known, known_at, known_other, parameters_known}
 use Rattle.shader_runs.proofs.Names.{known_some, globals_other, held_values, choices_stand}
-use Rattle.shader_runs.proofs.Names.{module_names_in_scope}
-use Rattle.shader_runs.proofs.Names.{no_name_among}
+use Rattle.shader_runs.proofs.Names.{module_names_in_scope, no_name_among}
 
 -- a place in a list, or one past its end
 by_place : {X A : Type 0} (xs : List X) (i : ℕ) → ((x : X) → slice_get xs i ≡ Some x → i < length xs → A) →

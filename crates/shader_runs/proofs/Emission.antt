@@ -5,25 +5,22 @@ use Rattle.std.proofs.Common.{option_map}
 use Rattle.std.specs.Prelude.{IsTrue}
 use Rattle.shader_runs.specs.Value.{Bytes, PartTypes, ValueType, has_type, Value, place_in, Place}
 use Rattle.shader_runs.specs.World.{Event, Ask, Read, update, bind}
-use Rattle.shader_runs.specs.Outcome.{Outcome, Done, Next, and_then}
-use Rattle.shader_runs.specs.Outcome.{ReachedOrHalted, Gives, or_stuck, reach, unless}
+use Rattle.shader_runs.specs.Outcome.{Outcome, Done, Next, and_then, ReachedOrHalted, Gives}
+use Rattle.shader_runs.specs.Outcome.{or_stuck, reach, unless}
 use Rattle.shader_runs.specs.Program.{Global, Local, Argument, Constant, Expression, Load, Operator}
-use Rattle.shader_runs.specs.Program.{Access, AccessIndex, Logical, Swizzle, Request}
-use Rattle.shader_runs.specs.Program.{ConstantTrees, expression_of, handle_type, operands_of}
-use Rattle.shader_runs.specs.Program.{is_counted, binds, binds_as, Module}
-use Rattle.shader_runs.specs.Program.{is_pure, is_emittable}
+use Rattle.shader_runs.specs.Program.{Access, AccessIndex, Logical, Swizzle, Request, ConstantTrees}
+use Rattle.shader_runs.specs.Program.{expression_of, handle_type, operands_of, is_counted, binds}
+use Rattle.shader_runs.specs.Program.{binds_as, Module, is_pure, is_emittable}
 use Rattle.shader_runs.specs.ProgramRun.{Call, EmittedValues, used_value_as, constant_values}
-use Rattle.shader_runs.specs.ProgramRun.{used_value}
-use Rattle.shader_runs.specs.ProgramRun.{used_values, joined_values, combined_value, computed_value}
-use Rattle.shader_runs.specs.ProgramRun.{after_load, after_request, if_counted, emit_as, emit}
-use Rattle.shader_runs.specs.ProgramRun.{keep_typed}
+use Rattle.shader_runs.specs.ProgramRun.{used_value, used_values, joined_values, combined_value}
+use Rattle.shader_runs.specs.ProgramRun.{computed_value, after_load, after_request, if_counted}
+use Rattle.shader_runs.specs.ProgramRun.{emit_as, emit, keep_typed}
 use Rattle.shader_runs.specs.Text.{Apply, Lines}
 use Rattle.shader_runs.specs.TextRun.{Denotation, IsValue, Scope, read_value, as_value, word_answer}
 use Rattle.shader_runs.specs.TextRun.{evaluate_all, value_of, with_value, follow_in_loop, IsPlace}
 use Rattle.shader_runs.specs.Scope.{Availability, Absent, Barred, Everywhere, is_present, is_new}
-use Rattle.shader_runs.specs.Scope.{Inline, Bound, Handles, Names, bound_name}
-use Rattle.shader_runs.specs.Scope.{usable, usable_all, availability_without_name}
-use Rattle.shader_runs.specs.Scope.{with_emitted_handle, after_one}
+use Rattle.shader_runs.specs.Scope.{Inline, Bound, Handles, Names, bound_name, usable, usable_all}
+use Rattle.shader_runs.specs.Scope.{availability_without_name, with_emitted_handle, after_one}
 use Rattle.shader_runs.specs.Scope.{named_after, after_emit}
 use Rattle.shader_runs.specs.Form.{value_form, place_form, value_forms_then, constant_forms}
 use Rattle.shader_runs.specs.Form.{own_form, written_form, let_if, lets}
@@ -299,15 +296,6 @@ module _ (p : Module) (c : Call) (n : Names) (d : Respond) (facts : Facts p c n 
         (agree_update s kept h o un)
     inline_at false u o un v e next =
         next (update kept h o) names t (barred_related c n s names kept h o r un) (agree_update s kept h o un)
-
-    pure_used : (e : Option Expression) → IsTrue (is_pure e) → (o : Option Value) → used_value_as c e o ≡ o
-    pure_used (Some (Operator w xs)) q o = refl
-    pure_used (Some (Access y z)) q o = refl
-    pure_used (Some (AccessIndex y z)) q o = refl
-    pure_used (Some (Logical j y z)) q o = refl
-    pure_used (Some (Swizzle y z)) q o = refl
-    pure_used (Some _) q o = absurd (true≢false (sym q))
-    pure_used None q o = absurd (true≢false (sym q))
 
     value_there_own : IsTrue (is_pure (expression_of c.function h)) →
         IsTrue (usable_all c.function s (operands_of (expression_of c.function h))) →

@@ -7,18 +7,17 @@ use Rattle.shader_runs.specs.World.{Event}
 use Rattle.shader_runs.specs.Outcome.{Outcome, Done, Continued, Broke, Returned, Stopped, Next}
 use Rattle.shader_runs.specs.Outcome.{and_then, and_continue, within, turns, and_again}
 use Rattle.shader_runs.specs.Outcome.{after_switch, branch_by, with_integer, or_stuck}
-use Rattle.shader_runs.specs.Program.{CaseValue, Numbered, Statement, Block, If, Switch}
-use Rattle.shader_runs.specs.Program.{Loop, Statements}
-use Rattle.shader_runs.specs.Program.{end, then, Cases, no_case, case}
+use Rattle.shader_runs.specs.Program.{CaseValue, Numbered, Statement, Block, If, Switch, Loop}
+use Rattle.shader_runs.specs.Program.{Statements, end, then, Cases, no_case, case}
 use Rattle.shader_runs.specs.ProgramRun.{Call, EmittedValues, used_value, leave, same_case_value}
-use Rattle.shader_runs.specs.ProgramRun.{has_case_value}
-use Rattle.shader_runs.specs.ProgramRun.{case_value_if, run, run_all, run_cases, run_on}
+use Rattle.shader_runs.specs.ProgramRun.{has_case_value, case_value_if, run, run_all, run_cases}
+use Rattle.shader_runs.specs.ProgramRun.{run_on}
 use Rattle.shader_runs.specs.Passes.{Region, Inner, LoopBody, Continuing, here, following, inside}
 use Rattle.shader_runs.specs.Passes.{after_turns, to_body, to_continuing, body_at, statements_in}
 use Rattle.shader_runs.specs.Passes.{module_turn, FallsTo, this_case, next_case, ComesToCase}
 use Rattle.shader_runs.specs.Passes.{own_case, other_case, Comes, into_block, into_accept}
-use Rattle.shader_runs.specs.Passes.{into_reject, into_case, into_loop, Passes, is_here}
-use Rattle.shader_runs.specs.Passes.{goes_after, goes_inside}
+use Rattle.shader_runs.specs.Passes.{into_reject, into_case, into_loop, Passes, is_here, goes_after}
+use Rattle.shader_runs.specs.Passes.{goes_inside}
 use Rattle.shader_runs.specs.Ends.{end_of, is_simple, stops_early, is_early, EndsAt, EndsArePassed}
 use Rattle.shader_runs.proofs.Passes.{same_state, same_events, then_parts, one_more_turn}
 

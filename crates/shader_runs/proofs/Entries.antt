@@ -1,28 +1,23 @@
 -- Each entry that a call's course makes is where a call of that function begins.
 use Rattle.std.proofs.Common.{◌≡◌, ℕ, zero, suc, ◌<◌, Bool, true, false, nat_eq, List, [], ◌∷◌}
-use Rattle.std.proofs.Common.{length, Option, Some, None, option_and_then, refl, ap, ◌∙◌}
-use Rattle.std.proofs.Common.{arith}
+use Rattle.std.proofs.Common.{length, Option, Some, None, option_and_then, refl, ap, ◌∙◌, arith}
 use Rattle.std.proofs.lemmas.Bool.{eq-eqb, ne_eqb}
 use Rattle.shader_runs.specs.Value.{Bytes, PartTypes, ValueType, Value, integer_in, place_in}
 use Rattle.shader_runs.specs.Value.{truth_in}
-use Rattle.shader_runs.specs.World.{Event, Entry, Ask, Read, entries, Meaning}
-use Rattle.shader_runs.specs.World.{Environment}
-use Rattle.shader_runs.specs.Program.{Expression, Load}
-use Rattle.shader_runs.specs.Program.{Request}
-use Rattle.shader_runs.specs.Program.{Action, Asked, Called, CaseValue, Numbered, Statement, Emit}
-use Rattle.shader_runs.specs.Program.{Store, Block, If, Switch, Loop, Break, Continue, Return}
-use Rattle.shader_runs.specs.Program.{Barrier, Act, Statements, end, then, Cases, no_case, case}
-use Rattle.shader_runs.specs.Program.{Function, argument_count, expression_of, handle_type}
-use Rattle.shader_runs.specs.Program.{is_counted, from, Jumps}
+use Rattle.shader_runs.specs.World.{Event, Entry, Ask, Read, entries, Meaning, Environment}
+use Rattle.shader_runs.specs.Program.{Expression, Load, Request, Action, Asked, Called, CaseValue}
+use Rattle.shader_runs.specs.Program.{Numbered, Statement, Emit, Store, Block, If, Switch, Loop}
+use Rattle.shader_runs.specs.Program.{Break, Continue, Return, Barrier, Act, Statements, end, then}
+use Rattle.shader_runs.specs.Program.{Cases, no_case, case, Function, argument_count, expression_of}
+use Rattle.shader_runs.specs.Program.{handle_type, is_counted, from, Jumps}
 use Rattle.shader_runs.specs.ProgramRun.{Call, EmittedValues, constant_values, used_value}
-use Rattle.shader_runs.specs.ProgramRun.{used_values}
-use Rattle.shader_runs.specs.ProgramRun.{joined_values, barrier_words, same_case_value}
-use Rattle.shader_runs.specs.ProgramRun.{has_case_value}
-use Rattle.shader_runs.specs.ProgramRun.{case_value_if, constants_kept, first_used_all}
+use Rattle.shader_runs.specs.ProgramRun.{used_values, joined_values, barrier_words, same_case_value}
+use Rattle.shader_runs.specs.ProgramRun.{has_case_value, case_value_if, constants_kept}
+use Rattle.shader_runs.specs.ProgramRun.{first_used_all}
 use Rattle.shader_runs.proofs.Process.{Pause, DoneWith, ContinuedWith, BrokeWith, ReturnedWith}
-use Rattle.shader_runs.proofs.Process.{Process, gives, stuck, looks, sequence, then_on}
-use Rattle.shader_runs.proofs.Process.{continue_on, inside, following_switch, on_there, if_true}
-use Rattle.shader_runs.proofs.Process.{on_truth, keeping, load_process, ask_process, asks_process}
+use Rattle.shader_runs.proofs.Process.{Process, gives, stuck, looks, sequence, then_on, continue_on}
+use Rattle.shader_runs.proofs.Process.{inside, following_switch, on_there, if_true, on_truth}
+use Rattle.shader_runs.proofs.Process.{keeping, load_process, ask_process, asks_process}
 use Rattle.shader_runs.proofs.Process.{answer_back, result_process, answers_call, entry_process}
 use Rattle.shader_runs.proofs.Process.{emit_one, emit_process, act_process, leave_process}
 use Rattle.shader_runs.proofs.Process.{return_process, statement_process, list_process}

@@ -1,8 +1,7 @@
 -- What a text's expression gives where it makes no event, by its parts.
 use Rattle.std.proofs.Common.{◌≡◌, ℕ, Bool, true, false, cond, List, [], ◌∷◌, Option, Some, None}
 use Rattle.std.proofs.Common.{refl, sym, ap, ◌∙◌, true≢false, ℤ, option_map, subst}
-use Rattle.std.specs.Prelude.{option_and_then}
-use Rattle.std.specs.Prelude.{IsTrue}
+use Rattle.std.specs.Prelude.{option_and_then, IsTrue}
 use Rattle.shader_runs.specs.Value.{Bytes, PartTypes, position_at, place_to, Selector, MemberNamed}
 use Rattle.shader_runs.specs.Value.{ValueType, PointerType, has_type, has_types, Value, Truth}
 use Rattle.shader_runs.specs.Value.{Whole, Pointer, Spelled, PartWord, IndexWord, ShortCircuit}
@@ -11,18 +10,16 @@ use Rattle.shader_runs.specs.World.{Event, Ask, World, Meaning}
 use Rattle.shader_runs.specs.Outcome.{ReachedOrHalted, Gives, reach, unless}
 use Rattle.shader_runs.specs.Program.{Module, Function, function_numbered, Expression}
 use Rattle.shader_runs.specs.ProgramRun.{Call, EmittedValues, used_value, also, used_values}
-use Rattle.shader_runs.specs.ProgramRun.{operator_value}
-use Rattle.shader_runs.specs.ProgramRun.{index_value_of, part_value, swizzle_value, decides}
-use Rattle.shader_runs.specs.ProgramRun.{undecided_value, combined_value, gathered_value}
+use Rattle.shader_runs.specs.ProgramRun.{operator_value, index_value_of, part_value, swizzle_value}
+use Rattle.shader_runs.specs.ProgramRun.{decides, undecided_value, combined_value, gathered_value}
 use Rattle.shader_runs.specs.ProgramRun.{index_value_by, part_value_by}
 use Rattle.shader_runs.specs.Text.{Index, PartOf, LogicalOf}
 use Rattle.shader_runs.specs.TextRun.{part_reached, index_reached, index_into, part_picked}
 use Rattle.shader_runs.specs.TextRun.{undecided_reached, logical_reached, Denotation, IsValue}
-use Rattle.shader_runs.specs.TextRun.{IsPlace, place_picked}
-use Rattle.shader_runs.specs.TextRun.{Words, Scope, read_value, word_answer, as_value, dereference}
-use Rattle.shader_runs.specs.TextRun.{address_reached, put_before, followed_by, evaluate}
-use Rattle.shader_runs.specs.TextRun.{evaluate_all, value_of, AsksForEvent, Operates}
-use Rattle.shader_runs.specs.TextRun.{respond_by_use}
+use Rattle.shader_runs.specs.TextRun.{IsPlace, place_picked, Words, Scope, read_value, word_answer}
+use Rattle.shader_runs.specs.TextRun.{as_value, dereference, address_reached, put_before}
+use Rattle.shader_runs.specs.TextRun.{followed_by, evaluate, evaluate_all, value_of, AsksForEvent}
+use Rattle.shader_runs.specs.TextRun.{Operates, respond_by_use}
 use Rattle.shader_runs.specs.Scope.{Names, Naming}
 use Rattle.shader_runs.specs.Form.{Plain, AsValue, AsPlace, value_form, place_form, value_forms}
 use Rattle.shader_runs.specs.Form.{access_form, part_form}

@@ -5,28 +5,24 @@ use Rattle.std.proofs.Common.{true≢false, arith, ltb-true}
 use Rattle.std.specs.Prelude.{IsTrue}
 use Rattle.std.proofs.lemmas.Option.{slice_get_within, same_Some, none-some}
 use Rattle.shader_runs.specs.Value.{Bytes, PartTypes, Rooted, GlobalRoot, LocalRoot, Selector}
-use Rattle.shader_runs.specs.Value.{ShortCircuit, ValueType, PointerType, type_at}
-use Rattle.shader_runs.specs.Value.{has_type, has_types, Value, Pointer}
-use Rattle.shader_runs.specs.Value.{Spelled}
+use Rattle.shader_runs.specs.Value.{ShortCircuit, ValueType, PointerType, type_at, has_type}
+use Rattle.shader_runs.specs.Value.{has_types, Value, Pointer, Spelled}
 use Rattle.shader_runs.specs.World.{Event, GlobalValue, Stored, InHandleSpace, Environment, Meaning}
 use Rattle.shader_runs.specs.Program.{ConstantTree, ConstantTrees, Expression, Constant, Argument}
 use Rattle.shader_runs.specs.Program.{Local, Global, Load, Operator, Access, AccessIndex, Logical}
 use Rattle.shader_runs.specs.Program.{Swizzle, Request, Result, argument_count, local_count}
 use Rattle.shader_runs.specs.Program.{local_pointer, expression_of, handle_type, operands_of}
 use Rattle.shader_runs.specs.Program.{VariableShape, Held, AtPlace, is_held, variable_type}
-use Rattle.shader_runs.specs.Program.{variable_shape_at, Module}
-use Rattle.shader_runs.specs.Program.{is_pure}
+use Rattle.shader_runs.specs.Program.{variable_shape_at, Module, is_pure}
 use Rattle.shader_runs.specs.ProgramRun.{Call, EmittedValues, constant_value, constant_values}
-use Rattle.shader_runs.specs.ProgramRun.{global_value}
-use Rattle.shader_runs.specs.ProgramRun.{used_value_as, used_value, also, used_values}
+use Rattle.shader_runs.specs.ProgramRun.{global_value, used_value_as, used_value, also, used_values}
 use Rattle.shader_runs.specs.ProgramRun.{joined_values, operator_value, combined_value}
 use Rattle.shader_runs.specs.ProgramRun.{gathered_value, computed_value}
 use Rattle.shader_runs.specs.Text.{Name}
 use Rattle.shader_runs.specs.TextRun.{Scope, word_answer, followed_by, as_value, evaluate}
 use Rattle.shader_runs.specs.TextRun.{evaluate_all, value_of}
 use Rattle.shader_runs.specs.Scope.{Availability, Absent, Barred, Everywhere, Inline, Bound}
-use Rattle.shader_runs.specs.Scope.{Handles}
-use Rattle.shader_runs.specs.Scope.{Names, usable, usable_as, usable_all, is_present}
+use Rattle.shader_runs.specs.Scope.{Handles, Names, usable, usable_as, usable_all, is_present}
 use Rattle.shader_runs.specs.Form.{Plain, AsValue, AsPlace, value_form, place_form}
 use Rattle.shader_runs.specs.Form.{value_forms_then, constant_form, constant_forms, global_form}
 use Rattle.shader_runs.specs.Form.{own_form, availability_form, written_below, written_form}

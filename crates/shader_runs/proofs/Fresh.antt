@@ -4,14 +4,12 @@ use Rattle.std.proofs.Common.{◌∷◌, Option, Some, None, ◌&&◌, ◌||◌,
 use Rattle.std.specs.Prelude.{IsTrue}
 use Rattle.shader_runs.specs.Value.{Bytes}
 use Rattle.shader_runs.specs.Program.{Expression, Statement, Emit, Store, Block, If, Switch, Loop}
-use Rattle.shader_runs.specs.Program.{Return, Barrier, Act, Statements, end}
-use Rattle.shader_runs.specs.Program.{then, Cases, no_case, case, expression_of, operands_of}
-use Rattle.shader_runs.specs.Program.{is_named, binds, from, Module}
-use Rattle.shader_runs.specs.Program.{is_emittable, Jumps}
+use Rattle.shader_runs.specs.Program.{Return, Barrier, Act, Statements, end, then, Cases, no_case}
+use Rattle.shader_runs.specs.Program.{case, expression_of, operands_of, is_named, binds, from}
+use Rattle.shader_runs.specs.Program.{Module, is_emittable, Jumps}
 use Rattle.shader_runs.specs.ProgramRun.{Call}
 use Rattle.shader_runs.specs.Scope.{Availability, Bound, Handles, Names, bound_name, usable}
-use Rattle.shader_runs.specs.Scope.{usable_all}
-use Rattle.shader_runs.specs.Scope.{usable_if, is_new, after_one, named_after}
+use Rattle.shader_runs.specs.Scope.{usable_all, usable_if, is_new, after_one, named_after}
 use Rattle.shader_runs.specs.Scope.{named_after_all, named_by, named_by_all, named_by_cases, after}
 use Rattle.shader_runs.specs.Scope.{after_all, at_start, may_emit, may_emit_all, may_give, fits}
 use Rattle.shader_runs.specs.Scope.{fits_all, fits_cases}

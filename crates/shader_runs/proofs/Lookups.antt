@@ -12,17 +12,13 @@ use Rattle.shader_runs.specs.Program.{Local, Global, Operator, Access, AccessInd
 use Rattle.shader_runs.specs.Program.{Swizzle, Asked, Statement, Emit, Block, If, Switch, Loop, Act}
 use Rattle.shader_runs.specs.Program.{Statements, end, then, argument_count, local_count}
 use Rattle.shader_runs.specs.Program.{expression_of, handle_type, operands_of, is_named, binds}
-use Rattle.shader_runs.specs.Program.{from, holds_continue, Module}
-use Rattle.shader_runs.specs.Program.{is_pure}
+use Rattle.shader_runs.specs.Program.{from, holds_continue, Module, is_pure}
 use Rattle.shader_runs.specs.Scope.{Bound, Handles, Naming, at_start, start_availability}
-use Rattle.shader_runs.specs.Scope.{bound_name}
-use Rattle.shader_runs.specs.Scope.{is_present, usable_as, usable_if, usable_all}
+use Rattle.shader_runs.specs.Scope.{bound_name, is_present, usable_as, usable_if, usable_all}
 use Rattle.shader_runs.specs.Scope.{all_constant, constant_test, is_constant_below}
-use Rattle.shader_runs.specs.Scope.{availability_without_name}
-use Rattle.shader_runs.specs.Scope.{with_emitted_handle, named_after, named_after_all, named_by}
-use Rattle.shader_runs.specs.Scope.{named_by_all}
-use Rattle.shader_runs.specs.Scope.{after_one, after_emit, after_result, after, after_all}
-use Rattle.shader_runs.specs.Scope.{forgotten_if, before_local}
+use Rattle.shader_runs.specs.Scope.{availability_without_name, with_emitted_handle, named_after}
+use Rattle.shader_runs.specs.Scope.{named_after_all, named_by, named_by_all, after_one, after_emit}
+use Rattle.shader_runs.specs.Scope.{after_result, after, after_all, forgotten_if, before_local}
 use Rattle.shader_runs.specs.Form.{constant_form, constant_forms, written_form, value_if}
 use Rattle.shader_runs.specs.Form.{names_from}
 use Rattle.shader_runs.specs.Premises.{FixedName, ArgumentName, LocalName, ConstantName, GlobalName}

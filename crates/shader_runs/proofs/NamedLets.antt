@@ -15,8 +15,7 @@ use Rattle.shader_runs.specs.Form.{word_of, act_line, perform_each, form, form_a
 use Rattle.shader_runs.specs.Form.{form_functions}
 use Rattle.shader_runs.specs.NamedLets.{lines_lets, groups_lets, NamedLet, emit_named_lets}
 use Rattle.shader_runs.specs.NamedLets.{result_named_lets, statement_named_lets}
-use Rattle.shader_runs.specs.NamedLets.{statements_named_lets}
-use Rattle.shader_runs.specs.NamedLets.{cases_named_lets, bound_names}
+use Rattle.shader_runs.specs.NamedLets.{statements_named_lets, cases_named_lets, bound_names}
 use Rattle.shader_runs.specs.Identifiers.{BindsAsMeant, FunctionBindsAsMeant}
 
 -- the names of handles that are bound

@@ -3,8 +3,8 @@ use Rattle.std.proofs.Common.{◌≡◌, ◌≢◌, ℕ, zero, suc, ◌+◌, ◌
 use Rattle.std.proofs.Common.{false, length, Option, Some, None, ◌||◌, slice_get, refl, sym, ap}
 use Rattle.std.proofs.Common.{◌∙◌, true≢false, arith, map}
 use Rattle.std.specs.Prelude.{IsTrue}
-use Rattle.shader_runs.specs.Value.{Bytes, same_bytes, PartTypes, Rooted}
-use Rattle.shader_runs.specs.Value.{GlobalRoot, LocalRoot, PointerType, Value}
+use Rattle.shader_runs.specs.Value.{Bytes, same_bytes, PartTypes, Rooted, GlobalRoot, LocalRoot}
+use Rattle.shader_runs.specs.Value.{PointerType, Value}
 use Rattle.shader_runs.specs.World.{GlobalValue, Stored, InHandleSpace, bind, Environment}
 use Rattle.shader_runs.specs.Program.{local_pointer, VariableShape, Held, AtPlace, pointer_to}
 use Rattle.shader_runs.specs.Program.{Module}
@@ -14,13 +14,11 @@ use Rattle.shader_runs.specs.TextRun.{no_names}
 use Rattle.shader_runs.specs.Scope.{Naming, ModuleNames}
 use Rattle.shader_runs.specs.Form.{names_from, variables_from, globals_from, functions_of}
 use Rattle.shader_runs.specs.Form.{form_functions}
-use Rattle.shader_runs.specs.Premises.{choice_fits, choices_fit, global_fits, globals_fit}
-use Rattle.shader_runs.specs.Premises.{AllFit}
+use Rattle.shader_runs.specs.Premises.{choice_fits, choices_fit, global_fits, globals_fit, AllFit}
 use Rattle.shader_runs.specs.Correct.{AreNamed, ItemsFit, ModuleFits}
 use Rattle.shader_runs.specs.Text.{TextFunction}
 use Rattle.shader_runs.proofs.Update.{and_left, and_right, and_both, same_bytes_true}
-use Rattle.shader_runs.proofs.Update.{same_bytes_apart, same_type_self}
-use Rattle.shader_runs.proofs.Update.{bind_same, bind_other}
+use Rattle.shader_runs.proofs.Update.{same_bytes_apart, same_type_self, bind_same, bind_other}
 use Rattle.shader_runs.proofs.Relation.{as_denoted, stored_denoted, global_as}
 use Rattle.std.proofs.lemmas.List.{length-map}
 use Rattle.shader_runs.specs.Constants.{known_value, global_value_by, global_values}

@@ -2,46 +2,37 @@
 --
 -- Throughout, f is the function and g its number, others and later stand after it in the module and in
 -- the text, uncalled and between stand between it and its callees there.
-use Rattle.std.proofs.Common.{◌≡◌, ◌≢◌, ℕ, ◌+◌, ◌<◌, ◌≤◌, Bool, true, false, cond, nat_eq}
-use Rattle.std.proofs.Common.{List, [], ◌∷◌, ◌++◌, length, Option, Some, refl, sym}
-use Rattle.std.proofs.Common.{ap, ap₂, ◌∙◌, append_assoc, subst, arith, eqb-true}
+use Rattle.std.proofs.Common.{◌≡◌, ◌≢◌, ℕ, ◌+◌, ◌<◌, ◌≤◌, Bool, true, false, cond, nat_eq, List, []}
+use Rattle.std.proofs.Common.{◌∷◌, ◌++◌, length, Option, Some, refl, sym, ap, ap₂, ◌∙◌}
+use Rattle.std.proofs.Common.{append_assoc, subst, arith, eqb-true}
 use Rattle.std.proofs.lemmas.List.{length-append}
 use Rattle.std.proofs.lemmas.Option.{none-some, same_Some}
 use Rattle.std.proofs.lemmas.Bool.{eq-eqb, eqb-false, ne_eqb}
 use Rattle.std.specs.Prelude.{IsTrue, ◌||◌}
 use Rattle.shader_runs.specs.Value.{Bytes, same_bytes, PartTypes, has_types, Value}
-use Rattle.shader_runs.specs.World.{Event, World, Meaning, Environment}
-use Rattle.shader_runs.specs.World.{Settings}
+use Rattle.shader_runs.specs.World.{Event, World, Meaning, Environment, Settings}
 use Rattle.shader_runs.specs.Outcome.{ReachedOrHalted}
-use Rattle.shader_runs.specs.Program.{Function, argument_count}
-use Rattle.shader_runs.specs.Program.{function_numbered}
-use Rattle.shader_runs.specs.Program.{Module}
-use Rattle.shader_runs.specs.ProgramRun.{Call, run_if_arguments_fit}
-use Rattle.shader_runs.specs.ProgramRun.{run_body}
-use Rattle.shader_runs.specs.ProgramRun.{run_call}
+use Rattle.shader_runs.specs.Program.{Function, argument_count, function_numbered, Module}
+use Rattle.shader_runs.specs.ProgramRun.{Call, run_if_arguments_fit, run_body, run_call}
 use Rattle.shader_runs.proofs.Callees.{body_runs}
 use Rattle.shader_runs.specs.TextRun.{Scope, WordUse, NamesFunction, AsksForEvent, Operates}
-use Rattle.shader_runs.specs.TextRun.{MeansNothing}
-use Rattle.shader_runs.specs.TextRun.{is_operation, names_function, word_use}
+use Rattle.shader_runs.specs.TextRun.{MeansNothing, is_operation, names_function, word_use}
 use Rattle.shader_runs.specs.TextRun.{follow_call}
 use Rattle.shader_runs.specs.Scope.{ModuleNames, Naming}
-use Rattle.shader_runs.specs.Form.{form_function, form_functions, form_module}
-use Rattle.shader_runs.specs.Form.{form_module_with, functions_of}
-use Rattle.shader_runs.specs.Premises.{AllFit, EnvironmentFits, AllTypedIn}
-use Rattle.shader_runs.specs.Premises.{SettingsFit, IsTyped}
+use Rattle.shader_runs.specs.Form.{form_function, form_functions, form_module, form_module_with}
+use Rattle.shader_runs.specs.Form.{functions_of}
+use Rattle.shader_runs.specs.Premises.{AllFit, EnvironmentFits, AllTypedIn, SettingsFit, IsTyped}
+use Rattle.shader_runs.specs.Premises.{ModuleNamesAreDistinct}
 use Rattle.shader_runs.specs.Correct.{AreNamed, InitialisersAreAlike, ItemsFit, KeepsTypes, OneFits}
 use Rattle.shader_runs.specs.Correct.{OneRunsAlike, RunsAlike}
 use Rattle.shader_runs.specs.Text.{TextFunction}
-use Rattle.shader_runs.specs.Premises.{ModuleNamesAreDistinct}
 use Rattle.shader_runs.specs.Constants.{environment_of, follow_module, module_scope, run_module}
 use Rattle.shader_runs.proofs.Alike.{Answers, same_answer, mistyped_answer}
 use Rattle.shader_runs.proofs.Update.{same_bytes_equal, same_bytes_apart, same_bytes_self}
 use Rattle.shader_runs.proofs.Relation.{Returns}
 use Rattle.shader_runs.proofs.Evaluation.{Respond}
-use Rattle.shader_runs.proofs.Names.{length-functions_of}
-use Rattle.shader_runs.proofs.Names.{items_fit, length-form_functions}
-use Rattle.shader_runs.proofs.Names.{module_names_in_scope}
-use Rattle.shader_runs.proofs.Names.{no_name_among}
+use Rattle.shader_runs.proofs.Names.{length-functions_of, items_fit, length-form_functions}
+use Rattle.shader_runs.proofs.Names.{module_names_in_scope, no_name_among}
 use Rattle.shader_runs.proofs.Constants.{environment_fits, initialiser_is, scope_is}
 use Rattle.shader_runs.proofs.Calls.{AreAlike, UsesFit, by_use, call_alike, call_over, calls_alike}
 use Rattle.shader_runs.proofs.Calls.{numbered_within, skipped, starting, text_call}

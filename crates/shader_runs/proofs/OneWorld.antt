@@ -8,10 +8,8 @@ use Rattle.std.specs.Option.{option_map_or}
 use Rattle.std.proofs.lemmas.Bool.{cases_lt}
 use Rattle.shader_runs.specs.Value.{ValueType, has_types, Value, Truth}
 use Rattle.shader_runs.specs.World.{Event, Entry, Ask, Read, Write, Discard, entries, World}
-use Rattle.shader_runs.specs.World.{Meaning}
-use Rattle.shader_runs.specs.World.{Environment, Settings}
-use Rattle.shader_runs.specs.Outcome.{Mistyped}
-use Rattle.shader_runs.specs.Outcome.{ReachedOrHalted, Gives, Halts}
+use Rattle.shader_runs.specs.World.{Meaning, Environment, Settings}
+use Rattle.shader_runs.specs.Outcome.{Mistyped, ReachedOrHalted, Gives, Halts}
 use Rattle.shader_runs.specs.Program.{Function, function_numbered, Module}
 use Rattle.shader_runs.specs.Constants.{environment_of, module_scope, follow_module, run_module}
 use Rattle.shader_runs.specs.TextRun.{word_use}
@@ -29,8 +27,8 @@ use Rattle.shader_runs.proofs.Courses.{run_filled, HasNoMistake, filled_right, f
 use Rattle.shader_runs.proofs.Courses.{asks_later, asks_before, or_else, asked, none_asked}
 use Rattle.shader_runs.proofs.Courses.{is_asked_at}
 use Rattle.shader_runs.proofs.Bounds.{course_cut, asks_with_more, asks_with_fewer}
-use Rattle.shader_runs.proofs.Entries.{IsNoEntry, opened_filled, opened_asks, BeginsCall}
-use Rattle.shader_runs.proofs.Entries.{Entered, call_course, call_enters, IsOpening, call_opens}
+use Rattle.shader_runs.proofs.Entries.{IsNoEntry, opened_filled, opened_asks, BeginsCall, Entered}
+use Rattle.shader_runs.proofs.Entries.{call_course, call_enters, IsOpening, call_opens}
 use Rattle.shader_runs.proofs.Settles.{settled_events, call_settles}
 use Rattle.shader_runs.proofs.Typing.{default_value}
 

@@ -9,37 +9,34 @@ use Rattle.shader_runs.specs.Outcome.{Stop, Outcome, Done, Continued, Broke, Ret
 use Rattle.shader_runs.specs.Outcome.{ReachedOrHalted, Gives, Halts, Next, and_then, and_continue}
 use Rattle.shader_runs.specs.Outcome.{after_switch, branch_by, with_integer, closed_outcome}
 use Rattle.shader_runs.specs.Outcome.{closed_if, or_stuck, reach, unless}
-use Rattle.shader_runs.specs.Program.{expression_of, CaseValue, Numbered, Statement, Emit}
-use Rattle.shader_runs.specs.Program.{Store, Block, If, Switch, Loop, Break, Continue, Return}
-use Rattle.shader_runs.specs.Program.{Barrier, Act, Statements, end, then, Cases, no_case, case}
-use Rattle.shader_runs.specs.Program.{Module, binds, from, holds_continue, any_continue, Jumps}
+use Rattle.shader_runs.specs.Program.{expression_of, CaseValue, Numbered, Statement, Emit, Store}
+use Rattle.shader_runs.specs.Program.{Block, If, Switch, Loop, Break, Continue, Return, Barrier}
+use Rattle.shader_runs.specs.Program.{Act, Statements, end, then, Cases, no_case, case, Module}
+use Rattle.shader_runs.specs.Program.{binds, from, holds_continue, any_continue, Jumps}
 use Rattle.shader_runs.specs.ProgramRun.{Call, EmittedValues, used_value, emit, emit_as}
-use Rattle.shader_runs.specs.ProgramRun.{barrier_words}
-use Rattle.shader_runs.specs.ProgramRun.{ask_each, same_case_value, case_value_if, run, run_all}
+use Rattle.shader_runs.specs.ProgramRun.{barrier_words, ask_each, same_case_value, case_value_if}
+use Rattle.shader_runs.specs.ProgramRun.{run, run_all}
 use Rattle.shader_runs.specs.Text.{Tree, Line, Let, Braces, IfElse, SwitchOn, LoopOf, Lines, last}
 use Rattle.shader_runs.specs.Text.{before, Groups}
 use Rattle.shader_runs.specs.TextRun.{Scope, perform_outcome, value_of, with_value, has_continue}
-use Rattle.shader_runs.specs.TextRun.{AsksForEvent, respond_by_use}
-use Rattle.shader_runs.specs.TextRun.{among, group_has, follow, follow_all, follow_in_loop}
-use Rattle.shader_runs.specs.TextRun.{follow_groups}
+use Rattle.shader_runs.specs.TextRun.{AsksForEvent, respond_by_use, among, group_has, follow}
+use Rattle.shader_runs.specs.TextRun.{follow_all, follow_in_loop, follow_groups}
 use Rattle.shader_runs.specs.Scope.{usable, Handles, Names, bound_name, after_one, named_after}
 use Rattle.shader_runs.specs.Scope.{named_after_all, after_emit, named_by, named_by_all, after}
 use Rattle.shader_runs.specs.Scope.{after_all, forgotten_if}
 use Rattle.shader_runs.specs.Form.{written_form, value_at, value_if, value_form, own_form, let_if}
-use Rattle.shader_runs.specs.Form.{lets}
-use Rattle.shader_runs.specs.Form.{perform_each, form, form_all, form_cases}
+use Rattle.shader_runs.specs.Form.{lets, perform_each, form, form_all, form_cases}
 use Rattle.shader_runs.specs.Premises.{EachAsks}
 use Rattle.shader_runs.specs.Passes.{Region, Point, here, following, inside, after_turns, InTurn}
 use Rattle.shader_runs.specs.Passes.{to_body, to_continuing, to_break_if, body_at, statements_in}
 use Rattle.shader_runs.specs.Passes.{module_turn, FallsTo, this_case, next_case, ComesToCase}
 use Rattle.shader_runs.specs.Passes.{own_case, other_case, Comes, into_block, into_accept}
-use Rattle.shader_runs.specs.Passes.{into_reject, into_case, into_loop, Passes, is_here}
-use Rattle.shader_runs.specs.Passes.{goes_after, goes_inside, emits, lines_at, lines_in, text_turn}
-use Rattle.shader_runs.specs.Passes.{GoesToGroup, own_group, other_group, into_braces, into_then}
-use Rattle.shader_runs.specs.Passes.{into_else, into_group, into_loop_line, TextPasses}
-use Rattle.shader_runs.specs.Passes.{is_here_in_text, goes_after_line, goes_inside_line, let_count}
-use Rattle.shader_runs.specs.Passes.{line_count, after_lines, group_of, region_in_text}
-use Rattle.shader_runs.specs.Passes.{point_in_text}
+use Rattle.shader_runs.specs.Passes.{into_reject, into_case, into_loop, Passes, is_here, goes_after}
+use Rattle.shader_runs.specs.Passes.{goes_inside, emits, lines_at, lines_in, text_turn, GoesToGroup}
+use Rattle.shader_runs.specs.Passes.{own_group, other_group, into_braces, into_then, into_else}
+use Rattle.shader_runs.specs.Passes.{into_group, into_loop_line, TextPasses, is_here_in_text}
+use Rattle.shader_runs.specs.Passes.{goes_after_line, goes_inside_line, let_count, line_count}
+use Rattle.shader_runs.specs.Passes.{after_lines, group_of, region_in_text, point_in_text}
 use Rattle.shader_runs.specs.Points.{named_before, named_in, handles_in, handles_at}
 use Rattle.shader_runs.proofs.Alike.{Alike, done, continued, broke, returned_alike, stopped}
 use Rattle.shader_runs.proofs.Alike.{mistyped, weaker, continue_alike}

@@ -7,38 +7,34 @@ use Rattle.shader_runs.specs.Value.{integer_in, place_in}
 use Rattle.shader_runs.specs.World.{Event, Entry, Ask, Read, Write, entries, World, Meaning}
 use Rattle.shader_runs.specs.World.{Environment, update}
 use Rattle.shader_runs.specs.Outcome.{Outcome, Done, Continued, Broke, Returned, Stopped}
-use Rattle.shader_runs.specs.Outcome.{ReachedOrHalted}
-use Rattle.shader_runs.specs.Outcome.{Gives, Halts, answer, Next, and_then, and_continue, within}
-use Rattle.shader_runs.specs.Outcome.{turn, and_again, turns, after_switch, branch_by, with_integer}
-use Rattle.shader_runs.specs.Outcome.{or_stuck}
-use Rattle.shader_runs.specs.Program.{Expression, Load, Operator, Access, AccessIndex}
-use Rattle.shader_runs.specs.Program.{Logical, Swizzle, Request, Action, Asked, Called, CaseValue}
-use Rattle.shader_runs.specs.Program.{Numbered, Statement, Emit, Store, Block, If, Switch, Loop}
-use Rattle.shader_runs.specs.Program.{Return, Barrier, Act, Statements, end}
-use Rattle.shader_runs.specs.Program.{then, Cases, no_case, case, Function, argument_count}
-use Rattle.shader_runs.specs.Program.{expression_of, handle_type, operands_of, is_counted}
-use Rattle.shader_runs.specs.Program.{from, Jumps}
+use Rattle.shader_runs.specs.Outcome.{ReachedOrHalted, Gives, Halts, answer, Next, and_then}
+use Rattle.shader_runs.specs.Outcome.{and_continue, within, turn, and_again, turns, after_switch}
+use Rattle.shader_runs.specs.Outcome.{branch_by, with_integer, or_stuck}
+use Rattle.shader_runs.specs.Program.{Expression, Load, Operator, Access, AccessIndex, Logical}
+use Rattle.shader_runs.specs.Program.{Swizzle, Request, Action, Asked, Called, CaseValue, Numbered}
+use Rattle.shader_runs.specs.Program.{Statement, Emit, Store, Block, If, Switch, Loop, Return}
+use Rattle.shader_runs.specs.Program.{Barrier, Act, Statements, end, then, Cases, no_case, case}
+use Rattle.shader_runs.specs.Program.{Function, argument_count, expression_of, handle_type}
+use Rattle.shader_runs.specs.Program.{operands_of, is_counted, from, Jumps}
 use Rattle.shader_runs.specs.ProgramRun.{Call, EmittedValues, constant_values, used_value}
-use Rattle.shader_runs.specs.ProgramRun.{used_value_as}
-use Rattle.shader_runs.specs.ProgramRun.{also, used_values, gathered_value, computed_value}
-use Rattle.shader_runs.specs.ProgramRun.{joined_values, if_typed, keep_typed, after_load}
-use Rattle.shader_runs.specs.ProgramRun.{after_request, if_counted, emit_as, emit, leave}
-use Rattle.shader_runs.specs.ProgramRun.{return_outcome, action_answer, with_result, barrier_words}
-use Rattle.shader_runs.specs.ProgramRun.{ask_each, same_case_value, has_case_value, case_value_if}
-use Rattle.shader_runs.specs.ProgramRun.{run, run_all}
-use Rattle.shader_runs.specs.ProgramRun.{run_cases, run_on, constants_kept, with_first, first_used}
-use Rattle.shader_runs.specs.ProgramRun.{first_used_all, run_from_entry, run_body}
-use Rattle.shader_runs.specs.ProgramRun.{run_if_arguments_fit, run_call}
+use Rattle.shader_runs.specs.ProgramRun.{used_value_as, also, used_values, gathered_value}
+use Rattle.shader_runs.specs.ProgramRun.{computed_value, joined_values, if_typed, keep_typed}
+use Rattle.shader_runs.specs.ProgramRun.{after_load, after_request, if_counted, emit_as, emit}
+use Rattle.shader_runs.specs.ProgramRun.{leave, return_outcome, action_answer, with_result}
+use Rattle.shader_runs.specs.ProgramRun.{barrier_words, ask_each, same_case_value, has_case_value}
+use Rattle.shader_runs.specs.ProgramRun.{case_value_if, run, run_all, run_cases, run_on}
+use Rattle.shader_runs.specs.ProgramRun.{constants_kept, with_first, first_used, first_used_all}
+use Rattle.shader_runs.specs.ProgramRun.{run_from_entry, run_body, run_if_arguments_fit, run_call}
 use Rattle.shader_runs.proofs.Process.{Pause, DoneWith, ContinuedWith, BrokeWith, ReturnedWith}
 use Rattle.shader_runs.proofs.Process.{Process, gives, stuck, tells, looks, sequence, answered}
 use Rattle.shader_runs.proofs.Process.{resumed, again, rounds, perform, then_on, continue_on}
 use Rattle.shader_runs.proofs.Process.{inside, following_switch, on_there, on_truth, if_true}
-use Rattle.shader_runs.proofs.Process.{keeping}
-use Rattle.shader_runs.proofs.Process.{load_process, ask_process, asks_process, answer_back}
-use Rattle.shader_runs.proofs.Process.{result_process, answers_call, entry_process, emit_one}
-use Rattle.shader_runs.proofs.Process.{emit_process, act_process, leave_process, return_process}
-use Rattle.shader_runs.proofs.Process.{statement_process, list_process, cases_process, on_process}
-use Rattle.shader_runs.proofs.Process.{body_process, call_in, call_alone, call_process}
+use Rattle.shader_runs.proofs.Process.{keeping, load_process, ask_process, asks_process}
+use Rattle.shader_runs.proofs.Process.{answer_back, result_process, answers_call, entry_process}
+use Rattle.shader_runs.proofs.Process.{emit_one, emit_process, act_process, leave_process}
+use Rattle.shader_runs.proofs.Process.{return_process, statement_process, list_process}
+use Rattle.shader_runs.proofs.Process.{cases_process, on_process, body_process, call_in, call_alone}
+use Rattle.shader_runs.proofs.Process.{call_process}
 
 -- what a performed process is as an outcome, and as what a call gives
 abbrev outcome : ReachedOrHalted Pause → Outcome EmittedValues

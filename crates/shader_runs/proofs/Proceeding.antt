@@ -1,32 +1,22 @@
 -- How far a run gets: an outcome that is not stuck, and with what values.
-use Rattle.std.proofs.Common.{◌≡◌, ℕ, zero, suc, Bool, true, false, cond, nat_eq, List}
-use Rattle.std.proofs.Common.{Option, Some, None, refl, sym, ap, ◌∙◌, subst}
-use Rattle.std.proofs.Common.{eqb-true}
+use Rattle.std.proofs.Common.{◌≡◌, ℕ, zero, suc, Bool, true, false, cond, nat_eq, List, Option}
+use Rattle.std.proofs.Common.{Some, None, refl, sym, ap, ◌∙◌, subst, eqb-true}
 use Rattle.std.specs.Prelude.{IsTrue, ℤ}
 use Rattle.shader_runs.specs.Value.{Bytes, PartTypes, Place, ValueType, has_type, has_types, Value}
 use Rattle.shader_runs.specs.Value.{Pointer}
 use Rattle.shader_runs.specs.World.{Event, update}
 use Rattle.shader_runs.specs.Outcome.{Stop, Outcome, Done, Continued, Broke, Returned, Stopped}
 use Rattle.shader_runs.specs.Outcome.{ReachedOrHalted, Gives, Halts, answer, Next, and_then}
-use Rattle.shader_runs.specs.Outcome.{and_continue}
-use Rattle.shader_runs.specs.Outcome.{within, and_again, turns, after_switch, branch_by}
-use Rattle.shader_runs.specs.Outcome.{with_integer, or_stuck}
-use Rattle.shader_runs.specs.Program.{Function}
-use Rattle.shader_runs.specs.Program.{function_numbered, expression_of}
-use Rattle.shader_runs.specs.Program.{handle_type, operands_of}
-use Rattle.shader_runs.specs.Program.{Module}
-use Rattle.shader_runs.specs.ProgramRun.{Call, EmittedValues}
-use Rattle.shader_runs.specs.ProgramRun.{if_typed}
-use Rattle.shader_runs.specs.ProgramRun.{with_pointer}
+use Rattle.shader_runs.specs.Outcome.{and_continue, within, and_again, turns, after_switch}
+use Rattle.shader_runs.specs.Outcome.{branch_by, with_integer, or_stuck}
+use Rattle.shader_runs.specs.Program.{Function, function_numbered, expression_of, handle_type}
+use Rattle.shader_runs.specs.Program.{operands_of, Module}
+use Rattle.shader_runs.specs.ProgramRun.{Call, EmittedValues, if_typed, with_pointer}
 use Rattle.shader_runs.specs.Scope.{Availability, Absent, Barred, Everywhere, Inline, Bound}
-use Rattle.shader_runs.specs.Scope.{Handles}
-use Rattle.shader_runs.specs.Scope.{is_present}
-use Rattle.shader_runs.specs.Scope.{usable_all, availability_without_name}
+use Rattle.shader_runs.specs.Scope.{Handles, is_present, usable_all, availability_without_name}
 use Rattle.shader_runs.specs.Scope.{forgotten_handles, forgotten_one}
-use Rattle.shader_runs.specs.Premises.{LeafFits}
-use Rattle.shader_runs.specs.Premises.{IsTypedIn, EnvironmentFits}
-use Rattle.shader_runs.specs.Progress.{IsPointer, IsInteger, IsBoolean, LoadFits}
-use Rattle.shader_runs.specs.Progress.{NotStuck}
+use Rattle.shader_runs.specs.Premises.{LeafFits, IsTypedIn, EnvironmentFits}
+use Rattle.shader_runs.specs.Progress.{IsPointer, IsInteger, IsBoolean, LoadFits, NotStuck}
 use Rattle.shader_runs.proofs.Relation.{TypedValue, Returns, Extends}
 use Rattle.shader_runs.proofs.Evaluation.{pointer_typed, integer_typed, truth_typed}
 

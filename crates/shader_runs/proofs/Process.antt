@@ -8,20 +8,17 @@ use Rattle.shader_runs.specs.World.{Event, Entry, Ask, Read, Write, Discard, ent
 use Rattle.shader_runs.specs.World.{Meaning, Environment, update}
 use Rattle.shader_runs.specs.Outcome.{Stuck, Unreturned, OutOfTurns, Discarded, Mistyped, Outcome}
 use Rattle.shader_runs.specs.Outcome.{Done, Continued, Broke, Returned, Stopped, ReachedOrHalted}
-use Rattle.shader_runs.specs.Outcome.{Gives}
-use Rattle.shader_runs.specs.Outcome.{Halts}
+use Rattle.shader_runs.specs.Outcome.{Gives, Halts}
 use Rattle.shader_runs.specs.Program.{Expression, Load, Operator, Access, AccessIndex, Logical}
 use Rattle.shader_runs.specs.Program.{Swizzle, Request, Action, Asked, Called, CaseValue, Numbered}
 use Rattle.shader_runs.specs.Program.{Statement, Emit, Store, Block, If, Switch, Loop, Break}
-use Rattle.shader_runs.specs.Program.{Continue, Return, Barrier, Act, Statements, end, then}
-use Rattle.shader_runs.specs.Program.{Cases, no_case, case, Function, argument_count, expression_of}
+use Rattle.shader_runs.specs.Program.{Continue, Return, Barrier, Act, Statements, end, then, Cases}
+use Rattle.shader_runs.specs.Program.{no_case, case, Function, argument_count, expression_of}
 use Rattle.shader_runs.specs.Program.{handle_type, is_counted, from, Jump, Jumps}
 use Rattle.shader_runs.specs.ProgramRun.{Call, EmittedValues, constant_values, used_value}
-use Rattle.shader_runs.specs.ProgramRun.{used_values}
-use Rattle.shader_runs.specs.ProgramRun.{computed_value, joined_values, barrier_words}
-use Rattle.shader_runs.specs.ProgramRun.{same_case_value}
-use Rattle.shader_runs.specs.ProgramRun.{has_case_value, case_value_if, constants_kept}
-use Rattle.shader_runs.specs.ProgramRun.{first_used_all}
+use Rattle.shader_runs.specs.ProgramRun.{used_values, computed_value, joined_values, barrier_words}
+use Rattle.shader_runs.specs.ProgramRun.{same_case_value, has_case_value, case_value_if}
+use Rattle.shader_runs.specs.ProgramRun.{constants_kept, first_used_all}
 
 abbrev pub events_of : {S : Type 0} → Outcome S → List Event
 events_of (Done s t) = t

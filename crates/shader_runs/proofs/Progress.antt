@@ -1,6 +1,6 @@
 -- No run of a module is stuck: at each point of it, each handle in scope has a value of its type.
-use Rattle.std.proofs.Common.{◌≡◌, ℕ, suc, min, Bool, true, false, cond, nat_eq, List, []}
-use Rattle.std.proofs.Common.{◌∷◌, length, Option, Some, None, ◌||◌, refl, sym, ap, ◌∙◌, subst}
+use Rattle.std.proofs.Common.{◌≡◌, ℕ, suc, min, Bool, true, false, cond, nat_eq, List, [], ◌∷◌}
+use Rattle.std.proofs.Common.{length, Option, Some, None, ◌||◌, refl, sym, ap, ◌∙◌, subst}
 use Rattle.std.proofs.Common.{true≢false, arith, eq-eqb, option_map}
 use Rattle.std.specs.Prelude.{IsTrue}
 use Rattle.std.proofs.Math.Nat.{min-le_right}
@@ -8,41 +8,32 @@ use Rattle.std.proofs.lemmas.Bool.{ltb-true, lt-ltb}
 use Rattle.std.proofs.lemmas.List.{length-take}
 use Rattle.shader_runs.specs.Value.{Bytes, ValueType, has_type, has_types, Value}
 use Rattle.shader_runs.specs.World.{Event, Entry, Ask, Read, World, Meaning, Environment, update}
-use Rattle.shader_runs.specs.Outcome.{Outcome, Done}
-use Rattle.shader_runs.specs.Outcome.{ReachedOrHalted, Gives, Halts, answer, Next, and_then}
-use Rattle.shader_runs.specs.Outcome.{within, turn, turns, branch_by}
-use Rattle.shader_runs.specs.Outcome.{or_stuck}
-use Rattle.shader_runs.specs.Program.{ConstantTrees, Expression, Local, Load, Operator}
-use Rattle.shader_runs.specs.Program.{Access, AccessIndex, Logical, Swizzle, Request, Action, Asked}
-use Rattle.shader_runs.specs.Program.{Called, CaseValue, Numbered, Statement, Emit, Store, Block}
-use Rattle.shader_runs.specs.Program.{If}
+use Rattle.shader_runs.specs.Outcome.{Outcome, Done, ReachedOrHalted, Gives, Halts, answer, Next}
+use Rattle.shader_runs.specs.Outcome.{and_then, within, turn, turns, branch_by, or_stuck}
+use Rattle.shader_runs.specs.Program.{ConstantTrees, Expression, Local, Load, Operator, Access}
+use Rattle.shader_runs.specs.Program.{AccessIndex, Logical, Swizzle, Request, Action, Asked, Called}
+use Rattle.shader_runs.specs.Program.{CaseValue, Numbered, Statement, Emit, Store, Block, If}
 use Rattle.shader_runs.specs.Program.{Switch, Loop, Break, Continue, Return, Barrier, Act}
 use Rattle.shader_runs.specs.Program.{Statements, end, then, Cases, no_case, case, Function}
 use Rattle.shader_runs.specs.Program.{argument_count, local_count, function_numbered, expression_of}
-use Rattle.shader_runs.specs.Program.{handle_type, operands_of, is_counted, binds_as}
-use Rattle.shader_runs.specs.Program.{from, holds_continue, any_continue, some_case_continues}
-use Rattle.shader_runs.specs.Program.{Module}
+use Rattle.shader_runs.specs.Program.{handle_type, operands_of, is_counted, binds_as, from}
+use Rattle.shader_runs.specs.Program.{holds_continue, any_continue, some_case_continues, Module}
 use Rattle.shader_runs.specs.Program.{is_pure, is_emittable, Jumps}
 use Rattle.shader_runs.specs.ProgramRun.{Call, EmittedValues, constant_values, used_value}
-use Rattle.shader_runs.specs.ProgramRun.{used_values}
-use Rattle.shader_runs.specs.ProgramRun.{joined_values, computed_value, if_typed, after_load}
-use Rattle.shader_runs.specs.ProgramRun.{after_request, if_counted, emit_as, emit}
+use Rattle.shader_runs.specs.ProgramRun.{used_values, joined_values, computed_value, if_typed}
+use Rattle.shader_runs.specs.ProgramRun.{after_load, after_request, if_counted, emit_as, emit}
 use Rattle.shader_runs.specs.ProgramRun.{leave, return_outcome, action_answer, with_result}
 use Rattle.shader_runs.specs.ProgramRun.{barrier_words, ask_each, same_case_value, has_case_value}
-use Rattle.shader_runs.specs.ProgramRun.{case_value_if}
-use Rattle.shader_runs.specs.ProgramRun.{run, run_all, run_cases, run_on, constants_kept}
-use Rattle.shader_runs.specs.ProgramRun.{with_first, first_used_all, run_from_entry, run_body}
-use Rattle.shader_runs.specs.ProgramRun.{run_if_arguments_fit}
-use Rattle.shader_runs.specs.ProgramRun.{run_call}
+use Rattle.shader_runs.specs.ProgramRun.{case_value_if, run, run_all, run_cases, run_on}
+use Rattle.shader_runs.specs.ProgramRun.{constants_kept, with_first, first_used_all, run_from_entry}
+use Rattle.shader_runs.specs.ProgramRun.{run_body, run_if_arguments_fit, run_call}
 use Rattle.shader_runs.specs.TextRun.{Scope, no_names}
 use Rattle.shader_runs.specs.Scope.{Availability, Absent, Barred, Everywhere, Inline, Bound}
-use Rattle.shader_runs.specs.Scope.{Handles}
-use Rattle.shader_runs.specs.Scope.{ModuleNames, Names, Naming, bound_name, is_present, is_new}
-use Rattle.shader_runs.specs.Scope.{before_local, usable, usable_as}
-use Rattle.shader_runs.specs.Scope.{usable_all, usable_if, availability_without_name}
-use Rattle.shader_runs.specs.Scope.{with_emitted_handle, after_one, named_after}
-use Rattle.shader_runs.specs.Scope.{named_by, named_by_all, after_emit, after_result, after}
-use Rattle.shader_runs.specs.Scope.{after_all, forgotten_handles, forgotten_if}
+use Rattle.shader_runs.specs.Scope.{Handles, ModuleNames, Names, Naming, bound_name, is_present}
+use Rattle.shader_runs.specs.Scope.{is_new, before_local, usable, usable_as, usable_all, usable_if}
+use Rattle.shader_runs.specs.Scope.{availability_without_name, with_emitted_handle, after_one}
+use Rattle.shader_runs.specs.Scope.{named_after, named_by, named_by_all, after_emit, after_result}
+use Rattle.shader_runs.specs.Scope.{after, after_all, forgotten_handles, forgotten_if}
 use Rattle.shader_runs.specs.Scope.{start_availability, at_start, first_values_fit, fits_all}
 use Rattle.shader_runs.specs.Form.{functions_of}
 use Rattle.shader_runs.specs.Points.{call_of}

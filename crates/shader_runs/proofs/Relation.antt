@@ -9,13 +9,11 @@ use Rattle.shader_runs.specs.Program.{Expression, Constant, Argument, Local, Glo
 use Rattle.shader_runs.specs.Program.{argument_count, local_count, local_pointer, expression_of}
 use Rattle.shader_runs.specs.Program.{handle_type, operands_of}
 use Rattle.shader_runs.specs.ProgramRun.{Call, EmittedValues, used_value_as, used_value, also}
-use Rattle.shader_runs.specs.ProgramRun.{used_values}
-use Rattle.shader_runs.specs.ProgramRun.{gathered_value, computed_value}
+use Rattle.shader_runs.specs.ProgramRun.{used_values, gathered_value, computed_value}
 use Rattle.shader_runs.specs.TextRun.{Denotation, IsValue, IsPlace, Scope}
 use Rattle.shader_runs.specs.Scope.{Availability, Absent, Barred, Everywhere, Inline, Bound}
-use Rattle.shader_runs.specs.Scope.{Handles}
-use Rattle.shader_runs.specs.Scope.{Names, usable, usable_as, usable_all, is_present, is_new}
-use Rattle.shader_runs.specs.Scope.{forgotten_handles, forgotten_one, named_by_all}
+use Rattle.shader_runs.specs.Scope.{Handles, Names, usable, usable_as, usable_all, is_present}
+use Rattle.shader_runs.specs.Scope.{is_new, forgotten_handles, forgotten_one, named_by_all}
 use Rattle.shader_runs.specs.Premises.{FixedName, ArgumentName, LocalName, ConstantName, GlobalName}
 use Rattle.shader_runs.specs.Premises.{fixed_name}
 use Rattle.shader_runs.proofs.Update.{and_left, and_right, and_both}

@@ -8,10 +8,9 @@ use Rattle.shader_runs.specs.Value.{Bytes, ValueType}
 use Rattle.shader_runs.specs.World.{update, bind}
 use Rattle.shader_runs.specs.Program.{ConstantTree, Expression, Constant, Argument, Local, Global}
 use Rattle.shader_runs.specs.Program.{Operator, Request, Action, Asked, Called, Statement, Emit}
-use Rattle.shader_runs.specs.Program.{Store, Block, If, Switch, Loop, Return}
-use Rattle.shader_runs.specs.Program.{Barrier, Act, Statements, end, then, Cases, no_case, case}
-use Rattle.shader_runs.specs.Program.{CaseValue, Function, argument_count, local_count}
-use Rattle.shader_runs.specs.Program.{expression_of}
+use Rattle.shader_runs.specs.Program.{Store, Block, If, Switch, Loop, Return, Barrier, Act}
+use Rattle.shader_runs.specs.Program.{Statements, end, then, Cases, no_case, case, CaseValue}
+use Rattle.shader_runs.specs.Program.{Function, argument_count, local_count, expression_of}
 use Rattle.shader_runs.specs.Program.{handle_type, binds, from, Module, constant_count}
 use Rattle.shader_runs.specs.Program.{VariableShape, override_types, Jumps}
 use Rattle.shader_runs.specs.ProgramRun.{barrier_words}
@@ -21,8 +20,7 @@ use Rattle.shader_runs.specs.Scope.{named_by_cases, after_one, after, after_all,
 use Rattle.shader_runs.specs.Scope.{first_values_fit, fits_all, fits_function}
 use Rattle.shader_runs.specs.Text.{TextFunction, Tree, Lines, before}
 use Rattle.shader_runs.specs.Form.{value_form, value_forms, own_form, written_form, value_if}
-use Rattle.shader_runs.specs.Form.{let_if}
-use Rattle.shader_runs.specs.Form.{lets, word_of, act_line, perform_each, form, form_all}
+use Rattle.shader_runs.specs.Form.{let_if, lets, word_of, act_line, perform_each, form, form_all}
 use Rattle.shader_runs.specs.Form.{form_cases, names_from, variables_from, constants_from}
 use Rattle.shader_runs.specs.Form.{globals_from, functions_of, form_function, form_functions}
 use Rattle.shader_runs.specs.Form.{constant_form, form_module, form_module_with}
@@ -38,13 +36,12 @@ use Rattle.shader_runs.specs.Resolution.{Target, ConstantTarget, GlobalTarget, F
 use Rattle.shader_runs.specs.Resolution.{ArgumentTarget, LocalTarget, LetTarget, Lookup}
 use Rattle.shader_runs.specs.Resolution.{word_target, tree_targets, trees_targets, tree_targets_if}
 use Rattle.shader_runs.specs.Resolution.{lets_following_all, names_left, lines_targets}
-use Rattle.shader_runs.specs.Resolution.{groups_targets}
-use Rattle.shader_runs.specs.Resolution.{with_items, with_functions, text_names, variables_targets}
-use Rattle.shader_runs.specs.Resolution.{text_function_targets, constant_targets, operands_targets}
-use Rattle.shader_runs.specs.Resolution.{own_targets, LetNumbers, value_targets, value_targets_if}
-use Rattle.shader_runs.specs.Resolution.{lets_after, numbers_after, lets_after_all}
-use Rattle.shader_runs.specs.Resolution.{lets_after_result, lets_by, lets_by_all, numbers_by}
-use Rattle.shader_runs.specs.Resolution.{numbers_left, emit_targets, action_targets}
+use Rattle.shader_runs.specs.Resolution.{groups_targets, with_items, with_functions, text_names}
+use Rattle.shader_runs.specs.Resolution.{variables_targets, text_function_targets, constant_targets}
+use Rattle.shader_runs.specs.Resolution.{operands_targets, own_targets, LetNumbers, value_targets}
+use Rattle.shader_runs.specs.Resolution.{value_targets_if, lets_after, numbers_after}
+use Rattle.shader_runs.specs.Resolution.{lets_after_all, lets_after_result, lets_by, lets_by_all}
+use Rattle.shader_runs.specs.Resolution.{numbers_by, numbers_left, emit_targets, action_targets}
 use Rattle.shader_runs.specs.Resolution.{OperandsEnd, result_targets, words_targets}
 use Rattle.shader_runs.specs.Resolution.{statement_targets, statements_targets, cases_targets}
 use Rattle.shader_runs.specs.Resolution.{no_numbers, first_values_targets, function_targets}

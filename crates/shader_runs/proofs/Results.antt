@@ -7,25 +7,22 @@ use Rattle.shader_runs.specs.Value.{PartTypes, Bytes, ValueType, has_type, Value
 use Rattle.shader_runs.specs.Value.{integer_in, place_in}
 use Rattle.shader_runs.specs.World.{Event, Entry, Ask, Read, World, Meaning, Environment, update}
 use Rattle.shader_runs.specs.Outcome.{Outcome, Done, Continued, Broke, Returned, Stopped}
-use Rattle.shader_runs.specs.Outcome.{ReachedOrHalted}
-use Rattle.shader_runs.specs.Outcome.{Gives, Halts, answer, Next, and_then, and_continue, within}
-use Rattle.shader_runs.specs.Outcome.{and_again, turn, turns, after_switch, branch_by, or_stuck}
+use Rattle.shader_runs.specs.Outcome.{ReachedOrHalted, Gives, Halts, answer, Next, and_then}
+use Rattle.shader_runs.specs.Outcome.{and_continue, within, and_again, turn, turns, after_switch}
+use Rattle.shader_runs.specs.Outcome.{branch_by, or_stuck}
 use Rattle.shader_runs.specs.Program.{Expression, Load, Request, Action, Asked, Called, CaseValue}
 use Rattle.shader_runs.specs.Program.{Numbered, Default, Statement, Emit, Store, Block, If, Switch}
-use Rattle.shader_runs.specs.Program.{Loop, Break, Return, Barrier, Act, Statements}
-use Rattle.shader_runs.specs.Program.{end, then, Cases, no_case, case, Function, argument_count}
+use Rattle.shader_runs.specs.Program.{Loop, Break, Return, Barrier, Act, Statements, end, then}
+use Rattle.shader_runs.specs.Program.{Cases, no_case, case, Function, argument_count}
 use Rattle.shader_runs.specs.Program.{function_numbered, expression_of, handle_type, is_counted}
 use Rattle.shader_runs.specs.Program.{from, Module, Jumps}
 use Rattle.shader_runs.specs.ProgramRun.{Call, EmittedValues, constant_values, used_value}
-use Rattle.shader_runs.specs.ProgramRun.{used_values}
-use Rattle.shader_runs.specs.ProgramRun.{joined_values, if_typed, after_load, after_request}
-use Rattle.shader_runs.specs.ProgramRun.{if_counted, emit_as, emit, leave, action_answer}
-use Rattle.shader_runs.specs.ProgramRun.{with_result, barrier_words, ask_each, same_case_value}
-use Rattle.shader_runs.specs.ProgramRun.{has_case_value, case_value_if, run, run_all, run_cases}
-use Rattle.shader_runs.specs.ProgramRun.{run_on}
-use Rattle.shader_runs.specs.ProgramRun.{constants_kept, first_used_all, run_from_entry, run_body}
-use Rattle.shader_runs.specs.ProgramRun.{run_if_arguments_fit}
-use Rattle.shader_runs.specs.ProgramRun.{run_call}
+use Rattle.shader_runs.specs.ProgramRun.{used_values, joined_values, if_typed, after_load}
+use Rattle.shader_runs.specs.ProgramRun.{after_request, if_counted, emit_as, emit, leave}
+use Rattle.shader_runs.specs.ProgramRun.{action_answer, with_result, barrier_words, ask_each}
+use Rattle.shader_runs.specs.ProgramRun.{same_case_value, has_case_value, case_value_if, run}
+use Rattle.shader_runs.specs.ProgramRun.{run_all, run_cases, run_on, constants_kept, first_used_all}
+use Rattle.shader_runs.specs.ProgramRun.{run_from_entry, run_body, run_if_arguments_fit, run_call}
 use Rattle.shader_runs.specs.Scope.{Naming}
 use Rattle.shader_runs.specs.Form.{functions_of}
 use Rattle.shader_runs.specs.Points.{call_of}

@@ -1,14 +1,13 @@
 -- The scope only grows, and the text holds a `continue` and a case value where the module does.
 use Rattle.std.proofs.Common.{Option, ◌≡◌, ℕ, Bool, true, false, List, [], ◌∷◌, ◌++◌, Some, None}
-use Rattle.std.proofs.Common.{◌||◌}
-use Rattle.std.proofs.Common.{refl, sym, ap, ap₂, ◌∙◌}
+use Rattle.std.proofs.Common.{◌||◌, refl, sym, ap, ap₂, ◌∙◌}
 use Rattle.std.proofs.Math.Bool.{or-false}
 use Rattle.shader_runs.specs.Value.{Bytes}
-use Rattle.shader_runs.specs.Program.{CaseValue, Statement, Emit, Block, If, Switch}
-use Rattle.shader_runs.specs.Program.{Continue, Barrier, Act, Statements, end, then}
-use Rattle.shader_runs.specs.Program.{Cases, no_case, case, Module, from, binds, holds_continue}
-use Rattle.shader_runs.specs.Program.{any_continue, some_case_continues, expression_of, Jump, Jumps}
-use Rattle.shader_runs.specs.Program.{is_continue, jump_told}
+use Rattle.shader_runs.specs.Program.{CaseValue, Statement, Emit, Block, If, Switch, Continue}
+use Rattle.shader_runs.specs.Program.{Barrier, Act, Statements, end, then, Cases, no_case, case}
+use Rattle.shader_runs.specs.Program.{Module, from, binds, holds_continue, any_continue}
+use Rattle.shader_runs.specs.Program.{some_case_continues, expression_of, Jump, Jumps, is_continue}
+use Rattle.shader_runs.specs.Program.{jump_told}
 use Rattle.shader_runs.specs.Text.{Tree, Lines}
 use Rattle.shader_runs.specs.TextRun.{some_continue, some_group_continues, among, group_has}
 use Rattle.shader_runs.specs.ProgramRun.{Call, barrier_words, same_case_value, has_case_value}
@@ -16,8 +15,7 @@ use Rattle.shader_runs.specs.Scope.{Bound, Handles, Names, Naming, bound_name, a
 use Rattle.shader_runs.specs.Scope.{named_after, named_by, named_by_all, after, after_all}
 use Rattle.shader_runs.specs.Scope.{forgotten_if}
 use Rattle.shader_runs.specs.Form.{value_form, own_form, written_form, let_if, lets, perform_each}
-use Rattle.shader_runs.specs.Form.{form}
-use Rattle.shader_runs.specs.Form.{form_all, form_cases, value_if}
+use Rattle.shader_runs.specs.Form.{form, form_all, form_cases, value_if}
 use Rattle.shader_runs.proofs.Relation.{Extends, extends_refl, extends_trans, extends_forgotten}
 use Rattle.shader_runs.proofs.Evaluation.{naming}
 use Rattle.shader_runs.proofs.Emission.{extends_update, extends_emit}

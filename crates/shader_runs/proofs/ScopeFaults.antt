@@ -1,36 +1,32 @@
 -- Where the rules of scope fail in a function, the check finds the first statement that breaks one.
 use Rattle.std.proofs.Common.{◌≡◌, ◌⊎◌, inl, inr, ⊎_elim, ℕ, zero, suc, ◌+◌, ◌<◌, Bool, true, false}
-use Rattle.std.proofs.Common.{not, List, [], ◌∷◌, Option, Some, None, ◌&&◌, ◌||◌}
-use Rattle.std.proofs.Common.{refl, sym, subst, true≢false, arith}
+use Rattle.std.proofs.Common.{not, List, [], ◌∷◌, Option, Some, None, ◌&&◌, ◌||◌, refl, sym, subst}
+use Rattle.std.proofs.Common.{true≢false, arith}
 use Rattle.std.proofs.lemmas.Option.{same_Some}
 use Rattle.std.specs.Prelude.{IsTrue, IsFalse, slice_get}
 use Rattle.shader_runs.specs.Program.{Statement, Emit, Store, Block, If, Switch, Loop, Return, Act}
 use Rattle.shader_runs.specs.Program.{Statements, end, then, Cases, no_case, case, Function}
-use Rattle.shader_runs.specs.Program.{expression_of, operands_of, binds, from}
-use Rattle.shader_runs.specs.Program.{is_emittable, Jumps}
+use Rattle.shader_runs.specs.Program.{expression_of, operands_of, binds, from, is_emittable, Jumps}
 use Rattle.shader_runs.specs.Scope.{Handles, Naming, before_local, bound_name, at_start, is_new}
-use Rattle.shader_runs.specs.Scope.{usable, usable_all, usable_if, after_one, after}
-use Rattle.shader_runs.specs.Scope.{after_all, named_after, named_by, named_by_all, may_emit}
-use Rattle.shader_runs.specs.Scope.{may_emit_all, may_give, fits, fits_all, fits_cases}
-use Rattle.shader_runs.specs.Scope.{first_values_fit, fits_function}
+use Rattle.shader_runs.specs.Scope.{usable, usable_all, usable_if, after_one, after, after_all}
+use Rattle.shader_runs.specs.Scope.{named_after, named_by, named_by_all, may_emit, may_emit_all}
+use Rattle.shader_runs.specs.Scope.{may_give, fits, fits_all, fits_cases, first_values_fit}
+use Rattle.shader_runs.specs.Scope.{fits_function}
 use Rattle.shader_runs.specs.Premises.{AllBelow}
 use Rattle.shader_runs.specs.ScopeRules.{IntroducedHandle, Emitted, AsResult, handle_of, InScope}
 use Rattle.shader_runs.specs.ScopeRules.{EachInScope, no_handle, and_handle, ScopeState}
-use Rattle.shader_runs.specs.ScopeRules.{start_state}
-use Rattle.shader_runs.specs.ScopeRules.{following_one, following, after_turn, WasIntroduced}
-use Rattle.shader_runs.specs.ScopeRules.{MayEmit}
-use Rattle.shader_runs.specs.ScopeRules.{MayEmitEach, StatementHolds, StatementsHold, CasesHold}
-use Rattle.shader_runs.specs.ScopeRules.{FirstValuesHold, InScopeIf, ScopeHolds}
+use Rattle.shader_runs.specs.ScopeRules.{start_state, following_one, following, after_turn}
+use Rattle.shader_runs.specs.ScopeRules.{WasIntroduced, MayEmit, MayEmitEach, StatementHolds}
+use Rattle.shader_runs.specs.ScopeRules.{StatementsHold, CasesHold, FirstValuesHold, InScopeIf}
+use Rattle.shader_runs.specs.ScopeRules.{ScopeHolds}
 use Rattle.shader_runs.specs.ScopeFaults.{IsOutOfScopeAt, after_some, UsesAt, emitted_operand}
 use Rattle.shader_runs.specs.ScopeFaults.{stored_pointer, stored_value, condition, selector}
 use Rattle.shader_runs.specs.ScopeFaults.{break_if, returned, operand, IntroducesAt, emitted}
-use Rattle.shader_runs.specs.ScopeFaults.{as_result}
-use Rattle.shader_runs.specs.ScopeFaults.{BreaksScope, out_of_scope, introduced_before}
-use Rattle.shader_runs.specs.ScopeFaults.{not_emittable}
-use Rattle.shader_runs.specs.ScopeFaults.{IsCaseBody, this_case, later_case, StandsIn, stands_first}
-use Rattle.shader_runs.specs.ScopeFaults.{later, in_block, in_accept, in_reject, in_case, in_loop}
-use Rattle.shader_runs.specs.ScopeFaults.{in_continuing, HasScopeFault, in_first_value, in_body}
-use Rattle.shader_runs.specs.ScopeFaults.{ScopeFaultsAreFound}
+use Rattle.shader_runs.specs.ScopeFaults.{as_result, BreaksScope, out_of_scope, introduced_before}
+use Rattle.shader_runs.specs.ScopeFaults.{not_emittable, IsCaseBody, this_case, later_case}
+use Rattle.shader_runs.specs.ScopeFaults.{StandsIn, stands_first, later, in_block, in_accept}
+use Rattle.shader_runs.specs.ScopeFaults.{in_reject, in_case, in_loop, in_continuing, HasScopeFault}
+use Rattle.shader_runs.specs.ScopeFaults.{in_first_value, in_body, ScopeFaultsAreFound}
 use Rattle.shader_runs.proofs.ScopeRules.{Tracks, false_is_not_true, tracks_emitted, may_emit_rule}
 use Rattle.shader_runs.proofs.ScopeRules.{tracks_after, tracks_turn, tracks_start}
 use Rattle.shader_runs.proofs.ScopeRules.{scope_check_is_the_rules}

@@ -13,31 +13,26 @@ use Rattle.shader_runs.specs.Program.{Result, Statement, Emit, Store, Block, If,
 use Rattle.shader_runs.specs.Program.{Return, Act, Statements, end, then, Cases, no_case, case}
 use Rattle.shader_runs.specs.Program.{Function, argument_count, local_count, expression_of}
 use Rattle.shader_runs.specs.Program.{operands_of, is_counted, binds_as, binds, from}
-use Rattle.shader_runs.specs.Program.{holds_continue}
-use Rattle.shader_runs.specs.Program.{is_pure, is_emittable, Jumps}
+use Rattle.shader_runs.specs.Program.{holds_continue, is_pure, is_emittable, Jumps}
 use Rattle.shader_runs.specs.Scope.{Availability, Absent, Barred, Everywhere, Inline, Bound}
-use Rattle.shader_runs.specs.Scope.{Handles}
-use Rattle.shader_runs.specs.Scope.{Naming, before_local, bound_name, is_present, is_new, usable_as}
-use Rattle.shader_runs.specs.Scope.{usable, usable_all, usable_if, all_constant}
+use Rattle.shader_runs.specs.Scope.{Handles, Naming, before_local, bound_name, is_present, is_new}
+use Rattle.shader_runs.specs.Scope.{usable_as, usable, usable_all, usable_if, all_constant}
 use Rattle.shader_runs.specs.Scope.{is_constant_leaf, constant_test, is_constant_below}
 use Rattle.shader_runs.specs.Scope.{start_availability, at_start, availability_without_name}
-use Rattle.shader_runs.specs.Scope.{with_emitted_handle, after_one}
-use Rattle.shader_runs.specs.Scope.{named_after, named_by, named_by_all, after_emit, after}
-use Rattle.shader_runs.specs.Scope.{forgotten_handles, forgotten_one, forgotten_if, after_all}
-use Rattle.shader_runs.specs.Scope.{may_emit, may_emit_all, may_give, fits, fits_all}
-use Rattle.shader_runs.specs.Scope.{fits_cases, first_values_fit}
+use Rattle.shader_runs.specs.Scope.{with_emitted_handle, after_one, named_after, named_by}
+use Rattle.shader_runs.specs.Scope.{named_by_all, after_emit, after, forgotten_handles}
+use Rattle.shader_runs.specs.Scope.{forgotten_one, forgotten_if, after_all, may_emit, may_emit_all}
+use Rattle.shader_runs.specs.Scope.{may_give, fits, fits_all, fits_cases, first_values_fit}
 use Rattle.shader_runs.specs.Premises.{AllBelow}
 use Rattle.shader_runs.specs.ScopeRules.{IntroducedHandle, Emitted, AsResult, handle_of, IsAmong}
 use Rattle.shader_runs.specs.ScopeRules.{IsConstantTree, one_constant, over_constants}
 use Rattle.shader_runs.specs.ScopeRules.{AreConstantTrees, no_tree, and_tree, can_be_introduced}
-use Rattle.shader_runs.specs.ScopeRules.{InScope}
-use Rattle.shader_runs.specs.ScopeRules.{constant_tree, argument, local, global, bound, written_out}
-use Rattle.shader_runs.specs.ScopeRules.{result, still, EachInScope, no_handle, and_handle}
-use Rattle.shader_runs.specs.ScopeRules.{InScopeIf, is_unwritten, with_one, with_emitted}
-use Rattle.shader_runs.specs.ScopeRules.{with_statement, with_statements}
-use Rattle.shader_runs.specs.ScopeRules.{statements_before_continue, ScopeState}
-use Rattle.shader_runs.specs.ScopeRules.{start_state, following_one, following, after_turn}
-use Rattle.shader_runs.specs.ScopeRules.{WasIntroduced}
+use Rattle.shader_runs.specs.ScopeRules.{InScope, constant_tree, argument, local, global, bound}
+use Rattle.shader_runs.specs.ScopeRules.{written_out, result, still, EachInScope, no_handle}
+use Rattle.shader_runs.specs.ScopeRules.{and_handle, InScopeIf, is_unwritten, with_one}
+use Rattle.shader_runs.specs.ScopeRules.{with_emitted, with_statement, with_statements}
+use Rattle.shader_runs.specs.ScopeRules.{statements_before_continue, ScopeState, start_state}
+use Rattle.shader_runs.specs.ScopeRules.{following_one, following, after_turn, WasIntroduced}
 use Rattle.shader_runs.specs.ScopeRules.{in_sight, as_a_tree, MayEmit, MayEmitEach, MayResult}
 use Rattle.shader_runs.specs.ScopeRules.{StatementHolds, StatementsHold, CasesHold, FirstValuesHold}
 use Rattle.shader_runs.specs.ScopeRules.{ScopeCheckIsTheRules}

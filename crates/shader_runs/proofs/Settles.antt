@@ -7,22 +7,19 @@ use Rattle.std.proofs.Math.Nat.{eq-or-lt_of_le}
 use Rattle.std.specs.Prelude.{option_and_then}
 use Rattle.shader_runs.specs.Value.{Bytes, same_bytes, PartTypes, Place, Selector, Value}
 use Rattle.shader_runs.specs.Value.{ShortCircuit, truth_in, integer_in, place_in, position_at}
-use Rattle.shader_runs.specs.Value.{place_to}
-use Rattle.shader_runs.specs.Value.{place_type, takes_several}
+use Rattle.shader_runs.specs.Value.{place_to, place_type, takes_several}
 use Rattle.shader_runs.specs.World.{Event, Entry, Read, Write, entries, World, Meaning, bind}
 use Rattle.shader_runs.specs.Outcome.{Stuck, OutOfTurns, Outcome, Done, Continued, Broke, Returned}
 use Rattle.shader_runs.specs.Outcome.{Stopped, ReachedOrHalted, Gives, Halts, answer, Next}
-use Rattle.shader_runs.specs.Outcome.{and_then}
-use Rattle.shader_runs.specs.Outcome.{and_continue, within, turn, and_again, turns, after_switch}
-use Rattle.shader_runs.specs.Outcome.{closed_outcome, closed_if, branch_by, with_integer, or_stuck}
-use Rattle.shader_runs.specs.Outcome.{reach, unless}
+use Rattle.shader_runs.specs.Outcome.{and_then, and_continue, within, turn, and_again, turns}
+use Rattle.shader_runs.specs.Outcome.{after_switch, closed_outcome, closed_if, branch_by}
+use Rattle.shader_runs.specs.Outcome.{with_integer, or_stuck, reach, unless}
 use Rattle.shader_runs.specs.Program.{CaseValue, Numbered, Break, Continue, Return}
 use Rattle.shader_runs.specs.ProgramRun.{run_if_arguments_fit, decides, case_value_if}
 use Rattle.shader_runs.specs.Text.{Tree, Name, LiteralOf, Apply, Deref, AddressOf, Index, PartOf}
 use Rattle.shader_runs.specs.Text.{LogicalOf, Trees, no_more, more, Line, Let, Assign, Braces}
-use Rattle.shader_runs.specs.Text.{IfElse, SwitchOn, LoopOf}
-use Rattle.shader_runs.specs.Text.{Perform, Lines, last, before, Groups, no_group}
-use Rattle.shader_runs.specs.Text.{group, Variable, TextFunction, JumpLine}
+use Rattle.shader_runs.specs.Text.{IfElse, SwitchOn, LoopOf, Perform, Lines, last, before, Groups}
+use Rattle.shader_runs.specs.Text.{no_group, group, Variable, TextFunction, JumpLine}
 use Rattle.shader_runs.specs.TextRun.{Denotation, IsValue, IsPlace, Scope, Words, read_value}
 use Rattle.shader_runs.specs.TextRun.{put_before, followed_by, word_answer, word_reached, as_value}
 use Rattle.shader_runs.specs.TextRun.{dereference, address_reached, part_reached, index_reached}
@@ -30,9 +27,9 @@ use Rattle.shader_runs.specs.TextRun.{index_into, part_picked, undecided_reached
 use Rattle.shader_runs.specs.TextRun.{evaluate, evaluate_all, value_of, with_value, with_place}
 use Rattle.shader_runs.specs.TextRun.{perform_outcome, has_continue, break_line, return_line, among}
 use Rattle.shader_runs.specs.TextRun.{group_has, follow, follow_all, follow_in_loop, follow_groups}
-use Rattle.shader_runs.specs.TextRun.{with_parameters, place_picked, is_operation}
-use Rattle.shader_runs.specs.TextRun.{with_variables, put_first, first_followed, first_of_each}
-use Rattle.shader_runs.specs.TextRun.{entered_by, follow_body, follow_call, WordUse, NamesFunction}
+use Rattle.shader_runs.specs.TextRun.{with_parameters, place_picked, is_operation, with_variables}
+use Rattle.shader_runs.specs.TextRun.{put_first, first_followed, first_of_each, entered_by}
+use Rattle.shader_runs.specs.TextRun.{follow_body, follow_call, WordUse, NamesFunction}
 use Rattle.shader_runs.specs.TextRun.{AsksForEvent, Operates, MeansNothing, respond_by_use}
 use Rattle.shader_runs.specs.TextRun.{first_then, with_variable}
 use Rattle.shader_runs.proofs.Process.{events_of, reached_events}

@@ -6,14 +6,11 @@ use Rattle.shader_runs.specs.Value.{Bytes}
 use Rattle.shader_runs.specs.World.{update}
 use Rattle.shader_runs.specs.Program.{Statement, Emit, Block, If, Switch, Loop, Act, Statements}
 use Rattle.shader_runs.specs.Program.{end, then, Cases, no_case, case, expression_of, operands_of}
-use Rattle.shader_runs.specs.Program.{is_named, binds, from, holds_continue}
-use Rattle.shader_runs.specs.Program.{is_pure}
+use Rattle.shader_runs.specs.Program.{is_named, binds, from, holds_continue, is_pure}
 use Rattle.shader_runs.specs.Scope.{Availability, Absent, Everywhere, Inline, Bound, Handles}
-use Rattle.shader_runs.specs.Scope.{Naming}
-use Rattle.shader_runs.specs.Scope.{bound_name, usable_all, is_new}
-use Rattle.shader_runs.specs.Scope.{availability_without_name}
-use Rattle.shader_runs.specs.Scope.{with_emitted_handle}
-use Rattle.shader_runs.specs.Scope.{after_one, named_after, named_after_all, after_emit, named_by}
+use Rattle.shader_runs.specs.Scope.{Naming, bound_name, usable_all, is_new}
+use Rattle.shader_runs.specs.Scope.{availability_without_name, with_emitted_handle, after_one}
+use Rattle.shader_runs.specs.Scope.{named_after, named_after_all, after_emit, named_by}
 use Rattle.shader_runs.specs.Scope.{named_by_all, named_by_cases, after_result, after, after_all}
 use Rattle.shader_runs.specs.Scope.{forgotten_one, forgotten_if, start_availability, at_start}
 use Rattle.shader_runs.specs.Premises.{FixedName, FixedKey, NumberedKey, NamedKey}

@@ -6,18 +6,16 @@ use Rattle.std.specs.Prelude.{IsTrue}
 use Rattle.std.proofs.lemmas.Option.{slice_get_within}
 use Rattle.shader_runs.specs.Value.{ValueType, Value, has_type, has_types}
 use Rattle.shader_runs.specs.World.{Environment, Meaning}
-use Rattle.shader_runs.specs.Program.{Swizzle, Logical, AccessIndex, Access, Operator, Expression, Constant}
-use Rattle.shader_runs.specs.Program.{Function, expression_of, handle_type, operands_of}
-use Rattle.shader_runs.specs.Program.{Module}
-use Rattle.shader_runs.specs.Program.{is_pure}
+use Rattle.shader_runs.specs.Program.{Swizzle, Logical, AccessIndex, Access, Operator, Expression}
+use Rattle.shader_runs.specs.Program.{Constant, Function, expression_of, handle_type, operands_of}
+use Rattle.shader_runs.specs.Program.{Module, is_pure}
 use Rattle.shader_runs.specs.ProgramRun.{Call, used_value_as, used_value, also, used_values}
 use Rattle.shader_runs.specs.ProgramRun.{gathered_value, all_of, or_constant, constant_as}
 use Rattle.shader_runs.specs.ProgramRun.{constant_below, constants_kept}
 use Rattle.shader_runs.specs.TextRun.{Scope}
 use Rattle.shader_runs.specs.Scope.{all_constant, is_constant_leaf, constant_test}
 use Rattle.shader_runs.specs.Scope.{is_constant_below, start_availability, at_start, is_present}
-use Rattle.shader_runs.specs.Scope.{usable}
-use Rattle.shader_runs.specs.Scope.{usable_as, usable_all}
+use Rattle.shader_runs.specs.Scope.{usable, usable_as, usable_all}
 use Rattle.shader_runs.specs.Premises.{AllBelow, LeafFits, LeafTyped, handle_types, IsTypedIn}
 use Rattle.shader_runs.specs.Premises.{EnvironmentFits}
 use Rattle.shader_runs.proofs.Update.{and_left, and_right, and_both}

@@ -4,37 +4,32 @@ use Rattle.std.proofs.Common.{None, ◌||◌, refl, sym, ap, ap₂, ◌∙◌, s
 use Rattle.std.specs.Prelude.{IsTrue, ℤ}
 use Rattle.shader_runs.specs.Value.{Bytes, PartTypes, has_type, has_types, Value, integer_in}
 use Rattle.shader_runs.specs.World.{Event, Ask, update, bind}
-use Rattle.shader_runs.specs.Outcome.{Outcome, Next, Done, Returned, ReachedOrHalted}
-use Rattle.shader_runs.specs.Outcome.{Gives}
-use Rattle.shader_runs.specs.Outcome.{Halts, and_then, within, turn, turns, after_switch, branch_by}
+use Rattle.shader_runs.specs.Outcome.{Outcome, Next, Done, Returned, ReachedOrHalted, Gives, Halts}
+use Rattle.shader_runs.specs.Outcome.{and_then, within, turn, turns, after_switch, branch_by}
 use Rattle.shader_runs.specs.Outcome.{with_integer, closed_outcome, closed_if, or_stuck, reach}
 use Rattle.shader_runs.specs.Outcome.{unless, jump_outcome}
 use Rattle.shader_runs.specs.Program.{Expression, Result, Action, Asked, Called, CaseValue}
-use Rattle.shader_runs.specs.Program.{Numbered}
-use Rattle.shader_runs.specs.Program.{Statement, Emit, Store, Block, If, Switch, Loop, Break}
-use Rattle.shader_runs.specs.Program.{Continue, Return, Barrier, Act, Statements, end, then}
+use Rattle.shader_runs.specs.Program.{Numbered, Statement, Emit, Store, Block, If, Switch, Loop}
+use Rattle.shader_runs.specs.Program.{Break, Continue, Return, Barrier, Act, Statements, end, then}
 use Rattle.shader_runs.specs.Program.{Cases, no_case, case, from, holds_continue, any_continue}
 use Rattle.shader_runs.specs.Program.{some_case_continues, expression_of, handle_type, BarrierBits}
 use Rattle.shader_runs.specs.Program.{Function, function_numbered, Module, Jump, Jumps, is_continue}
 use Rattle.shader_runs.specs.Program.{jump_told}
 use Rattle.shader_runs.specs.ProgramRun.{Call, EmittedValues, combined_value, used_value}
-use Rattle.shader_runs.specs.ProgramRun.{used_value_as}
-use Rattle.shader_runs.specs.ProgramRun.{used_values, action_answer, with_result, leave}
-use Rattle.shader_runs.specs.ProgramRun.{return_outcome, barrier_words, ask_each, same_case_value}
-use Rattle.shader_runs.specs.ProgramRun.{has_case_value, case_value_if, run, run_all, run_cases}
-use Rattle.shader_runs.specs.ProgramRun.{run_on}
+use Rattle.shader_runs.specs.ProgramRun.{used_value_as, used_values, action_answer, with_result}
+use Rattle.shader_runs.specs.ProgramRun.{leave, return_outcome, barrier_words, ask_each}
+use Rattle.shader_runs.specs.ProgramRun.{same_case_value, has_case_value, case_value_if, run}
+use Rattle.shader_runs.specs.ProgramRun.{run_all, run_cases, run_on}
 use Rattle.shader_runs.specs.Text.{Lines}
 use Rattle.shader_runs.specs.TextRun.{IsValue, Scope, read_value, as_value, word_reached}
 use Rattle.shader_runs.specs.TextRun.{perform_outcome, evaluate_all, value_of, with_value}
-use Rattle.shader_runs.specs.TextRun.{AsksForEvent, respond_by_use}
-use Rattle.shader_runs.specs.TextRun.{break_line, return_line, among, group_has, follow_all}
-use Rattle.shader_runs.specs.TextRun.{follow_in_loop, follow_groups}
+use Rattle.shader_runs.specs.TextRun.{AsksForEvent, respond_by_use, break_line, return_line, among}
+use Rattle.shader_runs.specs.TextRun.{group_has, follow_all, follow_in_loop, follow_groups}
 use Rattle.shader_runs.specs.Scope.{usable_all, is_present, Bound, Handles, Names, usable}
 use Rattle.shader_runs.specs.Scope.{usable_if, named_by, named_by_all, after, after_all}
 use Rattle.shader_runs.specs.Scope.{forgotten_if}
 use Rattle.shader_runs.specs.Form.{word_of, value_forms, written_form, value_at, value_if}
-use Rattle.shader_runs.specs.Form.{perform_each}
-use Rattle.shader_runs.specs.Form.{form, form_all, form_cases}
+use Rattle.shader_runs.specs.Form.{perform_each, form, form_all, form_cases}
 use Rattle.shader_runs.specs.Premises.{IsNoName, handle_types, CallFits, ActionFits, ReturnFits}
 use Rattle.shader_runs.specs.Premises.{IsResult, EachAsks}
 use Rattle.shader_runs.proofs.Alike.{HoldsOf, Answers, same_answer, mistyped_answer, Alike, done}
@@ -566,9 +561,6 @@ module _ (p : Module) (c : Call) (n : Names) (d : Respond) (facts : Facts p c n 
     abbrev On_from : Bool → Next EmittedValues
     On_from falls kept t =
         and_then (run_all c bound b kept t) (λ kept1 t1. cond falls (run_on c bound cs kept1 t1) (Done kept1 t1))
-
-    held_more : (falls : Bool) → IsTrue (any_continue b) → IsTrue (some_case_continues (case l b falls cs))
-    held_more falls h = or_left (any_continue b) (some_case_continues cs) h
 
     -- a case that stays
     body_alone : (names : Scope) (kept : EmittedValues) (t : List Event) → Related c n s names kept →

@@ -1,15 +1,13 @@
 -- The identifiers and words of an expression's form stand for what is meant by it.
 use Rattle.std.proofs.Common.{◌≡◌, ℕ, zero, suc, ◌<◌, Bool, true, false, List, [], ◌∷◌, ◌++◌, map}
-use Rattle.std.proofs.Common.{length, Option}
-use Rattle.std.proofs.Common.{Some, None, refl, sym, ap, ◌∙◌}
+use Rattle.std.proofs.Common.{length, Option, Some, None, refl, sym, ap, ◌∙◌}
 use Rattle.std.proofs.lemmas.List.{map-append}
 use Rattle.shader_runs.specs.Value.{Bytes, MemberNamed, ValueType, PointerType, Selector}
 use Rattle.shader_runs.specs.Program.{ConstantTree, Fixed, NamedConstant, Constructed, Indexing}
-use Rattle.shader_runs.specs.Program.{Picking, Joining}
-use Rattle.shader_runs.specs.Program.{ConstantTrees, no_constant, constant, Expression, Constant}
-use Rattle.shader_runs.specs.Program.{Argument, Local, Global, Load, Operator, Access, AccessIndex}
-use Rattle.shader_runs.specs.Program.{Logical, Swizzle, Request, Result, expression_of, handle_type}
-use Rattle.shader_runs.specs.Program.{operands_of}
+use Rattle.shader_runs.specs.Program.{Picking, Joining, ConstantTrees, no_constant, constant}
+use Rattle.shader_runs.specs.Program.{Expression, Constant, Argument, Local, Global, Load, Operator}
+use Rattle.shader_runs.specs.Program.{Access, AccessIndex, Logical, Swizzle, Request, Result}
+use Rattle.shader_runs.specs.Program.{expression_of, handle_type, operands_of}
 use Rattle.shader_runs.specs.Scope.{Availability, Bound, Handles, ModuleNames, Naming}
 use Rattle.shader_runs.specs.Text.{Tree, Trees}
 use Rattle.shader_runs.specs.Form.{Plain, AsValue, AsPlace, value_form, place_form, value_forms}
@@ -19,14 +17,11 @@ use Rattle.shader_runs.specs.Form.{written_below, written_form, value_at, value_
 use Rattle.shader_runs.specs.Premises.{EachWord, EachWordOf, EachLeaf, EachLeafOf, IsLiteral}
 use Rattle.shader_runs.specs.Resolution.{Target, ConstantTarget, GlobalTarget, ArgumentTarget}
 use Rattle.shader_runs.specs.Resolution.{LocalTarget, LetTarget, LogicTarget, PartTarget}
-use Rattle.shader_runs.specs.Resolution.{WordTarget}
-use Rattle.shader_runs.specs.Resolution.{Lookup, word_target, tree_targets}
+use Rattle.shader_runs.specs.Resolution.{WordTarget, Lookup, word_target, tree_targets}
 use Rattle.shader_runs.specs.Resolution.{trees_targets, tree_targets_if, constant_targets}
 use Rattle.shader_runs.specs.Resolution.{constants_targets, operands_targets, operands_targets_then}
-use Rattle.shader_runs.specs.Resolution.{own_targets}
-use Rattle.shader_runs.specs.Resolution.{LetNumbers, availability_targets, targets_below}
-use Rattle.shader_runs.specs.Resolution.{value_targets}
-use Rattle.shader_runs.specs.Resolution.{value_targets_if}
+use Rattle.shader_runs.specs.Resolution.{own_targets, LetNumbers, availability_targets}
+use Rattle.shader_runs.specs.Resolution.{targets_below, value_targets, value_targets_if}
 
 -- those of a plain form
 abbrev plain_targets : Lookup → Plain → List (Option Target)

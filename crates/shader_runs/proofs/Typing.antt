@@ -8,35 +8,32 @@ use Rattle.std.proofs.lemmas.Bool.{eqb-false}
 use Rattle.std.proofs.lemmas.Option.{slice_get_within, none-some, same_Some}
 use Rattle.shader_runs.specs.Value.{Bytes, PartTypes, Place, place_type, Step, Rooted, GlobalRoot}
 use Rattle.shader_runs.specs.Value.{Part, Selector, MemberNamed, ElementAt, step_to, step_at}
-use Rattle.shader_runs.specs.Value.{part_pointer, position_at, ValueType}
-use Rattle.shader_runs.specs.Value.{BooleanType, IntegerType, PointerType, OtherType, type_of}
-use Rattle.shader_runs.specs.Value.{same_type, has_type, has_types, same_bytes, Value, Truth, Whole}
-use Rattle.shader_runs.specs.Value.{Pointer, Opaque, Word, Spelled, PartWord, IndexWord}
-use Rattle.shader_runs.specs.Value.{ShortCircuit, short_circuit_word, place_in}
+use Rattle.shader_runs.specs.Value.{part_pointer, position_at, ValueType, BooleanType, IntegerType}
+use Rattle.shader_runs.specs.Value.{PointerType, OtherType, type_of, same_type, has_type, has_types}
+use Rattle.shader_runs.specs.Value.{same_bytes, Value, Truth, Whole, Pointer, Opaque, Word, Spelled}
+use Rattle.shader_runs.specs.Value.{PartWord, IndexWord, ShortCircuit, short_circuit_word, place_in}
 use Rattle.shader_runs.specs.World.{Meaning}
 use Rattle.shader_runs.specs.Program.{ConstantTree, Fixed, NamedConstant, Constructed, Indexing}
-use Rattle.shader_runs.specs.Program.{Picking, Joining}
-use Rattle.shader_runs.specs.Program.{ConstantTrees, no_constant, constant, Expression, Constant}
-use Rattle.shader_runs.specs.Program.{Operator, Access, AccessIndex, Logical, Swizzle, Request}
-use Rattle.shader_runs.specs.Program.{Function, expression_of, handle_type, operands_of, Module}
-use Rattle.shader_runs.specs.Program.{is_pure}
+use Rattle.shader_runs.specs.Program.{Picking, Joining, ConstantTrees, no_constant, constant}
+use Rattle.shader_runs.specs.Program.{Expression, Constant, Operator, Access, AccessIndex, Logical}
+use Rattle.shader_runs.specs.Program.{Swizzle, Request, Function, expression_of, handle_type}
+use Rattle.shader_runs.specs.Program.{operands_of, Module, is_pure}
 use Rattle.shader_runs.specs.ProgramRun.{index_value_of, part_value, decides, undecided_value}
 use Rattle.shader_runs.specs.ProgramRun.{combined_value, constant_part_by}
 use Rattle.shader_runs.specs.Premises.{constant_type, constant_types_of, handle_types}
-use Rattle.shader_runs.specs.Premises.{ConstantTyped, IsNoPointer}
-use Rattle.shader_runs.specs.Premises.{ConstantsTyped, LeafTyped, IsTypedIn, AllTypedIn}
+use Rattle.shader_runs.specs.Premises.{ConstantTyped, IsNoPointer, ConstantsTyped, LeafTyped}
+use Rattle.shader_runs.specs.Premises.{IsTypedIn, AllTypedIn}
 use Rattle.shader_runs.specs.Typing.{Signature, constant_signatures, constants_signatures}
 use Rattle.shader_runs.specs.Typing.{signatures_of, IsOneOf, first_of, later_of, IsSpelled}
 use Rattle.shader_runs.specs.Typing.{in_function, in_initialiser, IsPart, AccessFits}
-use Rattle.shader_runs.specs.Typing.{AccessIndexFits}
-use Rattle.shader_runs.specs.Typing.{LogicalFits, PartsFit, IsConsistent, TreeFits, TreesFit}
-use Rattle.shader_runs.specs.Typing.{LeafTreesFit}
+use Rattle.shader_runs.specs.Typing.{AccessIndexFits, LogicalFits, PartsFit, IsConsistent, TreeFits}
+use Rattle.shader_runs.specs.Typing.{TreesFit, LeafTreesFit}
 use Rattle.shader_runs.specs.Correct.{HasTypedMeaning}
 use Rattle.shader_runs.proofs.Update.{and_left, and_right, and_both, same_bytes_true}
 use Rattle.shader_runs.proofs.Update.{same_bytes_self, same_type_true, same_type_self}
 use Rattle.shader_runs.proofs.Evaluation.{not_pointer_type, no_pointer_type, typed_not_pointer}
-use Rattle.shader_runs.proofs.Evaluation.{pointer_typed}
-use Rattle.shader_runs.proofs.Evaluation.{integer_typed, index_value_is, part_value_is}
+use Rattle.shader_runs.proofs.Evaluation.{pointer_typed, integer_typed, index_value_is}
+use Rattle.shader_runs.proofs.Evaluation.{part_value_is}
 
 abbrev pub default_value : ValueType → Value
 default_value BooleanType = Truth false
@@ -449,9 +446,6 @@ module _ (p : Module) (consistent : IsConsistent p) where
     -- an operator's value, over values of its operands' types
     abbrev Gives_typed : ValueType → Option Expression → List Value → Type 0
     Gives_typed k e vs = (v : Value) × (combined_value p.parts m e vs ≡ Some v) × IsTrue (has_type p.parts k v)
-
-    abbrev pair_types : ValueType → ValueType → List Value → Bool
-    pair_types a b vs = has_types p.parts (a ∷ b ∷ []) vs
 
     by_pair : (k a b : ValueType) (e : Option Expression) →
         ((x y : Value) → IsTrue (has_type p.parts a x) → IsTrue (has_type p.parts b y) →

@@ -9,27 +9,24 @@ use Rattle.std.proofs.Common.{Option, Some, None, refl, sym, ap, ◌∙◌, subs
 use Rattle.std.specs.Prelude.{IsTrue, IsFalse}
 use Rattle.shader_runs.specs.Value.{Bytes, ValueType}
 use Rattle.shader_runs.specs.Program.{Swizzle, Request, Global, Local, Argument, ConstantTree}
-use Rattle.shader_runs.specs.Program.{Fixed, NamedConstant, Constructed, Indexing}
-use Rattle.shader_runs.specs.Program.{Picking, Joining, ConstantTrees, no_constant, constant}
-use Rattle.shader_runs.specs.Program.{Expression, Constant, Load}
-use Rattle.shader_runs.specs.Program.{Statement, Emit, Store}
-use Rattle.shader_runs.specs.Program.{Block, If, Switch, Loop, Return}
-use Rattle.shader_runs.specs.Program.{Act, Statements, end, then}
-use Rattle.shader_runs.specs.Program.{Cases, no_case, case, Function, Module, expression_of}
-use Rattle.shader_runs.specs.Program.{binds_as, from, holds_continue}
+use Rattle.shader_runs.specs.Program.{Fixed, NamedConstant, Constructed, Indexing, Picking, Joining}
+use Rattle.shader_runs.specs.Program.{ConstantTrees, no_constant, constant, Expression, Constant}
+use Rattle.shader_runs.specs.Program.{Load, Statement, Emit, Store, Block, If, Switch, Loop, Return}
+use Rattle.shader_runs.specs.Program.{Act, Statements, end, then, Cases, no_case, case, Function}
+use Rattle.shader_runs.specs.Program.{Module, expression_of, binds_as, from, holds_continue}
 use Rattle.shader_runs.specs.Program.{any_continue, some_case_continues, Jumps}
 use Rattle.shader_runs.specs.Scope.{ModuleNames, Naming, before_local}
-use Rattle.shader_runs.specs.ScopeRules.{IntroducedHandle, Emitted, IsConstantTree}
-use Rattle.shader_runs.specs.ScopeRules.{one_constant, over_constants, AreConstantTrees, no_tree}
-use Rattle.shader_runs.specs.ScopeRules.{and_tree, InScope, constant_tree, argument, local, global}
-use Rattle.shader_runs.specs.ScopeRules.{bound, written_out, result, still, EachInScope, no_handle}
+use Rattle.shader_runs.specs.ScopeRules.{IntroducedHandle, Emitted, IsConstantTree, one_constant}
+use Rattle.shader_runs.specs.ScopeRules.{over_constants, AreConstantTrees, no_tree, and_tree}
+use Rattle.shader_runs.specs.ScopeRules.{InScope, constant_tree, argument, local, global, bound}
+use Rattle.shader_runs.specs.ScopeRules.{written_out, result, still, EachInScope, no_handle}
 use Rattle.shader_runs.specs.ScopeRules.{and_handle, InScopeIf, is_unwritten, with_one}
 use Rattle.shader_runs.specs.ScopeRules.{with_emitted, with_statement, with_statements}
 use Rattle.shader_runs.specs.ScopeRules.{statements_before_continue, ScopeState, start_state}
-use Rattle.shader_runs.specs.ScopeRules.{following_one}
-use Rattle.shader_runs.specs.ScopeRules.{following, after_turn, WasIntroduced, in_sight, as_a_tree}
-use Rattle.shader_runs.specs.ScopeRules.{MayEmit, MayEmitEach, MayResult, StatementHolds}
-use Rattle.shader_runs.specs.ScopeRules.{StatementsHold, CasesHold, FirstValuesHold, ScopeHolds}
+use Rattle.shader_runs.specs.ScopeRules.{following_one, following, after_turn, WasIntroduced}
+use Rattle.shader_runs.specs.ScopeRules.{in_sight, as_a_tree, MayEmit, MayEmitEach, MayResult}
+use Rattle.shader_runs.specs.ScopeRules.{StatementHolds, StatementsHold, CasesHold, FirstValuesHold}
+use Rattle.shader_runs.specs.ScopeRules.{ScopeHolds}
 use Rattle.shader_runs.specs.Premises.{IsRegular, AreRegular, CasesAreRegular, OnlyEmptyFalls}
 use Rattle.shader_runs.specs.Premises.{OnlyEmptyFallIn, OnlyEmptyCasesFall, LeafFits, EachWord}
 use Rattle.shader_runs.specs.Premises.{EachWordOf, OperatesOutside, ConstantsFit}

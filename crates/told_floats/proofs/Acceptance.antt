@@ -3,8 +3,8 @@
 --
 -- Throughout, e and d are expressions, f and g functions, p and q entry points, as they were before
 -- and afterwards, known are the types of expressions by handle, and h is a handle.
-use Rattle.std.proofs.Common.{◌≡◌, ℕ, ◌+◌, Bool, true, false, ◌&&◌, ◌==◌, nat_lt}
-use Rattle.std.proofs.Common.{List, [], ◌∷◌, ◌++◌, length, map, refl, sym, ap, subst, ◌∙◌}
+use Rattle.std.proofs.Common.{◌≡◌, ℕ, ◌+◌, Bool, true, false, ◌&&◌, ◌==◌, nat_lt, List, [], ◌∷◌}
+use Rattle.std.proofs.Common.{◌++◌, length, map, refl, sym, ap, subst, ◌∙◌}
 use Rattle.std.specs.Prelude.{Option, Some, None, slice_get}
 use Rattle.std.specs.List.{AllZip, enumerate_from, flat_map, list_all}
 use Rattle.std.specs.Option.{is_some, option_and_then, option_map, option_map_or, option_to_list}
@@ -12,11 +12,10 @@ use Rattle.std.proofs.lemmas.Slice.Zip.{AllZip-long}
 use Rattle.indexmap.specs.IndexMap.{keys}
 use Rattle.naga_ir.specs.Operands.{expression_operands}
 use Rattle.naga_ir.specs.StatementTree.{SimpleStatement, atomic, call, return}
-use Rattle.naga_ir.specs.StatementTree.{work_group_uniform_load}
-use Rattle.naga_ir.specs.StatementTree.{subgroup_ballot, subgroup_gather}
-use Rattle.naga_ir.specs.StatementTree.{subgroup_collective_operation, StatementTree, simple}
-use Rattle.naga_ir.specs.StatementTree.{block, branch, switch, loop, BlockTree, no_statements}
-use Rattle.naga_ir.specs.StatementTree.{statement, CaseTrees, no_cases, case}
+use Rattle.naga_ir.specs.StatementTree.{work_group_uniform_load, subgroup_ballot, subgroup_gather}
+use Rattle.naga_ir.specs.StatementTree.{subgroup_collective_operation, StatementTree, simple, block}
+use Rattle.naga_ir.specs.StatementTree.{branch, switch, loop, BlockTree, no_statements, statement}
+use Rattle.naga_ir.specs.StatementTree.{CaseTrees, no_cases, case}
 use Rattle.naga_ir.specs.declared.expression.Expression.{Expression}
 use Rattle.naga_ir.specs.declared.expression.Expression.TheVariants as expression
 use Rattle.naga_ir.specs.declared.expression.Literal as ir
@@ -30,47 +29,40 @@ use Rattle.naga_info.specs.declared.info.TypeResolution.{TypeResolution}
 use Rattle.naga_info.specs.declared.info.TypeResolution.TheVariants as type_of
 use Rattle.module_meaning.specs.acceptance.Accepted.{is_accepted}
 use Rattle.module_meaning.specs.acceptance.AgreeingOperators.{expression_use, further_groups_of}
-use Rattle.module_meaning.specs.acceptance.AgreeingOperators.{Group}
-use Rattle.module_meaning.specs.acceptance.AgreeingOperators.{function_groups}
+use Rattle.module_meaning.specs.acceptance.AgreeingOperators.{Group, function_groups}
 use Rattle.module_meaning.specs.acceptance.AgreeingOperators.{module_operators_agree, uses_of}
-use Rattle.module_meaning.specs.acceptance.ExpressionTypes.{has_its_type, is_expected}
-use Rattle.module_meaning.specs.acceptance.ExpressionTypes.{LikeThis, only, result_type}
-use Rattle.module_meaning.specs.acceptance.ExpressionTypes.{expected_type}
+use Rattle.module_meaning.specs.acceptance.ExpressionTypes.{has_its_type, is_expected, LikeThis}
+use Rattle.module_meaning.specs.acceptance.ExpressionTypes.{only, result_type, expected_type}
 use Rattle.module_meaning.specs.acceptance.InfoSizes.{all_known, entry_point_size_fits}
-use Rattle.module_meaning.specs.acceptance.InfoSizes.{function_size_fits}
-use Rattle.module_meaning.specs.acceptance.InfoSizes.{sizes_fit, type_is_fit}
+use Rattle.module_meaning.specs.acceptance.InfoSizes.{function_size_fits, sizes_fit, type_is_fit}
 use Rattle.module_meaning.specs.acceptance.Initialisers.{initialisers_fit, locals_are_sound}
 use Rattle.module_meaning.specs.acceptance.Operations.{all_agree}
 use Rattle.module_meaning.specs.acceptance.OperandDemands.{operand_is, operands_fit}
 use Rattle.module_meaning.specs.acceptance.Ranges.{all_below, all_placed, block_in_range}
-use Rattle.module_meaning.specs.acceptance.Ranges.{constant_in_range}
-use Rattle.module_meaning.specs.acceptance.Ranges.{declarations_in_range, entry_point_in_range}
-use Rattle.module_meaning.specs.acceptance.Ranges.{expression_in_range, expressions_in_range}
-use Rattle.module_meaning.specs.acceptance.Ranges.{function_in_range, global_expression_in_range}
-use Rattle.module_meaning.specs.acceptance.Ranges.{global_in_range, initialiser_before, is_below}
-use Rattle.module_meaning.specs.acceptance.Ranges.{local_in_range, module_in_range}
-use Rattle.module_meaning.specs.acceptance.Ranges.{module_ranges_fit}
+use Rattle.module_meaning.specs.acceptance.Ranges.{constant_in_range, declarations_in_range}
+use Rattle.module_meaning.specs.acceptance.Ranges.{entry_point_in_range, expression_in_range}
+use Rattle.module_meaning.specs.acceptance.Ranges.{expressions_in_range, function_in_range}
+use Rattle.module_meaning.specs.acceptance.Ranges.{global_expression_in_range, global_in_range}
+use Rattle.module_meaning.specs.acceptance.Ranges.{initialiser_before, is_below, local_in_range}
+use Rattle.module_meaning.specs.acceptance.Ranges.{module_in_range, module_ranges_fit}
 use Rattle.module_meaning.specs.acceptance.Ranges.{names_in_range, override_in_range}
-use Rattle.module_meaning.specs.acceptance.Ranges.{resolution_fits}
-use Rattle.module_meaning.specs.acceptance.Ranges.{signature_fits, special_types_fit}
-use Rattle.module_meaning.specs.acceptance.Ranges.{types_in_range}
+use Rattle.module_meaning.specs.acceptance.Ranges.{resolution_fits, signature_fits}
+use Rattle.module_meaning.specs.acceptance.Ranges.{special_types_fit, types_in_range}
 use Rattle.module_meaning.specs.acceptance.Numbers.{workgroup_fits_32_bits}
 use Rattle.module_meaning.specs.acceptance.Soundness.{entry_point_is_sound, expressions_are_sound}
-use Rattle.module_meaning.specs.acceptance.Soundness.{function_is_sound}
-use Rattle.module_meaning.specs.acceptance.Soundness.{module_is_sound, typed_function_is_sound}
+use Rattle.module_meaning.specs.acceptance.Soundness.{function_is_sound, module_is_sound}
+use Rattle.module_meaning.specs.acceptance.Soundness.{typed_function_is_sound}
 use Rattle.module_meaning.specs.acceptance.StatementsFit.{are_passed, block_is_sound, calls}
-use Rattle.module_meaning.specs.acceptance.StatementsFit.{cases_are_sound}
-use Rattle.module_meaning.specs.acceptance.StatementsFit.{is_answered, is_atomic_result}
-use Rattle.module_meaning.specs.acceptance.StatementsFit.{is_ballot_result}
+use Rattle.module_meaning.specs.acceptance.StatementsFit.{cases_are_sound, is_answered}
+use Rattle.module_meaning.specs.acceptance.StatementsFit.{is_atomic_result, is_ballot_result}
 use Rattle.module_meaning.specs.acceptance.StatementsFit.{is_call, is_condition, is_result}
-use Rattle.module_meaning.specs.acceptance.StatementsFit.{is_result_if, is_returned}
-use Rattle.module_meaning.specs.acceptance.StatementsFit.{is_result_of, is_selection}
-use Rattle.module_meaning.specs.acceptance.StatementsFit.{is_subgroup_result}
-use Rattle.module_meaning.specs.acceptance.StatementsFit.{is_uniform_load_result}
-use Rattle.module_meaning.specs.acceptance.StatementsFit.{simple_is_sound, statement_is_sound}
+use Rattle.module_meaning.specs.acceptance.StatementsFit.{is_result_if, is_returned, is_result_of}
+use Rattle.module_meaning.specs.acceptance.StatementsFit.{is_selection, is_subgroup_result}
+use Rattle.module_meaning.specs.acceptance.StatementsFit.{is_uniform_load_result, simple_is_sound}
+use Rattle.module_meaning.specs.acceptance.StatementsFit.{statement_is_sound}
 use Rattle.module_meaning.specs.TypeParts.{points_to_atomic}
-use Rattle.told_floats.specs.Told.{IsToldEntryPoint, IsToldExpression, same, told}
-use Rattle.told_floats.specs.Told.{IsToldFunction, IsToldModule}
+use Rattle.told_floats.specs.Told.{IsToldEntryPoint, IsToldExpression, same, told, IsToldFunction}
+use Rattle.told_floats.specs.Told.{IsToldModule}
 use Rattle.told_floats.proofs.Literals.{told_scalar, told_within}
 use Rattle.told_floats.proofs.Lists.{all_kept, all_same, and_kept, paired_same, placed_kept}
 use Rattle.told_floats.proofs.Lists.{placed_same, seen_same}

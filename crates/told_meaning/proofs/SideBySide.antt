@@ -4,15 +4,6 @@ use Rattle.std.proofs.Common.{◌≡◌, ℕ, ◌+◌, Bool, ◌||◌, List, [],
 use Rattle.std.specs.List.{AllZip, enumerate_from, flat_map, list_any, zip}
 
 module _ {X Y : Type 0} (R : X → Y → Type 0) where
-  pub mapped_same : {Z : Type 0} (p : X → Z) (q : Y → Z) →
-      ((x : X) (y : Y) → R x y → q y ≡ p x) → (xs : List X) (ys : List Y) → AllZip R xs ys →
-      map q ys ≡ map p xs
-  mapped_same p q each [] [] h = refl
-  mapped_same p q each [] (y ∷ ys) h = absurd h
-  mapped_same p q each (x ∷ xs) [] h = absurd h
-  mapped_same p q each (x ∷ xs) (y ∷ ys) h =
-      λ i. each x y h.0 i ∷ mapped_same p q each xs ys h.1 i
-
   -- of each with its place
   pub placed_mapped_same : {Z : Type 0} (p : ℕ → X → Z) (q : ℕ → Y → Z) →
       ((k : ℕ) (x : X) (y : Y) → R x y → q k y ≡ p k x) →

@@ -3,8 +3,7 @@
 --
 -- Throughout, k is a member, b the one before it, next the one after it, more those after, a an
 -- alignment and span how many bytes the module gives to a struct.
-use Rattle.std.proofs.Common.{◌≡◌, ◌+◌, ℕ, true, false, List, [], ◌∷◌}
-use Rattle.std.proofs.Common.{Option, Some, None, refl}
+use Rattle.std.proofs.Common.{◌≡◌, ◌+◌, ℕ, true, false, List, [], ◌∷◌, Option, Some, None, refl}
 use Rattle.std.specs.Prelude.{◌==◌, ⊤, nat_le, not}
 use Rattle.std.specs.List.{list_all}
 use Rattle.std.specs.Option.{is_some, option_map_or}

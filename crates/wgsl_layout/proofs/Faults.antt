@@ -2,8 +2,7 @@
 --
 -- Throughout, k is a member, next the one after it, more are those that are left, and ks all of a
 -- struct.
-use Rattle.std.proofs.Common.{◌≡◌, ◌+◌, ℕ, true, false, List, [], ◌∷◌}
-use Rattle.std.proofs.Common.{Option, Some, None, refl}
+use Rattle.std.proofs.Common.{◌≡◌, ◌+◌, ℕ, true, false, List, [], ◌∷◌, Option, Some, None, refl}
 use Rattle.std.specs.Prelude.{◌&&◌, ◌==◌, nat_le, nat_lt, not}
 use Rattle.std.specs.List.{list_all, list_any}
 use Rattle.std.specs.Option.{is_some, option_map_or}

@@ -3,29 +3,13 @@
 --
 -- Throughout, a and b are alignments, o is an offset, s a size, x any number, and p where what is
 -- after begins.
-use Rattle.std.proofs.Common.{◌≡◌, ◌<◌, ◌≤◌, ◌+◌, ◌-◌, ◌%◌, ℕ, Bool, true, false, Some, None}
+use Rattle.std.proofs.Common.{◌≡◌, ◌≤◌, ◌+◌, ◌-◌, ◌%◌, ℕ, Bool, true, false, Some, None}
 use Rattle.std.proofs.Common.{arith, inl, inr, refl, max}
 use Rattle.std.specs.Prelude.{◌&&◌, ◌==◌, ◌⊎◌, nat_lt, unwrap_or, if◌then◌else◌}
 use Rattle.std.specs.Int.{next_multiple_of}
 use Rattle.std.proofs.lemmas.Bool.{and_cases, ltb-false, eqb-false}
 use Rattle.wgsl_layout.specs.Capped.{IsAlignment, Two, Four, Eight, Sixteen, ThirtyTwo, past}
 use Rattle.wgsl_layout.specs.Members.{gap_size}
-
--- it is no less
-pub rounds_up : (a : ℕ) → IsAlignment a → (x : ℕ) → x ≤ next_multiple_of x a
-rounds_up a Two x = omega arith
-rounds_up a Four x = omega arith
-rounds_up a Eight x = omega arith
-rounds_up a Sixteen x = omega arith
-rounds_up a ThirtyTwo x = omega arith
-
--- and less than 32 greater
-pub rounds_below : (a : ℕ) → IsAlignment a → (x : ℕ) → next_multiple_of x a < x + 32
-rounds_below a Two x = omega arith
-rounds_below a Four x = omega arith
-rounds_below a Eight x = omega arith
-rounds_below a Sixteen x = omega arith
-rounds_below a ThirtyTwo x = omega arith
 
 -- no multiple stands between
 pub rounds_within : (a : ℕ) → IsAlignment a → (x p : ℕ) → x ≤ p → p % a ≡ 0 → next_multiple_of x a ≤ p

@@ -1,6 +1,6 @@
 -- Attributes: the machine reads back what their pieces write, and no token of these runs into the
 -- next; and the text of each row.
-use Rattle.std.proofs.Common.{◌≡◌, ℕ, List, [], ◌∷◌, ◌++◌, refl, ap}
+use Rattle.std.proofs.Common.{◌≡◌, ℕ, List, [], ◌∷◌, refl, ap}
 use Rattle.std.specs.Prelude.{codes}
 use Rattle.wgsl_text.specs.Attributes.{PlainAttribute, Invariant, PerPrimitive, Coherent, Volatile}
 use Rattle.wgsl_text.specs.Attributes.{Vertex, Fragment, Compute, Task, RayGeneration, AnyHit}
@@ -22,7 +22,7 @@ use Rattle.wgsl_text.proofs.Machine.{attribute_named, turned, add_attribute}
 use Rattle.wgsl_text.proofs.Chain.{◌$◌}
 use Rattle.wgsl_text.proofs.Closing.{Closed, none, gap, tok, free, size, sign, ◌then◌}
 use Rattle.wgsl_text.proofs.Runs.{Runs, ◌onward◌, reads, over_gap, as_state, at_end}
-use Rattle.wgsl_text.proofs.Text.{IsWordToken, text-append}
+use Rattle.wgsl_text.proofs.Text.{IsWordToken}
 use Rattle.wgsl_text.proofs.Words.{table_word, builtin_values_free, interpolations_free}
 use Rattle.wgsl_text.proofs.Words.{samplings_free}
 use Rattle.wgsl_text.specs.Tables.{builtin_value_words, interpolation_words, sampling_words}
@@ -175,7 +175,3 @@ attributes_closed [] is = none
 attributes_closed (a ∷ more) is = attribute_closed a is.0 then attributes_closed more is.1
 
 -- The text of each row, from the texts of its parts.
-
-pub attribute_then_text : (a : Attribute) (more : List Attribute) → text (attributes_pieces (a ∷ more))
-    ≡ text (attribute_pieces a) ++ text (attributes_pieces more)
-attribute_then_text a more = simp text-append

@@ -11,9 +11,8 @@ use Rattle.wgsl_text.specs.Functions.{Each}
 use Rattle.wgsl_text.specs.Literals.{IsPlainNumber}
 use Rattle.wgsl_text.specs.Statements.{CallStatement, IsStatement}
 use Rattle.wgsl_text.specs.Types.{TypeSpecifier, Named, Template, NoTemplateArguments, TypeArgument}
-use Rattle.wgsl_text.specs.Types.{SizeArgument}
-use Rattle.wgsl_text.specs.Types.{plain_type_words, is_type, TakesScalar, TakesElements, rule_among}
-use Rattle.wgsl_text.specs.Types.{type_templates, IsType}
+use Rattle.wgsl_text.specs.Types.{SizeArgument, plain_type_words, is_type, TakesScalar}
+use Rattle.wgsl_text.specs.Types.{TakesElements, rule_among, type_templates, IsType}
 use Rattle.wgsl_text.specs.Tables.{scalar_words, depth_image_words, sampler_words, ray_words}
 use Rattle.wgsl_text.specs.Tables.{address_space_words, format_words, gather_words, level_words}
 use Rattle.wgsl_text.specs.Tables.{type_taking_words}

@@ -28,9 +28,8 @@ use Rattle.wgsl_text.proofs.Attributes.{attribute_closed, attributes_closed}
 use Rattle.wgsl_text.proofs.Closing.{Closed, none, line, gap, indent, free, sign, angle, part}
 use Rattle.wgsl_text.proofs.Closing.{◌then◌}
 use Rattle.wgsl_text.proofs.Expressions.{expression_runs, expression_spaced}
-use Rattle.wgsl_text.proofs.Functions.{group_end_runs, functions_run, entry_points_run}
-use Rattle.wgsl_text.proofs.Functions.{value_after, group_end_closed, functions_closed}
-use Rattle.wgsl_text.proofs.Functions.{entry_points_closed}
+use Rattle.wgsl_text.proofs.Functions.{group_end_runs, functions_run, entry_points_run, value_after}
+use Rattle.wgsl_text.proofs.Functions.{group_end_closed, functions_closed, entry_points_closed}
 use Rattle.wgsl_text.proofs.Runs.{Runs, ◌onward◌, reads, over_gap, over_line, over_indent, as_state}
 use Rattle.wgsl_text.proofs.Runs.{at_end, to_state, turned_back}
 use Rattle.wgsl_text.proofs.Spacing.{word_opens}

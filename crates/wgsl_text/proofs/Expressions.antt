@@ -15,8 +15,7 @@ use Rattle.wgsl_text.specs.Literals.{IsPlainNumber}
 use Rattle.wgsl_text.specs.Token.{OpenParen, CloseBracket, LessThan, NoSuffix, Number, Piece, Blank}
 use Rattle.wgsl_text.specs.Token.{mark}
 use Rattle.wgsl_text.specs.Types.{TypeSpecifier, Named, Template, TemplateArguments, has_gaps}
-use Rattle.wgsl_text.specs.Types.{type_pieces}
-use Rattle.wgsl_text.specs.Types.{TakesType, rule_among, type_templates, fits, IsType}
+use Rattle.wgsl_text.specs.Types.{type_pieces, TakesType, rule_among, type_templates, fits, IsType}
 use Rattle.wgsl_text.specs.Words.{stands_in, is_builtin, is_reserved}
 use Rattle.wgsl_text.proofs.Chain.{◌$◌}
 use Rattle.wgsl_text.proofs.Literals.{literal_runs, literal_opens, literal_spaced}

@@ -18,11 +18,9 @@ use Rattle.wgsl_text.specs.Statements.{NoStatements, statements_pieces}
 use Rattle.wgsl_text.specs.Token.{OpenBrace, Colon, Piece, Blank, LineEnd, mark, word}
 use Rattle.wgsl_text.specs.Types.{TypeSpecifier, Named, Template, type_pieces, IsType}
 use Rattle.wgsl_text.proofs.Machine.{Stack, State, Expect, ExpectType, GotType, InStatements}
-use Rattle.wgsl_text.proofs.Machine.{InProgram}
-use Rattle.wgsl_text.proofs.Machine.{InParameters, InParameterType, InLocals, InLocalType}
-use Rattle.wgsl_text.proofs.Machine.{ExpectParameter, AfterParameters, ExpectResult, turned}
-use Rattle.wgsl_text.proofs.Machine.{add_local}
-use Rattle.wgsl_text.proofs.Machine.{function_added, close_parameters}
+use Rattle.wgsl_text.proofs.Machine.{InProgram, InParameters, InParameterType, InLocals}
+use Rattle.wgsl_text.proofs.Machine.{InLocalType, ExpectParameter, AfterParameters, ExpectResult}
+use Rattle.wgsl_text.proofs.Machine.{turned, add_local, function_added, close_parameters}
 use Rattle.wgsl_text.proofs.Chain.{◌$◌}
 use Rattle.wgsl_text.proofs.Attributes.{attributes_run, parameter_attributes_run}
 use Rattle.wgsl_text.proofs.Attributes.{result_attributes_run, attributes_closed}
@@ -242,18 +240,6 @@ entry_points_closed (e ∷ more) is = entry_point_closed e is.0 then more_entry_
 pub value_text : (e : Expression) → text (value_pieces (Some e)) ≡ codes " = " ++ (expression_layout e ++ codes ";\n")
 value_text e = simp text-append
 
-pub parameter_text : (p : Parameter) → text (parameter_pieces p) ≡ text (attributes_pieces p.attributes)
-    ++ (p.name ++ (codes ": " ++ type_layout p.type))
-parameter_text p = simp text-append
-
-pub parameters_text : (p : Parameter) (more : List Parameter) → text (parameters_pieces (p ∷ more))
-    ≡ text (parameter_pieces p) ++ text (more_parameters_pieces more)
-parameters_text p more = text-append (parameter_pieces p) (more_parameters_pieces more)
-
-pub next_parameter_text : (p : Parameter) (more : List Parameter) → text (more_parameters_pieces (p ∷ more))
-    ≡ codes ", " ++ (text (parameter_pieces p) ++ text (more_parameters_pieces more))
-next_parameter_text p more = ap (λ v. codes ", " ++ v) (text-append (parameter_pieces p) (more_parameters_pieces more))
-
 pub result_text : (list : List Attribute) (t : TypeSpecifier) → text (result_pieces (ResultOf list t))
     ≡ codes " -> " ++ (text (attributes_pieces list) ++ type_layout t)
 result_text list t = simp text-append
@@ -280,13 +266,3 @@ functions_text f more = text-append (function_pieces f) (LineEnd ∷ functions_p
 pub entry_point_text : (e : EntryPoint) → text (entry_point_pieces e) ≡ text (attributes_pieces e.stage)
     ++ (codes "\n" ++ text (function_pieces e.function))
 entry_point_text e = text-append (attributes_pieces e.stage) (LineEnd ∷ function_pieces e.function)
-
-pub entry_points_text : (e : EntryPoint) (more : List EntryPoint) → text (entry_points_pieces (e ∷ more))
-    ≡ text (entry_point_pieces e) ++ text (more_entry_points_pieces more)
-entry_points_text e more = text-append (entry_point_pieces e) (more_entry_points_pieces more)
-
-pub next_entry_point_text : (e : EntryPoint) (more : List EntryPoint) →
-    text (more_entry_points_pieces (e ∷ more))
-    ≡ codes "\n" ++ (text (entry_point_pieces e) ++ text (more_entry_points_pieces more))
-next_entry_point_text e more =
-    ap (λ v. codes "\n" ++ v) (text-append (entry_point_pieces e) (more_entry_points_pieces more))

@@ -18,8 +18,7 @@ use Rattle.wgsl_text.specs.Token.{Decimal, Indent}
 use Rattle.wgsl_text.specs.Literals.{Literal, Truth, Suffixed, SignedShort, UnsignedShort, Floating}
 use Rattle.wgsl_text.specs.Literals.{LeastInteger, LeastLong}
 use Rattle.wgsl_text.specs.Types.{TypeSpecifier, Named, Template, TemplateArguments}
-use Rattle.wgsl_text.specs.Types.{NoTemplateArguments, TypeArgument}
-use Rattle.wgsl_text.specs.Types.{SizeArgument}
+use Rattle.wgsl_text.specs.Types.{NoTemplateArguments, TypeArgument, SizeArgument}
 use Rattle.wgsl_text.specs.Expressions.{BinaryOperator, Add, Subtract, Multiply, Divide, Modulo}
 use Rattle.wgsl_text.specs.Expressions.{Equal, NotEqual, Less, LessEqual, Greater, GreaterEqual}
 use Rattle.wgsl_text.specs.Expressions.{And, ExclusiveOr, InclusiveOr, LogicalAnd, LogicalOr}

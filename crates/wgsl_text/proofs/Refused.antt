@@ -12,8 +12,7 @@ use Rattle.wgsl_text.specs.Attributes.{Compute, Location, Size, Align, Builtin, 
 use Rattle.wgsl_text.specs.Attributes.{Numbered, Worded}
 use Rattle.wgsl_text.specs.Functions.{NoResult}
 use Rattle.wgsl_text.specs.Statements.{Case, Cases, DefaultCase, LastCaseValue, MoreCaseValues}
-use Rattle.wgsl_text.specs.Statements.{NoCases}
-use Rattle.wgsl_text.specs.Statements.{NoStatements, SignedCase, Switch}
+use Rattle.wgsl_text.specs.Statements.{NoCases, NoStatements, SignedCase, Switch}
 use Rattle.wgsl_text.specs.Declarations.{Program, no_declarations}
 use Rattle.wgsl_text.proofs.Declarations.{newest_first, newest_twice}
 use Rattle.wgsl_text.specs.Words.{is_reserved, is_builtin}
@@ -117,20 +116,6 @@ unfolding is_reserved is_builtin
 two_levels =
     found_expression _ (call "textureSampleLevel"
     (Argument (name "t") (Argument (name "s") (ZeroArgument false (ZeroArgument false NoArguments))))) refl
-    (λ r. false≢true r.form.2)
-
-level_of_one : IsNoExpression (codes "textureSampleLevel(t, s, 1)")
-unfolding is_reserved is_builtin
-level_of_one =
-    found_expression _ (call "textureSampleLevel"
-    (Argument (name "t") (Argument (name "s") (NumberArgument 1 NoArguments)))) refl
-    (λ r. false≢true r.form.2)
-
-zero_elsewhere : IsNoExpression (codes "textureSampleBias(t, s, 0)")
-unfolding is_reserved is_builtin
-zero_elsewhere =
-    found_expression _ (call "textureSampleBias"
-    (Argument (name "t") (Argument (name "s") (ZeroArgument true NoArguments)))) refl
     (λ r. false≢true r.form.2)
 
 open_binary : IsNoExpression (codes "a + b")

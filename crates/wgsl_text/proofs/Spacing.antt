@@ -9,11 +9,9 @@ use Rattle.std.specs.Str.{all_ascii_digits}
 use Rattle.std.proofs.lemmas.Fmt.{digits_decimal, decimal_nonempty}
 use Rattle.wgsl_text.specs.Literals.{IsPlainNumber}
 use Rattle.wgsl_text.specs.Token.{CloseParen, Suffix, NoSuffix, Token, Word, Number, Piece}
-use Rattle.wgsl_text.specs.Token.{TokenPiece, Blank, mark, plain}
+use Rattle.wgsl_text.specs.Token.{TokenPiece, Blank, mark, plain, AreDigits, Decimal, Precision}
 use Rattle.wgsl_text.specs.Words.{IsWord, is_letter, all_word_bytes}
 use Rattle.wgsl_text.specs.Text.{suffix_text, text, decimal_tail}
-use Rattle.wgsl_text.specs.Token.{AreDigits}
-use Rattle.wgsl_text.specs.Token.{Decimal, Precision}
 use Rattle.wgsl_text.proofs.Text.{ends_word, opens, ends, word_token_of, IsNumber, IsToken}
 use Rattle.wgsl_text.proofs.Text.{own_digits, digit_no_letter, Apart}
 

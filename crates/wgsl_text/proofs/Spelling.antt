@@ -17,27 +17,24 @@ use Rattle.wgsl_text.specs.Token.{KeywordDiscard, KeywordFn, KeywordStruct, Keyw
 use Rattle.wgsl_text.specs.Token.{KeywordEnable, KeywordOverride, Suffix, NoSuffix, SuffixI}
 use Rattle.wgsl_text.specs.Token.{SuffixU, SuffixLi, SuffixLu, Token, Fixed, Word, Number}
 use Rattle.wgsl_text.specs.Token.{ZeroPointZero, Foreign, Decimal, Power, NoPower, Precision, Half}
-use Rattle.wgsl_text.specs.Token.{Single, Double}
+use Rattle.wgsl_text.specs.Token.{Single, Double, AreDigits, IsPower, IsPrecision}
 use Rattle.float_numerals.specs.Texts.{fraction_text}
-use Rattle.wgsl_text.specs.Text.{precision_text, decimal_tail, fraction_at}
-use Rattle.wgsl_text.specs.Token.{AreDigits, IsPower, IsPrecision}
-use Rattle.wgsl_text.specs.Text.{power_text, power_at, digits_at}
-use Rattle.wgsl_text.specs.Text.{power_of_digits, power_after_letter, after_power, starts_with_lf}
-use Rattle.wgsl_text.specs.Text.{after_fraction, has_precision, precision_at, decimal_of, whole_of}
-use Rattle.wgsl_text.specs.Spelling.{SpellsDecimal, decimal_text}
-use Rattle.wgsl_text.proofs.Text.{decimal_scan, decimal_scans, joined}
+use Rattle.wgsl_text.specs.Text.{precision_text, decimal_tail, fraction_at, power_text, power_at}
+use Rattle.wgsl_text.specs.Text.{digits_at, power_of_digits, power_after_letter, after_power}
+use Rattle.wgsl_text.specs.Text.{starts_with_lf, after_fraction, has_precision, precision_at}
+use Rattle.wgsl_text.specs.Text.{decimal_of, whole_of, Lexeme, Takes, Skips, mark_text, suffix_text}
+use Rattle.wgsl_text.specs.Text.{starts_with, word_length, digits_length, keyword_among, keywords}
+use Rattle.wgsl_text.specs.Text.{word_token, word_lexeme, suffix_at, is_point_zero, is_empty}
+use Rattle.wgsl_text.specs.Text.{number_of, number_lexeme, one_more, minus_lexeme, sign_or, lexeme}
+use Rattle.wgsl_text.specs.Text.{following, scan, single, single_signs, sign_lexeme, tokens}
+use Rattle.wgsl_text.specs.Spelling.{SpellsDecimal, decimal_text, is_sign, number_text, Spells}
+use Rattle.wgsl_text.specs.Spelling.{SpellsWord, SpellsNumber, SpellsZeroPointZero, SpellsSign}
+use Rattle.wgsl_text.specs.Spelling.{is_blank, Begins, AtBlank, AtToken, AtForeign}
+use Rattle.wgsl_text.proofs.Text.{decimal_scan, decimal_scans, joined, when_true, when_false}
+use Rattle.wgsl_text.proofs.Text.{ends_number, past, word_scans, digit_no_letter, digits_scan}
+use Rattle.wgsl_text.proofs.Text.{number_scans}
 use Rattle.wgsl_text.specs.Words.{is_letter, is_word_byte, all_word_bytes, is_word_text}
 use Rattle.wgsl_text.specs.Words.{is_reserved}
-use Rattle.wgsl_text.specs.Text.{Lexeme, Takes, Skips, mark_text, suffix_text, starts_with}
-use Rattle.wgsl_text.specs.Text.{word_length, digits_length, keyword_among, keywords, word_token}
-use Rattle.wgsl_text.specs.Text.{word_lexeme, suffix_at, is_point_zero, is_empty, number_of}
-use Rattle.wgsl_text.specs.Text.{number_lexeme, one_more, minus_lexeme, sign_or, lexeme, following}
-use Rattle.wgsl_text.specs.Text.{scan, single, single_signs, sign_lexeme, tokens}
-use Rattle.wgsl_text.specs.Spelling.{is_sign, number_text, Spells, SpellsWord, SpellsNumber}
-use Rattle.wgsl_text.specs.Spelling.{SpellsZeroPointZero, SpellsSign, is_blank, Begins, AtBlank}
-use Rattle.wgsl_text.specs.Spelling.{AtToken, AtForeign}
-use Rattle.wgsl_text.proofs.Text.{when_true, when_false, ends_number, past, word_scans}
-use Rattle.wgsl_text.proofs.Text.{digit_no_letter, digits_scan, number_scans}
 use Rattle.std.specs.Str.Parse.{digits_value}
 use Rattle.std.proofs.lemmas.Slice.Eq.{bytes_eq-Decides}
 use Rattle.std.proofs.Math.Seq.{take-append_seam, drop-append_seam}

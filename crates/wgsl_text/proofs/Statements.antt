@@ -5,24 +5,20 @@ use Rattle.std.proofs.Common.{arith}
 use Rattle.wgsl_text.specs.Expressions.{Expression, Arguments, arguments_pieces}
 use Rattle.wgsl_text.specs.Statements.{CaseValue, DefaultCase, SignedCase, UnsignedCase, CaseValues}
 use Rattle.wgsl_text.specs.Statements.{LastCaseValue, MoreCaseValues, Statement, Let, TypedLet}
-use Rattle.wgsl_text.specs.Statements.{Assign}
-use Rattle.wgsl_text.specs.Statements.{CallStatement, ReturnValue, If, Loop, LoopBreakIf, Switch}
-use Rattle.wgsl_text.specs.Statements.{Block, Statements, NoStatements, Then, Cases, NoCases, Case}
-use Rattle.wgsl_text.specs.Statements.{case_value_pieces, case_values_pieces, case_pieces}
-use Rattle.wgsl_text.specs.Statements.{statement_pieces}
-use Rattle.wgsl_text.specs.Statements.{statements_pieces, else_pieces, continuing_pieces}
-use Rattle.wgsl_text.specs.Statements.{cases_pieces, IsCaseValue, AreCaseValues, IsStatement}
-use Rattle.wgsl_text.specs.Statements.{IsStatements}
-use Rattle.wgsl_text.specs.Statements.{IsCases, OptionalBlock, NoBlock, SomeBlock, IsOptionalBlock}
+use Rattle.wgsl_text.specs.Statements.{Assign, CallStatement, ReturnValue, If, Loop, LoopBreakIf}
+use Rattle.wgsl_text.specs.Statements.{Switch, Block, Statements, NoStatements, Then, Cases}
+use Rattle.wgsl_text.specs.Statements.{NoCases, Case, case_value_pieces, case_values_pieces}
+use Rattle.wgsl_text.specs.Statements.{case_pieces, statement_pieces, statements_pieces}
+use Rattle.wgsl_text.specs.Statements.{else_pieces, continuing_pieces, cases_pieces, IsCaseValue}
+use Rattle.wgsl_text.specs.Statements.{AreCaseValues, IsStatement, IsStatements, IsCases}
+use Rattle.wgsl_text.specs.Statements.{OptionalBlock, NoBlock, SomeBlock, IsOptionalBlock}
 use Rattle.wgsl_text.specs.Token.{CloseBrace, KeywordContinuing, NoSuffix, Number, Piece, LineEnd}
 use Rattle.wgsl_text.specs.Token.{mark}
 use Rattle.wgsl_text.specs.Types.{TypeSpecifier}
 use Rattle.wgsl_text.proofs.Machine.{Stack, State, Expect, InStatements, InLoop, InContinuing}
-use Rattle.wgsl_text.proofs.Machine.{InCase}
-use Rattle.wgsl_text.proofs.Machine.{CloseTwice, ExpectBrace, CloseOnce, AtCase, ExpectCaseValue}
-use Rattle.wgsl_text.proofs.Machine.{AfterCaseValue, unwind_statements, unwind_cases}
-use Rattle.wgsl_text.proofs.Machine.{unwind_case_values}
-use Rattle.wgsl_text.proofs.Machine.{add_statement, close_block}
+use Rattle.wgsl_text.proofs.Machine.{InCase, CloseTwice, ExpectBrace, CloseOnce, AtCase}
+use Rattle.wgsl_text.proofs.Machine.{ExpectCaseValue, AfterCaseValue, unwind_statements}
+use Rattle.wgsl_text.proofs.Machine.{unwind_cases, unwind_case_values, add_statement, close_block}
 use Rattle.wgsl_text.proofs.Chain.{◌$◌}
 use Rattle.wgsl_text.proofs.Closing.{Closed, none, line, gap, indent, tok, free, sign, part, ◌then◌}
 use Rattle.wgsl_text.proofs.Closing.{stop, close_line}

@@ -19,19 +19,18 @@ use Rattle.wgsl_text.specs.Token.{Caret, Not, Tilde, EqualsEquals, NotEquals, Le
 use Rattle.wgsl_text.specs.Token.{BarBar, LessLess, Suffix, NoSuffix, SuffixI, SuffixU, SuffixLi}
 use Rattle.wgsl_text.specs.Token.{SuffixLu, Token, Fixed, Word, Number, ZeroPointZero, Foreign}
 use Rattle.wgsl_text.specs.Token.{Decimal, Power, NoPower, PowerOf, Precision, Half, Single, Double}
+use Rattle.wgsl_text.specs.Token.{AreDigits, IsPower, IsPrecision, Piece, TokenPiece, Blank}
+use Rattle.wgsl_text.specs.Token.{LineEnd, Indent, plain}
 use Rattle.float_numerals.specs.Texts.{fraction_text}
-use Rattle.wgsl_text.specs.Text.{precision_text, decimal_tail, fraction_at}
-use Rattle.wgsl_text.specs.Token.{AreDigits, IsPower, IsPrecision}
-use Rattle.wgsl_text.specs.Text.{power_text, power_at, digits_at}
-use Rattle.wgsl_text.specs.Text.{power_of_digits, power_after_letter, after_power, starts_with_lf}
-use Rattle.wgsl_text.specs.Text.{after_fraction, has_precision, precision_at, decimal_of, whole_of}
-use Rattle.wgsl_text.specs.Token.{Piece, TokenPiece, Blank, LineEnd, Indent, plain}
+use Rattle.wgsl_text.specs.Text.{precision_text, decimal_tail, fraction_at, power_text, power_at}
+use Rattle.wgsl_text.specs.Text.{digits_at, power_of_digits, power_after_letter, after_power}
+use Rattle.wgsl_text.specs.Text.{starts_with_lf, after_fraction, has_precision, precision_at}
+use Rattle.wgsl_text.specs.Text.{decimal_of, whole_of, Takes, mark_text, suffix_text, starts_with}
+use Rattle.wgsl_text.specs.Text.{word_length, digits_length, word_token, word_lexeme, suffix_at}
+use Rattle.wgsl_text.specs.Text.{is_point_zero, is_empty, number_of, number_lexeme, one_more}
+use Rattle.wgsl_text.specs.Text.{sign_or, lexeme, text, token_text, tokens_in, following, scan}
 use Rattle.wgsl_text.specs.Words.{IsWord, is_letter, is_word_byte, all_word_bytes, is_word_text}
 use Rattle.wgsl_text.specs.Words.{is_reserved}
-use Rattle.wgsl_text.specs.Text.{Takes, mark_text, suffix_text, starts_with, word_length}
-use Rattle.wgsl_text.specs.Text.{digits_length, word_token, word_lexeme, suffix_at, is_point_zero}
-use Rattle.wgsl_text.specs.Text.{is_empty, number_of, number_lexeme, one_more, sign_or, lexeme}
-use Rattle.wgsl_text.specs.Text.{text, token_text, tokens_in, following, scan}
 use Rattle.std.proofs.lemmas.List.{append-nil}
 
 both_not : (a b : Bool) → (not a && not b) ≡ true → (a ≡ false) × (b ≡ false)

@@ -1,27 +1,24 @@
 -- Types: the machine reads back what their pieces write, and no token of these runs into the
 -- next; and the text of each row.
-use Rattle.std.proofs.Common.{◌≡◌, ℕ, Bool, true, false, ◌&&◌, List, [], ◌∷◌, ◌++◌, refl, sym, ap}
-use Rattle.std.proofs.Common.{◌∙◌}
+use Rattle.std.proofs.Common.{◌≡◌, ℕ, Bool, true, false, ◌&&◌, List, [], ◌∷◌, ◌++◌, refl, sym, ◌∙◌}
 use Rattle.wgsl_text.specs.Token.{NoSuffix, Number, Piece}
 use Rattle.wgsl_text.specs.Types.{TypeSpecifier, Named, Template, TemplateArguments}
-use Rattle.wgsl_text.specs.Types.{NoTemplateArguments, TypeArgument}
-use Rattle.wgsl_text.specs.Types.{SizeArgument, has_gaps, gap_if, type_pieces, template_pieces}
-use Rattle.wgsl_text.specs.Types.{more_template_pieces, TemplateRule, TakesNone, TakesScalar}
-use Rattle.wgsl_text.specs.Types.{TakesSampled, TakesElements, TakesPointee, TakesFormat}
-use Rattle.wgsl_text.specs.Types.{TakesVertexReturn, TakesRole, TakesType, rule_among}
+use Rattle.wgsl_text.specs.Types.{NoTemplateArguments, TypeArgument, SizeArgument, has_gaps, gap_if}
+use Rattle.wgsl_text.specs.Types.{type_pieces, template_pieces, more_template_pieces, TemplateRule}
+use Rattle.wgsl_text.specs.Types.{TakesNone, TakesScalar, TakesSampled, TakesElements, TakesPointee}
+use Rattle.wgsl_text.specs.Types.{TakesFormat, TakesVertexReturn, TakesRole, TakesType, rule_among}
 use Rattle.wgsl_text.specs.Types.{type_templates, fits, IsTemplateArgument, AreTemplateArguments}
 use Rattle.wgsl_text.specs.Words.{stands_in, is_builtin, IsWord, is_reserved}
 use Rattle.wgsl_text.proofs.Chain.{◌$◌}
 use Rattle.wgsl_text.proofs.Runs.{Runs, ◌onward◌, reads, over_gap, at_end}
 use Rattle.wgsl_text.proofs.Spacing.{Spaced, Ends, end, part, tok, free, number_of_plain, size, gap}
 use Rattle.wgsl_text.proofs.Spacing.{Opens, opens_first, word_opens, number_opens}
-use Rattle.wgsl_text.proofs.Text.{ends, text-append, plain_text}
+use Rattle.wgsl_text.proofs.Text.{ends, text-append}
 use Rattle.wgsl_text.proofs.Words.{all_words, passes, is_free, free_word}
 use Rattle.wgsl_text.proofs.Machine.{Stack, InTemplate, State, ExpectType, GotType, AfterPart}
 use Rattle.wgsl_text.proofs.Machine.{unwind_parts}
 use Rattle.std.specs.Prelude.{codes, ⊤, IsTrue, cond}
 use Rattle.std.proofs.lemmas.Bool.{false≢true, and_parts}
-use Rattle.std.specs.Fmt.{decimal}
 use Rattle.wgsl_text.specs.Text.{text}
 use Rattle.std.proofs.lemmas.List.{append-nil}
 use Rattle.wgsl_text.specs.Reading.{type_layout}
@@ -196,10 +193,6 @@ mutual
 pub named_text : (w : List ℕ) → type_layout (Named w) ≡ w
 named_text w = append-nil w
 
-pub template_text : (w : List ℕ) (parts : TemplateArguments) → type_layout (Template w parts)
-    ≡ w ++ (codes "<" ++ text (template_pieces parts (has_gaps w)))
-template_text w parts = refl
-
 pub type_part_text : (t : TypeSpecifier) (more : TemplateArguments) (gaps : Bool) →
     text (template_pieces (TypeArgument t more) gaps) ≡ type_layout t ++ text (more_template_pieces more gaps)
 type_part_text t more gaps = simp text-append
@@ -208,11 +201,3 @@ pub next_part_text : (t : TypeSpecifier) (more : TemplateArguments) →
     text (more_template_pieces (TypeArgument t more) true)
     ≡ codes ", " ++ (type_layout t ++ text (more_template_pieces more true))
 next_part_text t more = simp text-append
-
-pub size_part_text : (n : ℕ) (more : TemplateArguments) (gaps : Bool) →
-    text (template_pieces (SizeArgument n more) gaps) ≡ decimal n ++ text (more_template_pieces more gaps)
-size_part_text n more gaps = plain_text n (more_template_pieces more gaps)
-
-pub next_size_text : (n : ℕ) (more : TemplateArguments) → text (more_template_pieces (SizeArgument n more) true)
-    ≡ codes ", " ++ (decimal n ++ text (more_template_pieces more true))
-next_size_text n more = ap (λ v. codes ", " ++ v) (plain_text n (more_template_pieces more true))

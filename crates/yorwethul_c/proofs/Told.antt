@@ -1,6 +1,6 @@
 -- What a call tells, from what its steps say.
-use Rattle.std.proofs.Common.{◌≡◌, ◌≤◌, ◌∙◌, ℕ, List, [], Err, IfErr, IfOk, None, Ok, Option, Result, Some, ap}
-use Rattle.std.proofs.Common.{inl, inr, is_none, length, refl, subst, sym, arith}
+use Rattle.std.proofs.Common.{◌≡◌, ◌≤◌, ◌∙◌, ℕ, List, [], Err, IfErr, IfOk, None, Ok, Option}
+use Rattle.std.proofs.Common.{Result, Some, ap, inl, inr, is_none, length, refl, subst, sym, arith}
 use Rattle.std.proofs.lemmas.Bool.{le-leb, lt-leb}
 use Rattle.told_floats.specs.Told.{IsToldModule}
 use Rattle.std.specs.Prelude.{◌<◌, ◌%◌, ◌⊎◌, IfSome, IsTrue}
@@ -25,10 +25,9 @@ use Rattle.module_answers.specs.declared.within.NoOutcome.{NoOutcome}
 use Rattle.module_answers.specs.declared.within.NoOutcome.TheVariants as unwritten
 use Rattle.yorwethul_c.specs.Answers.{IsAccepted, IsNotAccepted, IsStopped, IsTooDeep, IsTooLong}
 use Rattle.yorwethul_c.specs.Answers.{IsWritten, LacksMemory, Says, SaysOfError, SaysOfUnwritten}
-use Rattle.yorwethul_c.specs.Answers.{SaysOfWritten, SaysThat, TellsAnyRefusal, deepest_nesting, longest_text}
-use Rattle.yorwethul_c.specs.Answers.{TellsOfChecking, TellsOfLayouts, TellsOfReading}
-use Rattle.yorwethul_c.specs.Answers.{TellsOfWriting}
-use Rattle.yorwethul_c.specs.Answers.{IsAsAsked, status_of_error, tells_floats}
+use Rattle.yorwethul_c.specs.Answers.{SaysOfWritten, SaysThat, TellsAnyRefusal, deepest_nesting}
+use Rattle.yorwethul_c.specs.Answers.{longest_text, TellsOfChecking, TellsOfLayouts, TellsOfReading}
+use Rattle.yorwethul_c.specs.Answers.{TellsOfWriting, IsAsAsked, status_of_error, tells_floats}
 use Rattle.yorwethul_c.specs.declared.status.Status.{Status}
 use Rattle.yorwethul_c.specs.declared.status.Status.TheVariants as status
 

@@ -3,9 +3,8 @@
 use Rattle.module_meaning.specs.Names.{TypesAreDistinguished}
 use Rattle.module_meaning.proofs.SideBySide.{in_groups, paired_at}
 use Rattle.std.proofs.Common.{◌≡◌, ℕ, zero, suc, ◌<◌, ◌+◌, Bool, true, false, List, [], ◌∷◌, refl}
-use Rattle.std.proofs.Common.{sym, ap, ◌∙◌, length, ◌&&◌}
-use Rattle.std.proofs.Common.{Option, Some, None, slice_get, map, arith, nat_lt, ◌^◌, ◌≤◌, eqb-true}
-use Rattle.std.proofs.Common.{◌⊎◌, inl, inr}
+use Rattle.std.proofs.Common.{sym, ap, ◌∙◌, length, ◌&&◌, Option, Some, None, slice_get, map, arith}
+use Rattle.std.proofs.Common.{nat_lt, ◌^◌, ◌≤◌, eqb-true, ◌⊎◌, inl, inr}
 use Rattle.std.specs.List.{list_all}
 use Rattle.std.specs.Prelude.{IsTrue}
 use Rattle.std.specs.Option.{option_map, option_map_or}
@@ -45,23 +44,18 @@ use Rattle.module_meaning.specs.acceptance.Numbers.{fits_32_bits, size_fits_32_b
 use Rattle.module_meaning.specs.acceptance.Numbers.{type_fits_32_bits, workgroup_fits_32_bits}
 use Rattle.module_meaning.specs.acceptance.OperandDemands.{operands_fit, are_operands_fit}
 use Rattle.module_meaning.specs.acceptance.Ranges.{module_ranges_fit, module_in_range}
-use Rattle.module_meaning.specs.acceptance.Ranges.{resolution_fits}
-use Rattle.module_meaning.specs.acceptance.Ranges.{types_in_range, function_in_range}
-use Rattle.module_meaning.specs.acceptance.Ranges.{entry_point_in_range}
+use Rattle.module_meaning.specs.acceptance.Ranges.{resolution_fits, types_in_range}
+use Rattle.module_meaning.specs.acceptance.Ranges.{function_in_range, entry_point_in_range}
 use Rattle.module_meaning.specs.acceptance.Ranges.{expression_in_range, all_below, all_placed}
 use Rattle.module_meaning.specs.acceptance.Ranges.{global_expression_in_range, signature_fits}
-use Rattle.module_meaning.specs.acceptance.Ranges.{names_fit}
-use Rattle.module_meaning.specs.acceptance.Ranges.{local_in_range, expressions_in_range}
-use Rattle.module_meaning.specs.acceptance.Ranges.{block_in_range}
-use Rattle.module_meaning.specs.acceptance.Ranges.{declarations_in_range, names_in_range}
-use Rattle.module_meaning.specs.acceptance.Ranges.{numbers_in_range}
-use Rattle.module_meaning.specs.acceptance.Ranges.{parts_before, special_types_fit}
-use Rattle.module_meaning.specs.acceptance.Ranges.{constant_in_range}
+use Rattle.module_meaning.specs.acceptance.Ranges.{names_fit, local_in_range, expressions_in_range}
+use Rattle.module_meaning.specs.acceptance.Ranges.{block_in_range, declarations_in_range}
+use Rattle.module_meaning.specs.acceptance.Ranges.{names_in_range, numbers_in_range, parts_before}
+use Rattle.module_meaning.specs.acceptance.Ranges.{special_types_fit, constant_in_range}
 use Rattle.module_meaning.specs.acceptance.Ranges.{override_in_range, global_in_range, is_below}
 use Rattle.module_meaning.specs.acceptance.Soundness.{module_is_sound, function_is_sound}
 use Rattle.module_meaning.specs.acceptance.Soundness.{entry_point_is_sound, declarations_are_sound}
-use Rattle.module_meaning.proofs.Lists.{list_all_at}
-use Rattle.module_meaning.proofs.Lists.{placed_at}
+use Rattle.module_meaning.proofs.Lists.{list_all_at, placed_at}
 use Rattle.naga_names.proofs.Refusal.{element}
 use Rattle.naga_form.proofs.operators.AgreeingUses.{AreKnown, AllFit, IsIn, in_right}
 use Rattle.module_meaning.proofs.FunctionNumbers.{in_append, in_left}

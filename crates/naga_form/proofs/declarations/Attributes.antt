@@ -3,8 +3,7 @@
 -- Throughout, b is a binding, i an interpolation, s a sampling, d are decorations, e is an entry point
 -- and names are those of its module.
 use Rattle.std.proofs.Common.{◌≡◌, ℕ, ◌<◌, ◌^◌, Bool, true, false, List, [], ◌∷◌, ◌++◌, Option}
-use Rattle.std.proofs.Common.{Some, None}
-use Rattle.std.proofs.Common.{refl, sym, ap, subst, ◌∙◌, arith, codes}
+use Rattle.std.proofs.Common.{Some, None, refl, sym, ap, subst, ◌∙◌, arith, codes}
 use Rattle.std.specs.Prelude.{length, unwrap_or, ◌==◌}
 use Rattle.std.specs.List.{list_all, list_any}
 use Rattle.std.specs.Option.{is_some, option_map, option_map_or}
@@ -31,22 +30,20 @@ use Rattle.wgsl_words.specs.Words.{builtin_word, interpolation_word, sampling_wo
 use Rattle.wgsl_text.proofs.ValueWords.{value_words}
 use Rattle.wgsl_text.specs.Attributes.{Attribute, PlainAttribute, WordedAttribute, Invariant}
 use Rattle.wgsl_text.specs.Attributes.{IsAttributes, Numbered, Plain, PerPrimitive, BlendSource}
-use Rattle.wgsl_text.specs.Attributes.{Coherent, Align, Size, Volatile}
-use Rattle.wgsl_text.specs.Attributes.{Worded, Compute, Task, AnyHit, ClosestHit, Miss, Mesh}
-use Rattle.wgsl_text.specs.Attributes.{Payload, IncomingPayload}
+use Rattle.wgsl_text.specs.Attributes.{Coherent, Align, Size, Volatile, Worded, Compute, Task}
+use Rattle.wgsl_text.specs.Attributes.{AnyHit, ClosestHit, Miss, Mesh, Payload, IncomingPayload}
 use Rattle.wgsl_text.specs.Attributes.{after_location, after_size as may_follow_size}
 use Rattle.wgsl_text.specs.Attributes.{is_global_binding, is_id, is_io_binding, is_member_binding}
 use Rattle.wgsl_text.specs.Attributes.{is_stage}
 use Rattle.wgsl_text.specs.Words.{IsIdentifier}
 use Rattle.text_meaning.specs.Attributes.{AnyHitStage, BuiltinValue, ClosestHitStage, ComputeStage}
 use Rattle.text_meaning.specs.Attributes.{MeshStage, MissStage, TaskStage}
-use Rattle.text_meaning.specs.Attributes.{ResourceBinding as Resource}
-use Rattle.text_meaning.specs.Attributes.{AtLocation, LocationBinding, alignment_read}
-use Rattle.text_meaning.specs.Attributes.{after_alignment, after_location_read}
+use Rattle.text_meaning.specs.Attributes.{ResourceBinding as Resource, AtLocation, LocationBinding}
+use Rattle.text_meaning.specs.Attributes.{alignment_read, after_alignment, after_location_read}
 use Rattle.text_meaning.specs.Attributes.{after_size, default_interpolation, default_sampling}
-use Rattle.text_meaning.specs.Attributes.{id_read, is_coherent, is_volatile}
-use Rattle.text_meaning.specs.Attributes.{plain_location, resource_binding_read, size_read}
-use Rattle.text_meaning.specs.Attributes.{stage_binding_read, stage_read}
+use Rattle.text_meaning.specs.Attributes.{id_read, is_coherent, is_volatile, plain_location}
+use Rattle.text_meaning.specs.Attributes.{resource_binding_read, size_read, stage_binding_read}
+use Rattle.text_meaning.specs.Attributes.{stage_read}
 use Rattle.module_meaning.specs.DeclarationForms.{binding_has_form, stage_has_form}
 use Rattle.module_meaning.specs.Interface.{stage_of}
 use Rattle.module_meaning.specs.Names.{global_name}
@@ -57,12 +54,11 @@ use Rattle.module_meaning.specs.acceptance.Ranges.{is_below}
 use Rattle.module_meaning.specs.StageBindings.{binding_meant, is_coherent_memory, is_invariant}
 use Rattle.module_meaning.specs.StageBindings.{is_volatile_memory, stage_binding}
 use Rattle.naga_form.specs.Attributes.{attribute_if, attribute_of, binding_attributes}
-use Rattle.naga_form.specs.Attributes.{builtin_attributes, decoration_attributes}
-use Rattle.naga_form.specs.Attributes.{global_attributes, id_attributes, interpolation_attributes}
-use Rattle.naga_form.specs.Attributes.{interpolation_told, is_center}
-use Rattle.naga_form.specs.Attributes.{is_perspective, incoming_attributes, member_attributes}
-use Rattle.naga_form.specs.Attributes.{passing_attributes, payload_attributes, resource_attributes}
-use Rattle.naga_form.specs.Attributes.{size_attributes, stage_attributes}
+use Rattle.naga_form.specs.Attributes.{builtin_attributes, decoration_attributes, global_attributes}
+use Rattle.naga_form.specs.Attributes.{id_attributes, interpolation_attributes, interpolation_told}
+use Rattle.naga_form.specs.Attributes.{is_center, is_perspective, incoming_attributes}
+use Rattle.naga_form.specs.Attributes.{member_attributes, passing_attributes, payload_attributes}
+use Rattle.naga_form.specs.Attributes.{resource_attributes, size_attributes, stage_attributes}
 
 -- ---- locations
 -- what is told after a number

@@ -4,8 +4,8 @@
 -- Throughout, m is a module, h the handle of a type t, s a member, c the handle of a constant, o that of
 -- an override, v that of a variable, k what stands there, j the index of an entry point p, and i an
 -- index.
-use Rattle.std.proofs.Common.{◌≡◌, ℕ, suc, ◌+◌, Bool, true, false, List, [], ◌∷◌, length, map}
-use Rattle.std.proofs.Common.{refl, sym, subst, ◌∙◌, arith, zero-add, codes, Option, Some, None}
+use Rattle.std.proofs.Common.{◌≡◌, ℕ, suc, ◌+◌, Bool, true, false, List, [], ◌∷◌, length, map, refl}
+use Rattle.std.proofs.Common.{sym, subst, ◌∙◌, arith, zero-add, codes, Option, Some, None}
 use Rattle.std.specs.Prelude.{IsTrue, slice_get, nat_lt, if◌then◌else◌}
 use Rattle.std.specs.List.{cons_option, enumerate_from, filter_map, list_all}
 use Rattle.std.specs.Option.{is_some, option_map, option_map_or}
@@ -34,13 +34,12 @@ use Rattle.naga_words.specs.Contexts.{Names as TypeNames}
 use Rattle.module_meaning.specs.acceptance.Accepted.{is_accepted}
 use Rattle.module_meaning.specs.AlikeTypes.{is_spelled}
 use Rattle.module_meaning.specs.DeclarationForms.{stage_has_form, DeclarationsHaveForms}
-use Rattle.module_meaning.specs.DeclarationForms.{IsDeclaredType}
-use Rattle.module_meaning.specs.DeclarationForms.{IsInitialiser}
+use Rattle.module_meaning.specs.DeclarationForms.{IsDeclaredType, IsInitialiser}
 use Rattle.module_meaning.specs.Layouts.{written_size}
 use Rattle.module_meaning.specs.Names.{module_names, name_in, wgsl_names}
 use Rattle.module_meaning.specs.acceptance.Numbers.{binding_fits_32_bits, fits_32_bits}
-use Rattle.module_meaning.specs.acceptance.Numbers.{member_fits_32_bits}
-use Rattle.module_meaning.specs.acceptance.Numbers.{type_fits_32_bits, workgroup_fits_32_bits}
+use Rattle.module_meaning.specs.acceptance.Numbers.{member_fits_32_bits, type_fits_32_bits}
+use Rattle.module_meaning.specs.acceptance.Numbers.{workgroup_fits_32_bits}
 use Rattle.module_meaning.specs.acceptance.Ranges.{constant_in_range, global_in_range, is_below}
 use Rattle.module_meaning.specs.acceptance.Ranges.{function_in_range, override_in_range}
 use Rattle.module_meaning.specs.acceptance.Ranges.{special_types_fit, types_in_range}
@@ -64,12 +63,10 @@ use Rattle.wgsl_words.specs.Words.{space_access_word, space_word}
 use Rattle.naga_form.proofs.statements.AcceptedFunctions.{entry_point_is_in_range}
 use Rattle.naga_form.proofs.declarations.AcceptedGroups.{numbers_at, types_are_fit}
 use Rattle.naga_form.proofs.declarations.Attributes.{global_attributes_are, id_attributes_are}
-use Rattle.naga_form.proofs.declarations.Attributes.{id_is}
-use Rattle.naga_form.proofs.declarations.Attributes.{global_is as global_binding_is}
+use Rattle.naga_form.proofs.declarations.Attributes.{id_is, global_is as global_binding_is}
 use Rattle.naga_form.proofs.declarations.Attributes.{member_attributes_are}
 use Rattle.naga_form.proofs.declarations.Attributes.{member_is as member_is_bound}
-use Rattle.naga_form.proofs.declarations.Attributes.{stage_attributes_are}
-use Rattle.naga_form.proofs.declarations.Attributes.{stage_is, three_sizes}
+use Rattle.naga_form.proofs.declarations.Attributes.{stage_attributes_are, stage_is, three_sizes}
 use Rattle.naga_form.proofs.operators.ConstantForms.{constant_is, global_is}
 use Rattle.naga_form.proofs.operators.Literals.{literal_is}
 use Rattle.naga_form.proofs.names.MemberNames.{member_is_word}

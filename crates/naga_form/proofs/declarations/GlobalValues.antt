@@ -3,8 +3,8 @@
 -- Throughout, m is an accepted module and info what is known of it, e is a tree over constants
 -- alone (es are several), i is the number of a constant or an override, h that of a handle, v a
 -- value, and P tells of the constants that a tree may name.
-use Rattle.std.proofs.Common.{◌≡◌, ℕ, ◌<◌, true, false, List, [], ◌∷◌, length, Option, Some}
-use Rattle.std.proofs.Common.{None, refl, sym, ap, ◌∙◌, map, slice_get}
+use Rattle.std.proofs.Common.{◌≡◌, ℕ, ◌<◌, true, false, List, [], ◌∷◌, length, Option, Some, None}
+use Rattle.std.proofs.Common.{refl, sym, ap, ◌∙◌, map, slice_get}
 use Rattle.std.specs.Prelude.{IsTrue}
 use Rattle.std.specs.Option.{option_and_then, option_map_or}
 use Rattle.std.proofs.lemmas.Option.{slice_get_within}
@@ -45,13 +45,11 @@ use Rattle.naga_form.specs.GlobalValues.{HasValueOf}
 use Rattle.naga_form.proofs.declarations.AcceptedGroups.{declarations_are}
 use Rattle.naga_form.proofs.operators.BuiltTrees.{AreBuilt, IsBuilt, written_is_built}
 use Rattle.naga_form.proofs.names.DeclaredNames.{one_vocabulary}
-use Rattle.naga_form.proofs.ModuleFits.{constants as constants_fit, global_in_range}
-use Rattle.naga_form.proofs.ModuleFits.{global_words}
+use Rattle.naga_form.proofs.ModuleFits.{constants as constants_fit, global_in_range, global_words}
 use Rattle.naga_form.proofs.Fits.{mapped_length}
 use Rattle.naga_form.proofs.declarations.OtherVariables.{items_with, read_as_they_are, read_shape}
-use Rattle.naga_form.proofs.declarations.OtherVariables.{settings_with}
-use Rattle.naga_form.proofs.declarations.OtherVariables.{typed_with, value_with, with_variables}
-use Rattle.naga_form.proofs.declarations.OtherVariables.{words_with}
+use Rattle.naga_form.proofs.declarations.OtherVariables.{settings_with, typed_with, value_with}
+use Rattle.naga_form.proofs.declarations.OtherVariables.{with_variables, words_with}
 use Rattle.naga_form.proofs.declarations.ReadDeclarations.{constants_read, overrides_read}
 use Rattle.naga_form.proofs.declarations.ReadDeclarations.{written_is_read}
 use Rattle.naga_form.proofs.declarations.TextItems.{items_fit}

@@ -3,8 +3,8 @@
 -- Throughout, m is a module, info what is known of it, names are those of its items, t its types with
 -- their names, g the number of a function, ty the handle of a type, b a binding, k the handle of a
 -- declaration, and declarations go by their first letters.
-use Rattle.std.proofs.Common.{◌≡◌, ℕ, suc, ◌+◌, Bool, true, false, List, [], ◌∷◌, length}
-use Rattle.std.proofs.Common.{refl, sym, ap, ◌∙◌, map, Option, Some, None, pred, arith}
+use Rattle.std.proofs.Common.{◌≡◌, ℕ, suc, ◌+◌, Bool, true, false, List, [], ◌∷◌, length, refl, sym}
+use Rattle.std.proofs.Common.{ap, ◌∙◌, map, Option, Some, None, pred, arith}
 use Rattle.std.specs.Prelude.{IsTrue, slice_get, unwrap_or, if◌then◌else◌, ◌==◌}
 use Rattle.std.specs.List.{cons_option, enumerate_from, filter_map, list_all}
 use Rattle.std.specs.Option.{is_some, option_map, option_map_or}
@@ -50,23 +50,21 @@ use Rattle.text_meaning.specs.Interface.{override_interface_read, parameter_read
 use Rattle.text_meaning.specs.Interface.{space_read, struct_interface_read}
 use Rattle.module_meaning.specs.acceptance.Accepted.{is_accepted}
 use Rattle.module_meaning.specs.DeclarationForms.{DeclarationsHaveForms, IsInitialiser}
-use Rattle.module_meaning.proofs.DeclarationForms.{items_have_forms}
 use Rattle.module_meaning.specs.DeclarationForms.{IsMemberBinding, IsPassed, binding_has_form}
 use Rattle.module_meaning.specs.DeclarationForms.{stage_has_form}
+use Rattle.module_meaning.proofs.DeclarationForms.{items_have_forms}
 use Rattle.module_meaning.specs.Enables.{written_enables}
 use Rattle.module_meaning.specs.Faithful.{HasInterfaceOf, TellsInterfaceOf}
 use Rattle.module_meaning.specs.FunctionNumbers.{all_functions}
 use Rattle.module_meaning.specs.Interface.{argument_passed, body_interface, constant_interface}
-use Rattle.module_meaning.specs.Interface.{entry_point_interface}
-use Rattle.module_meaning.specs.Interface.{function_interfaces, global_expression_value}
-use Rattle.module_meaning.specs.Interface.{global_interface, member_interface}
-use Rattle.module_meaning.specs.Interface.{override_interface, result_passed, stage_of}
-use Rattle.module_meaning.specs.Interface.{struct_interface}
+use Rattle.module_meaning.specs.Interface.{entry_point_interface, function_interfaces}
+use Rattle.module_meaning.specs.Interface.{global_expression_value, global_interface}
+use Rattle.module_meaning.specs.Interface.{member_interface, override_interface, result_passed}
+use Rattle.module_meaning.specs.Interface.{stage_of, struct_interface}
 use Rattle.module_meaning.specs.Layouts.{written_size}
 use Rattle.module_meaning.specs.ModuleShapes.{module_shape}
-use Rattle.module_meaning.specs.Names.{constant_name, expression_name, function_name}
-use Rattle.module_meaning.specs.Names.{global_name, LabelNames, module_names, name_in}
-use Rattle.module_meaning.specs.Names.{override_name}
+use Rattle.module_meaning.specs.Names.{constant_name, expression_name, function_name, global_name}
+use Rattle.module_meaning.specs.Names.{LabelNames, module_names, name_in, override_name}
 use Rattle.module_meaning.specs.Namings.{function_naming}
 use Rattle.module_meaning.specs.acceptance.Numbers.{fits_32_bits, workgroup_fits_32_bits}
 use Rattle.module_meaning.specs.acceptance.Ranges.{is_below}
@@ -81,17 +79,15 @@ use Rattle.naga_form.specs.Declarations.{constant_form, entry_points_under, memb
 use Rattle.naga_form.specs.Declarations.{override_form, space_form, space_of_words, struct_form}
 use Rattle.naga_form.specs.Declarations.{program_under, variable_form, written_program}
 use Rattle.naga_form.specs.Expressions.{Source, function_source}
-use Rattle.naga_form.specs.Functions.{function_form, functions_under, locals_form}
-use Rattle.naga_form.specs.Functions.{parameters_form, result_form}
+use Rattle.naga_form.specs.Functions.{function_form, functions_under, locals_form, parameters_form}
+use Rattle.naga_form.specs.Functions.{result_form}
 use Rattle.naga_form.specs.TypeTrees.{type_tree}
 use Rattle.naga_form.specs.Types.{annotated_type, type_form}
 use Rattle.naga_form.proofs.statements.AcceptedFunctions.{entry_point_is_in_range}
-use Rattle.naga_form.proofs.statements.AcceptedFunctions.{entry_points_counted}
-use Rattle.naga_form.proofs.statements.AcceptedFunctions.{functions_counted, known_there, of_number}
-use Rattle.naga_form.proofs.statements.AcceptedFunctions.{soundness_is}
+use Rattle.naga_form.proofs.statements.AcceptedFunctions.{entry_points_counted, functions_counted}
+use Rattle.naga_form.proofs.statements.AcceptedFunctions.{known_there, of_number, soundness_is}
 use Rattle.naga_form.proofs.declarations.Attributes.{coherent_is_read, id_is_read, member_read}
-use Rattle.naga_form.proofs.declarations.Attributes.{passing_read}
-use Rattle.naga_form.proofs.declarations.Attributes.{resource_is_read, stage_is_read}
+use Rattle.naga_form.proofs.declarations.Attributes.{passing_read, resource_is_read, stage_is_read}
 use Rattle.naga_form.proofs.declarations.Attributes.{volatile_is_read}
 use Rattle.naga_form.proofs.Facts.{from_start, further}
 use Rattle.naga_form.proofs.types.Layouts.{keeps_layouts}

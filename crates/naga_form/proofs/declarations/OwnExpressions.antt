@@ -1,8 +1,8 @@
 -- The own expressions of an accepted module stand together as those of a function do: what they
 -- name is there and stands before them. Each constant has a tree.
 use Rattle.module_meaning.specs.Names.{TypesAreDistinguished}
-use Rattle.std.proofs.Common.{◌≡◌, ℕ, ◌<◌, ◌+◌, true, sym, ap, ◌∙◌, length}
-use Rattle.std.proofs.Common.{Option, Some, None, slice_get, arith, nat_lt, ◌&&◌}
+use Rattle.std.proofs.Common.{◌≡◌, ℕ, ◌<◌, ◌+◌, true, sym, ap, ◌∙◌, length, Option, Some, None}
+use Rattle.std.proofs.Common.{slice_get, arith, nat_lt, ◌&&◌}
 use Rattle.std.specs.List.{list_all}
 use Rattle.std.specs.Prelude.{IsTrue}
 use Rattle.std.specs.Option.{option_map}
@@ -22,19 +22,16 @@ use Rattle.module_meaning.specs.acceptance.AgreeingOperators.{Group, module_oper
 use Rattle.module_meaning.specs.acceptance.ExpressionTypes as types
 use Rattle.module_meaning.specs.acceptance.InfoSizes.{sizes_fit, type_is_fit, all_known}
 use Rattle.module_meaning.specs.acceptance.Ranges.{module_ranges_fit, module_in_range}
-use Rattle.module_meaning.specs.acceptance.Ranges.{declarations_in_range}
-use Rattle.module_meaning.specs.acceptance.Ranges.{types_in_range, special_types_fit}
-use Rattle.module_meaning.specs.acceptance.Ranges.{constant_in_range}
+use Rattle.module_meaning.specs.acceptance.Ranges.{declarations_in_range, types_in_range}
+use Rattle.module_meaning.specs.acceptance.Ranges.{special_types_fit, constant_in_range}
 use Rattle.module_meaning.specs.acceptance.Ranges.{override_in_range, global_in_range}
 use Rattle.module_meaning.specs.acceptance.Ranges.{global_expression_in_range, expression_in_range}
 use Rattle.module_meaning.specs.acceptance.Ranges.{initialiser_before, names_in_range, all_placed}
-use Rattle.module_meaning.specs.acceptance.Ranges.{all_below}
-use Rattle.module_meaning.specs.acceptance.Ranges.{resolution_fits, is_below, function_in_range}
-use Rattle.module_meaning.specs.acceptance.Ranges.{entry_point_in_range}
+use Rattle.module_meaning.specs.acceptance.Ranges.{all_below, resolution_fits, is_below}
+use Rattle.module_meaning.specs.acceptance.Ranges.{function_in_range, entry_point_in_range}
 use Rattle.module_meaning.specs.acceptance.Soundness.{module_is_sound}
 use Rattle.module_meaning.specs.ExpressionContexts.{constant_over, global_tree, written_constant}
-use Rattle.module_meaning.proofs.Lists.{list_all_at}
-use Rattle.module_meaning.proofs.Lists.{placed_at}
+use Rattle.module_meaning.proofs.Lists.{list_all_at, placed_at}
 use Rattle.naga_form.proofs.declarations.AcceptedGroups.{IsSoundGroup, own_known, own_group}
 use Rattle.naga_form.proofs.declarations.AcceptedGroups.{declarations_are}
 use Rattle.naga_form.proofs.operators.ConstantTrees.{expected_there, availability_tree}

@@ -1,7 +1,6 @@
 -- The names of the declarations that are written for a module stand for what they were written for.
 use Rattle.std.proofs.Common.{◌≡◌, ℕ, Bool, false, true, List, [], ◌∷◌, ◌++◌, Option, Some, None}
-use Rattle.std.proofs.Common.{refl}
-use Rattle.std.proofs.Common.{sym, ap, ◌∙◌, map, slice_get, suc, ◌+◌, length, not, subst}
+use Rattle.std.proofs.Common.{refl, sym, ap, ◌∙◌, map, slice_get, suc, ◌+◌, length, not, subst}
 use Rattle.std.specs.List.{cons_option, enumerate_from, filter, filter_map}
 use Rattle.std.specs.Option.{option_map, option_map_or, option_or}
 use Rattle.std.specs.Prelude.{IsTrue, if◌then◌else◌, unwrap_or}
@@ -15,8 +14,8 @@ use Rattle.naga_names.specs.declared.key.NameKey.TheVariants as key
 use Rattle.naga_words.specs.Spelling.{is_struct}
 use Rattle.module_meaning.specs.acceptance.Accepted.{is_accepted}
 use Rattle.module_meaning.specs.DeclarationForms.{ConstantsHaveForms, OtherInitialisersHaveForms}
-use Rattle.module_meaning.specs.DeclaredItems.{initialiser_meant}
-use Rattle.module_meaning.specs.DeclaredItems.{module_stage_targets, resolution_items}
+use Rattle.module_meaning.specs.DeclaredItems.{initialiser_meant, module_stage_targets}
+use Rattle.module_meaning.specs.DeclaredItems.{resolution_items}
 use Rattle.module_meaning.specs.ExpressionContexts.{zero_of_type}
 use Rattle.module_meaning.specs.ModuleShapes.{initialiser}
 use Rattle.module_meaning.specs.Names.{constant_name, LabelNames, module_names}
@@ -29,9 +28,8 @@ use Rattle.module_meaning.proofs.ExpressionForms.{spellable_parts}
 use Rattle.shader_runs.specs.Resolution.{constant_targets, Lookup, text_names, tree_targets}
 use Rattle.shader_runs.specs.Text.{TextConstant}
 use Rattle.text_meaning.specs.Abstraction.{constant_read, program_read}
-use Rattle.text_meaning.specs.Resolution.{initialiser_targets, item_named}
-use Rattle.text_meaning.specs.Resolution.{stage_targets, struct_named}
-use Rattle.text_meaning.specs.Resolution.{StructItem, type_items, ValueItem}
+use Rattle.text_meaning.specs.Resolution.{initialiser_targets, item_named, stage_targets}
+use Rattle.text_meaning.specs.Resolution.{struct_named, StructItem, type_items, ValueItem}
 use Rattle.wgsl_text.proofs.Types.{named_text}
 use Rattle.wgsl_text.proofs.Words.{passes}
 use Rattle.wgsl_text.specs.Declarations.{Program}
@@ -42,15 +40,12 @@ use Rattle.wgsl_text.specs.Words.{stands_in}
 use Rattle.naga_form.proofs.statements.AcceptedFunctions.{entry_points_counted}
 use Rattle.naga_form.proofs.statements.AcceptedFunctions.{stage_variables_within}
 use Rattle.naga_form.proofs.declarations.AcceptedGroups.{declarations_are, fit_of}
-use Rattle.naga_form.proofs.declarations.AcceptedGroups.{types_are_counted}
-use Rattle.naga_form.proofs.declarations.AcceptedGroups.{types_are_fit}
+use Rattle.naga_form.proofs.declarations.AcceptedGroups.{types_are_counted, types_are_fit}
 use Rattle.naga_form.proofs.declarations.DeclaredStructs.{members_found, override_not_found}
-use Rattle.naga_form.proofs.declarations.DeclaredStructs.{own_members_found}
-use Rattle.naga_form.proofs.declarations.DeclaredStructs.{struct_found}
+use Rattle.naga_form.proofs.declarations.DeclaredStructs.{own_members_found, struct_found}
 use Rattle.naga_form.proofs.names.DistinguishedItems.{types_are_distinguished}
 use Rattle.naga_form.proofs.names.ItemKeys.{item_is_no_word, no_word_of_item, type_has}
-use Rattle.naga_form.proofs.names.ItemTargets.{initialiser_found, override_found}
-use Rattle.naga_form.proofs.names.ItemTargets.{variable_found}
+use Rattle.naga_form.proofs.names.ItemTargets.{initialiser_found, override_found, variable_found}
 use Rattle.naga_form.proofs.declarations.NamedConstants.{is_named}
 use Rattle.naga_form.proofs.operators.OperatingWords.{free_parts, names_no_item, operates_freely}
 use Rattle.naga_form.proofs.operators.OperatingWords.{plain_types_free}
@@ -61,8 +56,7 @@ use Rattle.naga_form.proofs.names.StageTargets.{stages_named}
 use Rattle.naga_form.proofs.types.TypeItems.{ItemsAreNamed, resolution_named}
 use Rattle.naga_form.proofs.types.WrittenTypes.{tree_there}
 use Rattle.naga_form.specs.ConstantForms.{global_form}
-use Rattle.naga_form.specs.Declarations.{constant_form, override_form, program_under}
-use Rattle.naga_form.specs.Declarations.{variable_form}
+use Rattle.naga_form.specs.Declarations.{constant_form, override_form, program_under, variable_form}
 use Rattle.naga_form.specs.Types.{type_form}
 use Rattle.naga_back.specs.declared.flags.WriterFlags.{WriterFlags}
 

@@ -6,7 +6,7 @@ use Rattle.std.proofs.Common.{append_assoc, length-append}
 use Rattle.std.specs.Prelude.{slice_get, ◌⊎◌, not, ◌==◌, if◌then◌else◌}
 use Rattle.std.specs.Option.{option_map_or}
 use mathlib.Core.Logic.{inl, inr}
-use Rattle.std.proofs.lemmas.Bool.{cases_order, eq-eqb, eqb-true, ne_eqb}
+use Rattle.std.proofs.lemmas.Bool.{cases_order, eq-eqb, eqb-true}
 use Rattle.std.proofs.lemmas.List.{length-take-le}
 use Rattle.std.proofs.lemmas.Option.{none-some, same_Some}
 use Rattle.naga_ir.specs.declared.module.Function as ir_function
@@ -223,11 +223,6 @@ module _ (m : Module) where
   pub apart_there : (number : ℕ) (own : ℕ → List ℕ) → named_apart m number own number ≡ own
   apart_there number own =
       ap (λ b. if b then own else expression_name m number) (eq-eqb number number refl)
-
-  pub apart_elsewhere : (number g : ℕ) (own : ℕ → List ℕ) → g ≢ number →
-      named_apart m number own g ≡ expression_name m g
-  apart_elsewhere number g own other =
-      ap (λ b. if b then own else expression_name m g) (ne_eqb g number other)
 
   -- as those that are named after any others
   pub names_after_are : (number : ℕ) (later : List (List ℕ)) →

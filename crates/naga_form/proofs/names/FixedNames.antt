@@ -23,8 +23,7 @@ use Rattle.module_meaning.specs.Names.{global_name, module_names, name_in}
 use Rattle.module_meaning.specs.Namings.{inner_names, numbered_key}
 use Rattle.module_meaning.specs.Types.{declared_type}
 use Rattle.shader_runs.specs.Premises.{ArgumentName, ConstantName, FixedName, fixed_name}
-use Rattle.shader_runs.specs.Premises.{GlobalName}
-use Rattle.shader_runs.specs.Premises.{IsFixedName, LocalName}
+use Rattle.shader_runs.specs.Premises.{GlobalName, IsFixedName, LocalName}
 use Rattle.shader_runs.specs.Program as shapes
 use Rattle.shader_runs.specs.Scope.{Names}
 use Rattle.naga_form.proofs.Fits.{mapped_length}

@@ -1,23 +1,20 @@
 -- No word of an operator begins as the free names do, and one test of words tells those that ask
 -- for events, also among the words that no text has.
-use Rattle.naga_form.proofs.operators.TypedWords.{head_text}
-use Rattle.naga_form.proofs.operators.OperatorEvents.{keeps_asking}
-use Rattle.std.proofs.Common.{◌≡◌, ℕ, Bool, true, false, not, ◌&&◌, ◌||◌, List, [], ◌∷◌}
-use Rattle.std.proofs.Common.{refl, sym, ap, ◌∙◌, nat_eq, codes, true≢false}
+use Rattle.naga_form.proofs.operators.TypedWords.{head_text, head_is, no_blank}
+use Rattle.naga_form.proofs.operators.OperatorEvents.{keeps_asking, asks_as_distinguished}
+use Rattle.std.proofs.Common.{◌≡◌, ℕ, Bool, true, false, not, ◌&&◌, ◌||◌, List, [], ◌∷◌, refl, sym}
+use Rattle.std.proofs.Common.{ap, ◌∙◌, nat_eq, codes, true≢false}
 use Rattle.std.specs.List.{list_all}
 use Rattle.std.proofs.lemmas.Bool.{false≢true, and_parts, not-true, eqb-true}
 use Rattle.wgsl_text.specs.Requests.{is_request, word_before_parts}
 use Rattle.wgsl_text.specs.Words.{is_word_text}
-use Rattle.module_meaning.specs.OperatorTable.{Operator, CooperativeLoad}
-use Rattle.module_meaning.specs.OperatorTable.{Construct, Convert, Reinterpret, WithoutForm}
-use Rattle.module_meaning.specs.OperatorTable.{Unsupported}
-use Rattle.module_meaning.specs.OperatorTable.{Cast, with_type, run_word}
-use Rattle.module_meaning.specs.OperatorTable.{one_word, asks, is_untyped, SpellsAType, TypeIsSound}
-use Rattle.module_meaning.specs.OperatorTable.{unsupported_word, unsupported_asks}
+use Rattle.module_meaning.specs.OperatorTable.{Operator, CooperativeLoad, Construct, Convert}
+use Rattle.module_meaning.specs.OperatorTable.{Reinterpret, WithoutForm, Unsupported, Cast}
+use Rattle.module_meaning.specs.OperatorTable.{with_type, run_word, one_word, asks, is_untyped}
+use Rattle.module_meaning.specs.OperatorTable.{SpellsAType, TypeIsSound, unsupported_word}
+use Rattle.module_meaning.specs.OperatorTable.{unsupported_asks}
 use Rattle.naga_form.proofs.names.FreeNames.{begins_free}
-use Rattle.naga_form.proofs.operators.OperatorEvents.{asks_as_distinguished}
 use Rattle.naga_form.proofs.operators.OperatorTable.{by_table, mathematical, others}
-use Rattle.naga_form.proofs.operators.TypedWords.{head_is, no_blank}
 
 -- the words with a blank in front that ask for events, by their second letter: steps and scans, and
 -- texels

@@ -1,65 +1,59 @@
 -- What acceptance leaves to be shown of a function under the names of its module: its words and names.
 --
 -- Throughout, named tells the names of the labels that front ends gave in the function.
-use Rattle.std.proofs.Common.{[], ◌≡◌, ◌≢◌, ℕ, suc, zero, Bool, true, false, ◌<◌, List, ◌∷◌}
-use Rattle.std.proofs.Common.{length, Some, refl, sym, ap, subst, ◌∙◌, arith}
-use Rattle.std.proofs.Common.{replicate, nat_eq, true≢false}
-use Rattle.std.specs.Prelude.{IsTrue, slice_get, get_or, not, Option, None}
-use Rattle.std.specs.Prelude.{◌&&◌, ◌||◌}
+use Rattle.std.proofs.Common.{[], ◌≡◌, ◌≢◌, ℕ, suc, zero, Bool, true, false, ◌<◌, List, ◌∷◌, length}
+use Rattle.std.proofs.Common.{Some, refl, sym, ap, subst, ◌∙◌, arith, replicate, nat_eq, true≢false}
+use Rattle.std.proofs.Common.{◌++◌}
+use Rattle.std.specs.Prelude.{IsTrue, slice_get, get_or, not, Option, None, ◌&&◌, ◌||◌, codes}
+use Rattle.std.specs.Prelude.{if◌then◌else◌}
 use Rattle.std.proofs.lemmas.Bool.{and_parts, not-true}
 use Rattle.naga_ir.specs.declared.expression.Expression as ir
 use Rattle.naga_ir.specs.declared.module.Function as ir_function
 use Rattle.naga_info.specs.declared.info.ExpressionInfo.{ExpressionInfo}
 use Rattle.naga_info.specs.declared.info.ModuleInfo.{ModuleInfo}
-use Rattle.module_meaning.specs.Conversions.{keeps_bits}
+use Rattle.module_meaning.specs.Conversions.{keeps_bits, conversion_target}
 use Rattle.module_meaning.specs.Undeclared.{declared_struct_names, is_declared}
 use Rattle.naga_form.proofs.names.DeclaredNames.{declared_stands}
 use Rattle.std.proofs.Math.Bool.{or-true}
 use Rattle.wgsl_text.specs.Operators.{is_built_in}
-use Rattle.module_meaning.specs.ExpressionOperators.{cast_to, constructor}
+use Rattle.module_meaning.specs.ExpressionOperators.{cast_to, constructor, applied_operator}
+use Rattle.module_meaning.specs.ExpressionOperators.{own_operator, type_known, is_depth_image}
+use Rattle.module_meaning.specs.ExpressionOperators.{level_of, query_operator, sample_operator}
+use Rattle.module_meaning.specs.ExpressionOperators.{matrix_load, is_atomic_pointer}
 use Rattle.module_meaning.specs.ExpressionShapes.{Declared, shape_of, applied_or, applied_shape}
-use Rattle.module_meaning.specs.ExpressionShapes.{constant_shape}
+use Rattle.module_meaning.specs.ExpressionShapes.{constant_shape, part_selector, part_shape}
+use Rattle.module_meaning.specs.ExpressionShapes.{constant_tree, sample_shape, trees, written_zero}
 use Rattle.module_meaning.specs.OperatorTable.{run_word, Operator, Construct, AtomicLoad}
-use Rattle.module_meaning.specs.OperatorTable.{is_untyped}
-use Rattle.module_meaning.specs.OperatorTable.{WithoutForm, ValueOf, Cast, PartAt, with_type}
+use Rattle.module_meaning.specs.OperatorTable.{is_untyped, WithoutForm, ValueOf, Cast, PartAt}
+use Rattle.module_meaning.specs.OperatorTable.{with_type, asks}
 use Rattle.module_meaning.specs.FunctionNumbers.{all_functions, function_type}
 use Rattle.naga_back.specs.FunctionContext.{function_key}
 use Rattle.naga_info.specs.declared.info.TypeResolution.{TypeResolution}
 use Rattle.naga_info.specs.declared.info.TypeResolution.TheVariants.{Handle, Value}
 use Rattle.shader_runs.specs.Program.{Constructed, no_constant}
-use Rattle.std.specs.Option.{option_map, option_map_or, option_and_then}
-use Rattle.std.specs.Prelude.{codes}
+use Rattle.std.specs.Option.{option_map, option_map_or, option_and_then, is_some, option_to_list}
 use Rattle.naga_form.proofs.operators.OperatingWords.{operates_freely, asks_freely, asking_free}
-use Rattle.naga_form.proofs.operators.OperatingWords.{silent_free}
-use Rattle.naga_form.proofs.operators.OperatingWords.{bits_free, unsupported_free, is_of_statements}
-use Rattle.naga_form.proofs.operators.OperatingWords.{is_signed}
-use Rattle.naga_form.proofs.operators.OperatingWords.{matrix_load_free, request_free, free_parts}
-use Rattle.naga_form.proofs.operators.OperatingWords.{names_no_item}
+use Rattle.naga_form.proofs.operators.OperatingWords.{silent_free, bits_free, unsupported_free}
+use Rattle.naga_form.proofs.operators.OperatingWords.{is_of_statements, is_signed, matrix_load_free}
+use Rattle.naga_form.proofs.operators.OperatingWords.{request_free, free_parts, names_no_item}
 use Rattle.module_meaning.proofs.OwnOperators.{own_is_untyped}
 use Rattle.naga_form.proofs.operators.TreeWords.{constant_words, levels_words, offset_words}
-use Rattle.naga_form.proofs.operators.TreeWords.{or_false_words}
-use Rattle.naga_form.proofs.operators.TreeWords.{written_words}
+use Rattle.naga_form.proofs.operators.TreeWords.{or_false_words, written_words}
 use Rattle.naga_form.proofs.operators.AppliedWords.{applied_words}
-use Rattle.module_meaning.specs.ExpressionContexts.{expression_context}
-use Rattle.module_meaning.specs.ExpressionOperators.{applied_operator, own_operator}
+use Rattle.module_meaning.specs.ExpressionContexts.{expression_context, declared, types_known}
 use Rattle.naga_info.proofs.Options.{then_some}
 use Rattle.naga_form.proofs.types.SameValues.{IsFit, TypesAreFit}
 use Rattle.naga_form.proofs.operators.TypedWords.{no_request}
-use Rattle.module_meaning.specs.ExpressionContexts.{declared, types_known}
 use Rattle.module_meaning.proofs.ExpressionShapes.{load_asks}
 use Rattle.module_meaning.proofs.Shapes.{operator_any}
 use Rattle.shader_runs.specs.Program as shapes
-use Rattle.shader_runs.specs.Scope.{Naming, named_by_all}
-use Rattle.shader_runs.specs.Scope.{fits_function}
-use Rattle.shader_runs.specs.Premises.{WordFits}
-use Rattle.shader_runs.specs.Premises.{AreDistinct, FixedKey}
-use Rattle.shader_runs.specs.Premises.{NumberedKey, NamedKey}
-use Rattle.shader_runs.specs.Premises.{AsksBy, OperatesBy, StandsFree, IsNoName}
-use Rattle.naga_form.proofs.names.Names.{numbered_distinct, item_is_identifier}
-use Rattle.naga_form.proofs.names.Names.{item_not_numbered}
-use Rattle.module_meaning.specs.Names.{numbered_name, module_names}
-use Rattle.module_meaning.specs.Names.{name_in, function_name, numbered_text}
-use Rattle.module_meaning.specs.Names.{AreLabelNamesOf}
+use Rattle.shader_runs.specs.Scope.{Naming, named_by_all, fits_function}
+use Rattle.shader_runs.specs.Premises.{WordFits, AreDistinct, FixedKey, NumberedKey, NamedKey}
+use Rattle.shader_runs.specs.Premises.{AsksBy, OperatesBy, StandsFree, IsNoName, ConstantsWords}
+use Rattle.shader_runs.specs.Premises.{FixedName, fixed_name, IsFixedName}
+use Rattle.naga_form.proofs.names.Names.{numbered_distinct, item_is_identifier, item_not_numbered}
+use Rattle.module_meaning.specs.Names.{numbered_name, module_names, name_in, function_name}
+use Rattle.module_meaning.specs.Names.{numbered_text, AreLabelNamesOf}
 use Rattle.module_meaning.specs.FunctionShapes.{function_shape, statements_shape}
 use Rattle.module_meaning.specs.Namings.{outer_names, function_naming}
 use Rattle.naga_ir.specs.declared.expression.Expression.TheVariants as expression
@@ -75,39 +69,23 @@ use Rattle.naga_form.proofs.statements.WellFormed.{any_shape}
 use Rattle.naga_form.proofs.statements.FunctionsFit.{IsFree}
 use Rattle.naga_form.proofs.statements.Worded.{asks_by_requests}
 use Rattle.std.proofs.lemmas.Option.{slice_get_within}
-use Rattle.module_meaning.specs.ExpressionShapes.{part_selector, part_shape}
-use Rattle.module_meaning.specs.Conversions.{conversion_target}
-use Rattle.module_meaning.specs.ExpressionOperators.{type_known}
 use Rattle.naga_form.proofs.operators.AllowedParts.{target_fit}
 use Rattle.naga_ir.specs.declared.types.ScalarKind.{ScalarKind}
 use Rattle.naga_ir.specs.declared.types.TypeInner.{TypeInner}
 use Rattle.naga_ir.specs.declared.types.Type_.{Type_}
-use Rattle.module_meaning.specs.ExpressionOperators.{is_depth_image, level_of, query_operator}
-use Rattle.module_meaning.specs.ExpressionOperators.{sample_operator, matrix_load}
-use Rattle.module_meaning.specs.ExpressionOperators.{is_atomic_pointer}
-use Rattle.module_meaning.specs.ExpressionShapes.{constant_tree}
-use Rattle.module_meaning.specs.ExpressionShapes.{sample_shape, trees, written_zero}
-use Rattle.module_meaning.specs.OperatorTable.{asks}
 use Rattle.module_meaning.specs.Shapes.{operator_shape}
 use Rattle.naga_ir.specs.Operands.{cooperative_operands, expression_operands, query_operands}
 use Rattle.naga_ir.specs.declared.expression.ImageQuery.{ImageQuery}
 use Rattle.naga_ir.specs.declared.expression.ImageQuery.TheVariants as query
 use Rattle.naga_ir.specs.declared.expression.SwizzleComponent.{SwizzleComponent}
 use Rattle.naga_ir.specs.declared.expression.SampleLevel.{SampleLevel}
-use Rattle.shader_runs.specs.Premises.{ConstantsWords}
-use Rattle.std.proofs.Common.{◌++◌}
-use Rattle.std.specs.Option.{is_some, option_to_list}
-use Rattle.std.specs.Prelude.{if◌then◌else◌}
 use Rattle.shader_runs.specs.Value.{Selector}
 use Rattle.naga_names.specs.declared.key.NameKey.{NameKey}
-use Rattle.shader_runs.specs.Premises.{FixedName, fixed_name, IsFixedName}
 use Rattle.naga_form.proofs.names.FixedNames.{fixed_has, fixed_key, fixed_named, fixed_no_item}
-use Rattle.naga_form.proofs.names.FixedNames.{fixed_of}
-use Rattle.naga_form.proofs.names.FixedNames.{fixed_tell, function_is_none}
+use Rattle.naga_form.proofs.names.FixedNames.{fixed_of, fixed_tell, function_is_none}
 use Rattle.naga_form.proofs.names.ItemKeys.{CountsItems, function_has, HasItem, item_is_no_word}
 use Rattle.naga_form.proofs.names.ItemKeys.{no_function_is, no_word_of_item, type_has}
-use Rattle.naga_form.proofs.names.ItemKeys.{type_is_no_item}
-use Rattle.naga_form.proofs.names.ItemKeys.{word_is_no_item}
+use Rattle.naga_form.proofs.names.ItemKeys.{type_is_no_item, word_is_no_item}
 use Rattle.naga_form.proofs.operators.SpelledWords.{made_word, made_words, spelled_words}
 
 -- ---- signs

@@ -1,7 +1,8 @@
 -- Each identifier and each word of what is written for a module stands for what it was written for.
-use Rattle.naga_form.proofs.statements.AcceptedFunctions.{names_are_in_range}
+use Rattle.naga_form.proofs.statements.AcceptedFunctions.{names_are_in_range, accepted_at}
+use Rattle.naga_form.proofs.statements.AcceptedFunctions.{function_there}
 use Rattle.std.proofs.Common.{◌≡◌, ℕ, ◌<◌, Bool, true, List, [], ◌∷◌, sym, ap, subst, ◌∙◌, ◌+◌}
-use Rattle.std.proofs.Common.{Option, Some, None, false}
+use Rattle.std.proofs.Common.{Option, Some, None, false, length, refl, arith}
 use Rattle.std.specs.Prelude.{IsTrue, slice_get, if◌then◌else◌}
 use mathlib.Core.List.{reverse_aux}
 use Rattle.naga_ir.specs.declared.expression.Expression as ir
@@ -12,9 +13,7 @@ use Rattle.naga_info.specs.declared.info.ExpressionInfo.{ExpressionInfo}
 use Rattle.naga_info.specs.declared.info.ModuleInfo.{ModuleInfo}
 use Rattle.module_meaning.specs.acceptance.Accepted.{is_accepted}
 use Rattle.module_meaning.specs.acceptance.Ranges.{function_in_range}
-use Rattle.std.proofs.Common.{length, refl, arith}
 use Rattle.std.proofs.lemmas.Bool.{ltb-true}
-use Rattle.naga_form.proofs.statements.AcceptedFunctions.{accepted_at, function_there}
 use Rattle.naga_form.proofs.Facts.{further, from_start}
 use Rattle.shader_runs.specs.Program as shapes
 use Rattle.shader_runs.specs.Program.{expression_of}

@@ -1,9 +1,8 @@
 -- How a part is named: an element by its number, a component by its letter, a member by its name.
 -- Of types alike one name is of one number, so that parts and swizzles of one word are of one type.
 use Rattle.std.proofs.Common.{◌≡◌, ◌<◌, ◌≤◌, ℕ, zero, suc, Bool, true, false, List, [], ◌∷◌, ◌++◌}
-use Rattle.std.proofs.Common.{refl, sym, ap, ◌∙◌, subst, length}
-use Rattle.std.proofs.Common.{Option, Some, None, slice_get, get_or, if◌then◌else◌, nat_eq, nat_lt}
-use Rattle.std.proofs.Common.{◌&&◌, arith, unwrap_or}
+use Rattle.std.proofs.Common.{refl, sym, ap, ◌∙◌, subst, length, Option, Some, None, slice_get}
+use Rattle.std.proofs.Common.{get_or, if◌then◌else◌, nat_eq, nat_lt, ◌&&◌, arith, unwrap_or}
 use Rattle.std.specs.Option.{option_map, option_map_or, option_and_then, is_some}
 use Rattle.std.proofs.lemmas.Bool.{ltb-true, true≢false}
 use Rattle.std.proofs.lemmas.Option.{same_Some}

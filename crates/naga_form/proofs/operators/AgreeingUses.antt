@@ -1,8 +1,7 @@
 -- Operators of an accepted module that the runs call by one word, over operands of equal types, have
 -- results of equal types, wherever they stand in it.
 use Rattle.std.proofs.Common.{◌≡◌, ℕ, zero, suc, ◌+◌, true, List, [], ◌∷◌, ◌++◌, refl, sym, ap, ◌∙◌}
-use Rattle.std.proofs.Common.{length, subst}
-use Rattle.std.proofs.Common.{Some, slice_get, get_or, map, arith, drop}
+use Rattle.std.proofs.Common.{length, subst, Some, slice_get, get_or, map, arith, drop}
 use Rattle.std.specs.List.{flat_map, enumerate_from}
 use Rattle.std.specs.Option.{option_map, option_map_or, option_to_list}
 use Rattle.std.proofs.lemmas.Option.{same_Some}

@@ -3,7 +3,7 @@
 use Rattle.module_meaning.specs.Names.{TypesAreDistinguished}
 use Rattle.std.proofs.Common.{◌≡◌, ℕ, Bool, true, false, List, [], ◌∷◌, refl, sym, ap, ◌∙◌, subst}
 use Rattle.std.proofs.Common.{Option, Some, None, map, drop, if◌then◌else◌, nat_eq}
-use Rattle.std.specs.Prelude.{IsTrue, slice_get, get_or, unwrap_or, ◌&&◌}
+use Rattle.std.specs.Prelude.{IsTrue, slice_get, get_or, unwrap_or, ◌&&◌, take}
 use Rattle.std.specs.Option.{option_map, option_map_or, is_some}
 use Rattle.std.proofs.lemmas.Bool.{false≢true, true≢false}
 use Rattle.std.proofs.lemmas.Option.{same_Some}
@@ -27,7 +27,6 @@ use Rattle.naga_info.specs.declared.info.TypeResolution.TheVariants.{Handle, Val
 use Rattle.shader_runs.specs.Typing.{Signature}
 use Rattle.shader_runs.specs.Value.{Word, Spelled, PartWord, IndexWord, Selector, MemberNamed}
 use Rattle.std.specs.List.{flat_map}
-use Rattle.std.specs.Prelude.{take}
 use Rattle.module_meaning.specs.acceptance.Accepted.{is_accepted}
 use Rattle.module_meaning.specs.acceptance.AgreeingOperators.{Group, operator_key}
 use Rattle.module_meaning.specs.AlikeTypes.{type_identity}
@@ -39,10 +38,10 @@ use Rattle.module_meaning.specs.acceptance.ExpressionTypes.{expected_type, LikeT
 use Rattle.module_meaning.specs.OperatorTable.{Operator, AtomicLoad, CooperativeLoad, MatrixLoad}
 use Rattle.module_meaning.specs.OperatorTable.{WithoutForm, ValueOf, Construct, Level, run_word}
 use Rattle.module_meaning.specs.OperatorTable.{one_word, asks}
-use Rattle.module_meaning.specs.Types.{word_of_values}
+use Rattle.module_meaning.specs.Types.{word_of_values, called_spelling, type_names}
+use Rattle.module_meaning.specs.Types.{spelled_resolution}
 use Rattle.module_meaning.specs.TypeIdentity.{identity, identity_at, identity_code, Itself, Nothing}
 use Rattle.module_meaning.specs.TypeIdentity.{StructAt, word_of_unspelled_type, component_count}
-use Rattle.module_meaning.specs.Types.{called_spelling, type_names, spelled_resolution}
 use Rattle.module_meaning.specs.Undeclared.{is_undeclared, is_undeclared_struct}
 use Rattle.module_meaning.proofs.ExpressionForms.{called_spelled}
 use Rattle.naga_words.specs.Spelling.{is_struct}
@@ -54,9 +53,8 @@ use Rattle.naga_form.proofs.operators.OperatorKeys.{IsFormed, IsKeyed, Negated, 
 use Rattle.naga_form.proofs.operators.OperatorKeys.{sound, spells}
 use Rattle.naga_form.proofs.types.SameValues.{IsFit, numbers_by_words, values_by_numbers}
 use Rattle.naga_form.proofs.operators.Signatures.{IsCalled, by_operator, by_zero, by_constant}
-use Rattle.naga_form.proofs.operators.Signatures.{by_index}
-use Rattle.naga_form.proofs.operators.Signatures.{by_part, by_letters, IsOfExpression, IsOfZero}
-use Rattle.naga_form.proofs.operators.Signatures.{group_context, declared_for}
+use Rattle.naga_form.proofs.operators.Signatures.{by_index, by_part, by_letters, IsOfExpression}
+use Rattle.naga_form.proofs.operators.Signatures.{IsOfZero, group_context, declared_for}
 use Rattle.naga_form.proofs.operators.TypedWords.{no_blank, share_a_word}
 
 module _ (m : Module) (info : ModuleInfo) (accepted : IsTrue (is_accepted m info))

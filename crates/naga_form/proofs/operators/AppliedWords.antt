@@ -1,8 +1,7 @@
 -- The words of the operators that expressions apply and that ask for nothing: what holds of the words
 -- that are no names, and of the names of a module's structs, holds of each.
 use Rattle.std.proofs.Common.{◌≡◌, ℕ, Bool, true, false, List, length, Option, Some, None, refl}
-use Rattle.std.proofs.Common.{sym}
-use Rattle.std.proofs.Common.{ap, ◌∙◌, subst, true≢false, codes}
+use Rattle.std.proofs.Common.{sym, ap, ◌∙◌, subst, true≢false, codes}
 use Rattle.std.specs.Prelude.{slice_get, if◌then◌else◌}
 use Rattle.std.specs.Option.{option_map_or, option_and_then, is_some}
 use Rattle.std.proofs.lemmas.Option.{same_Some}
@@ -21,8 +20,7 @@ use Rattle.module_meaning.specs.ExpressionContexts.{expression_context}
 use Rattle.module_meaning.specs.ExpressionOperators.{ExpressionContext, applied_operator, cast_to}
 use Rattle.module_meaning.specs.ExpressionOperators.{constructor, has_parts, is_atomic_pointer}
 use Rattle.module_meaning.specs.ExpressionOperators.{is_depth_image, level_of, matrix_load}
-use Rattle.module_meaning.specs.ExpressionOperators.{sample_operator}
-use Rattle.module_meaning.specs.ExpressionOperators.{type_known}
+use Rattle.module_meaning.specs.ExpressionOperators.{sample_operator, type_known}
 use Rattle.module_meaning.specs.Names.{module_names, name_in}
 use Rattle.module_meaning.specs.OperatorTable.{Operator, AtomicLoad, WithoutForm, Cast, PartAt}
 use Rattle.module_meaning.specs.OperatorTable.{with_type, asks, is_untyped, run_word}

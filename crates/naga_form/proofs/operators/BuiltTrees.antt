@@ -1,8 +1,7 @@
 -- The tree of each of the module's own expressions that has a form is built of literals, names and
 -- values of types from parts alone: it has no index, no part and no `&&` or `||`.
 use Rattle.std.proofs.Common.{◌≡◌, ℕ, zero, suc, Bool, true, false, List, [], ◌∷◌, Option, Some}
-use Rattle.std.proofs.Common.{None}
-use Rattle.std.proofs.Common.{refl, subst, slice_get, length, if◌then◌else◌}
+use Rattle.std.proofs.Common.{None, refl, subst, slice_get, length, if◌then◌else◌}
 use Rattle.std.specs.List.{list_all}
 use Rattle.std.specs.Prelude.{◌||◌, unwrap_or}
 use Rattle.std.specs.Option.{option_map, option_map_or, option_and_then, is_some}

@@ -1,12 +1,11 @@
 -- The words of operators that are called: a text may call each that WGSL has.
-use Rattle.std.proofs.Common.{◌≡◌, ℕ, Bool, true, false, List, [], refl}
-use Rattle.std.proofs.Common.{sym, ap, ◌∙◌, codes, ◌&&◌, ◌||◌, not}
+use Rattle.std.proofs.Common.{◌≡◌, ℕ, Bool, true, false, List, [], refl, sym, ap, ◌∙◌, codes, ◌&&◌}
+use Rattle.std.proofs.Common.{◌||◌, not}
 use Rattle.std.specs.List.{AllByRecursion, list_all}
 use Rattle.std.specs.Option.{is_some}
 use Rattle.std.proofs.lemmas.Bool.{and_from}
 use Rattle.module_meaning.specs.OperatorTable.{Operator, BinarySign, UnarySign, Sample, Gather}
-use Rattle.module_meaning.specs.OperatorTable.{Texel}
-use Rattle.module_meaning.specs.OperatorTable.{OnlyTexel, Barrier, StorageKept}
+use Rattle.module_meaning.specs.OperatorTable.{Texel, OnlyTexel, Barrier, StorageKept}
 use Rattle.module_meaning.specs.OperatorTable.{WorkgroupKept, SubgroupKept, TextureKept, has_word}
 use Rattle.module_meaning.specs.OperatorTable.{is_untyped, one_word, run_word}
 use Rattle.shader_runs.specs.Program.{BarrierBits}

@@ -16,8 +16,7 @@ use Rattle.naga_ir.specs.declared.module.Module.{Module}
 use Rattle.module_meaning.specs.ExpressionForms.{global_has_form_over}
 use Rattle.module_meaning.specs.ExpressionOperators.{applied_operator, part_operator}
 use Rattle.module_meaning.specs.ExpressionShapes.{Declared, built, computed_over, has_values}
-use Rattle.module_meaning.specs.ExpressionShapes.{indexed}
-use Rattle.module_meaning.specs.ExpressionShapes.{operated, over_two, part_selector}
+use Rattle.module_meaning.specs.ExpressionShapes.{indexed, operated, over_two, part_selector}
 use Rattle.module_meaning.specs.ExpressionShapes.{part_tree, picked, swizzle_letters, tree_over}
 use Rattle.module_meaning.specs.ExpressionShapes.{tree_then, trees, trees_of, typed_tree}
 use Rattle.module_meaning.specs.OperatorTable.{Operator, asks, run_word}

@@ -16,26 +16,21 @@ use Rattle.module_meaning.specs.AlikeTypes.{is_spelled}
 use Rattle.module_meaning.specs.Undeclared.{is_spellable, is_undeclared_struct}
 use Rattle.module_meaning.specs.ExpressionOperators.{ExpressionContext, constructor}
 use Rattle.module_meaning.specs.ExpressionShapes.{Declared, built, computed_over, tree_over}
-use Rattle.module_meaning.specs.ExpressionShapes.{tree_then}
-use Rattle.module_meaning.specs.ExpressionShapes.{tree_within}
+use Rattle.module_meaning.specs.ExpressionShapes.{tree_then, tree_within, trees, trees_of}
 use Rattle.naga_form.proofs.operators.ComputedTrees.{computed_as_formed}
-use Rattle.module_meaning.specs.ExpressionShapes.{trees, trees_of}
 use Rattle.module_meaning.specs.Literals.{literal_value}
 use Rattle.module_meaning.specs.Names.{constant_name, module_names}
 use Rattle.module_meaning.specs.Namings.{outer_names}
 use Rattle.module_meaning.specs.OperatorTable.{Operator, Splat, run_word}
 use Rattle.module_meaning.specs.ExpressionForms.{constant_has_form, constant_has_form_over}
-use Rattle.module_meaning.specs.ExpressionForms.{expression_has_own_form}
-use Rattle.module_meaning.specs.ExpressionForms.{global_has_form, global_has_form_over}
-use Rattle.module_meaning.specs.ExpressionForms.{global_has_form_within, literal_has_form}
+use Rattle.module_meaning.specs.ExpressionForms.{expression_has_own_form, global_has_form}
+use Rattle.module_meaning.specs.ExpressionForms.{global_has_form_over, global_has_form_within}
+use Rattle.module_meaning.specs.ExpressionForms.{literal_has_form}
 use Rattle.module_meaning.specs.ExpressionContexts.{constant_number, constant_over, declared}
-use Rattle.module_meaning.specs.ExpressionContexts.{declared_over}
-use Rattle.module_meaning.specs.ExpressionContexts.{global_tree, global_tree_within}
-use Rattle.module_meaning.specs.ExpressionContexts.{global_types_known}
-use Rattle.module_meaning.specs.ExpressionContexts.{override_number}
+use Rattle.module_meaning.specs.ExpressionContexts.{declared_over, global_tree, global_tree_within}
+use Rattle.module_meaning.specs.ExpressionContexts.{global_types_known, override_number}
 use Rattle.module_meaning.specs.ExpressionContexts.{expression_context, types_known}
-use Rattle.module_meaning.specs.ExpressionContexts.{written_constant}
-use Rattle.module_meaning.specs.ExpressionContexts.{zero_of_type}
+use Rattle.module_meaning.specs.ExpressionContexts.{written_constant, zero_of_type}
 use Rattle.module_meaning.specs.Types.{type_names}
 use Rattle.naga_info.specs.declared.info.ExpressionInfo.{ExpressionInfo}
 use Rattle.naga_info.specs.declared.info.ModuleInfo.{ModuleInfo}
@@ -45,9 +40,9 @@ use Rattle.naga_form.proofs.types.SameValues.{or_nothing}
 use Rattle.naga_form.proofs.statements.WrittenHandles.{all_map}
 use Rattle.naga_form.proofs.operators.Literals.{literal_read}
 use Rattle.naga_form.proofs.operators.Operators.{IsCalled, SpellsTypes, called_applied}
-use Rattle.naga_form.proofs.operators.Operators.{constructor_called, constructor_spelled}
+use Rattle.naga_form.proofs.operators.Operators.{constructor_called, constructor_spelled, HasFormAt}
+use Rattle.naga_form.proofs.operators.Operators.{typed_notation}
 use Rattle.naga_form.proofs.operators.CalledWords.{word_is_called}
-use Rattle.naga_form.proofs.operators.Operators.{HasFormAt, typed_notation}
 use Rattle.naga_form.specs.ConstantForms.{built_form, constant_form_by, constant_form_over}
 use Rattle.naga_form.specs.ConstantForms.{constant_form_within, global_form, global_form_within}
 use Rattle.naga_form.specs.ConstantForms.{no_constant_form, written_constant_form}

@@ -1,13 +1,16 @@
 -- Constant trees of an accepted module: each has the type that is known of its expression, its
 -- operators are those of expressions of sound groups, and what it names is there. A constant that
 -- counts as a zero value is such a tree wherever an expression names it.
-use Rattle.naga_form.proofs.operators.AgreeingUses.{value_is}
+use Rattle.naga_form.proofs.operators.AgreeingUses.{value_is, value_at}
 use Rattle.module_meaning.specs.Names.{TypesAreDistinguished}
 use Rattle.shader_runs.proofs.Typing.{no_signature}
-use Rattle.naga_form.proofs.operators.Signatures.{either_signature, only_signature}
+use Rattle.naga_form.proofs.operators.Signatures.{either_signature, only_signature, group_context}
+use Rattle.naga_form.proofs.operators.Signatures.{declared_for, IsCalled, by_constant, by_operator}
+use Rattle.naga_form.proofs.operators.Signatures.{by_zero, IsOfExpression, by_index, by_letters}
+use Rattle.naga_form.proofs.operators.Signatures.{by_part}
 use Rattle.std.proofs.Common.{◌≡◌, ℕ, zero, suc, Bool, true, false, List, [], ◌∷◌, refl, sym, ap}
-use Rattle.std.proofs.Common.{◌∙◌, length, subst}
-use Rattle.std.proofs.Common.{Option, Some, None, slice_get, map, ◌&&◌, ◌++◌, if◌then◌else◌}
+use Rattle.std.proofs.Common.{◌∙◌, length, subst, Option, Some, None, slice_get, map, ◌&&◌, ◌++◌}
+use Rattle.std.proofs.Common.{if◌then◌else◌}
 use Rattle.std.specs.List.{list_all}
 use Rattle.std.specs.Prelude.{IsTrue, unwrap_or}
 use Rattle.std.specs.Option.{option_map, option_map_or, option_and_then, is_some}
@@ -28,18 +31,16 @@ use Rattle.naga_info.specs.declared.info.TypeResolution.{TypeResolution}
 use Rattle.naga_info.specs.declared.info.TypeResolution.TheVariants.{Handle, Value}
 use Rattle.naga_info.proofs.Options.{then_some, map_some}
 use Rattle.shader_runs.specs.Program.{ConstantTree, Fixed, NamedConstant, Constructed}
-use Rattle.shader_runs.specs.Program.{ConstantTrees, no_constant, constant}
-use Rattle.shader_runs.specs.Program.{Indexing, Picking, Joining}
+use Rattle.shader_runs.specs.Program.{ConstantTrees, no_constant, constant, Indexing, Picking}
+use Rattle.shader_runs.specs.Program.{Joining}
 use Rattle.shader_runs.specs.Program as program
 use Rattle.shader_runs.specs.Premises.{constant_type, constant_types_of, ConstantInRange}
 use Rattle.shader_runs.specs.Premises.{ConstantsInRange, IsNoPointer}
 use Rattle.shader_runs.specs.Typing.{Signature, constant_signatures, constants_signatures, IsOneOf}
-use Rattle.shader_runs.specs.Typing.{first_of, later_of}
-use Rattle.shader_runs.specs.Typing.{LogicalFits, TreeFits, TreesFit}
+use Rattle.shader_runs.specs.Typing.{first_of, later_of, LogicalFits, TreeFits, TreesFit}
 use Rattle.shader_runs.specs.Value.{ValueType, PointerType, Word, Spelled, PartWord, IndexWord}
-use Rattle.shader_runs.specs.Value.{Selector, MemberNamed}
-use Rattle.shader_runs.specs.Value.{ShortCircuit, ShortCircuitAnd, ShortCircuitOr}
-use Rattle.shader_runs.specs.Value.{short_circuit_word}
+use Rattle.shader_runs.specs.Value.{Selector, MemberNamed, ShortCircuit, ShortCircuitAnd}
+use Rattle.shader_runs.specs.Value.{ShortCircuitOr, short_circuit_word}
 use Rattle.module_meaning.specs.acceptance.Accepted.{is_accepted}
 use Rattle.module_meaning.specs.acceptance.AgreeingOperators.{Group, module_operators_agree}
 use Rattle.module_meaning.specs.AlikeTypes.{type_identity, are_alike}
@@ -47,8 +48,8 @@ use Rattle.module_meaning.specs.ExpressionOperators.{constructor, applied_operat
 use Rattle.module_meaning.specs.ExpressionShapes.{Declared, trees, tree_then, trees_of, built}
 use Rattle.module_meaning.specs.ExpressionShapes.{tree_over, tree_within, constant_tree}
 use Rattle.module_meaning.specs.ExpressionShapes.{computed_over, has_values, indexed, is_value_type}
-use Rattle.module_meaning.specs.ExpressionShapes.{joined, operated, over_two}
-use Rattle.module_meaning.specs.ExpressionShapes.{part_selector, part_tree, picked, swizzle_letters}
+use Rattle.module_meaning.specs.ExpressionShapes.{joined, operated, over_two, part_selector}
+use Rattle.module_meaning.specs.ExpressionShapes.{part_tree, picked, swizzle_letters}
 use Rattle.module_meaning.specs.acceptance.ExpressionTypes.{only, is_expected, binary_type}
 use Rattle.module_meaning.specs.acceptance.ExpressionTypes.{logical_type}
 use Rattle.module_meaning.specs.TypeParts.{known_inner}
@@ -73,14 +74,10 @@ use Rattle.module_meaning.proofs.ExpressionShapes.{constructor_asks}
 use Rattle.module_meaning.proofs.Lists.{list_all_at}
 use Rattle.naga_form.proofs.declarations.AcceptedGroups.{IsSoundGroup, own_known, types_are_counted}
 use Rattle.naga_form.proofs.declarations.AcceptedGroups.{own_group, declarations_are}
-use Rattle.naga_form.proofs.operators.AgreeingUses.{value_at}
 use Rattle.naga_form.proofs.types.LiteralTypes.{literal_typed, literal_is_none}
 use Rattle.naga_form.proofs.declarations.NamedConstants.{named_typed, named_within, override_typed}
 use Rattle.naga_form.proofs.declarations.NamedConstants.{override_within}
 use Rattle.naga_form.proofs.types.SameValues.{IsFit, values_by_numbers}
-use Rattle.naga_form.proofs.operators.Signatures.{group_context, declared_for, IsCalled}
-use Rattle.naga_form.proofs.operators.Signatures.{by_constant, by_operator, by_zero, IsOfExpression}
-use Rattle.naga_form.proofs.operators.Signatures.{by_index, by_letters, by_part}
 use Rattle.naga_form.proofs.types.LogicalTypes.{logical_fits}
 
 -- ---- trees

@@ -34,8 +34,7 @@ use Rattle.text_meaning.specs.Abstraction.{arguments_read, called_word, expressi
 use Rattle.wgsl_text.proofs.Building.{called_words}
 use Rattle.wgsl_text.proofs.Types.{named_text}
 use Rattle.wgsl_text.specs.Expressions.{Argument, Arguments, Call, Expression, IsCallee}
-use Rattle.wgsl_text.specs.Expressions.{IsExpression}
-use Rattle.wgsl_text.specs.Expressions.{ZeroArgument, operands, operands_with_level}
+use Rattle.wgsl_text.specs.Expressions.{IsExpression, ZeroArgument, operands, operands_with_level}
 use Rattle.wgsl_text.specs.Functions.{Each}
 use Rattle.wgsl_text.specs.Keywords.{builtin_words}
 use Rattle.wgsl_text.specs.Reading.{type_layout}

@@ -2,8 +2,7 @@
 -- them: what they index or take a part of is no pointer, and `&&` and `||` of `bool` are `bool`. What
 -- is said of trees of constants is a premise here.
 use Rattle.std.proofs.Common.{◌≡◌, ℕ, Bool, true, false, List, [], ◌∷◌, ◌++◌, Option, Some, None}
-use Rattle.std.proofs.Common.{refl}
-use Rattle.std.proofs.Common.{sym, ap, ◌∙◌, subst, slice_get, if◌then◌else◌}
+use Rattle.std.proofs.Common.{refl, sym, ap, ◌∙◌, subst, slice_get, if◌then◌else◌}
 use Rattle.std.specs.Prelude.{◌||◌}
 use Rattle.std.specs.Option.{option_map, option_and_then, option_to_list, is_some}
 use Rattle.naga_ir.specs.Operands.{expression_operands}
@@ -21,8 +20,8 @@ use Rattle.module_meaning.specs.acceptance.AgreeingOperators.{Group, function_gr
 use Rattle.module_meaning.specs.ExpressionOperators.{applied_operator, constructor, load_operator}
 use Rattle.module_meaning.specs.ExpressionShapes.{Declared, applied_or, built, constant_shape}
 use Rattle.module_meaning.specs.ExpressionShapes.{constant_tree, part_selector, part_shape}
-use Rattle.module_meaning.specs.ExpressionShapes.{shape_of}
-use Rattle.module_meaning.specs.ExpressionShapes.{tree_over, tree_within, trees, written_zero}
+use Rattle.module_meaning.specs.ExpressionShapes.{shape_of, tree_over, tree_within, trees}
+use Rattle.module_meaning.specs.ExpressionShapes.{written_zero}
 use Rattle.module_meaning.specs.FunctionShapes.{function_shape}
 use Rattle.module_meaning.specs.ModuleShapes.{module_shape}
 use Rattle.module_meaning.specs.OperatorTable.{Operator as TableOperator, PartAt, WithoutForm, asks}

@@ -1,8 +1,7 @@
 -- Leaves of every accepted function have the types of what they stand for: arguments, locals and
 -- variables of the module. What is said of constants is asked.
 use Rattle.std.proofs.Common.{◌≡◌, ℕ, ◌<◌, Bool, true, false, List, [], ◌∷◌, ◌++◌, Option, Some}
-use Rattle.std.proofs.Common.{None}
-use Rattle.std.proofs.Common.{refl, sym, ap, ◌∙◌, subst, slice_get, map, if◌then◌else◌}
+use Rattle.std.proofs.Common.{None, refl, sym, ap, ◌∙◌, subst, slice_get, map, if◌then◌else◌}
 use Rattle.std.specs.Option.{option_to_list, option_and_then, option_map, option_map_or}
 use Rattle.std.proofs.lemmas.Option.{slice_get_within}
 use Rattle.std.proofs.lemmas.Slice.Eq.{bytes_eq-Decides}
@@ -30,12 +29,10 @@ use Rattle.module_meaning.specs.ExpressionOperators.{is_atomic_pointer, construc
 use Rattle.module_meaning.specs.ExpressionShapes.{Declared, shape_of, applied_shape, applied_or}
 use Rattle.module_meaning.specs.ExpressionShapes.{part_shape, part_selector, constant_tree, trees}
 use Rattle.module_meaning.specs.ExpressionShapes.{written_zero, constant_shape, tree_over}
-use Rattle.module_meaning.specs.ExpressionShapes.{tree_within}
-use Rattle.module_meaning.specs.ExpressionShapes.{built}
+use Rattle.module_meaning.specs.ExpressionShapes.{tree_within, built}
 use Rattle.module_meaning.specs.Literals.{literal_value}
 use Rattle.module_meaning.specs.acceptance.ExpressionTypes.{expression_type_fits, is_expected, only}
-use Rattle.module_meaning.specs.acceptance.ExpressionTypes.{global_type}
-use Rattle.module_meaning.specs.acceptance.ExpressionTypes.{argument_type, local_type}
+use Rattle.module_meaning.specs.acceptance.ExpressionTypes.{global_type, argument_type, local_type}
 use Rattle.module_meaning.specs.acceptance.ExpressionTypes.{variable_type}
 use Rattle.module_meaning.specs.FunctionShapes.{function_shape}
 use Rattle.module_meaning.specs.acceptance.InfoSizes.{is_handle_space}
@@ -43,9 +40,8 @@ use Rattle.module_meaning.specs.ModuleShapes.{module_shape, variable_shape}
 use Rattle.module_meaning.specs.acceptance.OperandDemands.{is_swizzled}
 use Rattle.module_meaning.specs.OperatorTable.{Operator, AtomicLoad, BinarySign, run_word}
 use Rattle.module_meaning.specs.ExpressionContexts.{declared, types_known, is_handle_variable}
-use Rattle.module_meaning.specs.Types.{declared_type, type_of_values, word_of_values}
 use Rattle.module_meaning.specs.ExpressionContexts.{written_constant}
-use Rattle.module_meaning.specs.Types.{values_of}
+use Rattle.module_meaning.specs.Types.{declared_type, type_of_values, word_of_values, values_of}
 use Rattle.shader_runs.specs.Premises.{LeafFits, ConstantInRange, ConstantsInRange, IsNoPointer}
 use Rattle.shader_runs.specs.Premises.{constant_type as constant_tree_type}
 use Rattle.shader_runs.specs.Program as shapes

@@ -1,6 +1,6 @@
 -- Words of operators that no name hides: those of all operators that expressions apply.
 use Rattle.std.proofs.Common.{◌≡◌, ℕ, Bool, true, false, List, [], ◌∷◌, refl, nat_eq, sym, ap, ◌∙◌}
-use Rattle.std.proofs.Common.{codes, ◌++◌}
+use Rattle.std.proofs.Common.{codes, ◌++◌, Option, Some, None}
 use Rattle.std.specs.Char.{is_ascii_digit}
 use Rattle.std.specs.List.{AllByRecursion, list_all}
 use Rattle.std.specs.Prelude.{◌&&◌, ◌||◌, if◌then◌else◌, not}
@@ -8,15 +8,13 @@ use Rattle.std.specs.Option.{option_map_or}
 use Rattle.std.proofs.lemmas.Bool.{and_from, and_parts, eqb-true, false≢true, not-true, or_parts}
 use Rattle.module_meaning.specs.OperatorTable.{Operator, UnarySign, Texel, OnlyTexel, TexelChange}
 use Rattle.module_meaning.specs.OperatorTable.{Collective, RayStep, run_word, with_type}
-use Rattle.module_meaning.specs.OperatorTable.{Unsupported}
-use Rattle.module_meaning.specs.OperatorTable.{MatrixLoad, WithoutForm}
+use Rattle.module_meaning.specs.OperatorTable.{Unsupported, MatrixLoad, WithoutForm}
 use Rattle.module_meaning.specs.OperatorTable.{CooperativeLoad, unsupported_asks, asks, is_untyped}
 use Rattle.module_meaning.specs.OperatorTable.{one_word}
 use Rattle.module_meaning.specs.ExpressionOperators.{ExpressionContext, matrix_load}
 use Rattle.naga_form.proofs.operators.OperatorEvents.{keeps_asking}
 use Rattle.naga_form.proofs.operators.OperatorTable.{by_table, mathematical, others}
 use Rattle.naga_ir.specs.declared.expression.CooperativeData.{CooperativeData}
-use Rattle.std.proofs.Common.{Option, Some, None}
 use Rattle.naga_ir.specs.declared.operators.UnaryOperator.TheVariants as unary
 use Rattle.naga_ir.specs.declared.types.CooperativeRole.{CooperativeRole}
 use Rattle.naga_ir.specs.declared.types.CooperativeSize.{CooperativeSize}

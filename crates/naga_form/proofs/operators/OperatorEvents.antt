@@ -1,6 +1,6 @@
 -- The words that ask for an event are those of the operators that do.
-use Rattle.std.proofs.Common.{◌≡◌, ℕ, Bool, true, false, not, ◌&&◌, List, codes}
-use Rattle.std.proofs.Common.{Some, refl, sym, ap, ◌∙◌}
+use Rattle.std.proofs.Common.{◌≡◌, ℕ, Bool, true, false, not, ◌&&◌, List, codes, Some, refl, sym}
+use Rattle.std.proofs.Common.{ap, ◌∙◌}
 use Rattle.std.specs.Prelude.{unwrap_or}
 use Rattle.std.specs.List.{list_all}
 use Rattle.std.specs.Option.{option_map_or}
@@ -8,18 +8,17 @@ use Rattle.std.proofs.lemmas.Bool.{false≢true, true≢false, and_parts, not-tr
 use Rattle.naga_ir.specs.declared.operators.UnaryOperator.TheVariants as unary
 use Rattle.wgsl_text.specs.Words.{stands_in, is_builtin}
 use Rattle.wgsl_text.specs.Types.{TypeSpecifier, Named, is_type, TemplateRule, TakesNone}
-use Rattle.wgsl_text.specs.Types.{rule_among}
-use Rattle.wgsl_text.specs.Types.{type_templates, IsType}
+use Rattle.wgsl_text.specs.Types.{rule_among, type_templates, IsType}
 use Rattle.wgsl_text.proofs.Words.{all_words, passes}
 use Rattle.naga_form.proofs.operators.OperatorTable.{by_table, mathematical, others}
 use Rattle.wgsl_text.specs.Reading.{type_layout}
 use Rattle.wgsl_text.specs.Requests.{request_words, is_request}
 use Rattle.module_meaning.specs.OperatorTable.{Operator, UnarySign, Sample, Gather, Texel}
 use Rattle.module_meaning.specs.OperatorTable.{OnlyTexel, Automatic, Zero, CooperativeLoad}
-use Rattle.module_meaning.specs.OperatorTable.{Construct, Convert, Reinterpret}
-use Rattle.module_meaning.specs.OperatorTable.{with_type, operator_word, own_word, run_word}
-use Rattle.module_meaning.specs.OperatorTable.{one_word, asks, is_untyped, SpellsAType}
-use Rattle.module_meaning.specs.OperatorTable.{TypeIsSound, WithoutForm, ValueOf}
+use Rattle.module_meaning.specs.OperatorTable.{Construct, Convert, Reinterpret, with_type}
+use Rattle.module_meaning.specs.OperatorTable.{operator_word, own_word, run_word, one_word, asks}
+use Rattle.module_meaning.specs.OperatorTable.{is_untyped, SpellsAType, TypeIsSound, WithoutForm}
+use Rattle.module_meaning.specs.OperatorTable.{ValueOf}
 use Rattle.naga_form.proofs.operators.TypedWords.{head_of, head_is, no_type_begins}
 
 pub keeps_text : (o : Operator) → operator_word (one_word o) ≡ operator_word o

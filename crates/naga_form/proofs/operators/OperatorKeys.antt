@@ -1,7 +1,6 @@
 -- Operators that the runs call by one word, over as many operands, are told by one key.
 use Rattle.std.proofs.Common.{◌≡◌, ℕ, Bool, true, false, List, ◌∷◌, refl, sym, ap, ◌∙◌, length}
-use Rattle.std.proofs.Common.{subst}
-use Rattle.std.proofs.Common.{Option, Some, None, slice_get, if◌then◌else◌, arith, suc, zero}
+use Rattle.std.proofs.Common.{subst, Option, Some, None, slice_get, if◌then◌else◌, arith, suc, zero}
 use Rattle.std.specs.Option.{option_and_then, option_map, option_map_or, is_some}
 use Rattle.std.proofs.lemmas.Option.{same_Some}
 use denote.Enum.Declared.{tag_of}
@@ -33,13 +32,13 @@ use Rattle.module_meaning.specs.OperatorTable.{Convert, Reinterpret, WithoutForm
 use Rattle.module_meaning.specs.OperatorTable.{ValueOf, CooperativeLoad, run_word, one_word}
 use Rattle.module_meaning.specs.OperatorTable.{TypeIsSound, SpellsAType}
 use Rattle.module_meaning.specs.ExpressionContexts.{expression_context}
-use Rattle.module_meaning.specs.Types.{word_of_values}
+use Rattle.module_meaning.specs.Types.{word_of_values, called_spelling, type_names}
+use Rattle.module_meaning.specs.Types.{spelled_resolution}
 use Rattle.module_meaning.specs.TypeIdentity.{truth_number, word_of_unspelled_type, identity}
 use Rattle.module_meaning.specs.TypeIdentity.{identity_code}
 use Rattle.std.specs.Prelude.{unwrap_or}
 use Rattle.naga_form.specs.TypeTrees.{resolution_tree}
 use Rattle.module_meaning.specs.TypeParts.{known_inner}
-use Rattle.module_meaning.specs.Types.{called_spelling, type_names, spelled_resolution}
 use Rattle.module_meaning.proofs.ExpressionForms.{called_spelled}
 use Rattle.naga_form.proofs.types.AlikeTypes.{form_read}
 use Rattle.naga_form.proofs.types.SameValues.{TypesAreCounted, IsFit, numbers_by_words, tree_of}
@@ -116,14 +115,6 @@ module _ (m : Module) (are : TypesAreCounted m) where
           ≡ is_some o
       by None = refl
       by (Some w) = refl
-
-  spelled_none : (r : TypeResolution) → is_spelled m.types r ≡ false → spelled_resolution (type_names m) r ≡ None
-  spelled_none r has = by (spelled_resolution (type_names m) r) refl (form_spelled r ∙ has)
-    where
-      by : (o : Option (List ℕ)) → spelled_resolution (type_names m) r ≡ o → is_some o ≡ false →
-          spelled_resolution (type_names m) r ≡ None
-      by (Some w) at is = absurd (cc)
-      by None at is = at
 
   -- its word is a type of the grammar
   pub spells : (r : TypeResolution) → IsFit m r → (w : List ℕ) → spelled_resolution (type_names m) r ≡ Some w →

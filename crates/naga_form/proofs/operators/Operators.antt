@@ -1,7 +1,7 @@
 -- The tree of an operator over operands: it is called by the operator's word, and is of the
 -- grammar.
-use Rattle.std.proofs.Common.{◌≡◌, ℕ, Bool, true, false, List, [], ◌∷◌, Option, Some, None}
-use Rattle.std.proofs.Common.{refl, sym, ap, subst, ◌∙◌, length, codes, ◌++◌}
+use Rattle.std.proofs.Common.{◌≡◌, ℕ, Bool, true, false, List, [], ◌∷◌, Option, Some, None, refl}
+use Rattle.std.proofs.Common.{sym, ap, subst, ◌∙◌, length, codes, ◌++◌}
 use Rattle.std.specs.Prelude.{if◌then◌else◌, unwrap_or}
 use Rattle.std.specs.List.{AllByRecursion}
 use Rattle.std.specs.Option.{option_map, option_map_or, option_and_then}
@@ -14,15 +14,15 @@ use Rattle.naga_ir.specs.declared.operators.UnaryOperator.{UnaryOperator}
 use Rattle.naga_ir.specs.declared.operators.UnaryOperator.TheVariants as unary
 use Rattle.module_meaning.specs.Conversions.{conversion_target, keeps_bits}
 use Rattle.module_meaning.specs.ExpressionOperators.{ExpressionContext, applied_operator, cast}
-use Rattle.module_meaning.specs.ExpressionOperators.{cast_to}
-use Rattle.module_meaning.specs.ExpressionOperators.{type_known}
-use Rattle.module_meaning.specs.ExpressionOperators.{is_atomic_pointer, constructor, load_operator}
-use Rattle.module_meaning.specs.ExpressionOperators.{matrix_load}
+use Rattle.module_meaning.specs.ExpressionOperators.{cast_to, type_known, is_atomic_pointer}
+use Rattle.module_meaning.specs.ExpressionOperators.{constructor, load_operator, matrix_load}
+use Rattle.module_meaning.specs.ExpressionOperators.{own_operator, query_operator}
 use Rattle.naga_info.specs.declared.info.TypeResolution.{TypeResolution}
 use Rattle.naga_info.specs.declared.info.TypeResolution.TheVariants.{Handle, Value}
 use Rattle.naga_words.specs.Contexts.{Names as TypeNames}
 use Rattle.naga_form.specs.Expressions.{cast_tree, conversion_tree, load_tree, matrix_tree}
-use Rattle.naga_form.specs.Expressions.{operator_type, scalar_pointed}
+use Rattle.naga_form.specs.Expressions.{operator_type, scalar_pointed, PlainForm, as_value}
+use Rattle.naga_form.specs.Expressions.{value_forms}
 use Rattle.naga_form.specs.TypeTrees.{inner_tree, resolution_tree, type_tree}
 use Rattle.naga_ir.specs.declared.types.CooperativeRole.{CooperativeRole}
 use Rattle.naga_ir.specs.declared.types.CooperativeSize.{CooperativeSize}
@@ -31,17 +31,18 @@ use Rattle.naga_ir.specs.declared.types.ScalarKind.{ScalarKind}
 use Rattle.naga_ir.specs.declared.types.TypeInner.{TypeInner}
 use Rattle.naga_ir.specs.declared.types.TypeInner.TheVariants as inner
 use Rattle.module_meaning.specs.OperatorTable.{Construct, WithoutForm, ValueOf, Cast, with_type}
-use Rattle.module_meaning.specs.OperatorTable.{has_word, is_untyped}
-use Rattle.module_meaning.specs.ExpressionOperators.{own_operator, query_operator}
+use Rattle.module_meaning.specs.OperatorTable.{has_word, is_untyped, Operator, BinarySign}
+use Rattle.module_meaning.specs.OperatorTable.{UnarySign, AtomicLoad, asks, CooperativeLoad}
+use Rattle.module_meaning.specs.OperatorTable.{MatrixLoad, run_word}
 use Rattle.module_meaning.proofs.OwnOperators.{own_is_untyped}
 use Rattle.naga_form.proofs.operators.CalledWords.{is_called, word_is_called}
 use Rattle.naga_ir.specs.declared.expression.ImageQuery.{ImageQuery}
 use Rattle.naga_ir.specs.declared.expression.ImageQuery.TheVariants as query
-use Rattle.wgsl_text.specs.Expressions.{IsCallee}
-use Rattle.wgsl_text.specs.Types.{IsType}
+use Rattle.wgsl_text.specs.Expressions.{IsCallee, Call, operands, binary_pieces, unary_mark}
+use Rattle.wgsl_text.specs.Expressions.{IsExpression, Expression}
+use Rattle.wgsl_text.specs.Types.{IsType, TypeSpecifier, Named, NoTemplateArguments, has_gaps}
+use Rattle.wgsl_text.specs.Types.{of_one}
 use Rattle.module_meaning.specs.ExpressionShapes.{applied_shape}
-use Rattle.module_meaning.specs.OperatorTable.{Operator, BinarySign, UnarySign, AtomicLoad, asks}
-use Rattle.module_meaning.specs.OperatorTable.{CooperativeLoad, MatrixLoad, run_word}
 use Rattle.module_meaning.specs.ExpressionContexts.{expression_context}
 use Rattle.module_meaning.specs.ExpressionForms.{expression_has_own_form}
 use Rattle.module_meaning.specs.Types.{spelled_resolution, type_names}
@@ -53,10 +54,6 @@ use Rattle.naga_ir.specs.declared.module.Module.{Module}
 use Rattle.naga_info.specs.declared.info.ExpressionInfo.{ExpressionInfo}
 use Rattle.module_meaning.specs.Shapes.{operator_shape}
 use Rattle.naga_ir.specs.Operands.{cooperative_operands, expression_operands, query_operands}
-use Rattle.wgsl_text.specs.Types.{TypeSpecifier, Named, NoTemplateArguments, has_gaps, of_one}
-use Rattle.wgsl_text.specs.Expressions.{Call, operands, binary_pieces, unary_mark, IsExpression}
-use Rattle.wgsl_text.specs.Expressions.{Expression}
-use Rattle.naga_form.specs.Expressions.{PlainForm, as_value, value_forms}
 use Rattle.wgsl_text.specs.Functions.{Each}
 use Rattle.wgsl_text.proofs.Building.{called_words}
 use Rattle.wgsl_text.proofs.Types.{named_text, type_part_text}

@@ -5,15 +5,13 @@ use Rattle.module_meaning.specs.ExpressionForms.{constant_has_form, expression_h
 use Rattle.module_meaning.specs.ExpressionShapes.{part_selector, Declared}
 use Rattle.module_meaning.specs.OperatorTable.{WithoutForm, PartAt, Operator}
 use Rattle.naga_form.proofs.operators.AllowedParts.{IsWellSelected, selected, selected_well}
-use Rattle.naga_form.proofs.operators.AllowedParts.{conversion}
-use Rattle.naga_form.proofs.operators.AllowedParts.{loaded_matrix, target_fit}
+use Rattle.naga_form.proofs.operators.AllowedParts.{conversion, loaded_matrix, target_fit}
 use Rattle.naga_form.specs.Expressions.{is_handle_variable, part_plain, is_pointer, selected_part}
 use Rattle.naga_form.specs.Expressions.{variable_plain, PlainForm, ValueForm, ReferenceForm}
 use Rattle.naga_form.specs.Expressions.{as_value, as_reference, applied_plain, no_form, own_plain}
 use Rattle.naga_form.specs.Expressions.{own_if, availability_plain, plain_below, plain_form, Source}
 use Rattle.naga_form.specs.Expressions.{function_source, constant_form, value_forms, cast_tree}
-use Rattle.naga_form.specs.Expressions.{zero_is_whole}
-use Rattle.naga_form.specs.Expressions.{load_tree, operator_type, unnamed_form}
+use Rattle.naga_form.specs.Expressions.{zero_is_whole, load_tree, operator_type, unnamed_form}
 use Rattle.shader_runs.specs.Value.{Selector, MemberNamed, ElementAt}
 use Rattle.wgsl_text.specs.Expressions.{Index, IsExpression}
 use Rattle.std.specs.Option.{option_map_or, is_some, option_to_list}
@@ -39,17 +37,14 @@ use Rattle.naga_names.proofs.Refusal.{element}
 use Rattle.module_meaning.specs.Names.{global_name, module_names}
 use Rattle.module_meaning.specs.Types.{type_names}
 use Rattle.naga_form.proofs.types.SameValues.{IsFit, TypesAreFit, global_identifier}
-use Rattle.naga_form.proofs.types.SameValues.{override_identifier}
-use Rattle.naga_form.proofs.types.SameValues.{tree_is}
+use Rattle.naga_form.proofs.types.SameValues.{override_identifier, tree_is}
 use Rattle.module_meaning.specs.ExpressionOperators.{applied_operator, load_operator}
 use Rattle.module_meaning.specs.ExpressionOperators.{is_depth_image, type_known, constructor}
 use Rattle.naga_ir.specs.Operands.{expression_operands, level_operands}
 use Rattle.naga_form.specs.Operators.{notation}
 use Rattle.naga_form.proofs.operators.Operators.{HasFormAt, IsNotated, TypeIsFormed, applied_is}
-use Rattle.naga_form.proofs.operators.Operators.{cast_callee}
-use Rattle.naga_form.proofs.operators.Operators.{constructor_notated, conversion_is, load_callee}
-use Rattle.naga_form.proofs.operators.Operators.{matrix_is}
-use Rattle.naga_form.proofs.operators.Operators.{load_notated, notated}
+use Rattle.naga_form.proofs.operators.Operators.{cast_callee, constructor_notated, conversion_is}
+use Rattle.naga_form.proofs.operators.Operators.{load_callee, matrix_is, load_notated, notated}
 use Rattle.module_meaning.specs.Conversions.{keeps_bits}
 use Rattle.module_meaning.specs.AlikeTypes.{is_spelled as type_has_form}
 use Rattle.naga_form.proofs.operators.ConstantForms.{form_out_is}

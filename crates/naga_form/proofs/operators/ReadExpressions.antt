@@ -1,81 +1,59 @@
 -- What is written of an expression is read as the expression's shape says, over operands of which
 -- this holds.
-use Rattle.std.proofs.Common.{◌≡◌, ℕ, suc, Bool, true, false, List, [], ◌∷◌, ◌++◌, refl}
-use Rattle.std.proofs.Common.{sym, ap, ◌∙◌, zero, map, Option, Some, None}
-use Rattle.std.specs.Prelude.{codes, slice_get, unwrap_or}
-use Rattle.std.specs.Option.{option_map_or, option_map, is_some}
+use Rattle.std.proofs.Common.{◌≡◌, ℕ, suc, Bool, true, false, List, [], ◌∷◌, ◌++◌, refl, sym, ap}
+use Rattle.std.proofs.Common.{◌∙◌, zero, map, Option, Some, None}
+use Rattle.std.specs.Prelude.{codes, slice_get, unwrap_or, ◌||◌, if◌then◌else◌}
+use Rattle.std.specs.Option.{option_map_or, option_map, is_some, option_and_then, option_to_list}
 use Rattle.naga_info.specs.declared.info.TypeResolution.{TypeResolution}
 use Rattle.naga_info.specs.declared.info.TypeResolution.TheVariants.{Handle}
-use Rattle.module_meaning.specs.ExpressionOperators.{constructor}
-use Rattle.module_meaning.specs.ExpressionShapes.{constant_shape, swizzle_letters}
-use Rattle.shader_runs.specs.Text.{PartOf}
-use Rattle.shader_runs.specs.Value.{MemberNamed, Truth}
-use Rattle.module_meaning.specs.OperatorTable.{run_word, zero_is_written}
-use Rattle.shader_runs.specs.Program.{Constructed, Fixed, no_constant}
-use Rattle.naga_form.specs.Expressions.{operator_type}
+use Rattle.module_meaning.specs.ExpressionOperators.{constructor, is_depth_image, level_of}
+use Rattle.module_meaning.specs.ExpressionOperators.{sample_operator, type_known, load_operator}
+use Rattle.module_meaning.specs.ExpressionOperators.{applied_operator}
+use Rattle.module_meaning.specs.ExpressionShapes.{constant_shape, swizzle_letters, constant_tree}
+use Rattle.module_meaning.specs.ExpressionShapes.{trees, written_zero, part_selector, part_shape}
+use Rattle.module_meaning.specs.ExpressionShapes.{shape_of, applied_or}
+use Rattle.shader_runs.specs.Text.{PartOf, Apply, Tree, Index, LiteralOf}
+use Rattle.shader_runs.specs.Value.{MemberNamed, Truth, ValueType, BooleanType, OtherType}
+use Rattle.shader_runs.specs.Value.{PointerType, Selector, ElementAt, type_at}
+use Rattle.module_meaning.specs.OperatorTable.{run_word, zero_is_written, WithoutForm, PartAt}
+use Rattle.module_meaning.specs.OperatorTable.{Operator}
+use Rattle.shader_runs.specs.Program.{Constructed, Fixed, no_constant, ConstantTree, handle_type}
+use Rattle.naga_form.specs.Expressions.{operator_type, constant_form, value_forms, zero_is_whole}
+use Rattle.naga_form.specs.Expressions.{is_pointer_type, part_plain, is_pointer, selected_part}
+use Rattle.naga_form.specs.Expressions.{variable_plain, PlainForm, ValueForm, ReferenceForm}
+use Rattle.naga_form.specs.Expressions.{as_value, as_reference, applied_plain, no_form, own_plain}
+use Rattle.naga_form.specs.Expressions.{own_if, Source}
 use Rattle.naga_form.proofs.operators.Operators.{SpellsIf, SpellsTypes, constructor_spelled}
-use Rattle.naga_form.proofs.operators.Operators.{operator_spelled}
-use Rattle.naga_form.proofs.operators.Operators.{untyped, zero_read}
+use Rattle.naga_form.proofs.operators.Operators.{operator_spelled, untyped, zero_read, AllReadLike}
+use Rattle.naga_form.proofs.operators.Operators.{applied_read}
 use Rattle.module_meaning.proofs.ExpressionForms.{declared_of_spellable}
 use Rattle.module_meaning.specs.Undeclared.{is_undeclared_struct}
-use Rattle.std.specs.Prelude.{◌||◌}
-use Rattle.module_meaning.specs.ExpressionOperators.{is_depth_image, level_of, sample_operator}
-use Rattle.module_meaning.specs.ExpressionOperators.{type_known}
-use Rattle.module_meaning.specs.ExpressionShapes.{constant_tree, trees, written_zero}
 use Rattle.naga_form.proofs.operators.ConstantForms.{IsReadAs}
 use Rattle.naga_form.proofs.operators.Images.{sampling_read, without_offset}
-use Rattle.naga_form.proofs.operators.Operators.{AllReadLike}
-use Rattle.naga_form.specs.Expressions.{constant_form, value_forms, zero_is_whole}
 use Rattle.naga_form.specs.Images.{sampling_form}
-use Rattle.naga_ir.specs.Operands.{level_operands}
-use Rattle.shader_runs.specs.Form.{constant_forms}
-use Rattle.shader_runs.specs.Program.{ConstantTree}
+use Rattle.naga_ir.specs.Operands.{level_operands, expression_operands}
+use Rattle.shader_runs.specs.Form.{constant_forms, Plain, AsValue, AsPlace}
 use Rattle.shader_runs.specs.Text as trees_of_text
-use Rattle.shader_runs.specs.Text.{Apply}
 use Rattle.naga_ir.specs.declared.expression.Expression as ir
 use Rattle.naga_ir.specs.declared.module.Module.{Module}
 use Rattle.naga_ir.specs.declared.types.TypeInner.{TypeInner}
 use Rattle.naga_ir.specs.declared.types.TypeInner.TheVariants as inner
 use Rattle.naga_info.specs.Resolution.{inner_of}
-use Rattle.std.specs.Prelude.{if◌then◌else◌}
 use Rattle.std.specs.Str.{bytes_eq}
-use Rattle.std.specs.Option.{option_and_then}
 use Rattle.naga_ir.specs.declared.types.ScalarKind.{ScalarKind}
 use Rattle.naga_ir.specs.declared.types.ScalarKind.TheVariants as kind
 use Rattle.module_meaning.specs.Types.{scalar_values, type_of_values, values_of, word_of_values}
-use Rattle.module_meaning.specs.ExpressionShapes.{part_selector, part_shape}
-use Rattle.module_meaning.specs.OperatorTable.{WithoutForm, PartAt}
-use Rattle.naga_form.specs.Expressions.{is_pointer_type, part_plain, is_pointer}
-use Rattle.naga_form.specs.Expressions.{selected_part}
-use Rattle.naga_form.specs.Expressions.{variable_plain}
 use Rattle.naga_info.specs.declared.info.ExpressionInfo.{ExpressionInfo}
 use Rattle.std.specs.List.{AllByRecursion}
-use Rattle.std.specs.Option.{option_to_list}
 use Rattle.naga_form.proofs.statements.WrittenHandles.{all_map}
 use Rattle.module_meaning.specs.ExpressionForms.{expression_has_own_form}
 use Rattle.wgsl_text.specs.Types.{TypeSpecifier}
-use Rattle.shader_runs.specs.Value.{ValueType, BooleanType, OtherType, PointerType}
-use Rattle.shader_runs.specs.Value.{Selector, ElementAt, type_at}
-use Rattle.shader_runs.specs.Text.{Tree, Index}
 use Rattle.shader_runs.specs.Program as shapes
-use Rattle.shader_runs.specs.Program.{handle_type}
 use Rattle.shader_runs.specs.Scope.{Naming}
-use Rattle.shader_runs.specs.Text.{LiteralOf}
-use Rattle.shader_runs.specs.Form.{Plain}
-use Rattle.shader_runs.specs.Form.{AsValue, AsPlace}
 use Rattle.shader_runs.specs.Form as runs
-use Rattle.naga_form.specs.Expressions.{PlainForm, ValueForm, ReferenceForm, as_value, as_reference}
-use Rattle.naga_form.specs.Expressions.{applied_plain, no_form, own_plain, own_if}
-use Rattle.naga_form.specs.Expressions.{Source}
 use Rattle.naga_form.specs.TypeTrees.{type_tree}
-use Rattle.module_meaning.specs.ExpressionOperators.{load_operator}
-use Rattle.module_meaning.specs.ExpressionOperators.{applied_operator}
-use Rattle.module_meaning.specs.ExpressionShapes.{shape_of, applied_or}
-use Rattle.module_meaning.specs.OperatorTable.{Operator}
-use Rattle.naga_ir.specs.Operands.{expression_operands}
 use Rattle.text_meaning.specs.Abstraction.{expression_read}
 use Rattle.naga_ir.specs.declared.expression.Expression.TheVariants as expression
-use Rattle.naga_form.proofs.operators.Operators.{applied_read}
 use Rattle.naga_form.proofs.operators.Literals.{literal_read}
 use Rattle.wgsl_text.specs.Expressions as tree_expressions
 

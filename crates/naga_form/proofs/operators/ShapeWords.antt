@@ -1,8 +1,7 @@
 -- The words of the program of shapes of a module whose types are counted: no name hides one, where
 -- names are free, and each that asks is a request.
 use Rattle.std.proofs.Common.{◌≡◌, ℕ, zero, suc, ◌+◌, Bool, true, false, ◌||◌, List, [], ◌∷◌}
-use Rattle.std.proofs.Common.{Option}
-use Rattle.std.proofs.Common.{Some, None, refl, ◌∙◌}
+use Rattle.std.proofs.Common.{Option, Some, None, refl, ◌∙◌}
 use Rattle.std.specs.Prelude.{slice_get, if◌then◌else◌}
 use Rattle.std.specs.Option.{option_and_then, option_to_list, is_some}
 use Rattle.naga_ir.specs.Operands.{expression_operands}
@@ -18,18 +17,14 @@ use Rattle.naga_info.specs.declared.info.TypeResolution.TheVariants.{Handle}
 use Rattle.naga_info.proofs.Options.{then_some}
 use Rattle.module_meaning.specs.ExpressionOperators.{applied_operator, constructor, load_operator}
 use Rattle.module_meaning.specs.ExpressionOperators.{level_of}
-use Rattle.module_meaning.specs.ExpressionShapes.{built}
-use Rattle.module_meaning.specs.ExpressionShapes.{constant_tree}
-use Rattle.module_meaning.specs.ExpressionShapes.{applied_shape, applied_or, part_shape}
-use Rattle.module_meaning.specs.ExpressionShapes.{part_selector}
-use Rattle.module_meaning.specs.ExpressionShapes.{shape_of}
+use Rattle.module_meaning.specs.ExpressionShapes.{built, constant_tree, applied_shape, applied_or}
+use Rattle.module_meaning.specs.ExpressionShapes.{part_shape, part_selector, shape_of}
 use Rattle.module_meaning.specs.FunctionShapes.{function_shape, shapes_from}
 use Rattle.module_meaning.specs.ModuleShapes.{initialiser}
 use Rattle.module_meaning.specs.OperatorTable.{Operator, WithoutForm, PartAt, run_word, asks}
 use Rattle.module_meaning.specs.OperatorTable.{TypeIsSound}
 use Rattle.module_meaning.specs.Shapes.{operator_shape}
-use Rattle.module_meaning.specs.ExpressionContexts.{declared, types_known}
-use Rattle.module_meaning.specs.ExpressionContexts.{written_constant}
+use Rattle.module_meaning.specs.ExpressionContexts.{declared, types_known, written_constant}
 use Rattle.module_meaning.specs.ExpressionContexts.{expression_context}
 use Rattle.module_meaning.proofs.ExpressionShapes.{constructor_asks}
 use Rattle.module_meaning.proofs.Shapes.{operator_any}
@@ -37,19 +32,17 @@ use Rattle.shader_runs.specs.Program as shapes
 use Rattle.shader_runs.specs.Program.{Expression, Constant, Load, Request, Result, no_constant}
 use Rattle.shader_runs.specs.Program.{expression_of}
 use Rattle.shader_runs.specs.Scope.{Naming}
-use Rattle.shader_runs.specs.Premises.{EachWord, WordFits, OperatesBy, AsksBy}
-use Rattle.shader_runs.specs.Premises.{OperatesOutside}
+use Rattle.shader_runs.specs.Premises.{EachWord, WordFits, OperatesBy, AsksBy, OperatesOutside}
 use Rattle.shader_runs.specs.Value.{Selector}
 use Rattle.naga_form.proofs.names.FreeNames.{free_names, freely_named, asks_freely, operates_freely}
 use Rattle.naga_form.proofs.names.FreeNames.{operates_outside}
 use Rattle.naga_form.proofs.names.FreeWords.{free_request, word_is_distinguished}
 use Rattle.naga_form.proofs.types.SameValues.{TypesAreCounted}
 use Rattle.naga_form.proofs.operators.SoundOperators.{constructor_is_sound, atomic_is_sound}
-use Rattle.naga_form.proofs.operators.SoundOperators.{sampling_is_sound}
-use Rattle.naga_form.proofs.operators.SoundOperators.{applied_is_sound}
+use Rattle.naga_form.proofs.operators.SoundOperators.{sampling_is_sound, applied_is_sound}
 use Rattle.naga_form.proofs.operators.TreeWords.{constant_words, initialiser_words, levels_words}
-use Rattle.naga_form.proofs.operators.TreeWords.{offset_words}
-use Rattle.naga_form.proofs.operators.TreeWords.{or_false_words, written_words, zero_words}
+use Rattle.naga_form.proofs.operators.TreeWords.{offset_words, or_false_words, written_words}
+use Rattle.naga_form.proofs.operators.TreeWords.{zero_words}
 
 -- ---- expressions
 -- in a function of a program of shapes, after so many others

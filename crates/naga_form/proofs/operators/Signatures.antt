@@ -1,10 +1,10 @@
 -- What the program of shapes of an accepted module spells: each signature is that of an expression,
 -- in a function, in an entry point or among the module's own, or of the zero value that a named
 -- constant without a tree counts as.
-use Rattle.std.proofs.Common.{[], ◌∷◌, ◌++◌, refl}
-use Rattle.shader_runs.specs.Typing.{IsOneOf, first_of, later_of}
+use Rattle.std.proofs.Common.{[], ◌∷◌, ◌++◌, refl, ◌≡◌, ℕ, false, List, Option, Some, None}
+use Rattle.std.proofs.Common.{slice_get, map}
+use Rattle.shader_runs.specs.Typing.{IsOneOf, first_of, later_of, Signature}
 use Rattle.shader_runs.proofs.Typing.{no_signature}
-use Rattle.std.proofs.Common.{◌≡◌, ℕ, false, List, Option, Some, None, slice_get, map}
 use Rattle.std.specs.List.{flat_map}
 use Rattle.std.specs.Prelude.{take}
 use Rattle.naga_ir.specs.Operands.{expression_operands}
@@ -17,7 +17,6 @@ use Rattle.naga_ir.specs.declared.module.Module.{Module}
 use Rattle.naga_ir.specs.declared.types.VectorSize.{VectorSize}
 use Rattle.naga_info.specs.declared.info.ModuleInfo.{ModuleInfo}
 use Rattle.naga_info.specs.declared.info.TypeResolution.TheVariants.{Handle}
-use Rattle.shader_runs.specs.Typing.{Signature}
 use Rattle.shader_runs.specs.Value.{Word, Spelled, PartWord, IndexWord, Selector, MemberNamed}
 use Rattle.module_meaning.specs.acceptance.AgreeingOperators.{Group}
 use Rattle.module_meaning.specs.ExpressionOperators.{ExpressionContext, applied_operator}

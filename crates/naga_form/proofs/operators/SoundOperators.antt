@@ -19,14 +19,12 @@ use Rattle.naga_info.specs.declared.info.TypeResolution.{TypeResolution}
 use Rattle.naga_info.specs.declared.info.TypeResolution.TheVariants.{Handle, Value}
 use Rattle.module_meaning.specs.Conversions.{converted_scalar}
 use Rattle.module_meaning.specs.ExpressionOperators.{ExpressionContext, applied_operator}
-use Rattle.module_meaning.specs.ExpressionOperators.{constructor, cast}
-use Rattle.module_meaning.specs.ExpressionOperators.{cast_to, matrix_load, load_operator}
-use Rattle.module_meaning.specs.ExpressionOperators.{part_operator}
+use Rattle.module_meaning.specs.ExpressionOperators.{constructor, cast, cast_to, matrix_load}
+use Rattle.module_meaning.specs.ExpressionOperators.{load_operator, part_operator}
 use Rattle.module_meaning.specs.ExpressionOperators.{is_atomic_pointer, sample_operator}
 use Rattle.module_meaning.specs.ExpressionOperators.{pointee_scalar, type_known, has_parts}
 use Rattle.module_meaning.specs.OperatorTable.{Operator, Construct, CooperativeLoad, WithoutForm}
-use Rattle.module_meaning.specs.OperatorTable.{Cast}
-use Rattle.module_meaning.specs.OperatorTable.{ValueOf, MatrixLoad, PartAt, AtomicLoad, Level}
+use Rattle.module_meaning.specs.OperatorTable.{Cast, ValueOf, MatrixLoad, PartAt, AtomicLoad, Level}
 use Rattle.module_meaning.specs.OperatorTable.{Convert, Reinterpret, SpellsAType, TypeIsSound, asks}
 use Rattle.module_meaning.specs.OperatorTable.{is_untyped}
 use Rattle.module_meaning.proofs.OwnOperators.{own_is_untyped}

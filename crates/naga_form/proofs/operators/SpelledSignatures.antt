@@ -2,10 +2,11 @@
 -- or of a zero value in an initialiser.
 -- What is said of trees of constants, and of the initialisers of named ones, is a premise here.
 use Rattle.module_meaning.specs.Names.{TypesAreDistinguished}
-use Rattle.naga_form.proofs.operators.Signatures.{either_signature, only_signature}
+use Rattle.naga_form.proofs.operators.Signatures.{either_signature, only_signature, declared_for}
+use Rattle.naga_form.proofs.operators.Signatures.{IsCalled, by_operator, by_index, by_part}
+use Rattle.naga_form.proofs.operators.Signatures.{by_letters, IsOfExpression, IsOfZero}
 use Rattle.std.proofs.Common.{◌≡◌, ℕ, Bool, true, false, List, [], ◌∷◌, ◌++◌, refl, sym, ap, ◌∙◌}
-use Rattle.std.proofs.Common.{subst}
-use Rattle.std.proofs.Common.{Option, Some, None, ◌⊎◌, inl, slice_get, if◌then◌else◌}
+use Rattle.std.proofs.Common.{subst, Option, Some, None, ◌⊎◌, inl, slice_get, if◌then◌else◌}
 use Rattle.std.specs.Prelude.{IsTrue, ◌||◌, unwrap_or, take}
 use Rattle.std.specs.List.{flat_map}
 use Rattle.std.specs.Option.{option_map, option_map_or, option_and_then, option_to_list, is_some}
@@ -27,12 +28,12 @@ use Rattle.naga_info.specs.declared.info.TypeResolution.TheVariants.{Handle}
 use Rattle.module_meaning.specs.acceptance.Accepted.{is_accepted}
 use Rattle.module_meaning.specs.acceptance.AgreeingOperators.{Group, function_group}
 use Rattle.module_meaning.specs.ExpressionOperators.{applied_operator, constructor, load_operator}
-use Rattle.module_meaning.specs.ExpressionOperators.{type_with}
-use Rattle.module_meaning.specs.ExpressionOperators.{is_composite, has_parts, part_operator}
+use Rattle.module_meaning.specs.ExpressionOperators.{type_with, is_composite, has_parts}
+use Rattle.module_meaning.specs.ExpressionOperators.{part_operator}
 use Rattle.module_meaning.specs.ExpressionShapes.{Declared, constant_tree, tree_over, tree_within}
-use Rattle.module_meaning.specs.ExpressionShapes.{built, trees, applied_or}
-use Rattle.module_meaning.specs.ExpressionShapes.{own_selector, selector, part_selector, part_shape}
-use Rattle.module_meaning.specs.ExpressionShapes.{written_zero, shape_of, letter}
+use Rattle.module_meaning.specs.ExpressionShapes.{built, trees, applied_or, own_selector, selector}
+use Rattle.module_meaning.specs.ExpressionShapes.{part_selector, part_shape, written_zero, shape_of}
+use Rattle.module_meaning.specs.ExpressionShapes.{letter}
 use Rattle.module_meaning.specs.FunctionShapes.{function_shape}
 use Rattle.module_meaning.specs.ModuleShapes.{module_shape}
 use Rattle.module_meaning.specs.OperatorTable.{Operator as TableOperator, BinarySign, WithoutForm}
@@ -40,20 +41,17 @@ use Rattle.module_meaning.specs.OperatorTable.{PartAt, run_word, asks}
 use Rattle.module_meaning.specs.Shapes.{operator_shape}
 use Rattle.module_meaning.specs.TypeIdentity.{component_count}
 use Rattle.shader_runs.specs.Premises.{handle_types}
-use Rattle.shader_runs.specs.Program.{ConstantTree, Fixed, no_constant, Expression}
-use Rattle.shader_runs.specs.Program.{Function, Load, Module, Request, Result, expression_of}
-use Rattle.shader_runs.specs.Program.{handle_type}
+use Rattle.shader_runs.specs.Program.{ConstantTree, Fixed, no_constant, Expression, Function, Load}
+use Rattle.shader_runs.specs.Program.{Module, Request, Result, expression_of, handle_type}
 use Rattle.shader_runs.specs.Typing.{Signature, signatures_of, constant_signatures}
-use Rattle.shader_runs.specs.Typing.{constants_signatures, IsOneOf}
-use Rattle.shader_runs.specs.Typing.{IsSpelled, in_function, in_initialiser}
+use Rattle.shader_runs.specs.Typing.{constants_signatures, IsOneOf, IsSpelled, in_function}
+use Rattle.shader_runs.specs.Typing.{in_initialiser}
 use Rattle.shader_runs.specs.Value.{ValueType, Truth, Word, Spelled, PartWord, IndexWord, Selector}
 use Rattle.shader_runs.specs.Value.{MemberNamed}
 use Rattle.shader_runs.proofs.Typing.{no_signature}
 use Rattle.naga_form.proofs.declarations.AcceptedGroups.{IsSoundGroup}
 use Rattle.naga_form.proofs.ModulePlaces.{function_at, expression_is, handle_type_is}
 use Rattle.naga_form.proofs.ModulePlaces.{handle_types_are}
-use Rattle.naga_form.proofs.operators.Signatures.{declared_for, IsCalled, by_operator, by_index}
-use Rattle.naga_form.proofs.operators.Signatures.{by_part, by_letters, IsOfExpression, IsOfZero}
 
 -- an operator over operands spells one signature, whether or not it is a short circuit
 operator_spells : (p : Module) (f : Function) (k : ValueType) (o : TableOperator) (hs : List ℕ) →

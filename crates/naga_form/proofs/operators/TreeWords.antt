@@ -1,8 +1,7 @@
 -- The words of trees of constants: what holds of the words of values made of a type and of one value
 -- holds of each word of such a tree.
 use Rattle.std.proofs.Common.{◌≡◌, ℕ, zero, suc, Bool, true, false, List, [], ◌∷◌, ◌++◌, length}
-use Rattle.std.proofs.Common.{Option}
-use Rattle.std.proofs.Common.{Some, None, refl, subst}
+use Rattle.std.proofs.Common.{Option, Some, None, refl, subst}
 use Rattle.std.specs.Prelude.{slice_get, unwrap_or, if◌then◌else◌}
 use Rattle.std.specs.Option.{option_to_list, is_some}
 use Rattle.std.proofs.lemmas.Option.{same_Some}
@@ -21,18 +20,15 @@ use Rattle.naga_info.specs.declared.info.TypeResolution.TheVariants.{Handle}
 use Rattle.naga_info.proofs.Options.{then_some, map_some}
 use Rattle.module_meaning.specs.ExpressionOperators.{applied_operator, constructor}
 use Rattle.module_meaning.specs.ExpressionShapes.{Declared, trees, tree_then, trees_of, built}
-use Rattle.module_meaning.specs.ExpressionShapes.{tree_over}
-use Rattle.module_meaning.specs.ExpressionShapes.{computed_over, constant_tree, tree_within}
-use Rattle.module_meaning.specs.ExpressionShapes.{written_zero}
+use Rattle.module_meaning.specs.ExpressionShapes.{tree_over, computed_over, constant_tree}
+use Rattle.module_meaning.specs.ExpressionShapes.{tree_within, written_zero}
 use Rattle.module_meaning.specs.Literals.{literal_value}
 use Rattle.module_meaning.specs.ModuleShapes.{initialiser}
 use Rattle.module_meaning.specs.OperatorTable.{Operator, Splat, asks, run_word}
 use Rattle.module_meaning.specs.ExpressionContexts.{constant_number, constant_over, declared}
-use Rattle.module_meaning.specs.ExpressionContexts.{declared_over}
-use Rattle.module_meaning.specs.ExpressionContexts.{global_tree, global_tree_within}
-use Rattle.module_meaning.specs.ExpressionContexts.{global_types_known}
-use Rattle.module_meaning.specs.ExpressionContexts.{expression_context, written_constant}
-use Rattle.module_meaning.specs.ExpressionContexts.{zero_of_type}
+use Rattle.module_meaning.specs.ExpressionContexts.{declared_over, global_tree, global_tree_within}
+use Rattle.module_meaning.specs.ExpressionContexts.{global_types_known, expression_context}
+use Rattle.module_meaning.specs.ExpressionContexts.{written_constant, zero_of_type}
 use Rattle.shader_runs.specs.Program.{ConstantTree, Fixed, NamedConstant, Constructed}
 use Rattle.shader_runs.specs.Premises.{EachWord, EachWordOf}
 use Rattle.shader_runs.specs.Value.{Truth}

@@ -13,12 +13,10 @@ use Rattle.std.proofs.lemmas.Slice.Eq.{bytes_eq-Decides}
 use Rattle.wgsl_text.specs.Words.{is_word_text, is_letter, all_word_bytes, is_word_byte, stands_in}
 use Rattle.wgsl_text.specs.Words.{IsIdentifier, is_builtin}
 use Rattle.wgsl_text.specs.Types.{TypeSpecifier, Named, Template, TemplateArguments, has_gaps}
-use Rattle.wgsl_text.specs.Types.{template_pieces}
-use Rattle.wgsl_text.specs.Types.{plain_type_words, is_type, TakesNone, rule_among, type_templates}
-use Rattle.wgsl_text.specs.Types.{fits, IsTemplateArgument, IsType}
+use Rattle.wgsl_text.specs.Types.{template_pieces, plain_type_words, is_type, TakesNone, rule_among}
+use Rattle.wgsl_text.specs.Types.{type_templates, fits, IsTemplateArgument, IsType}
 use Rattle.naga_form.proofs.operators.OperatorTable.{mathematical, others, first_with, operator_of}
-use Rattle.naga_form.proofs.operators.OperatorTable.{distinguished}
-use Rattle.naga_form.proofs.operators.OperatorTable.{untyped_share}
+use Rattle.naga_form.proofs.operators.OperatorTable.{distinguished, untyped_share}
 use Rattle.wgsl_text.proofs.Types.{fits_none, type_template, named_text}
 use Rattle.wgsl_text.specs.Reading.{type_layout}
 use Rattle.wgsl_text.specs.Text.{text}
@@ -27,14 +25,12 @@ use Rattle.wgsl_text.specs.Keywords.{builtin_words}
 use Rattle.wgsl_text.proofs.Words.{passes}
 use Rattle.module_meaning.specs.OperatorTable.{Operator, CooperativeLoad, Construct, Convert}
 use Rattle.module_meaning.specs.OperatorTable.{Reinterpret, with_type, run_word, one_word}
-use Rattle.module_meaning.specs.OperatorTable.{is_untyped, SpellsAType, TypeIsSound}
-use Rattle.module_meaning.specs.OperatorTable.{Unsupported, Cast, PartAt, ValueOf, MatrixLoad}
-use Rattle.module_meaning.specs.OperatorTable.{WithoutForm, unsupported_code, unsupported_word}
-use Rattle.module_meaning.specs.OperatorTable.{one_unsupported}
+use Rattle.module_meaning.specs.OperatorTable.{is_untyped, SpellsAType, TypeIsSound, Unsupported}
+use Rattle.module_meaning.specs.OperatorTable.{Cast, PartAt, ValueOf, MatrixLoad, WithoutForm}
+use Rattle.module_meaning.specs.OperatorTable.{unsupported_code, unsupported_word, one_unsupported}
 use Rattle.module_meaning.proofs.TypeIdentity.{kind_of, kind_distinguished, cooperative_of}
-use Rattle.module_meaning.proofs.TypeIdentity.{cooperative_distinguished}
-use Rattle.module_meaning.proofs.TypeIdentity.{role_of, role_distinguished, truth_of}
-use Rattle.module_meaning.proofs.TypeIdentity.{truth_distinguished}
+use Rattle.module_meaning.proofs.TypeIdentity.{cooperative_distinguished, role_of}
+use Rattle.module_meaning.proofs.TypeIdentity.{role_distinguished, truth_of, truth_distinguished}
 
 -- ---- the head of a word
 word_byte_goes_on : (b : ℕ) → is_word_byte b ≡ true → (nat_eq b 60 || nat_eq b 32) ≡ false

@@ -2,13 +2,14 @@
 -- is the form of its shape.
 use Rattle.std.proofs.Common.{◌≡◌, ℕ, suc, Bool, true, false, List, [], ◌∷◌, ◌++◌, length, refl}
 use Rattle.std.proofs.Common.{sym, ap, ◌∙◌, arith, zero, ◌+◌, pos, negsuc, map, Option, Some, None}
-use Rattle.std.proofs.Common.{add-one, add-zero, zero-add}
-use Rattle.std.specs.Prelude.{codes, slice_get, unwrap_or}
-use Rattle.std.specs.Option.{option_map, is_some}
+use Rattle.std.proofs.Common.{add-one, add-zero, zero-add, subst, ◌<◌}
+use Rattle.std.specs.Prelude.{codes, slice_get, unwrap_or, if◌then◌else◌}
+use Rattle.std.specs.Option.{option_map, is_some, option_to_list}
 use Rattle.std.proofs.lemmas.Option.{slice_get_within}
 use Rattle.naga_names.proofs.Refusal.{element}
-use Rattle.naga_info.specs.declared.info.TypeResolution.TheVariants.{Handle}
-use Rattle.naga_form.proofs.operators.Operators.{spelled_as_trees, SpellsTypes}
+use Rattle.naga_info.specs.declared.info.TypeResolution.TheVariants.{Handle, Value}
+use Rattle.naga_form.proofs.operators.Operators.{spelled_as_trees, SpellsTypes, operands_read}
+use Rattle.naga_form.proofs.operators.Operators.{word_called}
 use Rattle.module_meaning.proofs.ExpressionForms.{spelled_of_spellable, has_form_parts}
 use Rattle.module_meaning.specs.Sampling.{offset_has_form}
 use Rattle.module_meaning.specs.WrittenOut.{is_written_out}
@@ -16,17 +17,19 @@ use Rattle.naga_form.proofs.operators.ConstantForms.{IsReadAs, constants_read, n
 use Rattle.naga_form.proofs.operators.ConstantForms.{read_out}
 use Rattle.naga_form.specs.ConstantForms.{written_constant_form}
 use Rattle.naga_form.proofs.operators.Images.{offset_alone}
-use Rattle.naga_form.specs.Expressions.{value_forms}
-use Rattle.naga_ir.specs.Operands.{level_operands}
+use Rattle.naga_form.specs.Expressions.{value_forms, is_pointer, PlainForm, as_value, own_if}
+use Rattle.naga_form.specs.Expressions.{availability_plain, plain_below, plain_form, value_form}
+use Rattle.naga_form.specs.Expressions.{Source, function_source, unnamed_form}
+use Rattle.naga_ir.specs.Operands.{level_operands, expression_operands}
 use Rattle.shader_runs.specs.Text as trees_of_text
-use Rattle.shader_runs.specs.Text.{Apply}
-use Rattle.std.proofs.Common.{subst, ◌<◌}
+use Rattle.shader_runs.specs.Text.{Apply, before, Let, Assign, Braces, IfElse, SwitchOn, LoopOf}
+use Rattle.shader_runs.specs.Text.{group, Perform, JumpLine}
 use Rattle.std.proofs.lemmas.List.{map-append}
 use Rattle.naga_ir.specs.declared.statement.SwitchValue.{SwitchValue}
 use Rattle.naga_ir.specs.declared.statement.SwitchValue.TheVariants as switch_value
-use Rattle.naga_ir.specs.StatementTree.{SimpleStatement, StatementTree, simple}
-use Rattle.naga_ir.specs.StatementTree.{block, branch, switch, loop, BlockTree, no_statements}
-use Rattle.naga_ir.specs.StatementTree.{statement, CaseTrees, no_cases, case}
+use Rattle.naga_ir.specs.StatementTree.{SimpleStatement, StatementTree, simple, block, branch}
+use Rattle.naga_ir.specs.StatementTree.{switch, loop, BlockTree, no_statements, statement}
+use Rattle.naga_ir.specs.StatementTree.{CaseTrees, no_cases, case}
 use Rattle.naga_ir.specs.declared.expression.Expression as ir
 use Rattle.naga_ir.specs.declared.module.Function as ir_function
 use Rattle.naga_ir.specs.declared.module.FunctionArgument.{FunctionArgument}
@@ -34,20 +37,14 @@ use Rattle.naga_ir.specs.declared.module.LocalVariable.{LocalVariable}
 use Rattle.naga_ir.specs.declared.module.Module.{Module}
 use Rattle.naga_ir.specs.declared.types.AddressSpace.TheVariants as space
 use Rattle.naga_ir.specs.declared.types.TypeInner.TheVariants as inner
-use Rattle.std.specs.Prelude.{if◌then◌else◌}
-use Rattle.naga_form.specs.Expressions.{is_pointer}
-use Rattle.naga_info.specs.declared.info.TypeResolution.TheVariants.{Value}
 use Rattle.naga_info.specs.declared.info.ExpressionInfo.{ExpressionInfo}
 use Rattle.naga_info.specs.declared.info.ModuleInfo.{ModuleInfo}
 use Rattle.std.specs.List.{AllByRecursion, filter}
-use Rattle.std.specs.Option.{option_to_list}
 use Rattle.module_meaning.specs.Written.{block_roots, cases_roots, simple_roots, statement_roots}
-use Rattle.naga_form.proofs.statements.WrittenHandles.{AreClosed, all_front, all_map}
-use Rattle.naga_form.proofs.statements.WrittenHandles.{written_are_closed}
 use Rattle.module_meaning.specs.Written.{IsWrittenIn, OfLocal, WrittenHaveForms}
-use Rattle.naga_form.proofs.statements.WrittenHandles.{all_rest}
-use Rattle.module_meaning.specs.ExpressionForms.{expression_has_form}
-use Rattle.module_meaning.specs.ExpressionForms.{constant_has_form}
+use Rattle.naga_form.proofs.statements.WrittenHandles.{AreClosed, all_front, all_map}
+use Rattle.naga_form.proofs.statements.WrittenHandles.{written_are_closed, all_rest}
+use Rattle.module_meaning.specs.ExpressionForms.{expression_has_form, constant_has_form}
 use Rattle.module_meaning.specs.ExpressionContexts.{types_known, written_constant}
 use Rattle.naga_names.specs.Keys.{NameMap}
 use Rattle.wgsl_text.specs.Reading.{type_layout}
@@ -58,22 +55,14 @@ use Rattle.shader_runs.specs.Program.{binds, from, handle_type, expression_of}
 use Rattle.shader_runs.specs.Scope.{Availability, Bound, Handles, Naming, bound_name, at_start}
 use Rattle.shader_runs.specs.Scope.{named_after, named_by, named_by_all, after_one, after}
 use Rattle.shader_runs.specs.Scope.{after_all}
-use Rattle.shader_runs.specs.Text.{before, Let, Assign, Braces, IfElse}
-use Rattle.shader_runs.specs.Text.{SwitchOn, LoopOf, group, Perform, JumpLine}
 use Rattle.shader_runs.specs.Form.{written_below, names_from, variables_from, form_function, Plain}
 use Rattle.shader_runs.specs.Form.{let_if}
 use Rattle.shader_runs.specs.Form as runs
-use Rattle.naga_form.specs.Expressions.{PlainForm, as_value}
-use Rattle.naga_form.specs.Expressions.{own_if}
-use Rattle.naga_form.specs.Expressions.{availability_plain}
-use Rattle.naga_form.specs.Expressions.{plain_below, plain_form, value_form, Source}
-use Rattle.naga_form.specs.Expressions.{function_source, unnamed_form}
 use Rattle.naga_form.specs.Functions.{locals_form, parameters_form, function_form}
 use Rattle.naga_form.specs.Statements.{let_form, then_if, lets_form, return_line, simple_form}
 use Rattle.naga_form.specs.Statements.{loop_form, case_value_form, case_values_form, line_form}
-use Rattle.naga_form.specs.Statements.{lines_form}
-use Rattle.naga_form.specs.Statements.{cases_form, optional_form, act_line, barrier_lines}
-use Rattle.naga_form.specs.Statements.{shape_form}
+use Rattle.naga_form.specs.Statements.{lines_form, cases_form, optional_form, act_line}
+use Rattle.naga_form.specs.Statements.{barrier_lines, shape_form}
 use Rattle.naga_form.proofs.statements.SimpleShapes.{has_no_blocks, no_blocks, shape_roots}
 use Rattle.naga_form.proofs.statements.SimpleShapes.{roots_are}
 use Rattle.shader_runs.specs.ProgramRun.{barrier_words}
@@ -92,22 +81,17 @@ use Rattle.module_meaning.specs.Shapes.{case_value_shape}
 use Rattle.module_meaning.specs.StatementShapes.{simple_shape}
 use Rattle.wgsl_text.proofs.Types.{named_text}
 use Rattle.naga_form.proofs.ModulePlaces.{expression_is, shapes_length}
-use Rattle.naga_ir.specs.Operands.{expression_operands}
 use Rattle.text_meaning.specs.Abstraction.{expression_read, case_value_read, case_values_read}
-use Rattle.text_meaning.specs.Abstraction.{called_word}
-use Rattle.text_meaning.specs.Abstraction.{arguments_read}
+use Rattle.text_meaning.specs.Abstraction.{called_word, arguments_read, statements_read}
+use Rattle.text_meaning.specs.Abstraction.{optional_read, cases_read, function_read, statement_read}
+use Rattle.text_meaning.specs.Abstraction.{local_pointer_read, variable_read}
 use Rattle.wgsl_text.specs.Expressions.{operands}
-use Rattle.text_meaning.specs.Abstraction.{statements_read, optional_read, cases_read}
-use Rattle.text_meaning.specs.Abstraction.{function_read}
-use Rattle.text_meaning.specs.Abstraction.{statement_read, local_pointer_read, variable_read}
 use Rattle.naga_ir.specs.declared.expression.Expression.TheVariants as expression
-use Rattle.naga_form.proofs.operators.Operators.{operands_read, word_called}
 use Rattle.naga_form.proofs.Fits.{mapped_at, mapped_length}
 use Rattle.wgsl_text.specs.Statements as tree
 use Rattle.wgsl_text.specs.Expressions as tree_expressions
 use Rattle.naga_form.proofs.operators.ReadExpressions.{plain_read, value_is, place_is, is_place}
-use Rattle.naga_form.proofs.operators.ReadExpressions.{places_in}
-use Rattle.naga_form.proofs.operators.ReadExpressions.{ReadsOut, ItemsRead, own_if_reads}
+use Rattle.naga_form.proofs.operators.ReadExpressions.{places_in, ReadsOut, ItemsRead, own_if_reads}
 use Rattle.naga_back.specs.declared.flags.WriterFlags.{WriterFlags}
 use Rattle.naga_back.specs.Flags.{annotates_types}
 

@@ -3,17 +3,20 @@
 use Rattle.naga_ir.specs.Operands.{expression_operands}
 use Rattle.naga_ir.specs.declared.expression.Expression.{Expression}
 use Rattle.module_meaning.specs.acceptance.Ranges.{expression_in_range, names_in_range, all_below}
-use Rattle.module_meaning.proofs.FunctionNumbers.{after_left, in_append, which_function}
-use Rattle.module_meaning.proofs.FunctionNumbers.{IsNumbered}
+use Rattle.module_meaning.specs.acceptance.Ranges.{module_ranges_fit, module_in_range, is_below}
+use Rattle.module_meaning.specs.acceptance.Ranges.{function_in_range, entry_point_in_range}
+use Rattle.module_meaning.specs.acceptance.Ranges.{signature_fits, signature_types_fit, names_fit}
+use Rattle.module_meaning.specs.acceptance.Ranges.{local_in_range, expressions_in_range}
+use Rattle.module_meaning.specs.acceptance.Ranges.{block_in_range}
+use Rattle.module_meaning.proofs.FunctionNumbers.{after_left, in_append, which_function, IsNumbered}
 use Rattle.module_meaning.proofs.FunctionNumbers.{OfEntryPoint, OfFunction}
 use Rattle.module_meaning.proofs.SideBySide.{paired_at, zip_at, zip_parts}
 use Rattle.module_meaning.specs.FunctionNumbers.{IsFunctionOf, all_functions, all_infos}
 use Rattle.module_meaning.specs.FunctionNumbers.{callee_count, entry_functions, function_number}
 use Rattle.naga_back.specs.declared.context.FunctionType.{FunctionType}
 use Rattle.naga_back.specs.declared.context.FunctionType.TheVariants as item
-use Rattle.std.proofs.Common.{◌≡◌, ℕ, ◌≤◌, ◌+◌, Bool, true, List}
-use Rattle.std.proofs.Common.{sym, ap, ◌∙◌, length, Some, slice_get, map, arith}
-use Rattle.std.proofs.Common.{◌⊎◌, inl, inr, eqb-true, ◌==◌, subst}
+use Rattle.std.proofs.Common.{◌≡◌, ℕ, ◌≤◌, ◌+◌, Bool, true, List, sym, ap, ◌∙◌, length, Some}
+use Rattle.std.proofs.Common.{slice_get, map, arith, ◌⊎◌, inl, inr, eqb-true, ◌==◌, subst}
 use Rattle.std.specs.List.{list_all, zip}
 use Rattle.std.specs.Prelude.{IsTrue}
 use Rattle.std.specs.Option.{option_map}
@@ -30,19 +33,11 @@ use Rattle.module_meaning.specs.acceptance.AgreeingOperators.{module_operators_a
 use Rattle.module_meaning.specs.acceptance.AgreeingOperators.{function_group}
 use Rattle.module_meaning.specs.acceptance.InfoSizes.{all_paired, function_size_fits, sizes_fit}
 use Rattle.module_meaning.specs.acceptance.Numbers.{signature_fits_32_bits, workgroup_fits_32_bits}
-use Rattle.module_meaning.specs.acceptance.Ranges.{module_ranges_fit, module_in_range, is_below}
-use Rattle.module_meaning.specs.acceptance.Ranges.{function_in_range, entry_point_in_range}
-use Rattle.module_meaning.specs.acceptance.Ranges.{signature_fits}
-use Rattle.module_meaning.specs.acceptance.Ranges.{signature_types_fit}
-use Rattle.module_meaning.specs.acceptance.Ranges.{names_fit, local_in_range, expressions_in_range}
-use Rattle.module_meaning.specs.acceptance.Ranges.{block_in_range}
 use Rattle.module_meaning.specs.acceptance.Initialisers.{locals_are_sound}
-use Rattle.module_meaning.specs.acceptance.Soundness.{expressions_are_sound}
+use Rattle.module_meaning.specs.acceptance.Soundness.{expressions_are_sound, module_is_sound}
+use Rattle.module_meaning.specs.acceptance.Soundness.{function_is_sound, entry_point_is_sound}
 use Rattle.module_meaning.specs.acceptance.StatementsFit.{body_is_sound}
-use Rattle.module_meaning.specs.acceptance.Soundness.{module_is_sound, function_is_sound}
-use Rattle.module_meaning.specs.acceptance.Soundness.{entry_point_is_sound}
-use Rattle.module_meaning.proofs.Lists.{list_all_at}
-use Rattle.module_meaning.proofs.Lists.{placed_at}
+use Rattle.module_meaning.proofs.Lists.{list_all_at, placed_at}
 use Rattle.naga_names.proofs.Refusal.{element}
 use Rattle.naga_form.proofs.declarations.AcceptedGroups.{IsSoundGroup, functions_are}
 use Rattle.naga_form.proofs.declarations.AcceptedGroups.{entry_points_are}

@@ -3,13 +3,12 @@
 -- Throughout, count says how many they are, f is a function with the number g, of whose expressions es
 -- is known, and named tells the names of the labels that front ends gave.
 use Rattle.std.proofs.Common.{[], ◌≡◌, ℕ, suc, ◌+◌, ◌<◌, ◌≤◌, ◌∙◌, Bool, false, List, ◌∷◌, ◌++◌}
-use Rattle.std.proofs.Common.{zero}
-use Rattle.std.proofs.Common.{Some, add-one, ap, arith, drop, length, map, refl, subst, sym, take}
+use Rattle.std.proofs.Common.{zero, Some, add-one, ap, arith, drop, length, map, refl, subst, sym}
+use Rattle.std.proofs.Common.{take}
 use Rattle.std.specs.Prelude.{IfSome, IsTrue, reverse, slice_get, zip}
 use mathlib.Core.List.{reverse_aux}
 use Rattle.std.proofs.lemmas.List.{length-append, length-map, length-reverse, length-take-le}
-use Rattle.std.proofs.lemmas.List.{map-append}
-use Rattle.std.proofs.lemmas.List.{reverse-append, take-append-drop}
+use Rattle.std.proofs.lemmas.List.{map-append, reverse-append, take-append-drop}
 use Rattle.std.proofs.lemmas.Option.{slice_get-map, slice_get_within}
 use Rattle.std.specs.Option.{option_map}
 use Rattle.indexmap.proofs.ReorderLemmas.{map-reverse}
@@ -45,9 +44,8 @@ use Rattle.naga_form.proofs.statements.AcceptedFunctions.{accepted_at, functions
 use Rattle.naga_form.proofs.declarations.AcceptedGroups.{declarations_are, types_are_fit}
 use Rattle.naga_form.proofs.names.DistinguishedItems.{types_are_distinguished}
 use Rattle.naga_form.proofs.statements.FunctionsFit.{IsLeft, Tells, all_distinguished}
-use Rattle.naga_form.proofs.statements.FunctionsFit.{function_fits, one_more}
-use Rattle.naga_form.proofs.statements.FunctionsFit.{regular_at, shape_numbered, stand_after}
-use Rattle.naga_form.proofs.statements.FunctionsFit.{worded_at}
+use Rattle.naga_form.proofs.statements.FunctionsFit.{function_fits, one_more, regular_at}
+use Rattle.naga_form.proofs.statements.FunctionsFit.{shape_numbered, stand_after, worded_at}
 use Rattle.naga_form.proofs.ModuleFits.{constants_typed, counts}
 use Rattle.naga_form.proofs.names.NamedFits.{is_free}
 use Rattle.naga_form.proofs.operators.Ordered.{ordered}

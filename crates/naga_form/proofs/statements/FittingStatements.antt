@@ -1,32 +1,28 @@
 -- What makes a statement one of the grammar, beside its operands: its words may be called, its result is
 -- bound to an identifier, and its cases have values and one default. So it is with the accepted
 -- ones that have a form.
-use Rattle.std.proofs.Common.{◌≡◌, ℕ, ◌<◌, Bool, true, false, not, ◌&&◌, ◌||◌, List, nat_lt}
-use Rattle.std.proofs.Common.{Option, Some, None, refl}
+use Rattle.std.proofs.Common.{◌≡◌, ℕ, ◌<◌, Bool, true, false, not, ◌&&◌, ◌||◌, List, nat_lt, Option}
+use Rattle.std.proofs.Common.{Some, None, refl}
 use Rattle.std.specs.Prelude.{IsTrue}
 use Rattle.std.specs.Option.{option_map_or}
 use Rattle.std.proofs.lemmas.Bool.{and_parts, ltb-true}
 use Rattle.naga_ir.specs.Operands.{simple_result}
-use Rattle.naga_ir.specs.StatementTree.{SimpleStatement, store, call}
-use Rattle.naga_ir.specs.StatementTree.{StatementTree}
-use Rattle.naga_ir.specs.StatementTree.{simple, block, branch, switch, loop, BlockTree}
-use Rattle.naga_ir.specs.StatementTree.{no_statements, statement, has_no_statements, CaseTrees}
-use Rattle.naga_ir.specs.StatementTree.{no_cases, case}
+use Rattle.naga_ir.specs.StatementTree.{SimpleStatement, store, call, StatementTree, simple, block}
+use Rattle.naga_ir.specs.StatementTree.{branch, switch, loop, BlockTree, no_statements, statement}
+use Rattle.naga_ir.specs.StatementTree.{has_no_statements, CaseTrees, no_cases, case}
 use Rattle.naga_ir.specs.declared.module.Function.{Function}
 use Rattle.naga_ir.specs.declared.module.Module.{Module}
 use Rattle.naga_info.specs.declared.info.TypeResolution.{TypeResolution}
 use Rattle.module_meaning.specs.ExpressionOperators.{ExpressionContext, is_atomic_pointer}
 use Rattle.module_meaning.specs.acceptance.Numbers.{case_value_fits_32_bits}
-use Rattle.module_meaning.specs.acceptance.Ranges.{block_in_range, cases_in_range}
-use Rattle.module_meaning.specs.acceptance.Ranges.{is_below, simple_in_range}
-use Rattle.module_meaning.specs.acceptance.Ranges.{statement_in_range}
+use Rattle.module_meaning.specs.acceptance.Ranges.{block_in_range, cases_in_range, is_below}
+use Rattle.module_meaning.specs.acceptance.Ranges.{simple_in_range, statement_in_range}
 use Rattle.module_meaning.specs.StatementForms.{block_has_forms, cases_have_forms, simple_has_form}
 use Rattle.module_meaning.specs.StatementForms.{statement_has_form}
 use Rattle.module_meaning.specs.StatementShapes.{act_operator, asked, simple_shape, store_shape}
 use Rattle.module_meaning.specs.acceptance.StatementsFit.{block_is_sound, body_is_sound}
-use Rattle.module_meaning.specs.acceptance.StatementsFit.{cases_are_sound}
-use Rattle.module_meaning.specs.acceptance.StatementsFit.{is_condition, is_selection}
-use Rattle.module_meaning.specs.acceptance.StatementsFit.{statement_is_sound}
+use Rattle.module_meaning.specs.acceptance.StatementsFit.{cases_are_sound, is_condition}
+use Rattle.module_meaning.specs.acceptance.StatementsFit.{is_selection, statement_is_sound}
 use Rattle.shader_runs.specs.Form.{word_of}
 use Rattle.shader_runs.specs.Program as shapes
 use Rattle.shader_runs.specs.Program.{Act}

@@ -5,8 +5,7 @@
 -- the number g on, ess says what is known of each, i is the place of one among them, and named tells the
 -- names of the labels that front ends gave.
 use Rattle.std.proofs.Common.{[], ◌≡◌, ℕ, zero, suc, ◌+◌, ◌<◌, ◌≤◌, ◌∙◌, Bool, List, ◌∷◌, false}
-use Rattle.std.proofs.Common.{true}
-use Rattle.std.proofs.Common.{Some, ap, arith, length, ltb-false, map, refl, subst, sym}
+use Rattle.std.proofs.Common.{true, Some, ap, arith, length, ltb-false, map, refl, subst, sym}
 use Rattle.std.specs.Prelude.{◌-◌, IfSome, IsTrue, if◌then◌else◌, nat_lt, slice_get}
 use Rattle.naga_ir.specs.declared.module.Function as ir_function
 use Rattle.naga_ir.specs.declared.module.Module.{Module}
@@ -38,7 +37,7 @@ use Rattle.module_meaning.specs.DeclarationForms.{ItemsHaveForms}
 use Rattle.module_meaning.specs.Faithful.{RunsAt}
 use Rattle.module_meaning.specs.FunctionNumbers.{all_functions, all_infos, callee_count}
 use Rattle.module_meaning.specs.FunctionNumbers.{function_type}
-use Rattle.module_meaning.specs.FunctionShapes.{function_shapes}
+use Rattle.module_meaning.specs.FunctionShapes.{function_shapes, function_shape}
 use Rattle.module_meaning.specs.ModuleShapes.{module_shape}
 use Rattle.module_meaning.specs.Names.{AreLabelNames, LabelNames, function_name, module_names}
 use Rattle.module_meaning.specs.Namings.{function_naming, namings_from, outer_names}
@@ -56,13 +55,12 @@ use Rattle.naga_form.proofs.names.DeclaredItems.{constants_resolve, initialisers
 use Rattle.naga_form.proofs.names.DeclaredItems.{items_resolve}
 use Rattle.naga_form.proofs.statements.FirstFunctions.{between, first_namings, first_shapes}
 use Rattle.naga_form.proofs.statements.FirstFunctions.{first_shapes_counted, first_shapes_tell}
-use Rattle.naga_form.proofs.statements.FirstFunctions.{function_fits_at}
-use Rattle.naga_form.proofs.statements.FirstFunctions.{later, one_fits, texts_around}
+use Rattle.naga_form.proofs.statements.FirstFunctions.{function_fits_at, later, one_fits}
+use Rattle.naga_form.proofs.statements.FirstFunctions.{texts_around}
 use Rattle.naga_form.proofs.statements.FunctionsFit.{all_distinguished}
 use Rattle.std.proofs.lemmas.List.{length-reverse}
 use Rattle.std.proofs.lemmas.Option.{slice_get_within, slice_get-map}
 use Rattle.std.specs.Option.{option_map}
-use Rattle.module_meaning.specs.FunctionShapes.{function_shape}
 use Rattle.naga_form.proofs.names.HiddenNames.{function_hides_none}
 use Rattle.naga_form.proofs.names.Resolution.{leaves_are_own}
 use Rattle.naga_form.proofs.declarations.TextItems.{are_forms, items_fit, n, p, reads_items}

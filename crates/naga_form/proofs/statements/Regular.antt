@@ -1,20 +1,18 @@
 -- The statements of every accepted function are regular: what is returned has the function's
 -- result type, calls pass what an earlier callee wants, results go to result handles, and the last
 -- case doesn't fall through. What is said of words and names is asked.
-use Rattle.std.proofs.Common.{◌≡◌, ℕ, ◌<◌, ◌≤◌, Bool, true, false, List, [], ◌∷◌}
-use Rattle.std.proofs.Common.{Option, Some, None, refl, sym, ap, ◌∙◌, subst, slice_get, length, map}
-use Rattle.std.proofs.Common.{arith, nat_lt, eqb-true}
+use Rattle.std.proofs.Common.{◌≡◌, ℕ, ◌<◌, ◌≤◌, Bool, true, false, List, [], ◌∷◌, Option, Some}
+use Rattle.std.proofs.Common.{None, refl, sym, ap, ◌∙◌, subst, slice_get, length, map, arith}
+use Rattle.std.proofs.Common.{nat_lt, eqb-true}
 use Rattle.std.specs.Option.{option_map, option_map_or, option_and_then, is_some}
 use Rattle.std.proofs.lemmas.Bool.{and_parts, ltb-true}
 use Rattle.naga_info.proofs.Options.{map_some}
 use Rattle.naga_ir.specs.Operands.{simple_result}
-use Rattle.naga_ir.specs.StatementTree.{SimpleStatement, return}
-use Rattle.naga_ir.specs.StatementTree.{control_barrier, memory_barrier, store, atomic}
-use Rattle.naga_ir.specs.StatementTree.{work_group_uniform_load, call}
+use Rattle.naga_ir.specs.StatementTree.{SimpleStatement, return, control_barrier, memory_barrier}
+use Rattle.naga_ir.specs.StatementTree.{store, atomic, work_group_uniform_load, call}
 use Rattle.naga_ir.specs.StatementTree.{subgroup_ballot, subgroup_gather}
-use Rattle.naga_ir.specs.StatementTree.{subgroup_collective_operation}
-use Rattle.naga_ir.specs.StatementTree.{StatementTree, simple, block, branch}
-use Rattle.naga_ir.specs.StatementTree.{switch, loop, BlockTree, no_statements, statement}
+use Rattle.naga_ir.specs.StatementTree.{subgroup_collective_operation, StatementTree, simple, block}
+use Rattle.naga_ir.specs.StatementTree.{branch, switch, loop, BlockTree, no_statements, statement}
 use Rattle.naga_ir.specs.StatementTree.{CaseTrees, no_cases, case}
 use Rattle.naga_ir.specs.declared.expression.Expression as ir
 use Rattle.naga_ir.specs.declared.expression.Expression.TheVariants as expression
@@ -35,33 +33,28 @@ use Rattle.module_meaning.specs.acceptance.ExpressionTypes.{is_expected, only, r
 use Rattle.module_meaning.specs.FunctionShapes.{function_shape, statement_shape, statements_shape}
 use Rattle.module_meaning.specs.FunctionShapes.{cases_shape}
 use Rattle.module_meaning.specs.acceptance.Ranges.{simple_in_range, statement_in_range}
-use Rattle.module_meaning.specs.acceptance.Ranges.{block_in_range}
-use Rattle.module_meaning.specs.acceptance.Ranges.{cases_in_range, is_below}
+use Rattle.module_meaning.specs.acceptance.Ranges.{block_in_range, cases_in_range, is_below}
 use Rattle.module_meaning.specs.StatementShapes.{act_operator, asked, simple_shape, store_shape}
 use Rattle.module_meaning.specs.OperatorTable.{Operator}
 use Rattle.module_meaning.specs.acceptance.StatementsFit.{value_has_type, is_returned, are_passed}
-use Rattle.module_meaning.specs.acceptance.StatementsFit.{calls, is_call}
-use Rattle.module_meaning.specs.acceptance.StatementsFit.{is_answered, is_result, is_result_if}
-use Rattle.module_meaning.specs.acceptance.StatementsFit.{is_result_of}
+use Rattle.module_meaning.specs.acceptance.StatementsFit.{calls, is_call, is_answered, is_result}
+use Rattle.module_meaning.specs.acceptance.StatementsFit.{is_result_if, is_result_of}
 use Rattle.module_meaning.specs.acceptance.StatementsFit.{is_atomic_result, is_uniform_load_result}
 use Rattle.module_meaning.specs.acceptance.StatementsFit.{is_ballot_result, is_subgroup_result}
 use Rattle.module_meaning.specs.acceptance.StatementsFit.{simple_is_sound, statement_is_sound}
-use Rattle.module_meaning.specs.acceptance.StatementsFit.{block_is_sound}
-use Rattle.module_meaning.specs.acceptance.StatementsFit.{cases_are_sound, last_falls_through}
-use Rattle.module_meaning.specs.acceptance.StatementsFit.{is_condition, is_selection}
-use Rattle.module_meaning.specs.acceptance.StatementsFit.{body_is_sound}
+use Rattle.module_meaning.specs.acceptance.StatementsFit.{block_is_sound, cases_are_sound}
+use Rattle.module_meaning.specs.acceptance.StatementsFit.{last_falls_through, is_condition}
+use Rattle.module_meaning.specs.acceptance.StatementsFit.{is_selection, body_is_sound}
 use Rattle.module_meaning.specs.TypeParts.{points_to_atomic}
 use Rattle.module_meaning.specs.acceptance.OperandDemands.{operand_is}
 use Rattle.module_meaning.specs.ExpressionContexts.{declared, types_known}
 use Rattle.module_meaning.specs.Types.{type_of_values}
 use Rattle.shader_runs.specs.Premises.{IsRegular, AreRegular, CasesAreRegular, FallsFrom}
-use Rattle.shader_runs.specs.Premises.{ReturnFits}
-use Rattle.shader_runs.specs.Premises.{ResultFits, ActionFits, CallFits, ResultWanted, IsResult}
-use Rattle.shader_runs.specs.Premises.{AsksBy, EachAsks, IsNoName, handle_types}
+use Rattle.shader_runs.specs.Premises.{ReturnFits, ResultFits, ActionFits, CallFits, ResultWanted}
+use Rattle.shader_runs.specs.Premises.{IsResult, AsksBy, EachAsks, IsNoName, handle_types}
 use Rattle.shader_runs.specs.Program as shapes
 use Rattle.shader_runs.specs.Program.{Statement, Block, If, Switch, Loop, Barrier, Act, Asked}
-use Rattle.shader_runs.specs.Program.{Called}
-use Rattle.shader_runs.specs.Program.{Statements, end, then, Cases, no_case, handle_type}
+use Rattle.shader_runs.specs.Program.{Called, Statements, end, then, Cases, no_case, handle_type}
 use Rattle.shader_runs.specs.Program.{function_numbered}
 use Rattle.shader_runs.specs.ProgramRun.{barrier_words}
 use Rattle.shader_runs.specs.Scope.{Naming, Names}

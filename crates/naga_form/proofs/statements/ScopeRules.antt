@@ -25,8 +25,7 @@ use Rattle.module_meaning.specs.Namings.{namings_from, namings_under}
 use Rattle.module_meaning.specs.ModuleShapes.{module_shape}
 use Rattle.naga_form.proofs.statements.AcceptedFunctions.{accepted_at}
 use Rattle.naga_form.proofs.statements.FunctionsFit.{AllAfter, all_from, all_distinguished}
-use Rattle.naga_form.proofs.statements.FunctionsFit.{shape_numbered}
-use Rattle.naga_form.proofs.statements.FunctionsFit.{Tells}
+use Rattle.naga_form.proofs.statements.FunctionsFit.{shape_numbered, Tells}
 use Rattle.naga_form.proofs.operators.Ordered.{ordered}
 
 pub functions_of-map : (ns : List Naming) → functions_of ns ≡ map (λ n. n.function) ns

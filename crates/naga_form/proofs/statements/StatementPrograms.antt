@@ -26,10 +26,9 @@ use Rattle.module_meaning.specs.StatementShapes.{simple_shape, store_shape}
 use Rattle.module_meaning.specs.Written.{block_roots, cases_roots, statement_roots}
 use Rattle.shader_runs.specs.Form.{word_of}
 use Rattle.shader_runs.specs.Program as shapes
-use Rattle.shader_runs.specs.Program.{Act, Barrier, Emit, Return, Store}
-use Rattle.shader_runs.specs.Program.{binds, binds_as, expression_of, from, holds_continue}
-use Rattle.shader_runs.specs.Program.{operands_of}
-use Rattle.shader_runs.specs.Program.{is_pure, Jumps}
+use Rattle.shader_runs.specs.Program.{Act, Barrier, Emit, Return, Store, binds, binds_as}
+use Rattle.shader_runs.specs.Program.{expression_of, from, holds_continue, operands_of, is_pure}
+use Rattle.shader_runs.specs.Program.{Jumps}
 use Rattle.shader_runs.specs.ProgramRun.{barrier_words}
 use Rattle.shader_runs.specs.Scope.{Absent, Availability, Barred, Bound, Everywhere, Handles}
 use Rattle.shader_runs.specs.Scope.{Inline, Naming, after, after_all, after_emit, after_one}
@@ -50,9 +49,8 @@ use Rattle.wgsl_text.proofs.Building.{called_words}
 use Rattle.naga_form.specs.Expressions.{Source, as_value, function_source, plain_form, unnamed_form}
 use Rattle.naga_form.specs.Expressions.{value_form, value_forms}
 use Rattle.naga_form.specs.Statements.{act_line, barrier_lines, cases_form, case_value_form}
-use Rattle.naga_form.specs.Statements.{let_form}
-use Rattle.naga_form.specs.Statements.{lets_form, line_form, lines_form, loop_form, optional_form}
-use Rattle.naga_form.specs.Statements.{return_line, shape_form, then_if}
+use Rattle.naga_form.specs.Statements.{let_form, lets_form, line_form, lines_form, loop_form}
+use Rattle.naga_form.specs.Statements.{optional_form, return_line, shape_form, then_if}
 use Rattle.naga_form.proofs.operators.CalledWords.{AreCalled, barriers_called}
 use Rattle.naga_form.proofs.Fits.{named_by_all_is, named_by_is, named_is, named_one}
 use Rattle.naga_form.proofs.statements.FittingStatements.{AllFit, CasesFit, ResultIs, ShapeFits}
@@ -60,8 +58,7 @@ use Rattle.naga_form.proofs.statements.FittingStatements.{StatementFits}
 use Rattle.naga_form.proofs.ModulePlaces.{expression_is}
 use Rattle.naga_form.proofs.names.NumberedNames.{numbered_is}
 use Rattle.naga_form.proofs.operators.PlainForms.{IsPlainForm, NamesAre, reference_is_one}
-use Rattle.naga_form.proofs.operators.PlainForms.{value_is_one}
-use Rattle.naga_form.proofs.operators.PlainForms.{values_are}
+use Rattle.naga_form.proofs.operators.PlainForms.{value_is_one, values_are}
 use Rattle.naga_form.proofs.statements.SimpleShapes.{roots_are, shape_roots}
 use Rattle.naga_form.proofs.statements.Switches.{labels_are, case_values_more, one_is_written}
 use Rattle.naga_form.proofs.statements.WrittenHandles.{all_front, all_map, all_rest}

@@ -23,9 +23,8 @@ use Rattle.module_meaning.specs.StatementForms.{block_has_forms, cases_have_form
 use Rattle.module_meaning.specs.StatementForms.{statement_has_form}
 use Rattle.module_meaning.specs.StatementShapes.{simple_shape}
 use Rattle.module_meaning.specs.acceptance.StatementsFit.{block_is_sound, cases_are_sound}
-use Rattle.module_meaning.specs.acceptance.StatementsFit.{is_condition}
-use Rattle.module_meaning.specs.acceptance.StatementsFit.{is_selection, last_falls_through}
-use Rattle.module_meaning.specs.acceptance.StatementsFit.{statement_is_sound}
+use Rattle.module_meaning.specs.acceptance.StatementsFit.{is_condition, is_selection}
+use Rattle.module_meaning.specs.acceptance.StatementsFit.{last_falls_through, statement_is_sound}
 use Rattle.module_meaning.specs.Switches.{block_switches, own_case_values, case_switches}
 use Rattle.module_meaning.specs.Switches.{case_value_interface, switches_in}
 use Rattle.shader_runs.specs.Form.{word_of}
@@ -43,9 +42,8 @@ use Rattle.wgsl_text.specs.Types.{Named, TypeSpecifier}
 use Rattle.naga_form.specs.Expressions.{Source, as_value, plain_form, unnamed_form, value_form}
 use Rattle.naga_form.specs.Expressions.{value_forms}
 use Rattle.naga_form.specs.Statements.{act_line, barrier_lines, cases_form, case_value_form}
-use Rattle.naga_form.specs.Statements.{case_values_form}
-use Rattle.naga_form.specs.Statements.{let_form, lets_form, line_form, lines_form, loop_form}
-use Rattle.naga_form.specs.Statements.{optional_form, return_line, shape_form, then_if}
+use Rattle.naga_form.specs.Statements.{case_values_form, let_form, lets_form, line_form, lines_form}
+use Rattle.naga_form.specs.Statements.{loop_form, optional_form, return_line, shape_form, then_if}
 use Rattle.naga_form.proofs.statements.Switches.{last_stays}
 
 -- ---- cases that end

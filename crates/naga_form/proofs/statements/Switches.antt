@@ -15,8 +15,7 @@ use Rattle.naga_ir.specs.declared.types.Type_.{Type_}
 use Rattle.naga_info.specs.declared.info.TypeResolution.{TypeResolution}
 use Rattle.module_meaning.specs.acceptance.Numbers.{case_value_fits_32_bits}
 use Rattle.module_meaning.specs.acceptance.StatementsFit.{has_case_value, is_selection}
-use Rattle.module_meaning.specs.acceptance.StatementsFit.{case_values_are_of}
-use Rattle.module_meaning.specs.acceptance.StatementsFit.{case_values_differ}
+use Rattle.module_meaning.specs.acceptance.StatementsFit.{case_values_are_of, case_values_differ}
 use Rattle.module_meaning.specs.acceptance.StatementsFit.{case_values_fit, last_falls_through}
 use Rattle.module_meaning.specs.acceptance.StatementsFit.{selection_fits, is_selector_type}
 use Rattle.wgsl_text.specs.Functions.{Each}

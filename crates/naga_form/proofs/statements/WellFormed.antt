@@ -1,9 +1,9 @@
 -- The functions of every accepted module are well-formed: conditions are truth values, selectors
 -- integers, loads and stores go through pointers, and jumps lead somewhere.
 use Rattle.naga_form.proofs.ModulePlaces.{shapes_at}
-use Rattle.std.proofs.Common.{◌≡◌, ℕ, zero, suc, Bool, true, false, List, [], ◌∷◌, ◌+◌, ◌||◌}
-use Rattle.std.proofs.Common.{refl, sym, ap, ◌∙◌, Option, Some, None, slice_get, map, subst, arith}
-use Rattle.std.proofs.Common.{codes, if◌then◌else◌, ◌==◌}
+use Rattle.std.proofs.Common.{◌≡◌, ℕ, zero, suc, Bool, true, false, List, [], ◌∷◌, ◌+◌, ◌||◌, refl}
+use Rattle.std.proofs.Common.{sym, ap, ◌∙◌, Option, Some, None, slice_get, map, subst, arith, codes}
+use Rattle.std.proofs.Common.{if◌then◌else◌, ◌==◌}
 use mathlib.Core.List.{reverse_aux}
 use Rattle.std.specs.Prelude.{IsTrue, unwrap_or}
 use Rattle.std.specs.Option.{option_map, option_map_or, is_some}
@@ -11,10 +11,9 @@ use Rattle.std.proofs.lemmas.Bool.{and_parts}
 use Rattle.std.proofs.lemmas.List.{append-nil}
 use Rattle.std.proofs.lemmas.Option.{same_Some, slice_get-map}
 use Rattle.naga_info.proofs.Options.{then_some, map_some}
-use Rattle.naga_ir.specs.StatementTree.{SimpleStatement, break, continue}
-use Rattle.naga_ir.specs.StatementTree.{store, StatementTree, simple, block, branch}
-use Rattle.naga_ir.specs.StatementTree.{switch, loop, BlockTree, no_statements, statement}
-use Rattle.naga_ir.specs.StatementTree.{CaseTrees, no_cases, case}
+use Rattle.naga_ir.specs.StatementTree.{SimpleStatement, break, continue, store, StatementTree}
+use Rattle.naga_ir.specs.StatementTree.{simple, block, branch, switch, loop, BlockTree}
+use Rattle.naga_ir.specs.StatementTree.{no_statements, statement, CaseTrees, no_cases, case}
 use Rattle.naga_ir.specs.declared.expression.Expression as ir
 use Rattle.naga_ir.specs.declared.expression.Expression.TheVariants as expression
 use Rattle.naga_ir.specs.declared.module.Function.{Function}
@@ -36,11 +35,11 @@ use Rattle.wgsl_text.specs.Types.{Named}
 use Rattle.wgsl_text.proofs.Text.{text-append}
 use Rattle.module_meaning.specs.acceptance.Accepted.{is_accepted}
 use Rattle.module_meaning.specs.ExpressionOperators.{ExpressionContext, is_atomic_pointer}
-use Rattle.module_meaning.specs.ExpressionShapes.{Declared, shape_of, applied_shape}
-use Rattle.module_meaning.specs.ExpressionShapes.{part_shape, part_selector, applied_or}
+use Rattle.module_meaning.specs.ExpressionShapes.{Declared, shape_of, applied_shape, part_shape}
+use Rattle.module_meaning.specs.ExpressionShapes.{part_selector, applied_or}
 use Rattle.module_meaning.specs.acceptance.ExpressionTypes.{is_bool, is_bool_of, have_their_types}
-use Rattle.module_meaning.specs.FunctionShapes.{function_shape, statement_shape}
-use Rattle.module_meaning.specs.FunctionShapes.{statements_shape, cases_shape}
+use Rattle.module_meaning.specs.FunctionShapes.{function_shape, statement_shape, statements_shape}
+use Rattle.module_meaning.specs.FunctionShapes.{cases_shape}
 use Rattle.module_meaning.specs.ModuleShapes.{module_shape}
 use Rattle.module_meaning.specs.acceptance.OperandDemands.{operand_is, operands_fit}
 use Rattle.module_meaning.specs.acceptance.OperandDemands.{are_operands_fit}
@@ -49,19 +48,16 @@ use Rattle.module_meaning.specs.Shapes.{operator_shape}
 use Rattle.module_meaning.specs.acceptance.Soundness.{function_is_sound}
 use Rattle.module_meaning.specs.StatementShapes.{simple_shape, store_shape}
 use Rattle.module_meaning.specs.acceptance.StatementsFit.{value_has_type, is_condition}
-use Rattle.module_meaning.specs.acceptance.StatementsFit.{is_selector_type}
-use Rattle.module_meaning.specs.acceptance.StatementsFit.{case_values_fit}
+use Rattle.module_meaning.specs.acceptance.StatementsFit.{is_selector_type, case_values_fit}
 use Rattle.module_meaning.specs.acceptance.StatementsFit.{selection_fits, is_selection, is_stored}
 use Rattle.module_meaning.specs.acceptance.StatementsFit.{simple_is_sound, statement_is_sound}
-use Rattle.module_meaning.specs.acceptance.StatementsFit.{block_is_sound}
-use Rattle.module_meaning.specs.acceptance.StatementsFit.{cases_are_sound, is_signed}
-use Rattle.module_meaning.specs.acceptance.StatementsFit.{is_unsigned}
+use Rattle.module_meaning.specs.acceptance.StatementsFit.{block_is_sound, cases_are_sound}
+use Rattle.module_meaning.specs.acceptance.StatementsFit.{is_signed, is_unsigned}
 use Rattle.module_meaning.specs.ExpressionContexts.{declared, types_known}
-use Rattle.module_meaning.specs.Types.{type_of_values, word_of_values}
-use Rattle.module_meaning.specs.Types.{values_of, scalar_values}
+use Rattle.module_meaning.specs.Types.{type_of_values, word_of_values, values_of, scalar_values}
+use Rattle.module_meaning.specs.Types.{type_names, spelled_resolution}
 use Rattle.module_meaning.specs.TypeIdentity.{identity, word_of_unspelled_type}
 use Rattle.module_meaning.specs.TypeParts.{known_inner, pointee_type, known_pointee}
-use Rattle.module_meaning.specs.Types.{type_names, spelled_resolution}
 use Rattle.module_meaning.proofs.Lists.{list_all_at}
 use Rattle.module_meaning.proofs.Shapes.{operator_any}
 use Rattle.shader_runs.specs.Program as shapes
@@ -69,8 +65,7 @@ use Rattle.shader_runs.specs.Program.{Load, Request, no_constant, expression_of,
 use Rattle.shader_runs.specs.Progress.{IsPointer, IsInteger, IsBoolean, LoadFits, BreakIfFits}
 use Rattle.shader_runs.specs.Progress.{IsWellFormed, AreWellFormed, CasesAreWellFormed}
 use Rattle.shader_runs.specs.Progress.{FunctionIsWellFormed, AllWellFormed}
-use Rattle.shader_runs.specs.Value.{OtherType, type_at, Selector}
-use Rattle.shader_runs.specs.Value.{ShortCircuit}
+use Rattle.shader_runs.specs.Value.{OtherType, type_at, Selector, ShortCircuit}
 use Rattle.naga_form.specs.TypeTrees.{scalar_tree, type_tree, tree_within, found_tree_by}
 use Rattle.naga_form.specs.TypeTrees.{named_tree_by, inner_tree}
 use Rattle.naga_form.proofs.statements.AcceptedFunctions.{soundness_is, functions_known}

@@ -2,16 +2,14 @@
 -- a form or words that no text has stand free too: acceptance takes statements for which WGSL has
 -- no word.
 use Rattle.std.proofs.Common.{◌≡◌, ℕ, ◌<◌, ◌≤◌, Bool, true, false, ◌&&◌, ◌||◌, List, [], Option}
-use Rattle.std.proofs.Common.{Some}
-use Rattle.std.proofs.Common.{None, refl, sym, ◌∙◌, subst, arith, nat_lt, codes, not}
+use Rattle.std.proofs.Common.{Some, None, refl, sym, ◌∙◌, subst, arith, nat_lt, codes, not}
 use Rattle.std.specs.Prelude.{unwrap_or}
 use Rattle.std.specs.Option.{is_some, option_map_or}
 use Rattle.std.proofs.lemmas.Bool.{and_parts, or_right, ltb-true}
 use Rattle.naga_ir.specs.StatementTree.{SimpleStatement, control_barrier, memory_barrier, store}
-use Rattle.naga_ir.specs.StatementTree.{call}
-use Rattle.naga_ir.specs.StatementTree.{StatementTree, simple, block, branch}
-use Rattle.naga_ir.specs.StatementTree.{switch, loop, BlockTree, no_statements, statement}
-use Rattle.naga_ir.specs.StatementTree.{CaseTrees, no_cases, case, has_no_statements}
+use Rattle.naga_ir.specs.StatementTree.{call, StatementTree, simple, block, branch, switch, loop}
+use Rattle.naga_ir.specs.StatementTree.{BlockTree, no_statements, statement, CaseTrees, no_cases}
+use Rattle.naga_ir.specs.StatementTree.{case, has_no_statements}
 use Rattle.wgsl_text.specs.Requests.{is_request}
 use Rattle.module_meaning.specs.acceptance.Numbers.{case_value_fits_32_bits}
 use Rattle.module_meaning.specs.ExpressionOperators.{ExpressionContext, is_atomic_pointer}
@@ -19,16 +17,13 @@ use Rattle.module_meaning.specs.FunctionShapes.{statement_shape, statements_shap
 use Rattle.module_meaning.specs.OperatorTable.{Operator, AtomicStore, Barrier, StorageKept}
 use Rattle.module_meaning.specs.OperatorTable.{WorkgroupKept, SubgroupKept, TextureKept, asks}
 use Rattle.module_meaning.specs.OperatorTable.{has_word, is_untyped, operator_word, own_word}
-use Rattle.module_meaning.specs.OperatorTable.{run_word}
-use Rattle.module_meaning.specs.OperatorTable.{TypeIsSound}
+use Rattle.module_meaning.specs.OperatorTable.{run_word, TypeIsSound}
 use Rattle.module_meaning.specs.acceptance.Ranges.{simple_in_range, statement_in_range}
-use Rattle.module_meaning.specs.acceptance.Ranges.{block_in_range}
-use Rattle.module_meaning.specs.acceptance.Ranges.{cases_in_range, is_below}
+use Rattle.module_meaning.specs.acceptance.Ranges.{block_in_range, cases_in_range, is_below}
 use Rattle.module_meaning.specs.StatementShapes.{act_operator, asked, barrier_bits, simple_shape}
 use Rattle.module_meaning.specs.StatementShapes.{store_shape}
 use Rattle.module_meaning.specs.StatementForms.{simple_has_form, statement_has_form}
-use Rattle.module_meaning.specs.StatementForms.{block_has_forms}
-use Rattle.module_meaning.specs.StatementForms.{cases_have_forms}
+use Rattle.module_meaning.specs.StatementForms.{block_has_forms, cases_have_forms}
 use Rattle.shader_runs.specs.Premises.{AsksBy, EachAsks, IsNoName}
 use Rattle.shader_runs.specs.Program as shapes
 use Rattle.shader_runs.specs.Program.{BarrierBits}

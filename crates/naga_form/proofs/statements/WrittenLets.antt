@@ -4,10 +4,9 @@ use Rattle.std.proofs.Common.{Some, None, refl, sym, ap, ◌∙◌}
 use Rattle.std.specs.Prelude.{IsTrue, slice_get, cond, if◌then◌else◌}
 use Rattle.module_meaning.specs.Undeclared.{names_undeclared}
 use Rattle.std.proofs.lemmas.List.{map-append}
-use Rattle.naga_ir.specs.StatementTree.{StatementTree, simple}
-use Rattle.naga_ir.specs.StatementTree.{block}
-use Rattle.naga_ir.specs.StatementTree.{branch, switch, loop, BlockTree, no_statements, statement}
-use Rattle.naga_ir.specs.StatementTree.{CaseTrees, no_cases, case}
+use Rattle.naga_ir.specs.StatementTree.{StatementTree, simple, block, branch, switch, loop}
+use Rattle.naga_ir.specs.StatementTree.{BlockTree, no_statements, statement, CaseTrees, no_cases}
+use Rattle.naga_ir.specs.StatementTree.{case}
 use Rattle.naga_ir.specs.declared.module.Function as ir_function
 use Rattle.naga_ir.specs.declared.module.Module.{Module}
 use Rattle.naga_info.specs.declared.info.ExpressionInfo.{ExpressionInfo}
@@ -21,8 +20,7 @@ use Rattle.shader_runs.specs.Scope.{Handles, Naming, at_start, bound_name, named
 use Rattle.shader_runs.specs.Scope.{named_by_all, after_one, after, after_all}
 use Rattle.shader_runs.specs.NamedLets.{text_lets, NamedLet, function_named_lets, emit_named_lets}
 use Rattle.shader_runs.specs.NamedLets.{statement_named_lets, statements_named_lets}
-use Rattle.shader_runs.specs.NamedLets.{cases_named_lets}
-use Rattle.shader_runs.specs.NamedLets.{result_named_lets}
+use Rattle.shader_runs.specs.NamedLets.{cases_named_lets, result_named_lets}
 use Rattle.shader_runs.specs.Form.{word_of}
 use Rattle.shader_runs.specs.Program as shapes
 use Rattle.shader_runs.specs.ProgramRun.{barrier_words}
@@ -32,9 +30,8 @@ use Rattle.wgsl_text.specs.Types.{Named, TypeSpecifier}
 use Rattle.naga_form.specs.Expressions.{Source, as_value, function_source, plain_form, value_forms}
 use Rattle.naga_form.specs.Expressions.{unnamed_form}
 use Rattle.naga_form.specs.Statements.{let_form, then_if, lets_form, return_line, shape_form}
-use Rattle.naga_form.specs.Statements.{act_line, barrier_lines, optional_form}
-use Rattle.naga_form.specs.Statements.{loop_form, case_value_form, line_form, lines_form}
-use Rattle.naga_form.specs.Statements.{cases_form}
+use Rattle.naga_form.specs.Statements.{act_line, barrier_lines, optional_form, loop_form}
+use Rattle.naga_form.specs.Statements.{case_value_form, line_form, lines_form, cases_form}
 use Rattle.naga_form.proofs.statements.SimpleShapes.{has_no_blocks, no_blocks}
 use Rattle.naga_form.specs.Functions.{functions_under}
 use Rattle.naga_form.specs.Declarations.{program_under, written_program}
@@ -56,8 +53,7 @@ use Rattle.module_meaning.specs.ModuleShapes.{module_shape}
 use Rattle.module_meaning.specs.Namings.{function_naming, namings_from, namings_under, outer_names}
 use Rattle.module_meaning.specs.StatementShapes.{simple_shape}
 use Rattle.text_meaning.specs.LetTypes.{statement_annotations, statements_annotations}
-use Rattle.text_meaning.specs.LetTypes.{optional_annotations}
-use Rattle.text_meaning.specs.LetTypes.{cases_annotations}
+use Rattle.text_meaning.specs.LetTypes.{optional_annotations, cases_annotations}
 use Rattle.module_meaning.specs.FunctionLets.{BindsAs, BindsUnder, lets_read, module_annotations}
 use Rattle.module_meaning.specs.FunctionLets.{module_lets}
 use Rattle.module_meaning.specs.FunctionNumbers.{all_functions, all_infos}

@@ -1,6 +1,6 @@
 -- Types are alike by their numbers exactly where they are alike by what they are read as.
-use Rattle.std.proofs.Common.{◌≡◌, ℕ, Bool, true, false, List, [], ◌∷◌, refl, sym, ap, ◌∙◌}
-use Rattle.std.proofs.Common.{Option, Some, None, slice_get, if◌then◌else◌}
+use Rattle.std.proofs.Common.{◌≡◌, ℕ, Bool, true, false, List, [], ◌∷◌, refl, sym, ap, ◌∙◌, Option}
+use Rattle.std.proofs.Common.{Some, None, slice_get, if◌then◌else◌}
 use Rattle.std.specs.Prelude.{◌↔◌, unwrap_or}
 use Rattle.std.specs.List.{list_all}
 use Rattle.std.specs.Option.{option_map}
@@ -17,8 +17,7 @@ use Rattle.module_meaning.specs.AlikeTypes.{are_alike, type_key, type_identity, 
 use Rattle.module_meaning.specs.AlikeTypes.{found_key_by, key_within, inner_key_by}
 use Rattle.module_meaning.specs.acceptance.InfoSizes.{type_is_fit, resolution_is_fit}
 use Rattle.module_meaning.specs.acceptance.InfoSizes.{is_handle_pointer}
-use Rattle.module_meaning.specs.TypeIdentity.{level}
-use Rattle.module_meaning.specs.TypeIdentity.{Identity, Nothing, StructAt, Itself, identity}
+use Rattle.module_meaning.specs.TypeIdentity.{level, Identity, Nothing, StructAt, Itself, identity}
 use Rattle.module_meaning.specs.TypeIdentity.{identity_at, identity_code, word_of_unspelled_type}
 use Rattle.module_meaning.proofs.Lists.{list_all_at}
 use Rattle.module_meaning.proofs.TypeIdentity.{word_tells}

@@ -2,8 +2,7 @@
 -- type is a pointer in the space of handles.
 use Rattle.std.proofs.Common.{◌≡◌, ℕ, zero, suc, Bool, true, false, List, [], ◌∷◌, ◌++◌, map, refl}
 use Rattle.std.proofs.Common.{sym, ap, ◌∙◌, codes, Option, Some, None, slice_get, get_or}
-use Rattle.std.proofs.Common.{if◌then◌else◌, ◌==◌, true≢false}
-use Rattle.std.proofs.Common.{eqb-true}
+use Rattle.std.proofs.Common.{if◌then◌else◌, ◌==◌, true≢false, eqb-true, ◌||◌}
 use Rattle.std.proofs.lemmas.Bool.{and_parts, not-true}
 use Rattle.std.proofs.lemmas.Option.{same_Some}
 use Rattle.std.specs.Int.NonZero.{non_zero_u32_get}
@@ -36,8 +35,8 @@ use Rattle.naga_ir.specs.declared.types.VectorSize.TheVariants.{Bi, Tri, Quad}
 use Rattle.naga_info.specs.declared.info.TypeResolution.{TypeResolution}
 use Rattle.naga_info.specs.declared.info.TypeResolution.TheVariants.{Handle, Value}
 use Rattle.wgsl_text.specs.Types.{TypeSpecifier, TemplateArguments, Named, Template}
-use Rattle.wgsl_text.specs.Types.{NoTemplateArguments, TypeArgument}
-use Rattle.wgsl_text.specs.Types.{SizeArgument, of_one, of_two, pointer_tree}
+use Rattle.wgsl_text.specs.Types.{NoTemplateArguments, TypeArgument, SizeArgument, of_one, of_two}
+use Rattle.wgsl_text.specs.Types.{pointer_tree}
 use Rattle.wgsl_words.specs.Words.{scalar_word, scalar_word_of, space_word, space_access_word}
 use Rattle.wgsl_words.specs.Words.{image_access_word, format_word, role_word, has, atomic_bit}
 use Rattle.wgsl_words.specs.Words.{store_bit, load_bit}
@@ -46,21 +45,19 @@ use Rattle.naga_words.specs.Words.{sampler_word}
 use Rattle.naga_words.specs.Spelling.{is_struct}
 use Rattle.module_meaning.specs.acceptance.InfoSizes.{is_handle_pointer, is_handle_space}
 use Rattle.module_meaning.specs.acceptance.InfoSizes.{resolution_is_fit}
-use Rattle.module_meaning.specs.TypeIdentity.{level}
-use Rattle.module_meaning.specs.TypeIdentity.{kind_number, component_count, cooperative_number}
-use Rattle.module_meaning.specs.TypeIdentity.{role_number, dimension_number, truth_number}
+use Rattle.module_meaning.specs.TypeIdentity.{level, kind_number, component_count}
+use Rattle.module_meaning.specs.TypeIdentity.{cooperative_number, role_number, dimension_number}
+use Rattle.module_meaning.specs.TypeIdentity.{truth_number}
 use Rattle.module_meaning.proofs.TypeIdentity.{formats}
-use Rattle.module_meaning.specs.AlikeTypes.{value_key, scalar_key, pointer_key}
-use Rattle.module_meaning.specs.AlikeTypes.{value_pointer_key, array_key, image_key}
-use Rattle.module_meaning.specs.AlikeTypes.{inner_key_by, found_key_by, key_within, handle_key}
-use Rattle.module_meaning.specs.AlikeTypes.{type_key}
+use Rattle.module_meaning.specs.AlikeTypes.{value_key, scalar_key, pointer_key, value_pointer_key}
+use Rattle.module_meaning.specs.AlikeTypes.{array_key, image_key, inner_key_by, found_key_by}
+use Rattle.module_meaning.specs.AlikeTypes.{key_within, handle_key, type_key}
 use Rattle.naga_form.specs.TypeTrees.{scalar_tree, value_tree, pointer_tree_in, array_tree}
 use Rattle.naga_form.specs.TypeTrees.{value_pointer_tree_in, image_tree, ray_tree, inner_tree_by}
 use Rattle.naga_form.specs.TypeTrees.{found_tree_by, tree_within, type_tree, resolution_tree}
 use Rattle.naga_form.specs.Readable.{handle_names}
 use Rattle.naga_words.specs.Contexts.{Names}
 use Rattle.std.specs.List.{list_all}
-use Rattle.std.proofs.Common.{◌||◌}
 use Rattle.std.proofs.lemmas.Slice.Eq.{bytes_eq-Decides}
 use Rattle.wgsl_text.specs.Words.{IsIdentifier, is_builtin, is_reserved}
 

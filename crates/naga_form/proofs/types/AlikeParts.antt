@@ -9,7 +9,7 @@
 --
 -- Throughout, a and b are types that are told by the same numbers, and ia and ib are the types by
 -- themselves, at and to are spaces, and index names a part.
-use Rattle.std.proofs.Common.{◌≡◌, ◌<◌, ◌≤◌, ◌+◌, ℕ, zero, suc, Bool, true, false, List, [], ◌∷◌}
+use Rattle.std.proofs.Common.{◌≡◌, ◌<◌, ◌≤◌, ◌+◌, ℕ, zero, suc, Bool, true, false, List, ◌∷◌}
 use Rattle.std.proofs.Common.{◌++◌, drop, refl, sym, ap, ◌∙◌, subst}
 use Rattle.std.proofs.Common.{Option, Some, None, slice_get, get_or, if◌then◌else◌, nat_eq, arith}
 use Rattle.std.specs.Prelude.{IsTrue, not, unwrap_or}
@@ -34,7 +34,7 @@ use Rattle.naga_info.specs.declared.info.TypeResolution.{TypeResolution}
 use Rattle.naga_info.specs.declared.info.TypeResolution.TheVariants.{Handle, Value}
 use Rattle.wgsl_words.specs.Words.{scalar_word, space_word}
 use Rattle.naga_ir.specs.declared.types.ScalarKind.TheVariants as kind
-use Rattle.module_meaning.specs.AlikeTypes.{are_alike, type_key, type_identity, handle_key}
+use Rattle.module_meaning.specs.AlikeTypes.{type_key, type_identity, handle_key}
 use Rattle.module_meaning.specs.AlikeTypes.{key_within, found_key_by, named_key_by, inner_key_by}
 use Rattle.module_meaning.specs.AlikeTypes.{over_scalar, value_key, pointer_key, value_pointer_key}
 use Rattle.module_meaning.specs.AlikeTypes.{array_key, image_key, access_number}
@@ -509,10 +509,6 @@ module _ (m : Module) (are : TypesAreCounted m) (stand : PartsStand m) where
           ∙ (word_tells m.types a b e ∙ distinguished_by_itself m.types b (fit_of b q) bt) in
           Itselves (sym (itself_back (inner_of a m.types)) ∙ (ap itself same ∙ itself_back (inner_of b m.types)))
 
-  parts_of_one : (o : Option TypeResolution) → FitPart o → PartsAlike o o
-  parts_of_one None fit = tt
-  parts_of_one (Some r) fit = (refl, fit, fit)
-
   parts_of_form : (z : Option (List ℕ)) (o u : Option TypeResolution) → PartIs z o → PartIs z u → FitPart o →
       FitPart u → PartsAlike o u
   parts_of_form None None None f g p q = tt
@@ -622,19 +618,3 @@ module _ (m : Module) (are : TypesAreCounted m) (stand : PartsStand m) where
 -- ---- why no struct
 abbrev storage : (bits : ℕ) → AddressSpace
 storage bits = space.Storage (record { 0 = bits })
-
--- a truth value of four bytes, for which WGSL has no word, and a struct
-abbrev with_struct : (t : Type_) → List Type_
-with_struct t = record { name = None; inner = inner.Scalar (record { kind = kind.Bool; width = 4 }) } ∷ t ∷ []
-
--- pointers to the struct, into storage that is read and storage of which nothing is said, are alike
-structs_alike : (t : Type_) → is_struct t.inner ≡ true →
-    are_alike (with_struct t) (Value (inner.Pointer 1 (storage 0))) (Value (inner.Pointer 1 (storage 1))) ≡ true
-unfolding handle_key
-structs_alike t e = rw e refl
-
--- and those to its member, which has no form, are not
-members_apart : (t : Type_) → are_alike (with_struct t) (Value (inner.Pointer 0 (storage 0)))
-    (Value (inner.Pointer 0 (storage 1))) ≡ false
-unfolding handle_key
-members_apart t = refl

@@ -1,8 +1,7 @@
 -- The numbers that tell a type with a form, and the tree that it is read as, tell the same: each can
 -- be read off the other. So types are alike by their numbers that are alike by their trees.
-use Rattle.std.proofs.Common.{◌≡◌, ℕ, zero, suc, Bool, true, false, List, [], ◌∷◌, refl}
-use Rattle.std.proofs.Common.{sym, ap, ◌∙◌, codes, Option, Some, None, slice_get, get_or}
-use Rattle.std.proofs.Common.{if◌then◌else◌}
+use Rattle.std.proofs.Common.{◌≡◌, ℕ, zero, suc, Bool, true, false, List, [], ◌∷◌, refl, sym, ap}
+use Rattle.std.proofs.Common.{◌∙◌, codes, Option, Some, None, slice_get, get_or, if◌then◌else◌}
 use Rattle.std.specs.Prelude.{unwrap_or}
 use Rattle.std.specs.Option.{option_map, is_some}
 use Rattle.naga_ir.specs.declared.image.StorageFormat.{StorageFormat}
@@ -24,30 +23,23 @@ use Rattle.naga_info.specs.declared.info.TypeResolution.TheVariants.{Handle, Val
 use Rattle.wgsl_text.specs.Types.{TypeSpecifier, Named, Template, NoTemplateArguments, TypeArgument}
 use Rattle.wgsl_text.specs.Types.{SizeArgument, of_one, of_two, pointer_tree}
 use Rattle.wgsl_words.specs.Words.{scalar_word, scalar_word_of, space_word, space_access_word}
-use Rattle.wgsl_words.specs.Words.{format_word, role_word, has, atomic_bit}
-use Rattle.wgsl_words.specs.Words.{store_bit, load_bit}
+use Rattle.wgsl_words.specs.Words.{format_word, role_word, has, atomic_bit, store_bit, load_bit}
 use Rattle.naga_words.specs.Words.{vector_word, matrix_word, cooperative_word, image_word}
 use Rattle.naga_words.specs.Words.{sampler_word}
 use Rattle.naga_words.specs.Spelling.{is_struct}
-use Rattle.module_meaning.specs.TypeIdentity.{level}
-use Rattle.module_meaning.specs.TypeIdentity.{kind_number}
-use Rattle.module_meaning.specs.TypeIdentity.{space_number}
+use Rattle.module_meaning.specs.TypeIdentity.{level, kind_number, space_number}
 use Rattle.module_meaning.proofs.TypeIdentity.{truth_of, truth_distinguished, kind_of}
-use Rattle.module_meaning.proofs.TypeIdentity.{kind_distinguished, vector_of}
-use Rattle.module_meaning.proofs.TypeIdentity.{vector_distinguished, cooperative_of}
-use Rattle.module_meaning.proofs.TypeIdentity.{cooperative_distinguished}
-use Rattle.module_meaning.proofs.TypeIdentity.{role_of, role_distinguished, dimension_of}
-use Rattle.module_meaning.proofs.TypeIdentity.{dimension_distinguished}
-use Rattle.module_meaning.proofs.TypeIdentity.{formats, format_distinguished}
-use Rattle.module_meaning.specs.AlikeTypes.{over_scalar, value_key, access_number}
-use Rattle.module_meaning.specs.AlikeTypes.{pointer_key, value_pointer_key, array_key, image_key}
-use Rattle.module_meaning.specs.AlikeTypes.{inner_key_by}
-use Rattle.module_meaning.specs.AlikeTypes.{found_key_by, key_within, handle_key}
-use Rattle.module_meaning.specs.AlikeTypes.{type_key}
+use Rattle.module_meaning.proofs.TypeIdentity.{kind_distinguished, vector_of, vector_distinguished}
+use Rattle.module_meaning.proofs.TypeIdentity.{cooperative_of, cooperative_distinguished, role_of}
+use Rattle.module_meaning.proofs.TypeIdentity.{role_distinguished, dimension_of}
+use Rattle.module_meaning.proofs.TypeIdentity.{dimension_distinguished, formats}
+use Rattle.module_meaning.proofs.TypeIdentity.{format_distinguished}
+use Rattle.module_meaning.specs.AlikeTypes.{over_scalar, value_key, access_number, pointer_key}
+use Rattle.module_meaning.specs.AlikeTypes.{value_pointer_key, array_key, image_key, inner_key_by}
+use Rattle.module_meaning.specs.AlikeTypes.{found_key_by, key_within, handle_key, type_key}
 use Rattle.naga_form.specs.TypeTrees.{value_tree, pointer_tree_in, array_tree}
 use Rattle.naga_form.specs.TypeTrees.{value_pointer_tree_in, image_tree, ray_tree, inner_tree_by}
-use Rattle.naga_form.specs.TypeTrees.{found_tree_by, tree_within, type_tree}
-use Rattle.naga_form.specs.TypeTrees.{resolution_tree}
+use Rattle.naga_form.specs.TypeTrees.{found_tree_by, tree_within, type_tree, resolution_tree}
 use Rattle.naga_words.specs.Contexts.{Names}
 
 -- ---- from numbers to trees

@@ -25,10 +25,9 @@ use Rattle.naga_ir.specs.declared.types.TypeInner.{TypeInner}
 use Rattle.naga_ir.specs.declared.types.TypeInner.TheVariants as inner
 use Rattle.naga_layout.proofs.Levels.{layout_is}
 use Rattle.naga_layout.specs.Types.{StandInOrder, component_number, has_atomic_size, has_size}
-use Rattle.naga_layout.specs.Types.{is_number}
-use Rattle.naga_layout.specs.Types.{is_wide, kept_members, kept_struct, layout_at, layout_within}
-use Rattle.naga_layout.specs.Types.{named_layout_by, parts_before, placed_member, placed_members}
-use Rattle.naga_layout.specs.Types.{told_length}
+use Rattle.naga_layout.specs.Types.{is_number, is_wide, kept_members, kept_struct, layout_at}
+use Rattle.naga_layout.specs.Types.{layout_within, named_layout_by, parts_before, placed_member}
+use Rattle.naga_layout.specs.Types.{placed_members, told_length}
 use Rattle.naga_names.specs.Keys.{NameMap}
 use Rattle.naga_names.specs.Reset.{members_of}
 use Rattle.naga_words.specs.Contexts.{Names as TypeNames}

@@ -1,7 +1,7 @@
 -- The types of an accepted module: their parts stand before them, and they name structs and overrides
 -- by the module's names.
-use Rattle.std.proofs.Common.{◌≡◌, ℕ, ◌≤◌, ◌+◌, true, length, Option}
-use Rattle.std.proofs.Common.{Some, None, refl, sym, ap, subst, ◌∙◌, slice_get, arith}
+use Rattle.std.proofs.Common.{◌≡◌, ℕ, ◌≤◌, ◌+◌, true, length, Option, Some, None, refl, sym, ap}
+use Rattle.std.proofs.Common.{subst, ◌∙◌, slice_get, arith}
 use Rattle.std.specs.Prelude.{IsTrue}
 use Rattle.std.specs.Option.{option_map}
 use Rattle.std.proofs.lemmas.Bool.{and_parts, ltb-true}
@@ -22,9 +22,8 @@ use Rattle.module_meaning.proofs.Lists.{placed_at}
 use Rattle.module_meaning.specs.acceptance.Accepted.{is_accepted}
 use Rattle.module_meaning.specs.acceptance.InfoSizes.{resolution_is_fit}
 use Rattle.module_meaning.specs.Names.{HasNamesOf, module_names}
-use Rattle.module_meaning.specs.acceptance.Ranges.{parts_before}
-use Rattle.module_meaning.specs.acceptance.Ranges.{numbers_in_range, parts_stand_before}
-use Rattle.module_meaning.specs.acceptance.Ranges.{resolution_fits}
+use Rattle.module_meaning.specs.acceptance.Ranges.{parts_before, numbers_in_range}
+use Rattle.module_meaning.specs.acceptance.Ranges.{parts_stand_before, resolution_fits}
 use Rattle.naga_form.proofs.declarations.AcceptedGroups.{types_are_fit, types_range}
 use Rattle.naga_form.proofs.types.SameValues.{or_nothing}
 use Rattle.naga_form.proofs.types.WrittenTypes.{AreNamedAlike}

@@ -5,8 +5,7 @@ use Rattle.naga_form.proofs.operators.AgreeingUses.{value_at, value_is}
 use Rattle.naga_form.proofs.types.LogicalTypes.{logical_fits as values_are_logical}
 use Rattle.module_meaning.specs.Names.{ItemsAreDistinguished}
 use Rattle.std.proofs.Common.{◌≡◌, ℕ, Bool, true, false, List, [], ◌∷◌, refl, sym, ap, ◌∙◌, subst}
-use Rattle.std.proofs.Common.{length}
-use Rattle.std.proofs.Common.{Option, Some, None, slice_get, if◌then◌else◌}
+use Rattle.std.proofs.Common.{length, Option, Some, None, slice_get, if◌then◌else◌}
 use Rattle.std.specs.Prelude.{IsTrue, ℤ, pos}
 use Rattle.std.specs.Option.{option_map, option_map_or, option_and_then}
 use Rattle.std.proofs.lemmas.Bool.{and_parts}
@@ -31,8 +30,8 @@ use Rattle.naga_info.specs.declared.info.TypeResolution.TheVariants.{Handle, Val
 use Rattle.shader_runs.specs.Program.{Expression, Function, Load, Request, Result, no_constant}
 use Rattle.shader_runs.specs.Program.{expression_of, handle_type}
 use Rattle.shader_runs.specs.Typing.{AccessFits, AccessIndexFits, IsPart, LogicalFits, PartsFit}
-use Rattle.shader_runs.specs.Value.{Bytes, Selector, step_at, step_to, PartTypes}
-use Rattle.shader_runs.specs.Value.{ValueType, IntegerType, PointerType}
+use Rattle.shader_runs.specs.Value.{Bytes, Selector, step_at, step_to, PartTypes, ValueType}
+use Rattle.shader_runs.specs.Value.{IntegerType, PointerType}
 use Rattle.module_meaning.specs.acceptance.Accepted.{is_accepted}
 use Rattle.module_meaning.specs.acceptance.AgreeingOperators.{Group, function_group}
 use Rattle.module_meaning.specs.AlikeTypes.{type_identity}
@@ -41,8 +40,8 @@ use Rattle.module_meaning.specs.ExpressionOperators.{is_atomic_pointer, matrix_l
 use Rattle.module_meaning.specs.ExpressionShapes.{part_selector, selector, part_shape, shape_of}
 use Rattle.module_meaning.specs.ExpressionShapes.{applied_or}
 use Rattle.module_meaning.specs.acceptance.ExpressionTypes.{logical_type, binary_type}
-use Rattle.module_meaning.specs.acceptance.ExpressionTypes.{expected_type}
-use Rattle.module_meaning.specs.acceptance.ExpressionTypes.{LikeThis, is_expected, if_any, only}
+use Rattle.module_meaning.specs.acceptance.ExpressionTypes.{expected_type, LikeThis, is_expected}
+use Rattle.module_meaning.specs.acceptance.ExpressionTypes.{if_any, only}
 use Rattle.module_meaning.specs.FunctionShapes.{function_shape}
 use Rattle.module_meaning.specs.acceptance.OperandDemands.{operand_is, is_integer, is_integer_kind}
 use Rattle.module_meaning.specs.OperatorTable.{Operator as TableOperator, BinarySign, WithoutForm}
@@ -51,10 +50,10 @@ use Rattle.module_meaning.specs.OperatorTable.{AtomicLoad, asks, run_word}
 use Rattle.module_meaning.specs.Shapes.{operator_shape}
 use Rattle.module_meaning.specs.ExpressionContexts.{declared, expression_context, types_known}
 use Rattle.module_meaning.specs.Types.{scalar_values, type_of_values, word_of_values}
+use Rattle.module_meaning.specs.Types.{called_spelling}
 use Rattle.module_meaning.specs.TypeIdentity.{identity, identity_code, level}
 use Rattle.module_meaning.specs.TypeParts.{known_inner, has_computed_parts, is_part_number}
 use Rattle.module_meaning.specs.TypeParts.{part_type}
-use Rattle.module_meaning.specs.Types.{called_spelling}
 use Rattle.naga_form.proofs.declarations.AcceptedGroups.{IsSoundGroup, types_are_counted}
 use Rattle.naga_form.proofs.declarations.AcceptedGroups.{operands_known, own_known}
 use Rattle.naga_form.proofs.ModulePlaces.{expression_is, handle_type_is}

@@ -5,8 +5,8 @@
 -- The table has the parts of the first pointer that is spelled so. Pointers spelled alike are told by the
 -- same numbers, and so lead to parts of one kind.
 use Rattle.std.proofs.Common.{◌≡◌, ◌⊎◌, inl, inr, ℕ, zero, suc, ℤ, Bool, true, false, cond, List}
-use Rattle.std.proofs.Common.{[], ◌∷◌, ◌++◌, refl, sym, ap, ◌∙◌, subst, map}
-use Rattle.std.proofs.Common.{Option, Some, None, slice_get, if◌then◌else◌, arith}
+use Rattle.std.proofs.Common.{[], ◌∷◌, ◌++◌, refl, sym, ap, ◌∙◌, subst, map, Option, Some, None}
+use Rattle.std.proofs.Common.{slice_get, if◌then◌else◌, arith}
 use Rattle.std.specs.Prelude.{IsTrue, not, unwrap_or}
 use Rattle.std.specs.List.{enumerate_from, find, flat_map}
 use Rattle.std.specs.Option.{option_map, option_map_or, is_some}
@@ -22,9 +22,8 @@ use Rattle.naga_info.specs.declared.info.ModuleInfo.{ModuleInfo}
 use Rattle.naga_info.specs.declared.info.TypeResolution.{TypeResolution}
 use Rattle.naga_info.specs.declared.info.TypeResolution.TheVariants.{Handle, Value}
 use Rattle.shader_runs.specs.Typing.{IsPart}
-use Rattle.shader_runs.specs.Value.{Bytes, NoParts, Members, At, Field, Selector}
-use Rattle.shader_runs.specs.Value.{PointerType, step_at, step_to, member_pointer, same_bytes}
-use Rattle.shader_runs.specs.Value.{same_type}
+use Rattle.shader_runs.specs.Value.{Bytes, NoParts, Members, At, Field, Selector, PointerType}
+use Rattle.shader_runs.specs.Value.{step_at, step_to, member_pointer, same_bytes, same_type}
 use Rattle.shader_runs.proofs.Update.{same_type_true, same_type_self, same_bytes_true}
 use Rattle.shader_runs.proofs.Update.{same_bytes_self}
 use Rattle.module_meaning.specs.acceptance.Accepted.{is_accepted}
@@ -42,7 +41,7 @@ use Rattle.module_meaning.specs.TypeParts.{inner_at, part_type}
 use Rattle.module_meaning.specs.Types.{type_of_values, word_of_values}
 use Rattle.naga_names.specs.Reset.{members_of}
 use Rattle.module_meaning.proofs.FunctionNumbers.{in_left}
-use Rattle.module_meaning.proofs.Lists.{list_all_at}
+use Rattle.module_meaning.proofs.Lists.{list_all_at, in_row}
 use Rattle.naga_form.proofs.declarations.AcceptedGroups.{IsSoundGroup, types_are_counted}
 use Rattle.naga_form.proofs.operators.AgreeingSignatures.{types_stand}
 use Rattle.naga_form.proofs.operators.AgreeingUses.{IsIn, in_flat_map}
@@ -52,7 +51,6 @@ use Rattle.naga_form.proofs.types.AlikeParts.{part_fits, FitPart, PartKind, NoKi
 use Rattle.naga_form.proofs.types.AlikeParts.{ComponentKind, MemberKind, kind_at, pointee_kind}
 use Rattle.naga_form.proofs.types.AlikeParts.{has_members, AlikePlaces, Same, OneKind, OneStruct}
 use Rattle.naga_form.proofs.types.AlikeParts.{alike_places}
-use Rattle.module_meaning.proofs.Lists.{in_row}
 use Rattle.naga_form.proofs.ModulePlaces.{in_image}
 use Rattle.naga_form.proofs.types.PointerParts.{points_as, own_word, part_points, are_elements}
 use Rattle.naga_form.proofs.types.PointerParts.{parts_of_kind, HasElements, has_elements, IsMember}

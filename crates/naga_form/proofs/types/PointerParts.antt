@@ -1,9 +1,8 @@
 -- Parts of what a pointer points to: of which kind they are, the steps that lead to them, and the
 -- types of the pointers to them.
 use Rattle.std.proofs.Common.{◌≡◌, ℕ, zero, suc, ◌<◌, pos, Bool, true, false, cond, refl, sym, ap}
-use Rattle.std.proofs.Common.{◌∙◌, subst, length}
-use Rattle.std.proofs.Common.{Option, Some, None, slice_get, if◌then◌else◌, codes, nat_lt, Vec}
-use Rattle.std.proofs.Common.{Global}
+use Rattle.std.proofs.Common.{◌∙◌, subst, length, Option, Some, None, slice_get, if◌then◌else◌}
+use Rattle.std.proofs.Common.{codes, nat_lt, Vec, Global}
 use Rattle.std.specs.Option.{option_map, option_map_or, option_and_then, is_some}
 use Rattle.std.specs.Str.{bytes_eq}
 use Rattle.std.proofs.lemmas.Bool.{ltb-true}
@@ -22,9 +21,8 @@ use Rattle.naga_names.proofs.Refusal.{element}
 use Rattle.naga_ir.specs.declared.types.ScalarKind.{ScalarKind}
 use Rattle.naga_ir.specs.declared.types.ScalarKind.TheVariants as kind
 use Rattle.shader_runs.specs.Value.{Bytes, Selector, MemberNamed, ElementAt, At, BooleanType}
-use Rattle.shader_runs.specs.Value.{PointerType, OtherType}
-use Rattle.shader_runs.specs.Value.{Parts, NoParts, Elements, Components, step_to}
-use Rattle.shader_runs.specs.Value.{step_to_component, step_to_element, component_number}
+use Rattle.shader_runs.specs.Value.{PointerType, OtherType, Parts, NoParts, Elements, Components}
+use Rattle.shader_runs.specs.Value.{step_to, step_to_component, step_to_element, component_number}
 use Rattle.module_meaning.specs.ExpressionShapes.{Declared, own_selector, selector}
 use Rattle.module_meaning.specs.ExpressionShapes.{component_letters}
 use Rattle.module_meaning.specs.ExpressionContexts.{declared}

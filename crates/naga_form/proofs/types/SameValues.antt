@@ -4,17 +4,14 @@
 -- Structs and overrides are to be told by their names, which acceptance does not ask, and lengths to
 -- be numbers of 32 bits.
 use Rattle.std.proofs.Common.{◌≡◌, ℕ, zero, suc, ◌<◌, Bool, true, false, List, [], ◌∷◌, refl, sym}
-use Rattle.std.proofs.Common.{ap, ◌∙◌}
-use Rattle.std.proofs.Common.{Option, Some, None, slice_get, length, arith, if◌then◌else◌, codes}
-use Rattle.std.proofs.Common.{◌^◌}
-use Rattle.std.proofs.Common.{get_or, subst, ◌++◌, nat_eq, nat_lt}
-use Rattle.std.specs.Prelude.{unwrap_or}
+use Rattle.std.proofs.Common.{ap, ◌∙◌, Option, Some, None, slice_get, length, arith, if◌then◌else◌}
+use Rattle.std.proofs.Common.{codes, ◌^◌, get_or, subst, ◌++◌, nat_eq, nat_lt}
+use Rattle.std.specs.Prelude.{unwrap_or, ◌&&◌}
 use Rattle.std.specs.List.{list_all}
 use Rattle.std.specs.Str.{bytes_eq}
 use Rattle.std.specs.Option.{option_map, option_map_or, is_some, is_none}
 use Rattle.std.specs.Int.NonZero.{non_zero_u32_get}
 use Rattle.std.proofs.lemmas.Bool.{ltb-true, true≢false, and_parts, and_from}
-use Rattle.std.specs.Prelude.{◌&&◌}
 use Rattle.std.proofs.lemmas.Slice.Eq.{bytes_eq-Decides}
 use Rattle.std.proofs.lemmas.Option.{slice_get_within}
 use Rattle.wgsl_words.specs.Words.{scalar_word, space_word}
@@ -44,22 +41,20 @@ use Rattle.wgsl_text.specs.Words.{IsIdentifier}
 use Rattle.wgsl_text.proofs.Reading.{type_has_one_reading}
 use Rattle.shader_runs.specs.Value.{ValueType, BooleanType, IntegerType, PointerType, OtherType}
 use Rattle.module_meaning.specs.AlikeTypes.{type_key, type_identity, handle_key, inner_key_by}
-use Rattle.module_meaning.specs.AlikeTypes.{key_within}
-use Rattle.module_meaning.specs.AlikeTypes.{found_key_by, named_key_by, over_scalar, image_key}
-use Rattle.module_meaning.specs.AlikeTypes.{pointer_key, value_key, access_number}
+use Rattle.module_meaning.specs.AlikeTypes.{key_within, found_key_by, named_key_by, over_scalar}
+use Rattle.module_meaning.specs.AlikeTypes.{image_key, pointer_key, value_key, access_number}
 use Rattle.naga_ir.specs.declared.image.ImageClass.{ImageClass}
 use Rattle.naga_ir.specs.declared.image.ImageClass.TheVariants as class
 use Rattle.naga_ir.specs.declared.image.ImageDimension.{ImageDimension}
 use Rattle.module_meaning.specs.acceptance.InfoSizes.{type_is_fit, resolution_is_fit}
 use Rattle.module_meaning.specs.Names.{TypesAreDistinguished, constant_name, global_name}
-use Rattle.module_meaning.specs.Names.{module_names, name_in}
-use Rattle.module_meaning.specs.Names.{wgsl_names}
+use Rattle.module_meaning.specs.Names.{module_names, name_in, wgsl_names}
 use Rattle.module_meaning.specs.Types.{type_of_values, word_of_values, values_of, scalar_values}
+use Rattle.module_meaning.specs.Types.{type_names, spelled_resolution}
 use Rattle.module_meaning.specs.TypeIdentity.{identity, identity_code, word_of_unspelled_type}
 use Rattle.module_meaning.specs.TypeIdentity.{level, kind_number, truth_number, dimension_number}
 use Rattle.module_meaning.specs.TypeIdentity.{component_count, cooperative_number, role_number}
 use Rattle.module_meaning.specs.TypeIdentity.{space_number, length_kind, length_number}
-use Rattle.module_meaning.specs.Types.{type_names, spelled_resolution}
 use Rattle.module_meaning.proofs.TypeIdentity.{word_tells}
 use Rattle.naga_form.specs.Readable.{AreNamed, ResolutionIsWithin, LengthIsWithin, InnerIsWithin}
 use Rattle.naga_form.specs.TypeTrees.{resolution_tree}

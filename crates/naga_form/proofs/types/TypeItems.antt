@@ -3,8 +3,8 @@
 -- Throughout, m is a module, names tell what each name stands for, h and b are handles of types, s is
 -- a scalar, x the tree of what a type is over, and t the tree of the type.
 use Rattle.std.proofs.Common.{◌≡◌, ℕ, zero, suc, ◌<◌, Bool, true, false, List, [], ◌∷◌, ◌++◌}
-use Rattle.std.proofs.Common.{Option, Some, None}
-use Rattle.std.proofs.Common.{map, length, slice_get, refl, sym, ap, ap₂, subst, ◌∙◌, codes}
+use Rattle.std.proofs.Common.{Option, Some, None, map, length, slice_get, refl, sym, ap, ap₂, subst}
+use Rattle.std.proofs.Common.{◌∙◌, codes}
 use Rattle.std.specs.Prelude.{if◌then◌else◌}
 use Rattle.std.specs.Option.{option_map, option_map_or}
 use Rattle.std.proofs.lemmas.Bool.{ltb-true}
@@ -34,10 +34,9 @@ use Rattle.wgsl_text.proofs.Building.{in_front}
 use Rattle.wgsl_text.proofs.ValueWords.{value_words}
 use Rattle.wgsl_text.specs.Tables.{depth_image_words, ray_words, sampler_words, scalar_words}
 use Rattle.wgsl_text.specs.Types.{TypeSpecifier, Named, TemplateArguments, TypeArgument}
-use Rattle.wgsl_text.specs.Types.{NoTemplateArguments, SizeArgument, Template}
-use Rattle.wgsl_text.specs.Types.{TemplateRule, TakesElements, TakesFormat, TakesRole}
-use Rattle.wgsl_text.specs.Types.{of_one, of_two, plain_type_words, pointer_tree, rule_among}
-use Rattle.wgsl_text.specs.Types.{type_templates}
+use Rattle.wgsl_text.specs.Types.{NoTemplateArguments, SizeArgument, Template, TemplateRule}
+use Rattle.wgsl_text.specs.Types.{TakesElements, TakesFormat, TakesRole, of_one, of_two}
+use Rattle.wgsl_text.specs.Types.{plain_type_words, pointer_tree, rule_among, type_templates}
 use Rattle.wgsl_text.specs.Words.{stands_in}
 use Rattle.shader_runs.specs.Resolution.{ConstantTarget}
 use Rattle.text_meaning.specs.Resolution.{Item, StructItem, ValueItem, length_items, part_items}
@@ -50,10 +49,8 @@ use Rattle.module_meaning.specs.Undeclared.{is_undeclared, names_undeclared, nam
 use Rattle.module_meaning.specs.Undeclared.{names_undeclared_within}
 use Rattle.naga_form.proofs.types.TypeTrees.{cooperative_rule, depth_is_plain, storage_rule}
 use Rattle.naga_form.specs.TypeTrees.{array_tree, found_tree_by, image_tree, inner_tree_by}
-use Rattle.naga_form.specs.TypeTrees.{pointer_tree_in}
-use Rattle.naga_form.specs.TypeTrees.{ray_tree, resolution_tree, scalar_tree, tree_within}
-use Rattle.naga_form.specs.TypeTrees.{type_tree}
-use Rattle.naga_form.specs.TypeTrees.{value_pointer_tree_in, value_tree}
+use Rattle.naga_form.specs.TypeTrees.{pointer_tree_in, ray_tree, resolution_tree, scalar_tree}
+use Rattle.naga_form.specs.TypeTrees.{tree_within, type_tree, value_pointer_tree_in, value_tree}
 
 -- a struct that a text declares, and an override, is what its name stands for, and the struct's name
 -- is no type of the language

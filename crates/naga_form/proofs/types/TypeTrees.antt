@@ -33,20 +33,17 @@ use Rattle.wgsl_words.specs.Words.{scalar_word, space_word, space_access_word, i
 use Rattle.wgsl_words.specs.Words.{role_word, format_word, scalar_word_of, has, atomic_bit}
 use Rattle.wgsl_words.specs.Words.{store_bit}
 use Rattle.naga_words.specs.Segments.{Segment, Word, Shown, Missing, IsText, NoSegments, WordThen}
-use Rattle.naga_words.specs.Segments.{lacks}
-use Rattle.naga_words.specs.Segments.{known_text}
+use Rattle.naga_words.specs.Segments.{lacks, known_text}
 use Rattle.naga_words.specs.Words.{vector_word, matrix_word, cooperative_word, image_word}
 use Rattle.naga_words.specs.Words.{role_tail, acceleration_structure_text, ray_query_text}
 use Rattle.naga_words.specs.Words.{sampler_word}
 use Rattle.naga_words.specs.Values.{scalar_segments_of, template_segments, value_segments}
-use Rattle.naga_words.specs.Values.{pointer_in}
-use Rattle.naga_words.specs.Values.{value_pointer_segments, access_segments, storage_image_segments}
-use Rattle.naga_words.specs.Values.{image_segments}
+use Rattle.naga_words.specs.Values.{pointer_in, value_pointer_segments, access_segments}
+use Rattle.naga_words.specs.Values.{storage_image_segments, image_segments}
 use Rattle.naga_words.specs.Spelling.{length_segments, inner_segments, pointer_segments}
-use Rattle.naga_words.specs.Spelling.{array_segments}
-use Rattle.naga_words.specs.Spelling.{is_struct, inner_segments_by, found_segments_by}
-use Rattle.naga_words.specs.Spelling.{segments_within}
-use Rattle.naga_words.specs.Spelling.{resolution_segments, type_segments}
+use Rattle.naga_words.specs.Spelling.{array_segments, is_struct, inner_segments_by}
+use Rattle.naga_words.specs.Spelling.{found_segments_by, segments_within, resolution_segments}
+use Rattle.naga_words.specs.Spelling.{type_segments}
 use Rattle.naga_form.specs.TypeTrees.{type_tree, value_tree, pointer_tree_in, value_pointer_tree_in}
 use Rattle.naga_form.specs.TypeTrees.{array_tree, image_tree, ray_tree, inner_tree, inner_tree_by}
 use Rattle.naga_form.specs.TypeTrees.{found_tree_by, tree_within, scalar_tree, resolution_tree}

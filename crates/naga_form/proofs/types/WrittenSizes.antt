@@ -3,8 +3,7 @@
 -- Throughout, m is a module, h the handle of a type t, it a type by itself, i the number of a member, n the
 -- size that it is given, ss are members of a type and ks the same as the module places them.
 use Rattle.std.proofs.Common.{◌≡◌, ℕ, zero, suc, ◌-◌, ◌<◌, ◌≤◌, ◌^◌, Bool, true, false, List, []}
-use Rattle.std.proofs.Common.{◌∷◌, Option, Some, None}
-use Rattle.std.proofs.Common.{refl, sym, ap, subst, ◌∙◌, arith}
+use Rattle.std.proofs.Common.{◌∷◌, Option, Some, None, refl, sym, ap, subst, ◌∙◌, arith}
 use Rattle.std.specs.Prelude.{⊤, slice_get, if◌then◌else◌, nat_lt, ◌%◌, ◌+◌, ◌==◌, ◌&&◌}
 use Rattle.std.specs.Int.{next_multiple_of}
 use Rattle.std.specs.List.{list_all}

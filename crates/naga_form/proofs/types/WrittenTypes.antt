@@ -1,8 +1,8 @@
 -- The types that have a form: their trees, which are types of the grammar and are spelled as no name
 -- is.
 use Rattle.std.proofs.Common.{[], ◌≡◌, ℕ, zero, suc, ◌<◌, Bool, true, false, List, ◌∷◌, ◌++◌}
-use Rattle.std.proofs.Common.{Option, Some, None, refl, sym, ap, subst, slice_get}
-use Rattle.std.proofs.Common.{codes, true≢false}
+use Rattle.std.proofs.Common.{Option, Some, None, refl, sym, ap, subst, slice_get, codes}
+use Rattle.std.proofs.Common.{true≢false}
 use Rattle.std.specs.Prelude.{if◌then◌else◌, unwrap_or, ◌⊎◌, not}
 use mathlib.Core.Logic.{inl, inr}
 use Rattle.std.specs.List.{AllByRecursion}
@@ -25,7 +25,6 @@ use Rattle.naga_ir.specs.declared.types.Scalar.{Scalar}
 use Rattle.naga_ir.specs.declared.types.Type_.{Type_}
 use Rattle.naga_ir.specs.declared.types.TypeInner.{TypeInner}
 use Rattle.naga_ir.specs.declared.types.TypeInner.TheVariants as inner
-use Rattle.naga_ir.specs.declared.types.VectorSize.{VectorSize}
 use Rattle.naga_names.specs.Keys.{NameMap}
 use Rattle.naga_words.specs.Contexts.{Names, names_of}
 use Rattle.naga_words.specs.Spelling.{is_struct, length_within, size_within}
@@ -41,11 +40,9 @@ use Rattle.wgsl_text.proofs.Words.{all_words, passes}
 use Rattle.wgsl_text.specs.Reading.{type_layout}
 use Rattle.wgsl_text.specs.Tables.{depth_image_words, ray_words, sampler_words, scalar_words}
 use Rattle.wgsl_text.specs.Types.{IsType, Named, TemplateRule, Template, TemplateArguments}
-use Rattle.wgsl_text.specs.Types.{TypeSpecifier, fits}
+use Rattle.wgsl_text.specs.Types.{TypeSpecifier, fits, has_gaps, of_one, of_two, template_pieces}
+use Rattle.wgsl_text.specs.Types.{plain_type_words, pointer_tree, rule_among, type_templates}
 use Rattle.wgsl_text.specs.Text.{text}
-use Rattle.wgsl_text.specs.Types.{has_gaps, of_one, of_two, template_pieces, plain_type_words}
-use Rattle.wgsl_text.specs.Types.{pointer_tree}
-use Rattle.wgsl_text.specs.Types.{rule_among, type_templates}
 use Rattle.wgsl_text.specs.Words.{stands_in}
 use Rattle.wgsl_words.specs.Words.{scalar_word, scalar_word_of, space_word, space_access_word}
 use Rattle.naga_form.proofs.types.AlikeTypes.{form_is_read, form_read}
@@ -55,9 +52,8 @@ use Rattle.naga_form.proofs.types.AlikeLaw.{each_named}
 use Rattle.naga_form.proofs.types.SameValues.{IsFit, TypesAreFit, tree_is}
 use Rattle.naga_form.proofs.types.TypeTrees.{depth_is_plain}
 use Rattle.naga_form.specs.TypeTrees.{array_tree, found_tree_by, image_tree, inner_tree_by}
-use Rattle.naga_form.specs.TypeTrees.{pointer_tree_in, ray_tree, resolution_tree}
-use Rattle.naga_form.specs.TypeTrees.{scalar_tree, tree_within, type_tree, value_pointer_tree_in}
-use Rattle.naga_form.specs.TypeTrees.{value_tree}
+use Rattle.naga_form.specs.TypeTrees.{pointer_tree_in, ray_tree, resolution_tree, scalar_tree}
+use Rattle.naga_form.specs.TypeTrees.{tree_within, type_tree, value_pointer_tree_in, value_tree}
 use Rattle.naga_form.specs.Types.{annotated_type, type_form}
 
 -- ---- trees
@@ -172,11 +168,6 @@ pointer_plain : (space : List ℕ) (access : Option (List ℕ)) (x : TypeSpecifi
     is_plain (pointer_tree space access x) ≡ true
 pointer_plain space None x = refl
 pointer_plain space (Some access) x = refl
-
-value_plain : (v : Option VectorSize) (s : Scalar) (t : TypeSpecifier) →
-    value_tree v s ≡ Some t → is_plain t ≡ true
-value_plain None s t e = scalar_plain s t e
-value_plain (Some v) s t e = mapped_plain (of_one _) (λ x. refl) (scalar_tree s) t e
 
 array_plain : (n : Names) (word : List ℕ) (l : ArraySize) (x : TypeSpecifier) →
     is_plain (array_tree n word l x) ≡ true

@@ -8,7 +8,7 @@ pub returns-then-eq : goal.returns-then-eq
 returns-then-eq c =
     let m = c.args.«module».now in
     let same : string_bytes c.in_ok-expected.expected ≡ string_bytes c.in_ok-positioned_got.positioned_got
-      = search rules in
+    = search rules in
     inr (
       c.in_ok-expected.ensures,
       subst (IsPositioned m c.args.got.now) (sym same) c.in_ok-positioned_got.ensures,

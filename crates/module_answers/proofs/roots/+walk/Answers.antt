@@ -13,7 +13,7 @@ walk_block-loop-statement-preserved t c =
     let split = first_of c.as_slice-statement-items.result.now c.loop-statement.statement-index
     c.statement-item.result c.loop-statement-test.true c.statement-item.is in
     let after = c.give.ensures
-      ∙ ap (λ n. given es n (tree_of c.statement-item.result) values) c.saturating_sub.ensures in
+    ∙ ap (λ n. given es n (tree_of c.statement-item.result) values) c.saturating_sub.ensures in
     record {
       values = sym (block_past es c.args.end c.args.stop c.loop-statement.left _ _ _ _ values _ split
           c.in-Some.ensures after)

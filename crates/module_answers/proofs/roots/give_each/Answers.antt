@@ -12,7 +12,7 @@ loop-statement-preserved c =
     let split = first_of c.args.statements.now c.loop-statement.statement-index c.statement-item.result
     c.loop-statement-test.true c.statement-item.is in
     let after = c.give.ensures
-      ∙ ap (λ n. given es n (tree_of c.statement-item.result) values) c.saturating_sub.ensures in
+    ∙ ap (λ n. given es n (tree_of c.statement-item.result) values) c.saturating_sub.ensures in
     record {
       left = sym (left_step c.loop-statement.left _ _ _ _ split c.left_after-left.ensures)
           ∙ c.loop-statement.invariant.left;

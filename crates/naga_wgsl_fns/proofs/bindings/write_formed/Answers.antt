@@ -1,7 +1,6 @@
 use Rattle.std.proofs.Common.{◌≡◌, ◌∙◌, Some, arith, ap, subst}
 use Rattle.naga_words.proofs.Writing.{content_begun_as, content_whole_as, never_unsupported}
-use Rattle.naga_words.proofs.Writing.{reason_known}
-use Rattle.naga_words.proofs.Writing.{same_sink}
+use Rattle.naga_words.proofs.Writing.{reason_known, same_sink}
 use Rattle.naga_wgsl_fns.specs.Errors.{IsWant}
 use Rattle.naga_wgsl_fns.proofs.FunctionRows.{reason_reported}
 use Rattle.naga_wgsl_fns.proofs.bindings.write_formed.Goals as goal

@@ -6,8 +6,7 @@ use Rattle.naga_scope.specs.Changes.{block_changes}
 use Rattle.naga_scope.specs.Log.{HasRoom}
 use Rattle.module_meaning.specs.FunctionNumbers.{function_number}
 use Rattle.naga_words.proofs.Writing.{content_begun_as, content_whole_as, never_unsupported}
-use Rattle.naga_words.proofs.Writing.{reason_known}
-use Rattle.naga_words.proofs.Writing.{same_sink, writes_as}
+use Rattle.naga_words.proofs.Writing.{reason_known, same_sink, writes_as}
 use Rattle.naga_scope.proofs.Planned.{plan_found}
 use Rattle.naga_wgsl_fns.specs.Errors.{IsWant}
 use Rattle.naga_back.specs.Flags.{annotates_types}

@@ -1,8 +1,7 @@
 use Rattle.std.proofs.Common.{◌∙◌, refl, sym}
 use Rattle.naga_scope.proofs.FilledTables.{items_in_order}
 use Rattle.naga_scope.proofs.WrittenConstants.{globals_in_order}
-use Rattle.naga_wgsl_fns.proofs.SingleExpressions.{global_for_form, global_refused}
-use Rattle.naga_wgsl_fns.proofs.SingleExpressions.{global_writes}
+use Rattle.naga_wgsl_fns.proofs.SingleExpressions.{global_for_form, global_refused, global_writes}
 use Rattle.naga_wgsl_fns.proofs.global_expressions.write_global_expression.Goals as goal
 
 pub of-requires : goal.of-requires

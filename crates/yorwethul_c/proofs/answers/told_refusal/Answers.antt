@@ -9,7 +9,7 @@ pub returns-in-Some : goal.returns-in-Some
 returns-in-Some c =
     let m = c.args.«module».now in
     subst (λ r. SaysThat (TellsAnyRefusal m r)
-      c.args.status c.settled.result.status (string_bytes c.settled.result.text))
+    c.args.status c.settled.result.status (string_bytes c.settled.result.text))
     (sym c.in-Some.is)
     (settled_that string_bytes (TellsRefusalAt root.Member m c.in-Some.refusal) c.refusal_line-text.result c.args.status
     _ _ c.refusal_line-text.ensures c.settled.ensures.text c.settled.ensures.memory)

@@ -1,6 +1,5 @@
 use Rattle.std.proofs.Common.{◌+◌, ◌<◌, ◌^◌, ◌≡◌, ◌∙◌, List, ℕ, arith, length, map, string_bytes}
-use Rattle.std.proofs.Common.{ap}
-use Rattle.std.proofs.Common.{[], subst, sym}
+use Rattle.std.proofs.Common.{ap, [], subst, sym}
 use Rattle.std.proofs.lemmas.List.{length-map}
 use Rattle.std.specs.Borrow.{Bor}
 use Rattle.std.specs.List.{flat_map}

@@ -1,7 +1,6 @@
 use Rattle.std.proofs.Common.{false, get_or, true, ap, subst, sym, ◌∙◌}
 use Rattle.std.specs.Prelude.{IsTrue}
-use Rattle.shader_runs.specs.Program.{expression_of, operands_of}
-use Rattle.shader_runs.specs.Program.{is_pure}
+use Rattle.shader_runs.specs.Program.{expression_of, operands_of, is_pure}
 use Rattle.shader_runs.specs.Scope.{usable_all}
 use Rattle.module_meaning.specs.FunctionShapes.{function_shape}
 use Rattle.naga_scope.specs.Log.{grows}

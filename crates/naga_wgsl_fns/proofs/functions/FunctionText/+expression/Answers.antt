@@ -1,41 +1,33 @@
-use Rattle.std.proofs.Common.{[], ◌<◌, false, ap, arith, ◌∙◌, length, refl, subst, sym, true}
-use Rattle.std.specs.Option.{option_map, option_map_or}
-use Rattle.std.proofs.Common.{Some}
-use Rattle.naga_ir.specs.Operands.{expression_operands}
+use Rattle.std.proofs.Common.{[], ◌<◌, false, ap, arith, ◌∙◌, length, refl, subst, sym, true, Some}
+use Rattle.std.specs.Option.{option_map, option_map_or, option_to_list}
+use Rattle.naga_ir.specs.Operands.{expression_operands, level_operands}
 use Rattle.std.specs.List.{AllByRecursion}
-use Rattle.naga_words.proofs.Writing.{leaves_as, leaves_last, leaves_more, leaves_start}
-use Rattle.naga_words.proofs.Writing.{writes_as, writes_nothing, writes_then}
-use Rattle.module_meaning.specs.Sampling.{offset_has_form, own_offset_has_form}
-use Rattle.module_meaning.specs.Sampling.{sampling_has_form}
-use Rattle.naga_ir.specs.Operands.{level_operands}
+use Rattle.naga_words.proofs.Writing.{leaves_as, leaves_last, leaves_more, leaves_start, writes_as}
+use Rattle.naga_words.proofs.Writing.{writes_nothing, writes_then}
+use Rattle.module_meaning.specs.Sampling.{offset_has_form, own_offset_has_form, sampling_has_form}
 use Rattle.naga_wgsl_fns.proofs.ImageRows.{furthers_none, furthers_one, furthers_two, no_offset}
 use Rattle.naga_wgsl_fns.proofs.ImageRows.{offset_row, sampling_whole}
 use Rattle.naga_wgsl_fns.proofs.Preconditions.{all_in_text, highest_below, sampled_in}
+use Rattle.naga_wgsl_fns.proofs.Preconditions.{global_within, offset_formed, override_within}
+use Rattle.naga_wgsl_fns.proofs.Preconditions.{base_in, known_within_infos, no_other_part}
+use Rattle.naga_wgsl_fns.proofs.Preconditions.{part_has_form, IsOperand, argument_within}
+use Rattle.naga_wgsl_fns.proofs.Preconditions.{local_within, made_value, operands_in, written_as}
 use Rattle.naga_wgsl_fns.proofs.ModuleTexts.{can_in}
 use Rattle.naga_wgsl_fns.proofs.VariableRows.{handle_variable_reference, kept_reference}
-use Rattle.naga_wgsl_fns.proofs.Preconditions.{global_within, offset_formed}
-use Rattle.naga_wgsl_fns.proofs.Preconditions.{override_within}
 use Rattle.naga_wgsl_fns.specs.Names.{name_of_override}
-use Rattle.naga_wgsl_fns.specs.Expressions.{next_operand_text}
+use Rattle.naga_wgsl_fns.specs.Expressions.{next_operand_text, operands_left, operands_text}
 use Rattle.naga_wgsl_fns.specs.FunctionText.{AreInText, expressions}
 use Rattle.module_meaning.specs.ExpressionOperators.{level_of}
 use Rattle.module_meaning.specs.OperatorTable.{zero_is_written}
 use Rattle.naga_wgsl_fns.specs.Images.{furthers_text, offset_text, zero_text}
-use Rattle.std.specs.Option.{option_to_list}
 use Rattle.naga_wgsl_fns.proofs.PartRows.{base_pointed, base_signed, base_unpointed, base_unsigned}
 use Rattle.naga_wgsl_fns.proofs.PartRows.{element_end, plain_row, reference_pointed}
 use Rattle.naga_wgsl_fns.proofs.PartRows.{reference_unpointed, selected_end, value_pointed}
 use Rattle.naga_wgsl_fns.proofs.PartRows.{value_unpointed}
-use Rattle.naga_wgsl_fns.proofs.Preconditions.{base_in, known_within_infos, no_other_part}
-use Rattle.naga_wgsl_fns.proofs.Preconditions.{part_has_form}
-use Rattle.naga_wgsl_fns.specs.Expressions.{operands_left, operands_text}
 use Rattle.naga_wgsl_fns.proofs.ExpressionRows.{operands_more, operands_none, operands_start}
 use Rattle.naga_wgsl_fns.proofs.ExpressionRows.{no_value_row, own_at, own_called, own_made, own_row}
 use Rattle.naga_wgsl_fns.proofs.ConversionRows.{conversion_row, own_conversion}
-use Rattle.naga_wgsl_fns.proofs.Preconditions.{IsOperand, argument_within, local_within}
-use Rattle.naga_wgsl_fns.proofs.Preconditions.{made_value, operands_in}
 use Rattle.naga_wgsl_fns.proofs.LoadRows.{atomic_loaded, matrix_row, other_loaded, own_matrix_load}
-use Rattle.naga_wgsl_fns.proofs.Preconditions.{written_as}
 use Rattle.naga_wgsl_fns.proofs.functions.FunctionText.+expression.Goals as goal
 
 pub write_own-write_literal-requires : goal.write_own-write_literal-requires

@@ -3,9 +3,8 @@ use Rattle.naga_words.specs.Output.{OutputView, output_view}
 use Rattle.naga_words.proofs.Writing.{Leaves}
 use Rattle.std.specs.List.{AllByRecursion}
 use Rattle.std.specs.Option.{option_to_list}
-use Rattle.naga_wgsl_fns.proofs.Preconditions.{highest}
+use Rattle.naga_wgsl_fns.proofs.Preconditions.{highest, IsOperand}
 use Rattle.naga_ir.specs.Operands.{level_operands}
-use Rattle.naga_wgsl_fns.proofs.Preconditions.{IsOperand}
 use Rattle.naga_scope.specs.declared.points.Availability.{Availability}
 use Rattle.naga_wgsl_fns.specs.Expressions.{operands_left, operands_text}
 use Rattle.naga_wgsl_fns.specs.declared.functions.FunctionText.{FunctionText}

@@ -4,7 +4,7 @@ use Rattle.std.proofs.Common.{List, sym, ap, arith, codes, ◌∙◌, ◌≡◌,
 use Rattle.std.proofs.lemmas.List.{drop_all}
 use Rattle.naga_ir.specs.StatementTree.{block_size, cases_size}
 use Rattle.naga_ir.specs.StatementViews.{block_of, cases_of, tree_of}
-use Rattle.naga_ir.proofs.Listed.{first_case}
+use Rattle.naga_ir.proofs.Listed.{first_case, first_of}
 use Rattle.naga_scope.proofs.Logs.{extends_then, reverts, reverts_then}
 use Rattle.naga_scope.proofs.Turns.{body_leaves, body_named}
 use Rattle.naga_scope.specs.Changes.{block_changes, cases_changes}
@@ -22,7 +22,6 @@ use Rattle.naga_wgsl_fns.proofs.StatementParts.{back_inside, case_inside, fallin
 use Rattle.naga_wgsl_fns.proofs.StatementParts.{front_inside, others_inside, rest_at}
 use Rattle.naga_wgsl_fns.proofs.SwitchRows.{cases_more, cases_none, first_within}
 use Rattle.naga_wgsl_fns.proofs.SwitchRows.{case_values_between, switch_row}
-use Rattle.naga_ir.proofs.Listed.{first_of}
 use Rattle.naga_wgsl_fns.proofs.StatementRows.{lines_more}
 use Rattle.naga_wgsl_fns.proofs.functions.FunctionText.+statement.Goals as goal
 

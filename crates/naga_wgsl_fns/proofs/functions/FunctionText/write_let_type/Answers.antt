@@ -1,8 +1,7 @@
 use Rattle.std.proofs.Common.{sym, ◌∙◌}
 use Rattle.naga_words.proofs.Writing.{writes_as, writes_nothing}
 use Rattle.naga_wgsl_fns.proofs.Preconditions.{known_resolution_fits, known_within_infos}
-use Rattle.naga_wgsl_fns.proofs.Preconditions.{annotated_is_formed}
-use Rattle.naga_wgsl_fns.proofs.Preconditions.{annotated_row, undeclared_row}
+use Rattle.naga_wgsl_fns.proofs.Preconditions.{annotated_is_formed, annotated_row, undeclared_row}
 use Rattle.naga_wgsl_fns.proofs.functions.FunctionText.write_let_type.Goals as goal
 
 pub index-requires : goal.index-requires

@@ -1,9 +1,8 @@
-use Rattle.std.proofs.Common.{ap, ◌∙◌, subst, sym}
+use Rattle.std.proofs.Common.{ap, ◌∙◌, subst, sym, codes}
 use Rattle.naga_ir.specs.Operands.{own_operands, own_result}
 use Rattle.naga_words.proofs.Writing.{writes_as}
 use Rattle.naga_wgsl_fns.specs.FunctionText.{AreInText, CanWriteStatement, handles_in}
 use Rattle.naga_wgsl_fns.specs.Statements.{act_text, statement_text}
-use Rattle.std.proofs.Common.{codes}
 use Rattle.naga_wgsl_fns.proofs.StatementParts.{stored_operands, stored_pointer, stored_value}
 use Rattle.naga_wgsl_fns.proofs.StatementRows.{store_to_atomic, store_to_other}
 use Rattle.naga_wgsl_fns.proofs.Preconditions.{known_within_infos}

@@ -8,10 +8,9 @@ use Rattle.naga_wgsl_fns.proofs.ConstantRows.{constant_passes, constant_row, con
 use Rattle.naga_wgsl_fns.proofs.ConstantRows.{global_there, in_order, initialiser_before}
 use Rattle.naga_wgsl_fns.proofs.ConstantRows.{initialiser_written, literal_passes, literal_row}
 use Rattle.naga_wgsl_fns.proofs.ConstantRows.{named_constant, no_other_global, override_row}
-use Rattle.naga_wgsl_fns.proofs.ConstantRows.{override_there, unnamed_constant}
-use Rattle.naga_wgsl_fns.proofs.ConstantRows.{parts_are_written, parts_more, parts_none}
-use Rattle.naga_wgsl_fns.proofs.ConstantRows.{parts_start}
-use Rattle.naga_wgsl_fns.proofs.ConstantRows.{splat_row, zero_passes, zero_row}
+use Rattle.naga_wgsl_fns.proofs.ConstantRows.{override_there, unnamed_constant, parts_are_written}
+use Rattle.naga_wgsl_fns.proofs.ConstantRows.{parts_more, parts_none, parts_start, splat_row}
+use Rattle.naga_wgsl_fns.proofs.ConstantRows.{zero_passes, zero_row}
 use Rattle.naga_wgsl_fns.proofs.RepresentativeRows.{representative_is}
 use Rattle.naga_wgsl_fns.specs.Constants.{global_text, parts_left, parts_text}
 use Rattle.naga_wgsl_fns.proofs.module_text.ModuleText.+global.Goals as goal
