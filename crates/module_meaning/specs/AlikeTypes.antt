@@ -11,7 +11,7 @@
 -- Throughout, types are a module's types, f tells the form of the type at a handle, h is a handle,
 -- t a type of the module, it a type by itself, s a scalar, r a type of an expression (a and b are
 -- two), o a type that may be missing, and tag says what the type is.
-use Rattle.std.specs.Prelude.{ℕ, zero, suc, Bool, false, List, ◌++◌}
+use Rattle.std.specs.Prelude.{ℕ, zero, suc, Bool, List, ◌++◌}
 use Rattle.std.specs.Prelude.{Option, Some, None, if◌then◌else◌, slice_get, unwrap_or}
 use Rattle.std.specs.Option.{option_map, is_some, is_none}
 use Rattle.std.specs.Str.{bytes_eq}
@@ -159,8 +159,3 @@ type_identity types r = unwrap_or (type_key types r) (word_of_unspelled_type (id
 
 abbrev pub are_alike : List Type_ → (a b : TypeResolution) → Bool
 are_alike types a b = bytes_eq (type_identity types a) (type_identity types b)
-
--- both are there, and alike
-abbrev pub both_alike : List Type_ → (a b : Option TypeResolution) → Bool
-both_alike types (Some a) (Some b) = are_alike types a b
-both_alike types _ _ = false
