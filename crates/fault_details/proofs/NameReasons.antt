@@ -4,7 +4,7 @@
 -- expression, s a statement, it a type by itself, h and x are handles, here is that of an item, count
 -- is how many there are, a and b are tests, and fails says that a test fails.
 use Rattle.std.proofs.Common.{◌≡◌, ◌∙◌, ◌<◌, ◌≤◌, ◌==◌, ◌&&◌, ◌%◌, ◌^◌, ◌-◌, ℕ, Bool, true, false, List, [], ◌∷◌}
-use Rattle.std.proofs.Common.{length, Option, Some, None, IsSome, arith, ap, is_some, nat_le, nat_lt}
+use Rattle.std.proofs.Common.{length, Option, Some, None, IsSome, arith, ap, nat_le, nat_lt}
 use Rattle.std.proofs.Common.{option_and_then, option_map, option_to_list, refl, slice_get, sym, true≢false}
 use Rattle.std.specs.Prelude.{if◌then◌else◌, IsTrue}
 use Rattle.std.specs.List.{list_all}

@@ -25,7 +25,6 @@ use Rattle.naga_acceptance.specs.FirstUses.{other_type, other_use, other_use_in,
 use Rattle.naga_acceptance.specs.FirstUses.{unless_alike, use_item}
 use Rattle.naga_acceptance.specs.Searching.{first_faulty, or_further}
 use Rattle.naga_acceptance.specs.Uses.{earlier_uses, is_same_operator, use_in}
-use Rattle.naga_acceptance.specs.declared.faults.Fault.TheVariants as fault
 use Rattle.naga_acceptance.specs.declared.faults.FaultPosition.{FaultPosition}
 use Rattle.naga_acceptance.specs.declared.faults.FaultPosition.TheVariants as item
 use Rattle.naga_acceptance.specs.declared.faults.FunctionPosition.TheVariants as part

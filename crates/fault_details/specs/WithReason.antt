@@ -4,7 +4,7 @@
 --
 -- Throughout, m is a module, info what is known of it, u a position with a kind of fault, f a
 -- function, p an entry point, t a type, s a statement, k an item of a module, and h is a handle.
-use Rattle.std.specs.Prelude.{◌≡◌, ◌≤◌, ◌^◌, ◌&&◌, ℕ, Bool, true, ⊤, length, slice_get, Some}
+use Rattle.std.specs.Prelude.{◌≡◌, ◌≤◌, ◌^◌, ℕ, Bool, true, ⊤, length, slice_get, Some}
 use Rattle.std.specs.Prelude.{IsSome, IsTrue}
 use Rattle.std.specs.List.{list_all}
 use Rattle.std.specs.Option.{option_map_or}

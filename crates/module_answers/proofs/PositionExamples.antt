@@ -1,6 +1,6 @@
 -- Positions as they are told in lines that `docs/USING.md` has.
 use Rattle.std.proofs.Common.{◌≡◌, codes, refl, None, Some}
-use Rattle.std.specs.Fmt.{debug_str, digits}
+use Rattle.std.specs.Fmt.{digits}
 use Rattle.module_answers.specs.Positions.{json_position, json_refusal_position}
 use Rattle.module_answers.specs.declared.positions.JsonRoot.TheVariants as root
 use Rattle.naga_acceptance.specs.declared.faults.FunctionPosition.TheVariants as position

@@ -1,8 +1,7 @@
 -- When numbers, and the greatest of several, are no more than so many levels.
-use Rattle.std.proofs.Common.{◌≡◌, ℕ, ◌<◌, ◌≤◌, ◌+◌, zero, suc, max, List, [], ◌∷◌, ◌++◌, fold, map}
-use Rattle.std.proofs.Common.{length, true, false, refl, ap, sym, ◌∙◌, arith, drop, get_or}
+use Rattle.std.proofs.Common.{◌≡◌, ℕ, ◌≤◌, ◌+◌, suc, max, List, [], ◌∷◌, ◌++◌, fold, map}
+use Rattle.std.proofs.Common.{refl, ap, arith, get_or}
 use Rattle.std.specs.List.{enumerate_from}
-use Rattle.std.proofs.lemmas.Bool.{le-leb, leb-true}
 use Rattle.module_limits.specs.Depths.{greatest, with_depth}
 
 pub greatest_append : (xs ys : List ℕ) → greatest (xs ++ ys) ≡ max (greatest xs) (greatest ys)

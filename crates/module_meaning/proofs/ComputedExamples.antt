@@ -19,7 +19,7 @@ use Rattle.module_meaning.specs.ExpressionContexts.{declared}
 use Rattle.module_meaning.specs.ExpressionShapes.{shape_of}
 use Rattle.module_meaning.specs.ModuleShapes.{module_shape}
 use Rattle.shader_runs.specs.Program as shapes
-use Rattle.shader_runs.specs.Program.{ConstantTree, Constructed, Fixed, Indexing, Joining, NamedConstant}
+use Rattle.shader_runs.specs.Program.{ConstantTree, Constructed, Fixed, Indexing, Joining}
 use Rattle.shader_runs.specs.Program.{Picking, constant, no_constant}
 use Rattle.shader_runs.specs.Value.{BooleanType, IntegerType, MemberNamed, OtherType, ShortCircuitOr}
 use Rattle.shader_runs.specs.Value.{Truth, ValueType, Whole}

@@ -1,11 +1,10 @@
 -- Examples of structs that keep the offsets of their members, and of those that can't or need not,
 -- computed: which are concerned, what is written, what stands against them, and texts that keep them.
 use Rattle.std.proofs.Common.{◌≡◌, ℕ, Bool, false, true, List, [], ◌∷◌, None, Option, Some, refl}
-use Rattle.std.proofs.Common.{arith, map, Global, Vec, length, slice_get}
+use Rattle.std.proofs.Common.{arith, map, Global, Vec}
 use Rattle.std.specs.Prelude.{codes}
-use Rattle.std.specs.Option.{is_none, is_some, option_and_then, option_map, option_map_or}
+use Rattle.std.specs.Option.{is_none, option_map, option_map_or}
 use Rattle.indexmap.specs.IndexMap.{with_entries}
-use Rattle.naga_ir.specs.declared.binding.Binding as ir_binding
 use Rattle.naga_ir.specs.declared.binding.Binding.TheVariants as binding
 use Rattle.naga_ir.specs.declared.binding.BuiltIn.TheVariants as builtin
 use Rattle.naga_ir.specs.declared.module.Module.{Module}
@@ -17,7 +16,7 @@ use Rattle.naga_ir.specs.declared.types.TypeInner.{TypeInner}
 use Rattle.naga_ir.specs.declared.types.TypeInner.TheVariants as inner
 use Rattle.naga_ir.specs.declared.types.VectorSize.TheVariants as vector
 use Rattle.naga_layout.specs.Types.{arrays_are_kept, layout_at}
-use Rattle.wgsl_layout.specs.Members.{has_room_for_all, is_off_alignment, overlaps}
+use Rattle.wgsl_layout.specs.Members.{is_off_alignment, overlaps}
 use Rattle.wgsl_layout.specs.declared.layouts.Placed.{Placed}
 use Rattle.wgsl_text.specs.Attributes.{Attribute, Numbered, Size}
 use Rattle.wgsl_text.specs.Declarations.{Struct}

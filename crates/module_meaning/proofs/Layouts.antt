@@ -2,8 +2,7 @@
 --
 -- Throughout, m is a module, info what is known of it, types are a module's types, h is the handle of
 -- one, it a type by itself, and marks say which structs no text declares.
-use Rattle.std.proofs.Common.{◌≡◌, ◌+◌, ◌∙◌, ℕ, Bool, true, false, List, ap, arith, refl, slice_get}
-use Rattle.std.proofs.Common.{sym}
+use Rattle.std.proofs.Common.{◌≡◌, ◌+◌, ◌∙◌, ℕ, Bool, true, false, List, ap, arith, refl, sym}
 use Rattle.std.specs.Prelude.{IsTrue, get_or, length, not}
 use Rattle.std.specs.List.{list_all}
 use Rattle.std.proofs.lemmas.Bool.{and_parts}
@@ -19,8 +18,8 @@ use Rattle.module_meaning.specs.acceptance.Accepted.{is_accepted}
 use Rattle.module_meaning.specs.acceptance.InfoSizes.{sizes_fit, type_is_fit}
 use Rattle.module_meaning.specs.Layouts.{module_rule}
 use Rattle.module_meaning.specs.acceptance.Ranges.{declarations_in_range, module_in_range}
-use Rattle.module_meaning.specs.acceptance.Ranges.{module_ranges_fit}
-use Rattle.module_meaning.specs.acceptance.Ranges.{parts_before, parts_stand_before, types_in_range}
+use Rattle.module_meaning.specs.acceptance.Ranges.{module_ranges_fit, parts_before}
+use Rattle.module_meaning.specs.acceptance.Ranges.{parts_stand_before, types_in_range}
 use Rattle.module_meaning.specs.Undeclared.{is_undeclared}
 use Rattle.module_meaning.proofs.Lists.{placed_at}
 

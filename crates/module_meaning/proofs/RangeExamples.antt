@@ -4,7 +4,7 @@
 --
 -- Throughout, there are four expressions in the examples.
 use Rattle.std.proofs.Common.{◌≡◌, ℕ, ◌-◌, ◌≤◌, Bool, true, false, List, [], refl, ap, arith}
-use Rattle.naga_ir.specs.StatementTree.{SimpleStatement, emit, simple}
+use Rattle.naga_ir.specs.StatementTree.{emit, simple}
 use Rattle.naga_ir.specs.declared.module.Function as ir
 use Rattle.module_meaning.specs.ExpressionLabels.{labels_in, labels_of_each}
 use Rattle.module_meaning.specs.ExpressionOperators.{ExpressionContext}

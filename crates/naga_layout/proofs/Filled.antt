@@ -1,9 +1,9 @@
 -- A table is filled from the first type to the last.
 --
 -- Throughout, marks say which structs no text declares, i is how many cells are filled, and xs are they.
-use Rattle.std.proofs.Common.{◌≡◌, ◌∙◌, ◌<◌, ◌≤◌, ◌+◌, ◌++◌, ℕ, Bool, true, false, List, [], ◌∷◌, Option, Some, None}
-use Rattle.std.proofs.Common.{zero, suc, replicate, ap, arith, get_or, inl, inr, length}
-use Rattle.std.proofs.Common.{length-append, refl, slice_get, subst, sym}
+use Rattle.std.proofs.Common.{◌≡◌, ◌∙◌, ◌<◌, ◌≤◌, ◌+◌, ◌++◌, ℕ, Bool, true, List, [], ◌∷◌, Option, Some, None}
+use Rattle.std.proofs.Common.{zero, suc, replicate, ap, arith, inl, inr, length}
+use Rattle.std.proofs.Common.{length-append, slice_get, subst, sym}
 use Rattle.std.specs.Prelude.{◌⊎◌, nat_lt}
 use Rattle.std.specs.List.{list_all}
 use Rattle.std.specs.Option.{option_and_then, option_map}

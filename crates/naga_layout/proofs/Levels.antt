@@ -2,19 +2,17 @@
 --
 -- Throughout, types are a module's types, h is the handle of one, t a type of the module, it a type by
 -- itself, k a member, f and g tell layouts of types, and l is a layout.
-use Rattle.std.proofs.Common.{◌≡◌, ◌<◌, ◌≤◌, ◌∙◌, ◌*◌, ℕ, zero, suc, Bool, true, false, List, []}
-use Rattle.std.proofs.Common.{◌∷◌, Option, Some, None, ap, arith, refl, slice_get, subst, sym}
-use Rattle.std.specs.Prelude.{◌&&◌, IsTrue, if◌then◌else◌, nat_lt}
+use Rattle.std.proofs.Common.{◌≡◌, ◌<◌, ◌∙◌, ℕ, zero, suc, Bool, true, List, []}
+use Rattle.std.proofs.Common.{◌∷◌, Option, Some, None, ap, arith, refl, slice_get}
+use Rattle.std.specs.Prelude.{IsTrue, if◌then◌else◌, nat_lt}
 use Rattle.std.specs.List.{list_all}
 use Rattle.std.specs.Option.{is_none, option_and_then, option_map}
-use Rattle.std.proofs.lemmas.Bool.{and_parts, false≢true, ltb-true}
+use Rattle.std.proofs.lemmas.Bool.{and_parts, ltb-true}
 use Rattle.naga_ir.specs.declared.types.StructMember.{StructMember}
 use Rattle.naga_ir.specs.declared.types.Type_.{Type_}
 use Rattle.naga_ir.specs.declared.types.TypeInner.{TypeInner}
 use Rattle.naga_ir.specs.declared.types.TypeInner.TheVariants as inner
-use Rattle.wgsl_layout.specs.Rules.{kept_array}
 use Rattle.wgsl_layout.specs.declared.layouts.Layout.{Layout}
-use Rattle.wgsl_layout.specs.declared.layouts.Placed.{Placed}
 use Rattle.naga_layout.specs.Types.{Rule, StandInOrder, has_row, inner_layout_by, kept_members}
 use Rattle.naga_layout.specs.Types.{laid_array, layout_at, layout_within, named_layout_by}
 use Rattle.naga_layout.specs.Types.{parts_before, placed_member, placed_members, told_length}

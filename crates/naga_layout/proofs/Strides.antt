@@ -4,11 +4,11 @@
 -- Throughout, rule says which types are laid out, types are a module's types, h is the handle of one, it
 -- a type by itself, f tells layouts of types, g whether arrays have WGSL's stride, marks say which
 -- structs no text declares, i is how many cells are filled, and xs are they.
-use Rattle.std.proofs.Common.{◌≡◌, ◌∙◌, ◌<◌, ◌≤◌, ◌+◌, ◌++◌, ℕ, zero, suc, Bool, true, false, List}
+use Rattle.std.proofs.Common.{◌≡◌, ◌∙◌, ◌<◌, ◌≤◌, ◌+◌, ◌++◌, ℕ, zero, suc, Bool, true, List}
 use Rattle.std.proofs.Common.{[], ◌∷◌, Option, Some, None}
-use Rattle.std.proofs.Common.{ap, arith, get_or, inl, inr, length, length-append, refl, slice_get, sym}
-use Rattle.std.specs.Prelude.{◌&&◌, ◌⊎◌, IsTrue, nat_lt}
-use Rattle.std.specs.Option.{option_map, option_map_or}
+use Rattle.std.proofs.Common.{ap, arith, inl, inr, length, length-append, refl, slice_get, sym}
+use Rattle.std.specs.Prelude.{◌&&◌, ◌⊎◌, IsTrue}
+use Rattle.std.specs.Option.{option_map_or}
 use Rattle.std.proofs.lemmas.Bool.{cases_lt, ltb-true}
 use Rattle.std.proofs.lemmas.List.{get_or_append_left, get_or_past, get_or_push}
 use Rattle.std.proofs.lemmas.Option.{slice_get_past}

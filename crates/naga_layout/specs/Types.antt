@@ -7,7 +7,7 @@
 -- how many bytes the module gives to a struct, stride how far apart it has the elements of an array
 -- begin, f tells the layouts of types that stand before, g whether their arrays are kept, and rule
 -- which types are laid out.
-use Rattle.std.specs.Prelude.{◌≡◌, ℕ, zero, suc, ◌==◌, ◌&&◌, ◌||◌, Bool, true, false, not}
+use Rattle.std.specs.Prelude.{◌≡◌, ℕ, zero, suc, ◌==◌, ◌&&◌, ◌||◌, Bool, true, false}
 use Rattle.std.specs.Prelude.{List, [], ◌∷◌, IsTrue, Option, Some, None, if◌then◌else◌, nat_lt}
 use Rattle.std.specs.Prelude.{slice_get}
 use Rattle.std.specs.Int.NonZero.{non_zero_u32_get}

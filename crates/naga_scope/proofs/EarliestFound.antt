@@ -1,5 +1,5 @@
 -- The search for the earliest expression without a form, from the last expression to the first.
-use Rattle.std.proofs.Common.{◌≡◌, ℕ, zero, suc, ◌<◌, ◌≤◌, Bool, true, false, List, [], ◌&&◌, ◌||◌}
+use Rattle.std.proofs.Common.{◌≡◌, ℕ, suc, ◌≤◌, Bool, true, false, List, ◌&&◌}
 use Rattle.std.proofs.Common.{◌⊎◌, inl, inr, refl, sym, ap, ◌∙◌, subst, length, arith, nat_lt}
 use Rattle.std.proofs.Common.{None, Option, Some, slice_get}
 use Rattle.std.proofs.lemmas.Bool.{and_parts, false≢true, not-true, or_cases, or_left}
@@ -10,7 +10,7 @@ use Rattle.module_meaning.specs.Written.{IsWritten}
 use Rattle.naga_ir.specs.Operands.{expression_operands}
 use Rattle.naga_ir.specs.declared.expression.Expression.{Expression}
 use Rattle.naga_scope.proofs.FirstLines.{handles_beyond, handles_there, marked_is, marks_size}
-use Rattle.naga_scope.proofs.LineOrder.{before_then, before_up_to, cases_line, not_before_itself, up_to_before}
+use Rattle.naga_scope.proofs.LineOrder.{before_up_to, cases_line, not_before_itself, up_to_before}
 use Rattle.naga_scope.proofs.Sweeping.{Swept, all_marked, begun, below_one, from_there, moved, next, passed}
 use Rattle.naga_scope.specs.FirstLines.{ComesNoEarlier, FindsEarliest, WritesAlso, WritesJust}
 use Rattle.naga_scope.specs.FirstLines.{found_with, handles_to, has_line_to, marks_to, writes_at}

@@ -1,18 +1,15 @@
 -- The first of several reasons against a plan: nothing is refused on an earlier line.
-use Rattle.std.proofs.Common.{◌≡◌, ◌<◌, ◌≤◌, ◌^◌, ◌⊎◌, inl, inr, ℕ, suc, zero, Bool, true, false, List, [], Option}
+use Rattle.std.proofs.Common.{◌≡◌, ◌<◌, ◌≤◌, ◌^◌, ◌⊎◌, inl, inr, ℕ, suc, zero, Bool, true, false, List, Option}
 use Rattle.std.proofs.Common.{Some, None, refl, sym, ap, ◌∙◌, arith, length, slice_get, subst}
-use Rattle.std.proofs.lemmas.Bool.{cases_lt, false≢true, lt-ltb, ltb-true, not-false}
+use Rattle.std.proofs.lemmas.Bool.{cases_lt, false≢true, ltb-true}
 use Rattle.std.specs.Option.{option_map}
-use Rattle.std.specs.Prelude.{Err, IsFalse, IsSomeAnd, IsTrue, Ok, Result, if◌then◌else◌, not}
+use Rattle.std.specs.Prelude.{Err, IsFalse, IsSomeAnd, Ok, Result, if◌then◌else◌, not}
 use Rattle.module_meaning.specs.ExpressionForms.{expression_has_form}
 use Rattle.module_meaning.specs.FunctionShapes.{function_shape}
 use Rattle.module_meaning.specs.Premises.{OperandsStandBefore}
-use Rattle.module_meaning.specs.StatementForms.{block_has_forms}
-use Rattle.module_meaning.specs.Undeclared.{is_spellable}
 use Rattle.module_meaning.specs.Written.{ExpressionsHaveForms, WrittenHaveForms}
 use Rattle.naga_info.specs.declared.info.ExpressionInfo.{ExpressionInfo}
 use Rattle.naga_info.specs.declared.info.ModuleInfo.{ModuleInfo}
-use Rattle.naga_info.specs.declared.info.TypeResolution.TheVariants.{Handle}
 use Rattle.naga_ir.specs.StatementTree.{StatementTree}
 use Rattle.naga_ir.specs.declared.expression.Expression.{Expression}
 use Rattle.naga_ir.specs.declared.module.Function.{Function}
@@ -27,12 +24,12 @@ use Rattle.naga_scope.proofs.WrittenLines.{from_line, on_some_line, to_line}
 use Rattle.naga_scope.specs.Earliest.{earlier, first_lack, line_of, line_of_declared, line_of_fault, scope_lack}
 use Rattle.naga_scope.specs.FirstLines.{ComesNoEarlier, FindsEarliest, function_writes}
 use Rattle.naga_ir.specs.InOrder.{trees_in}
-use Rattle.naga_scope.specs.Lines.{IsWrittenAt, declared_type, is_before, is_up_to}
+use Rattle.naga_scope.specs.Lines.{IsWrittenAt, is_before, is_up_to}
 use Rattle.naga_scope.specs.Plans.{ComesBefore, IsFirstInText, IsFirstOfKind, IsFirstToPlan, IsRefusalToPlan, Kind}
 use Rattle.naga_scope.specs.Plans.{DeclaredType, ExpressionForm, LetType, NothingAt, ScopeRule, StatementForm}
 use Rattle.naga_scope.specs.Plans.{checked_scope, kind_of, kind_rank}
 use Rattle.naga_scope.specs.SpelledTypes.{FindsAnnotated, declared_unsupported, own_annotated}
-use Rattle.naga_scope.specs.UnsupportedStatements.{FindsUnsupported, own_unsupported}
+use Rattle.naga_scope.specs.UnsupportedStatements.{FindsUnsupported}
 use Rattle.naga_scope.specs.declared.lines.Declared.{Declared}
 use Rattle.naga_scope.specs.declared.lines.Line.{Line}
 use Rattle.naga_scope.specs.declared.lines.Line.TheVariants.{Signature, Local, Statement, BreakIf}

@@ -15,7 +15,7 @@ use Rattle.naga_ir.specs.declared.module.Module.{Module}
 use Rattle.naga_info.specs.declared.info.ExpressionInfo.{ExpressionInfo}
 use Rattle.shader_runs.specs.Program.{Expression, Function, Load, local_count}
 use Rattle.shader_runs.specs.Scope.{Availability, Handles, usable_as, usable_if, at_start}
-use Rattle.shader_runs.specs.Scope.{before_local, first_values_fit, is_present}
+use Rattle.shader_runs.specs.Scope.{before_local, is_present}
 use Rattle.shader_runs.proofs.Update.{and_left, and_right, and_both}
 use Rattle.module_meaning.specs.ExpressionOperators.{is_atomic_pointer}
 use Rattle.module_meaning.specs.ExpressionShapes.{Declared, shape_of, applied_or, applied_shape}

@@ -2,7 +2,6 @@
 use Rattle.std.proofs.Common.{◌≡◌, ℕ, Bool, true, false, List, [], ◌∷◌, ◌++◌, ◌&&◌, ◌||◌, refl, sym}
 use Rattle.std.proofs.Common.{ap, ◌∙◌, length, nat_eq, nat_lt, suc, ◌+◌, append-nil, append_assoc}
 use Rattle.std.proofs.Common.{subst, replicate, zero}
-use Rattle.std.specs.Prelude.{if◌then◌else◌}
 use Rattle.naga_scope.specs.Marks.{MarksAlso, MarksJust, is_marked, is_one_of, marked_with}
 
 -- in turn is as all together

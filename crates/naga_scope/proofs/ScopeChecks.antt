@@ -1,6 +1,6 @@
 -- The check of the rules of scope finds no fault exactly where they hold, and numbers statements in the
 -- order of the text.
-use Rattle.std.proofs.Common.{◌≡◌, ◌⊎◌, inl, inr, ℕ, zero, suc, ◌+◌, ◌%◌, ◌^◌, Bool, true, false}
+use Rattle.std.proofs.Common.{◌≡◌, ◌⊎◌, inl, inr, ℕ, suc, ◌+◌, ◌%◌, ◌^◌, Bool, true, false}
 use Rattle.std.proofs.Common.{not, List, [], ◌∷◌, ◌++◌, length, Option, Some, None, ◌&&◌, ◌||◌}
 use Rattle.std.proofs.Common.{refl, sym, subst, ap, ◌∙◌, true≢false, arith, length-append}
 use Rattle.std.proofs.Math.Nat.{mod-add-mod}

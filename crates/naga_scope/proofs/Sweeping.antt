@@ -1,7 +1,7 @@
 -- A sweep over a function's expressions from the last to the first, which marks what is written.
 use Rattle.std.proofs.Common.{◌≡◌, ℕ, zero, suc, ◌<◌, ◌≤◌, Bool, true, false, List, [], ◌∷◌}
 use Rattle.std.proofs.Common.{◌&&◌, ◌⊎◌, inl, inr, refl, sym, ap, ◌∙◌, subst, length, arith}
-use Rattle.std.proofs.Common.{nat_eq, nat_lt, None, Option, Some, slice_get, eqb-true, ap₂}
+use Rattle.std.proofs.Common.{nat_eq, nat_lt, Some, slice_get, eqb-true, ap₂}
 use Rattle.std.specs.List.{IsAmong}
 use Rattle.std.proofs.lemmas.Bool.{and_parts, cases_order, eqb-false, false≢true, lt-ltb}
 use Rattle.std.proofs.lemmas.Bool.{or_cases, or_left, or_right}

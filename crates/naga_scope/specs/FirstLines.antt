@@ -5,8 +5,7 @@
 -- at, h is a handle, and e an expression.
 use Rattle.std.specs.Prelude.{◌≡◌, ◌⊎◌, ◌≤◌, ℕ, suc, ◌+◌, Bool, true, false, List, [], ◌++◌, map}
 use Rattle.std.specs.Prelude.{length, slice_get}
-use Rattle.std.specs.Prelude.{Option, Some, None, IsFalse, IsSomeAnd, IsTrue, if◌then◌else◌, get_or}
-use Rattle.std.specs.Borrow.{Bor}
+use Rattle.std.specs.Prelude.{Option, Some, None, IsFalse, IsSomeAnd, IsTrue, if◌then◌else◌}
 use Rattle.std.specs.List.{enumerate_from, filter, flat_map}
 use Rattle.std.specs.Option.{option_to_list}
 use Rattle.module_meaning.specs.Written.{IsWritten}

@@ -1,36 +1,33 @@
 -- The texts of statements that ask for something, and of barriers, from what is written of them in turn.
-use Rattle.std.proofs.Common.{◌≡◌, ℕ, ◌*◌, Bool, true, false, List, [], ◌∷◌, ◌++◌, codes, replicate}
-use Rattle.std.proofs.Common.{Option, Some, None, IsTrue, refl, sym, ap, ◌∙◌, append_assoc}
+use Rattle.std.proofs.Common.{◌≡◌, ℕ, ◌*◌, Bool, true, false, List, [], ◌++◌, codes, replicate}
+use Rattle.std.proofs.Common.{Option, Some, None, refl, sym, ap, ◌∙◌, append_assoc}
 use Rattle.std.proofs.lemmas.List.{append-nil}
 use Rattle.naga_back.specs.Indentation.{indentation}
-use Rattle.module_meaning.specs.FunctionShapes.{statement_shape}
 use Rattle.module_meaning.specs.Names.{numbered_name}
-use Rattle.module_meaning.specs.StatementShapes.{barrier_bits, is_kept}
-use Rattle.naga_form.specs.Expressions.{plain_form, value_forms}
+use Rattle.module_meaning.specs.StatementShapes.{is_kept}
+use Rattle.naga_form.specs.Expressions.{value_forms}
 use Rattle.naga_form.specs.Statements.{act_line, barrier_lines, let_form}
-use Rattle.naga_ir.specs.Operands.{own_operands, own_result}
-use Rattle.naga_ir.specs.StatementTree.{StatementTree, simple, control_barrier, memory_barrier}
+use Rattle.naga_ir.specs.StatementTree.{simple, control_barrier, memory_barrier}
 use Rattle.naga_ir.specs.declared.flags.Barrier.{Barrier}
 use Rattle.naga_scope.specs.declared.points.Availability.{Availability}
 use Rattle.naga_words.specs.Output.{joined_texts}
-use Rattle.shader_runs.specs.ProgramRun.{barrier_words, word_if}
+use Rattle.shader_runs.specs.ProgramRun.{word_if}
 use Rattle.shader_runs.specs.Scope.{Handles}
 use Rattle.wgsl_text.proofs.Expressions.{call_text}
 use Rattle.wgsl_text.proofs.Statements.{call_statement_text, let_text as let_row_text, then_text, typed_let_text}
 use Rattle.wgsl_text.proofs.Types.{named_text}
 use Rattle.wgsl_text.specs.Expressions.{Arguments, Call, NoArguments, arguments_pieces, operands}
-use Rattle.wgsl_text.specs.Reading.{expression_layout, type_layout}
-use Rattle.wgsl_text.specs.Statements.{NoStatements, Statements, CallStatement, Then, statements_pieces}
-use Rattle.wgsl_text.specs.Statements as tree
+use Rattle.wgsl_text.specs.Reading.{type_layout}
+use Rattle.wgsl_text.specs.Statements.{NoStatements, CallStatement}
 use Rattle.wgsl_text.specs.Text.{text}
 use Rattle.wgsl_text.specs.Types.{Named, TypeSpecifier}
 use Rattle.naga_wgsl_fns.specs.Expressions.{form_at, operands_left}
-use Rattle.naga_wgsl_fns.specs.FunctionText.{context, handles_in, let_annotation, naming, source}
+use Rattle.naga_wgsl_fns.specs.FunctionText.{handles_in, let_annotation, naming}
 use Rattle.naga_wgsl_fns.specs.Statements.{act_text, barrier_text, barriers_text, line_start}
 use Rattle.naga_wgsl_fns.specs.Statements.{line_text, lines_text, outcome_text, statement_text}
 use Rattle.naga_wgsl_fns.specs.Types.{annotation_if, let_annotation_text}
 use Rattle.naga_wgsl_fns.specs.declared.functions.FunctionText.{FunctionText}
-use Rattle.naga_wgsl_fns.proofs.StatementRows.{indentation_row, one_line}
+use Rattle.naga_wgsl_fns.proofs.StatementRows.{indentation_row}
 
 -- ---- acts
 pub outcome_row : (f : FunctionText) (h : ℕ) → outcome_text f (Some h) ≡ joined_texts (codes "let ")

@@ -17,7 +17,7 @@ use Rattle.module_meaning.specs.StageBindings.{is_invariant}
 use Rattle.naga_words.specs.Output.{joined_texts}
 use Rattle.wgsl_text.proofs.Text.{text-append}
 use Rattle.wgsl_text.specs.Attributes.{Attribute, BlendSource, Interpolate, Invariant, Location}
-use Rattle.wgsl_text.specs.Attributes.{Interpolated, Numbered, NumberedAttribute, PerPrimitive}
+use Rattle.wgsl_text.specs.Attributes.{Numbered, NumberedAttribute, PerPrimitive}
 use Rattle.wgsl_text.specs.Attributes.{Plain, PlainAttribute, Worded, WordedAttribute, Builtin}
 use Rattle.wgsl_text.specs.Attributes.{attribute_pieces, attributes_pieces, numbered_attribute_word}
 use Rattle.wgsl_text.specs.Attributes.{plain_attribute_word, worded_attribute_word}

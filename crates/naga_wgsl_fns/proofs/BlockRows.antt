@@ -1,8 +1,6 @@
 -- The texts of blocks and of choices, from what is written of them in turn.
-use Rattle.std.proofs.Common.{cond, ◌≡◌, ℕ, ◌*◌, suc, Bool, true, false, List, [], ◌∷◌, ◌++◌, codes}
-use Rattle.std.proofs.Common.{replicate, refl, sym, ap, ◌∙◌, append_assoc}
-use Rattle.std.proofs.lemmas.List.{append-nil}
-use Rattle.naga_back.specs.Indentation.{indentation}
+use Rattle.std.proofs.Common.{cond, ◌≡◌, ℕ, ◌*◌, suc, true, false, List, [], ◌++◌, codes, replicate}
+use Rattle.std.proofs.Common.{refl, ap, ◌∙◌, append_assoc}
 use Rattle.naga_form.specs.Expressions.{value_form}
 use Rattle.naga_form.specs.Statements.{lines_form, optional_form}
 use Rattle.naga_ir.specs.StatementTree.{block, branch, BlockTree, no_statements, statement}
@@ -10,16 +8,14 @@ use Rattle.naga_ir.specs.StatementTree.{has_no_statements}
 use Rattle.naga_words.specs.Output.{joined_texts}
 use Rattle.shader_runs.specs.Scope.{Handles}
 use Rattle.wgsl_text.proofs.Statements.{block_text as block_row_text, else_text as else_row_text}
-use Rattle.wgsl_text.proofs.Statements.{if_text, then_text}
+use Rattle.wgsl_text.proofs.Statements.{if_text}
 use Rattle.wgsl_text.specs.Reading.{expression_layout}
-use Rattle.wgsl_text.specs.Statements.{NoStatements, Statements, else_pieces, statement_pieces}
-use Rattle.wgsl_text.specs.Statements.{statements_pieces}
+use Rattle.wgsl_text.specs.Statements.{NoStatements, Statements, statements_pieces}
 use Rattle.wgsl_text.specs.Statements as tree
 use Rattle.wgsl_text.specs.Text.{text}
 use Rattle.naga_wgsl_fns.specs.FunctionText.{let_annotation, naming, source}
 use Rattle.naga_wgsl_fns.specs.Statements.{around_text, block_text, braces_text, else_text}
-use Rattle.naga_wgsl_fns.specs.Statements.{line_start, line_text, lines_text, named_following}
-use Rattle.naga_wgsl_fns.specs.Statements.{statement_text}
+use Rattle.naga_wgsl_fns.specs.Statements.{line_start, lines_text, named_following, statement_text}
 use Rattle.naga_wgsl_fns.specs.declared.functions.FunctionText.{FunctionText}
 use Rattle.naga_wgsl_fns.proofs.StatementRows.{indentation_row, one_line}
 

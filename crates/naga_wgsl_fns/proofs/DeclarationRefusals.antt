@@ -1,7 +1,6 @@
 -- What is told of a declaration without a form; and the initialisers of an accepted module's
 -- declarations are among its expressions.
-use Rattle.std.proofs.Common.{◌≡◌, ℕ, ◌<◌, true, Option, Some, ap, length, nat_lt, slice_get, sym}
-use Rattle.std.proofs.Common.{◌∙◌}
+use Rattle.std.proofs.Common.{◌≡◌, ℕ, ◌<◌, true, Option, Some, ap, length, nat_lt, sym, ◌∙◌}
 use Rattle.std.specs.List.{list_all}
 use Rattle.std.specs.Prelude.{IsTrue}
 use Rattle.std.proofs.lemmas.Bool.{and_parts, ltb-true}

@@ -5,7 +5,7 @@
 -- Throughout, a module has these two functions and this override, and neither constants nor variables.
 -- All else that it has is any, and so are what it takes and gives, and what stands in it.
 use Rattle.std.proofs.Common.{◌≡◌, ℕ, pos, Bool, false, true, List, [], ◌∷◌, ◌++◌, Some, refl}
-use Rattle.std.proofs.Common.{arith, Vec, Global}
+use Rattle.std.proofs.Common.{arith}
 use Rattle.std.specs.Prelude.{Ok}
 use Rattle.naga_ir.specs.StatementTree.{no_statements, ray_query, simple, statement}
 use Rattle.naga_ir.specs.declared.expression.Expression.TheVariants as expression

@@ -6,7 +6,6 @@ use Rattle.std.proofs.Common.{◌∷◌, ◌++◌, append_assoc, drop, length, s
 use Rattle.std.proofs.Common.{get_or, map, string_bytes, ◌^◌}
 use Rattle.std.specs.declared.string.String.{String}
 use Rattle.std.specs.Prelude.{if◌then◌else◌, unwrap_or, vec_len, IsTrue}
-use Rattle.std.specs.List.{list_all}
 use Rattle.std.specs.Option.{option_map_or}
 use Rattle.std.proofs.lemmas.Bool.{lt-ltb}
 use Rattle.std.proofs.lemmas.List.{append-nil, drop_all}
@@ -24,12 +23,10 @@ use Rattle.naga_form.specs.Expressions.{value_form}
 use Rattle.naga_form.specs.Statements.{lines_form}
 use Rattle.wgsl_text.specs.Functions.{Parameter, value_pieces, parameter_pieces}
 use Rattle.wgsl_text.specs.Functions.{more_parameters_pieces, parameters_pieces, result_pieces}
-use Rattle.wgsl_text.specs.Functions.{locals_pieces, group_end, function_pieces}
+use Rattle.wgsl_text.specs.Functions.{locals_pieces, group_end}
 use Rattle.naga_form.specs.Functions.{locals_form, parameter_form, parameters_form, result_form}
-use Rattle.naga_form.specs.Functions.{function_form}
 use Rattle.wgsl_text.proofs.Text.{text-append}
 use Rattle.naga_names.proofs.Refusal.{element}
-use Rattle.module_meaning.proofs.Lists.{list_all_at, placed_at}
 use Rattle.naga_form.proofs.statements.AcceptedFunctions.{of_number, ranges_of}
 use Rattle.module_meaning.specs.FunctionNumbers.{IsFunctionOf, all_functions, all_infos}
 use Rattle.module_meaning.specs.FunctionNumbers.{function_number}

@@ -1,8 +1,7 @@
 -- The texts of loops, from what is written of them in turn, and what a loop's body leaves.
-use Rattle.std.proofs.Common.{cond, ◌≡◌, ℕ, ◌*◌, suc, Bool, true, false, List, [], ◌∷◌, ◌++◌, codes}
+use Rattle.std.proofs.Common.{cond, ◌≡◌, ℕ, ◌*◌, suc, Bool, true, false, List, [], ◌++◌, codes}
 use Rattle.std.proofs.Common.{replicate, Option, Some, None, refl, sym, ap, ◌∙◌, append_assoc}
 use Rattle.std.specs.Option.{option_map}
-use Rattle.naga_back.specs.Indentation.{indentation}
 use Rattle.naga_form.specs.Expressions.{value_form}
 use Rattle.naga_form.specs.Statements.{lines_form, loop_form, optional_form}
 use Rattle.naga_ir.specs.StatementTree.{StatementTree, loop, BlockTree, no_statements, statement}
@@ -18,7 +17,7 @@ use Rattle.wgsl_text.specs.Statements.{statements_pieces}
 use Rattle.wgsl_text.specs.Statements as tree
 use Rattle.wgsl_text.specs.Text.{text}
 use Rattle.naga_scope.specs.Continues.{before_continue, from_continue, holds_continue}
-use Rattle.naga_wgsl_fns.specs.FunctionText.{CanWrite, let_annotation, naming, source}
+use Rattle.naga_wgsl_fns.specs.FunctionText.{let_annotation, naming, source}
 use Rattle.naga_wgsl_fns.specs.Statements.{after_statement, after_statements, around_text}
 use Rattle.naga_wgsl_fns.specs.Statements.{block_text, braces_text, continuing_text, last_text}
 use Rattle.naga_wgsl_fns.specs.Statements.{left_to_continuing, line_start, lines_text}

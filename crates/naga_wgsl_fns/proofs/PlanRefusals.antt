@@ -43,7 +43,6 @@ use Rattle.shader_runs.specs.ScopeRules.{ScopeHolds}
 use Rattle.shader_runs.proofs.ScopeFaults.{fault_is_no_rule}
 use Rattle.module_meaning.specs.acceptance.Accepted.{is_accepted}
 use Rattle.module_meaning.specs.ExpressionForms.{expression_has_form, known_passes}
-use Rattle.module_meaning.proofs.Lists.{list_all_at}
 use Rattle.module_meaning.specs.LackingScalars.{lacking_scalar}
 use Rattle.module_meaning.specs.Written.{IsSpelledIn}
 use Rattle.module_meaning.specs.FunctionNumbers.{all_functions, all_infos}

@@ -3,11 +3,10 @@ use Rattle.std.proofs.Common.{Vec, Global, ◌≡◌, ℕ, ◌+◌, Bool, ◌<�
 use Rattle.std.proofs.Common.{codes, length, Option, Some, None, refl, sym, ap, subst, ◌∙◌, IsTrue}
 use Rattle.std.proofs.Common.{arith, max, ◌∷◌}
 use Rattle.std.proofs.lemmas.Option.{same_Some, slice_get_within}
-use Rattle.std.specs.Prelude.{◌&&◌, ◌||◌, not, slice_get, cond, nat_lt, unwrap_or, if◌then◌else◌}
+use Rattle.std.specs.Prelude.{◌||◌, not, slice_get, cond, nat_lt, unwrap_or, if◌then◌else◌}
 use Rattle.std.specs.Option.{is_some, option_map, option_map_or, option_and_then, option_to_list}
 use Rattle.std.proofs.lemmas.Bool.{and_parts, ltb-true}
 use Rattle.naga_ir.specs.Operands.{expression_operands, level_operands}
-use Rattle.naga_ir.specs.StatementTree.{StatementTree}
 use Rattle.naga_ir.specs.declared.expression.Expression.{Expression}
 use Rattle.naga_ir.specs.declared.expression.SwizzleComponent.{SwizzleComponent}
 use Rattle.naga_ir.specs.declared.expression.Expression.TheVariants as expression
@@ -31,7 +30,6 @@ use Rattle.module_meaning.specs.Sampling.{own_offset_has_form}
 use Rattle.naga_ir.specs.declared.expression.SampleLevel.{SampleLevel}
 use Rattle.naga_wgsl_fns.specs.FunctionText.{named_in, AreInText, source, CanWrite, IsInText, IsLet}
 use Rattle.naga_wgsl_fns.specs.FunctionText.{context, naming, callees, number}
-use Rattle.module_meaning.specs.FunctionShapes.{statement_shape}
 use Rattle.module_meaning.specs.Names.{module_names, name_in, numbered_name}
 use Rattle.module_meaning.specs.AlikeTypes.{is_spelled}
 use Rattle.module_meaning.specs.DeclarationForms.{binding_has_form}
@@ -67,7 +65,6 @@ use Rattle.naga_names.specs.declared.key.NameKey.TheVariants as key
 use Rattle.module_meaning.specs.Undeclared.{is_spellable, member_is_written, names_undeclared}
 use Rattle.module_meaning.specs.Undeclared.{part_has_form_at, whole_known, whole_of}
 use Rattle.shader_runs.specs.Value.{MemberNamed}
-use Rattle.wgsl_text.specs.Words.{stands_in}
 use Rattle.naga_wgsl_fns.specs.Expressions.{base_of, is_of_components, struct_at, struct_known}
 use Rattle.naga_wgsl_fns.specs.Expressions.{has_components, is_vector, selector_of}
 use Rattle.module_meaning.specs.acceptance.Ranges.{is_below, local_in_range, names_in_range}
@@ -75,10 +72,10 @@ use Rattle.module_meaning.specs.acceptance.Ranges.{resolution_fits}
 use Rattle.module_meaning.specs.Premises.{OperandsStandBefore}
 use Rattle.module_meaning.specs.Types.{type_names}
 use Rattle.shader_runs.specs.Premises.{AllBelow}
-use Rattle.shader_runs.specs.Scope.{named_after, named_by}
+use Rattle.shader_runs.specs.Scope.{named_after}
 use Rattle.naga_form.proofs.statements.AcceptedFunctions.{locals_are_in_range, names_are_in_range}
-use Rattle.naga_form.proofs.Fits.{named_by_is, named_is, named_one}
-use Rattle.module_meaning.specs.ExpressionLabels.{label_of, labels_in}
+use Rattle.naga_form.proofs.Fits.{named_is, named_one}
+use Rattle.module_meaning.specs.ExpressionLabels.{label_of}
 use Rattle.naga_scope.specs.Availabilities.{name_of_bound, next_name}
 use Rattle.naga_wgsl_fns.specs.Names.{bound_text, next_name_text}
 use Rattle.naga_form.proofs.operators.Ordered.{operands_stand_before}

@@ -1,5 +1,5 @@
 -- A function that is written by itself.
-use Rattle.std.proofs.Common.{◌≡◌, ◌+◌, ◌<◌, ◌^◌, ◌∙◌, ◌++◌, ℕ, Bool, List, [], None, Some}
+use Rattle.std.proofs.Common.{◌≡◌, ◌+◌, ◌<◌, ◌^◌, ◌∙◌, ◌++◌, ℕ, Bool, List, [], Some}
 use Rattle.std.proofs.Common.{append-nil, ap, append_assoc, arith, drop, inl, inr, length, refl}
 use Rattle.std.proofs.Common.{slice_get, subst, sym, codes, take, unwrap_or, ◌∷◌}
 use Rattle.std.specs.Prelude.{Err, IfErr, IsErrAnd, IsTrue, Ok, OnErr, OnOk, Result}
@@ -17,7 +17,7 @@ use Rattle.module_meaning.specs.acceptance.Accepted.{is_accepted}
 use Rattle.module_meaning.specs.ExpressionLabels.{expression_labels, name_of_label}
 use Rattle.module_meaning.specs.Names.{LabelNames, item_labels, labels_named_in, module_names}
 use Rattle.module_meaning.specs.Names.{wgsl_names}
-use Rattle.module_meaning.specs.DeclarationForms.{HeadHasForm, entry_point_numbered}
+use Rattle.module_meaning.specs.DeclarationForms.{HeadHasForm}
 use Rattle.module_meaning.specs.FunctionNumbers.{IsFunctionOf, all_functions, all_infos}
 use Rattle.module_meaning.specs.FunctionNumbers.{function_number}
 use Rattle.naga_form.proofs.statements.AcceptedFunctions.{all_counted}

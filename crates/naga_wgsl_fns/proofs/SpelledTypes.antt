@@ -39,7 +39,6 @@ use Rattle.module_meaning.specs.AlikeTypes.{is_spelled, type_key}
 use Rattle.module_meaning.specs.Undeclared.{is_spellable, names_undeclared}
 use Rattle.naga_form.proofs.types.AlikeTypes.{form_is_read, form_read}
 use Rattle.naga_form.proofs.types.TypeTrees.{type_row}
-use Rattle.naga_form.specs.TypeTrees.{type_tree}
 
 -- ---- debug texts
 -- one is among the parts

@@ -1,8 +1,8 @@
 -- The texts of the stages of entry points, from what is written of them in turn.
 --
 -- Throughout, m is a module, e an entry point of it, and front is what stands in front of a variable.
-use Rattle.std.proofs.Common.{◌≡◌, ◌∙◌, ◌++◌, ◌==◌, ℕ, List, [], ◌∷◌, append_assoc, ap, arith}
-use Rattle.std.proofs.Common.{codes, decimal, get_or, length, refl, slice_get, sym, true, zero, suc}
+use Rattle.std.proofs.Common.{◌≡◌, ◌∙◌, ◌++◌, ℕ, List, [], ◌∷◌, append_assoc, ap, arith, codes}
+use Rattle.std.proofs.Common.{decimal, get_or, length, refl, slice_get, sym}
 use Rattle.std.specs.Prelude.{◌&&◌, Option, Some, None, IsTrue}
 use Rattle.std.specs.List.{list_all}
 use Rattle.std.specs.Option.{option_map}
@@ -25,11 +25,9 @@ use Rattle.module_meaning.specs.acceptance.Soundness.{module_is_sound}
 use Rattle.naga_form.specs.Attributes.{attribute_of, payload_attributes, size_attributes}
 use Rattle.naga_form.specs.Attributes.{stage_attributes}
 use Rattle.naga_words.specs.Output.{joined_texts}
-use Rattle.wgsl_text.specs.Attributes.{AnyHit, Attribute, ClosestHit, Compute, Fragment}
-use Rattle.wgsl_text.specs.Attributes.{IncomingPayload, Mesh, Miss, Payload, Plain, PlainAttribute}
-use Rattle.wgsl_text.specs.Attributes.{RayGeneration, Task, Vertex, WorkgroupSize, Worded}
-use Rattle.wgsl_text.specs.Attributes.{WordedAttribute, attributes_pieces, plain_attribute_word}
-use Rattle.wgsl_text.specs.Text.{text}
+use Rattle.wgsl_text.specs.Attributes.{Attribute, Compute, IncomingPayload, Mesh, Payload, Plain}
+use Rattle.wgsl_text.specs.Attributes.{PlainAttribute, Task, WorkgroupSize, Worded, WordedAttribute}
+use Rattle.wgsl_text.specs.Attributes.{plain_attribute_word}
 use Rattle.naga_wgsl_fns.proofs.AttributeRows.{attributes_then, no_attributes, worded_alone}
 use Rattle.naga_wgsl_fns.proofs.AttributeRows.{worded_front}
 use Rattle.naga_wgsl_fns.specs.Attributes.{attributes_text, worded_text}

@@ -3,9 +3,9 @@ use Rattle.std.specs.List.{AllByRecursion}
 use Rattle.std.specs.Prelude.{cond, ◌&&◌, ◌||◌, nat_lt, not}
 use Rattle.naga_scope.specs.Continues.{before_continue, from_continue, holds_continue}
 use Rattle.naga_ir.specs.StatementTree.{simple, store, StatementTree, block, branch, switch, loop}
-use Rattle.naga_ir.specs.StatementTree.{BlockTree, no_statements, statement, CaseTrees, no_cases}
+use Rattle.naga_ir.specs.StatementTree.{BlockTree, no_statements, statement, CaseTrees}
 use Rattle.naga_ir.specs.StatementTree.{case, has_no_statements}
-use Rattle.std.proofs.Common.{◌≡◌, ℕ, Bool, true, false, List, [], ◌∷◌, ◌++◌, Option, Some, None}
+use Rattle.std.proofs.Common.{◌≡◌, ℕ, Bool, true, false, List, [], ◌∷◌, ◌++◌, Option}
 use Rattle.std.proofs.Common.{IsTrue, length, subst, refl, sym, ◌+◌, ◌<◌, drop, slice_index_or}
 use Rattle.naga_ir.specs.StatementViews.{block_of, tree_of}
 use Rattle.naga_ir.specs.declared.statement.Statement.{Statement}

@@ -1,5 +1,5 @@
 -- What the writer's errors say.
-use Rattle.std.specs.Prelude.{◌≡◌, ⊤, ℕ, ◌<◌, List, codes, string_bytes}
+use Rattle.std.specs.Prelude.{◌≡◌, ⊤, ℕ, ◌<◌, List, string_bytes}
 use Rattle.naga_words.specs.declared.error.TypeTextError.{TypeTextError}
 use Rattle.naga_words.specs.declared.error.TypeTextError.TheVariants.{Sink, NoForm}
 use Rattle.naga_words.specs.declared.error.TypeTextError.TheVariants.{Memory as NoMemory}

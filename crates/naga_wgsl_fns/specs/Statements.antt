@@ -15,30 +15,27 @@ use Rattle.shader_runs.specs.Program as shapes
 use Rattle.naga_scope.specs.Walks.{after_each}
 use Rattle.std.specs.Prelude.{ℕ, Bool, List, [], ◌++◌, Option, None, Some, codes, if◌then◌else◌}
 use Rattle.std.specs.Prelude.{true, false}
-use Rattle.naga_ir.specs.Operands.{simple_result}
-use Rattle.naga_ir.specs.StatementTree.{BlockTree, CaseTrees, SimpleStatement, StatementTree}
+use Rattle.naga_ir.specs.StatementTree.{BlockTree, CaseTrees, StatementTree}
 use Rattle.naga_ir.specs.StatementTree.{simple, call}
 use Rattle.naga_back.specs.Indentation.{indentation}
-use Rattle.shader_runs.specs.Program.{Action, Asked, Called, binds}
+use Rattle.shader_runs.specs.Program.{binds}
 use Rattle.shader_runs.specs.Form.{word_of}
 use Rattle.shader_runs.specs.Scope.{Handles, Names, after, after_all, bound_name, named_by}
 use Rattle.shader_runs.specs.Scope.{named_by_all, named_by_cases}
 use Rattle.module_meaning.specs.FunctionShapes.{statement_shape, statements_shape}
 use Rattle.module_meaning.specs.Names.{numbered_name}
-use Rattle.module_meaning.specs.StatementShapes.{change_of, source_of}
 use Rattle.naga_form.specs.Expressions.{as_value, as_reference, plain_form, unnamed_form}
 use Rattle.naga_form.specs.Expressions.{value_form, value_forms}
 use Rattle.naga_form.specs.Statements.{act_line, cases_form, let_form, lets_form, line_form}
-use Rattle.naga_form.specs.Statements.{lines_form, return_line}
-use Rattle.wgsl_text.specs.Expressions.{NoArguments, operands}
+use Rattle.naga_form.specs.Statements.{lines_form}
+use Rattle.wgsl_text.specs.Expressions.{operands}
 use Rattle.wgsl_text.specs.Reading.{expression_layout}
-use Rattle.wgsl_text.specs.Statements.{Assign, CallStatement, Cases, CaseValue, CaseValues}
+use Rattle.wgsl_text.specs.Statements.{Assign, CaseValue}
 use Rattle.wgsl_text.specs.Statements.{NoStatements}
-use Rattle.wgsl_text.specs.Statements.{ReturnValue, Statement, Statements, case_pieces}
+use Rattle.wgsl_text.specs.Statements.{Statement, Statements, case_pieces}
 use Rattle.wgsl_text.specs.Statements.{cases_pieces, case_value_pieces, statement_pieces}
 use Rattle.wgsl_text.specs.Statements.{statements_pieces}
 use Rattle.wgsl_text.specs.Text.{text}
-use Rattle.wgsl_text.specs.Types.{Named}
 use Rattle.naga_wgsl_fns.specs.declared.functions.FunctionText.{FunctionText}
 use Rattle.naga_wgsl_fns.specs.FunctionText.{context, let_annotation, naming, source}
 use Rattle.naga_wgsl_fns.specs.Types.{let_annotation_text}

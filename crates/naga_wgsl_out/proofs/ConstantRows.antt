@@ -20,7 +20,6 @@ use Rattle.module_meaning.specs.Names.{module_names, name_in}
 use Rattle.module_meaning.specs.Types.{type_names}
 use Rattle.module_meaning.specs.ExpressionForms.{global_has_form}
 use Rattle.naga_form.specs.Attributes.{id_attributes}
-use Rattle.naga_form.specs.ConstantForms.{global_form}
 use Rattle.naga_form.specs.Declarations.{override_form}
 use Rattle.naga_words.specs.Output.{joined_texts}
 use Rattle.wgsl_text.proofs.Declarations.{constants_text as constants_row_text}

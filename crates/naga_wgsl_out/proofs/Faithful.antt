@@ -1,7 +1,6 @@
 -- What was written is faithful to the module.
-use Rattle.std.proofs.Common.{◌≡◌, ◌<◌, ◌∙◌, ◌++◌, ℕ, Bool, false, List, [], ◌∷◌, Ok, Err, ap}
-use Rattle.std.proofs.Common.{append-nil, drop, inl, inr, length, subst, sym, None, Option, Some}
-use Rattle.std.proofs.Common.{refl, slice_get}
+use Rattle.std.proofs.Common.{◌≡◌, ◌<◌, ◌∙◌, ◌++◌, ℕ, Bool, List, [], Ok, Err, ap, append-nil, inl}
+use Rattle.std.proofs.Common.{inr, length, subst, sym, None, Option, Some, refl, slice_get}
 use Rattle.std.proofs.lemmas.Option.{slice_get_within}
 use Rattle.naga_ir.specs.declared.module.Function.{Function}
 use Rattle.std.specs.Prelude.{◌⊎◌, IfErr, IsErrAnd, IsTrue, OnErr, OnOk, Result}

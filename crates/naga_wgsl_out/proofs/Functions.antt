@@ -44,13 +44,13 @@ use Rattle.module_meaning.specs.Names.{module_names, wgsl_names}
 use Rattle.naga_wgsl_fns.specs.Appends.{Appends, StoppedWithin, Wrote}
 use Rattle.naga_wgsl_fns.specs.Attributes.{attributes_text}
 use Rattle.naga_back.specs.Flags.{annotates_types}
-use Rattle.naga_wgsl_fns.specs.Functions.{known_of, text_of, text_of_function}
+use Rattle.naga_wgsl_fns.specs.Functions.{known_of, text_of}
 use Rattle.naga_wgsl_fns.specs.Stages.{stage_text}
 use Rattle.naga_wgsl_fns.specs.declared.refusals.error.Error.{Error}
 use Rattle.naga_wgsl_fns.specs.declared.refusals.error.Error.TheVariants.{Memory}
 use Rattle.naga_wgsl_fns.proofs.Appending.{stopped_first, stopped_then, wrote_nothing, wrote_then}
 use Rattle.naga_back.specs.declared.flags.WriterFlags.{WriterFlags}
-use Rattle.naga_wgsl_fns.specs.Refusals.{IsFault, IsPlanRefusal, TellsOfModule}
+use Rattle.naga_wgsl_fns.specs.Refusals.{IsPlanRefusal}
 use Rattle.naga_wgsl_out.specs.Declarations.{declarations_of, declarations_text}
 use Rattle.naga_wgsl_out.specs.Enables.{enables_text}
 use Rattle.naga_wgsl_out.proofs.DeclarationRows.{layout_row}

@@ -2,10 +2,10 @@
 -- stands in front of a module's functions.
 --
 -- Throughout, m is a module, and rest what stands after a type.
-use Rattle.std.proofs.Common.{◌≡◌, ◌∙◌, ◌++◌, ◌==◌, ℕ, List, [], ◌∷◌, append_assoc, ap, arith, codes}
-use Rattle.std.proofs.Common.{false, length, map, ne_eqb, refl, suc, sym}
+use Rattle.std.proofs.Common.{◌≡◌, ◌++◌, ◌==◌, ℕ, List, [], ◌∷◌, append_assoc, ap, arith, codes}
+use Rattle.std.proofs.Common.{length, map, ne_eqb, refl, suc, sym}
 use Rattle.std.specs.List.{enumerate_from}
-use Rattle.std.specs.Prelude.{Option, Some, None, if◌then◌else◌}
+use Rattle.std.specs.Prelude.{Some, None, if◌then◌else◌}
 use Rattle.naga_ir.specs.declared.module.Module.{Module}
 use Rattle.naga_names.specs.declared.key.NameKey.{NameKey}
 use Rattle.module_meaning.specs.Names.{module_names, name_in}

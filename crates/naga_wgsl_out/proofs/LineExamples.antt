@@ -3,8 +3,8 @@
 -- Throughout, the block is `loop { if 1 { loop {} break if 3 } } continuing { {} } break if 4`. So its
 -- statements are the outer loop 0, the `if` 1, the inner loop 2 and the block 3, and one after the outer
 -- loop would be 4.
-use Rattle.std.proofs.Common.{◌≡◌, ℕ, true, false, List, [], ◌∷◌, None, Some, refl}
-use Rattle.naga_ir.specs.StatementTree.{StatementTree, block, branch, loop, BlockTree, no_statements}
+use Rattle.std.proofs.Common.{◌≡◌, true, false, [], ◌∷◌, Some, refl}
+use Rattle.naga_ir.specs.StatementTree.{StatementTree, block, branch, loop, no_statements}
 use Rattle.naga_ir.specs.StatementTree.{statement}
 use Rattle.naga_scope.specs.FirstLines.{block_breaks}
 use Rattle.naga_scope.specs.Lines.{break_at, is_before, number_after}

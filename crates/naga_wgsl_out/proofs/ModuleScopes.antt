@@ -8,7 +8,6 @@ use mathlib.Core.List.{reverse_aux}
 use Rattle.naga_ir.specs.declared.module.Function as ir_function
 use Rattle.naga_ir.specs.declared.module.Module.{Module}
 use Rattle.naga_info.specs.declared.info.ModuleInfo.{ModuleInfo}
-use Rattle.shader_runs.specs.Program as shapes
 use Rattle.shader_runs.specs.Program.{Function}
 use Rattle.shader_runs.specs.ScopeRules.{ScopeHolds}
 use Rattle.module_meaning.specs.acceptance.Accepted.{is_accepted}

@@ -1,6 +1,6 @@
 -- Why the items of a module get no names is told by other texts than what is told of a function.
 use Rattle.std.proofs.Common.{◌≡◌, ◌∙◌, ◌<◌, ℕ, zero, suc, Bool, false, true, List, [], ◌∷◌, length}
-use Rattle.std.proofs.Common.{ap, arith, inl, inr, nat_eq, not, refl, slice_index_or, subst, sym}
+use Rattle.std.proofs.Common.{ap, arith, inl, inr, nat_eq, not, refl, slice_index_or, sym}
 use Rattle.std.proofs.lemmas.Bool.{and_parts, false≢true}
 use Rattle.std.specs.List.{list_all}
 use Rattle.std.specs.Prelude.{◌⊎◌, get_or, string_bytes}

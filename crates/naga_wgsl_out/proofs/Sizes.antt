@@ -21,7 +21,7 @@ use Rattle.wgsl_layout.specs.declared.layouts.Layout.{Layout}
 use Rattle.wgsl_layout.specs.declared.layouts.Placed.{Placed}
 use Rattle.naga_wgsl_fns.specs.declared.module_text.ModuleText.{ModuleText}
 use Rattle.naga_wgsl_out.specs.Items.{CanDeclare}
-use Rattle.naga_wgsl_out.specs.Structs.{IsDeclaredStruct, after_member, after_with}
+use Rattle.naga_wgsl_out.specs.Structs.{IsDeclaredStruct, after_member}
 use Rattle.naga_wgsl_out.specs.declared.structs.After.{After}
 
 -- ---- layouts as the code holds them

@@ -1,15 +1,14 @@
 -- The texts of structs, from what is written of them in turn.
 --
 -- Throughout, m is a module, h the handle of a type t of it, s a member of a struct, and i its number.
-use Rattle.std.proofs.Common.{◌≡◌, ◌∙◌, ◌++◌, ◌+◌, ◌<◌, ◌≤◌, ◌^◌, ℕ, Bool, true, false, List, [], ◌∷◌}
-use Rattle.std.proofs.Common.{append_assoc, ap, arith, codes, drop, length, map, refl, slice_get}
-use Rattle.std.proofs.Common.{slice_index_or, sym}
-use Rattle.std.proofs.Common.{Global, Vec, inl, inr, nat_lt}
+use Rattle.std.proofs.Common.{◌≡◌, ◌∙◌, ◌++◌, ◌+◌, ◌<◌, ◌≤◌, ◌^◌, ℕ, Bool, true, false, List, []}
+use Rattle.std.proofs.Common.{◌∷◌, append_assoc, ap, arith, codes, drop, length, refl, slice_get}
+use Rattle.std.proofs.Common.{slice_index_or, sym, Global, Vec, inl, inr, nat_lt}
 use Rattle.std.proofs.lemmas.Bool.{ltb-false, ltb-true}
 use Rattle.std.proofs.lemmas.List.{drop_all}
 use Rattle.std.proofs.lemmas.Option.{slice_get_within}
 use Rattle.std.specs.List.{cons_option, enumerate_from, filter_map}
-use Rattle.std.specs.Option.{is_some, option_map_or, option_to_list}
+use Rattle.std.specs.Option.{option_to_list}
 use Rattle.std.specs.Prelude.{◌&&◌, IsTrue, None, Option, Some, if◌then◌else◌, not}
 use Rattle.naga_info.specs.declared.info.TypeResolution.TheVariants.{Handle}
 use Rattle.naga_ir.specs.declared.binding.Binding.{Binding}
@@ -24,14 +23,13 @@ use Rattle.naga_names.specs.Reset.{members_of}
 use Rattle.naga_names.specs.declared.key.NameKey.TheVariants as key
 use Rattle.module_meaning.proofs.ExpressionForms.{spelled_of_spellable}
 use Rattle.module_meaning.specs.AlikeTypes.{is_spelled}
-use Rattle.module_meaning.specs.DeclarationForms.{DeclarationsHaveForms, IsDeclaredType}
-use Rattle.module_meaning.specs.DeclarationForms.{IsMemberBinding, binding_has_form}
+use Rattle.module_meaning.specs.DeclarationForms.{IsDeclaredType, IsMemberBinding}
 use Rattle.module_meaning.specs.Layouts.{span_of, written_size}
 use Rattle.module_meaning.specs.Names.{module_names, name_in, wgsl_names}
 use Rattle.module_meaning.specs.Types.{type_names}
 use Rattle.module_meaning.specs.Undeclared.{is_declared, is_undeclared}
 use Rattle.naga_form.specs.Attributes.{passing_attributes}
-use Rattle.naga_form.specs.Declarations.{member_form, struct_form}
+use Rattle.naga_form.specs.Declarations.{member_form}
 use Rattle.naga_words.specs.Output.{joined_texts}
 use Rattle.naga_words.specs.Spelling.{is_struct}
 use Rattle.wgsl_text.proofs.Declarations.{members_text as members_row_text}
@@ -41,7 +39,6 @@ use Rattle.wgsl_text.specs.Attributes.{Size}
 use Rattle.wgsl_text.specs.Declarations.{Struct, StructMember, members_pieces, structs_pieces}
 use Rattle.wgsl_text.specs.Text.{text}
 use Rattle.naga_wgsl_fns.proofs.AttributeRows.{attributes_then, no_attributes, numbered_alone}
-use Rattle.naga_wgsl_fns.proofs.FunctionRows.{drop_at}
 use Rattle.naga_ir.proofs.Listed.{drop_first}
 use Rattle.naga_wgsl_fns.specs.Attributes.{attributes_text, numbered_text}
 use Rattle.naga_wgsl_fns.specs.Bindings.{passing_has_form}
@@ -52,8 +49,9 @@ use Rattle.naga_wgsl_out.proofs.ItemRows.{typed_then}
 use Rattle.naga_wgsl_out.specs.Items.{CanDeclare, IsNamedIn, typed_text}
 use Rattle.naga_wgsl_out.specs.ModuleRefusals.{KeyIsOutOfRange}
 use Rattle.naga_wgsl_out.specs.Structs.{IsDeclaredMember, IsDeclaredStruct, declared_text}
-use Rattle.naga_wgsl_out.specs.Structs.{member_text, members_from, members_text, given_size_attributes}
-use Rattle.naga_wgsl_out.specs.Structs.{struct_at, struct_text, struct_with, structs_text}
+use Rattle.naga_wgsl_out.specs.Structs.{member_text, members_from, members_text}
+use Rattle.naga_wgsl_out.specs.Structs.{given_size_attributes, struct_at, struct_text, struct_with}
+use Rattle.naga_wgsl_out.specs.Structs.{structs_text}
 
 -- ---- all of them
 one_struct : (d : Struct) (more : List Struct) →

@@ -1,5 +1,5 @@
 -- What names an expression, a type or a statement without a form tells of one by its text.
-use Rattle.std.proofs.Common.{◌≡◌, ℕ, Bool, true, false, List, None, Option, Some, arith, codes}
+use Rattle.std.proofs.Common.{ℕ, Bool, true, false, List, None, Option, Some, arith, codes}
 use Rattle.std.proofs.Common.{inl, inr, refl, subst, sym}
 use Rattle.std.specs.List.{IsAmong}
 use Rattle.std.specs.Prelude.{IsSomeAnd, slice_get}

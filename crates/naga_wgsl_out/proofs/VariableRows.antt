@@ -24,7 +24,7 @@ use Rattle.module_meaning.specs.Types.{type_names}
 use Rattle.module_meaning.specs.ExpressionForms.{global_has_form}
 use Rattle.naga_form.specs.Attributes.{attribute_if, decoration_attributes, global_attributes}
 use Rattle.naga_form.specs.Attributes.{resource_attributes}
-use Rattle.naga_form.specs.Declarations.{space_form, space_of_words, variable_form}
+use Rattle.naga_form.specs.Declarations.{space_of_words, variable_form}
 use Rattle.naga_words.specs.Output.{joined_texts}
 use Rattle.wgsl_text.proofs.Declarations.{globals_text as globals_row_text}
 use Rattle.wgsl_text.proofs.Text.{text-append}

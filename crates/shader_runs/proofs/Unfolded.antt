@@ -11,7 +11,7 @@ use Rattle.std.proofs.Common.{option_map}
 use Rattle.std.specs.Prelude.{IsTrue, unwrap_or}
 use Rattle.shader_runs.specs.Value.{Value, PartTypes, has_type, has_types}
 use Rattle.shader_runs.specs.World.{Event, World, Meaning, Settings, Environment, entries}
-use Rattle.shader_runs.specs.Outcome.{Outcome, Done, ReachedOrHalted, and_then, after_switch}
+use Rattle.shader_runs.specs.Outcome.{Done, ReachedOrHalted, and_then, after_switch}
 use Rattle.shader_runs.specs.Outcome.{branch_by, or_stuck, turn, turns, with_integer}
 use Rattle.shader_runs.specs.Program.{ConstantTree, Fixed, NamedConstant, Constructed, Indexing}
 use Rattle.shader_runs.specs.Program.{Picking, Joining, ConstantTrees, no_constant, constant}

@@ -3,7 +3,7 @@ use Rattle.std.proofs.Common.{◌≡◌, ◌≤◌, ◌∙◌, ℕ, List, [], Er
 use Rattle.std.proofs.Common.{Result, Some, ap, inl, inr, is_none, length, refl, subst, sym, arith}
 use Rattle.std.proofs.lemmas.Bool.{le-leb, lt-leb}
 use Rattle.told_floats.specs.Told.{IsToldModule}
-use Rattle.std.specs.Prelude.{◌<◌, ◌%◌, ◌⊎◌, IfSome, IsTrue}
+use Rattle.std.specs.Prelude.{◌<◌, ◌%◌, IfSome, IsTrue}
 use Rattle.naga_ir.specs.declared.module.Module.{Module}
 use Rattle.naga_info.specs.declared.info.ModuleInfo.{ModuleInfo}
 use Rattle.module_meaning.specs.acceptance.Accepted.{is_accepted}

@@ -1,6 +1,6 @@
 use Rattle.module_limits.specs.Depths.{deepest}
 use Rattle.module_limits.specs.Nesting.{global_parts}
-use Rattle.std.proofs.Common.{◌∙◌, ap, sym}
+use Rattle.std.proofs.Common.{◌∙◌, ap}
 use Rattle.module_limits.proofs.Tables.{begins, begins_within, goes_on, goes_on_within, stops}
 use Rattle.module_limits.proofs.depths.globals_are_within.Goals as goal
 

@@ -1,7 +1,6 @@
-use Rattle.std.proofs.Common.{◌≡◌, ◌≤◌, ◌<◌, ◌+◌, ap, sym, ◌∙◌, suc, length, arith, refl, slice_get}
-use Rattle.std.proofs.Common.{ℕ, Some, None, true, inl, inr, List, ◌⊎◌, get_or}
+use Rattle.std.proofs.Common.{◌≡◌, ◌≤◌, ◌<◌, ◌+◌, ap, sym, ◌∙◌, suc, length, arith, refl, ℕ, true}
 use Rattle.std.specs.Option.{is_none}
-use Rattle.std.proofs.lemmas.Option.{slice_get_within, slice_get_cases}
+use Rattle.std.proofs.lemmas.Option.{slice_get_within}
 use Rattle.module_meaning.specs.acceptance.AgreeingOperators.{groups_of}
 use Rattle.module_meaning.specs.acceptance.Operations.{all_agree}
 use Rattle.naga_acceptance.specs.Uses.{group_of, group_uses, share_uses}

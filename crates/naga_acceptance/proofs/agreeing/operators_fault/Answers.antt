@@ -1,4 +1,4 @@
-use Rattle.std.proofs.Common.{◌≡◌, ◌<◌, ◌∙◌, ap, length, arith, Some, subst, sym}
+use Rattle.std.proofs.Common.{◌<◌, ◌∙◌, ap, length, arith, subst, sym}
 use Rattle.std.proofs.lemmas.Option.{slice_get_within}
 use Rattle.module_meaning.specs.acceptance.AgreeingOperators.{groups_of}
 use Rattle.naga_acceptance.specs.Faults.{DisagreesAt, site_of}

@@ -1,4 +1,4 @@
-use Rattle.std.proofs.Common.{ap, subst, sym, true, ◌≡◌, ◌∙◌}
+use Rattle.std.proofs.Common.{subst, sym}
 use Rattle.std.specs.Prelude.{IsTrue}
 use Rattle.naga_layout.specs.Tables.{TellMembers}
 use Rattle.naga_layout.specs.Types.{parts_before}

@@ -1,4 +1,4 @@
-use Rattle.std.proofs.Common.{◌≡◌, ◌∙◌, ap, arith, length, subst, sym}
+use Rattle.std.proofs.Common.{◌≡◌, ◌∙◌, arith, length, subst, sym}
 use Rattle.naga_layout.specs.Tables.{TellStridesBefore, written_rule}
 use Rattle.naga_layout.specs.Types.{arrays_are_kept}
 use Rattle.naga_layout.proofs.Strides.{all_marked, kept_is, one_marked}

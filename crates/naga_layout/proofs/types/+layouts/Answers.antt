@@ -1,7 +1,6 @@
-use Rattle.std.proofs.Common.{◌≡◌, ◌∙◌, ◌+◌, ap, drop, max, refl, subst, sym, None, Option, Some}
+use Rattle.std.proofs.Common.{◌∙◌, ◌+◌, ap, drop, refl, subst, sym, None}
 use Rattle.std.specs.Option.{option_map}
-use Rattle.wgsl_layout.specs.Capped.{IsGreatest, capped, capped_member}
-use Rattle.wgsl_layout.specs.declared.layouts.Placed.{Placed}
+use Rattle.wgsl_layout.specs.Capped.{IsGreatest, capped}
 use Rattle.naga_layout.specs.Capped.{left_from}
 use Rattle.naga_layout.specs.Types.{kept_struct, layout_at, user_rule}
 use Rattle.naga_layout.proofs.Levels.{layout_is, told_is}

@@ -1,4 +1,4 @@
-use Rattle.std.proofs.Common.{◌+◌, ◌∙◌, ap, arith, drop, length}
+use Rattle.std.proofs.Common.{◌+◌, arith, drop, length}
 use Rattle.naga_ir.proofs.Listed.{first_case, first_of}
 use Rattle.naga_ir.specs.StatementViews.{block_of, cases_of, tree_of}
 use Rattle.naga_scope.proofs.BreakNotes.{next_case_count, next_case_noted, next_case_smaller, next_count}

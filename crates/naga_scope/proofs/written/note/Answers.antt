@@ -1,5 +1,5 @@
-use Rattle.std.proofs.Common.{◌≡◌, ◌<◌, [], ◌∷◌, None, Some, ap, length, subst, sym, ◌∙◌}
-use Rattle.std.specs.Prelude.{get_or, slice_set}
+use Rattle.std.proofs.Common.{◌<◌, [], ◌∷◌, Some, ap, length, subst, sym, ◌∙◌}
+use Rattle.std.specs.Prelude.{slice_set}
 use Rattle.naga_scope.proofs.FirstLines.{one_noted}
 use Rattle.naga_scope.specs.FirstLines.{WritesAlso, first_line}
 use Rattle.naga_scope.proofs.written.note.Goals as goal

@@ -1,5 +1,4 @@
-use Rattle.std.proofs.Common.{◌≡◌, ◌∙◌, Err, IfErr, IfOk, Ok, ap, length, refl, subst, sym}
-use Rattle.std.proofs.Common.{string_bytes, ◌≤◌, ℕ, []}
+use Rattle.std.proofs.Common.{IfErr, IfOk, length, subst, string_bytes, ◌≤◌, ℕ, []}
 use Rattle.std.specs.Prelude.{IsTrue}
 use Rattle.module_answers.specs.Within.{IsUnwritten}
 use Rattle.module_answers.specs.WriteOutcomes.{AnswersWriting}
