@@ -62,9 +62,6 @@ finds_same same first = record { fits = first.fits ∙ same; fails = first.fails
 
 -- ---- lists
 
--- the item at a place of a list that begins at this number
-module _ {X : Type 0} (xs : List X) where
-
 -- the item at this place fails the test
 pub unfit_at : {X : Type 0} (test : X → Bool) (xs : List X) (h : ℕ) (x : X) → slice_get xs h ≡ Some x →
     test x ≡ false → Unfit test xs h

@@ -162,6 +162,3 @@ module _ (es : List Expression) (roots : List ℕ) (first : List Bool) where
           (lt-ltb y (length old) (subst (λ n. y < n) (sym size) lt)))
       close j d y is there one lt (inr after) =
           stays y (swept.closed j d y after (was j (omega (arith, after)) is) there one lt)
-
--- ---- other lists of the same handles
-module _ (es : List Expression) where
