@@ -8,3 +8,4 @@ pub mod Labels
 pub mod Within
 pub mod Roots
 pub mod ScopeRoots
+pub mod JsonNesting

@@ -55,7 +55,8 @@ pub(crate) fn label_text(alloc: Global, label: Option<&str>) -> Result<String, A
     format!(in alloc; "{label}")
 }
 
-/// The same without the position and the label there.
+/// A fault of the module without its position: its kind, and what was expected where more can be
+/// told than the kind.
 pub fn fault_text(
     alloc: Global,
     module: &Module,

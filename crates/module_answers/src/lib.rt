@@ -3,6 +3,7 @@
 #![tactic(auto)]
 
 mod faults;
+mod json_nesting;
 mod layouts;
 mod listed_positions;
 mod positions;
@@ -14,6 +15,7 @@ mod within;
 mod writing;
 
 pub use faults::{fault_line, fault_text, labelled_position, mismatch_text};
+pub use json_nesting::{NESTS_TOO_DEEP, nests_too_deep};
 pub use layouts::layout_table;
 pub use listed_positions::{listed_position, refused_position};
 pub use positions::{JsonPosition, JsonRefusalPosition, JsonRoot, label_at, label_of};

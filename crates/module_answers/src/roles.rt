@@ -19,7 +19,9 @@ use std::fmt;
 /// number in it, counted from zero.
 #[derive(Clone, Copy, Debug, PartialEq, Eq)]
 pub struct Role<'a> {
+    /// The name of the field, as naga has it.
     pub field: &'a str,
+    /// The number in the field's list, counted from zero, where the field is one.
     pub item: Option<usize>,
 }
 

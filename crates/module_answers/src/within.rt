@@ -8,13 +8,14 @@ ghost use Rattle.module_answers.specs.WriteOutcomes.{AnswersWriting};
 ghost use Rattle.module_limits.specs.Nesting.{nested_past};
 ghost use Rattle.module_meaning.specs.acceptance.Accepted.{is_accepted};
 ghost use Rattle.naga_wgsl_out.specs.Checked.{IsCounted};
+ghost use Rattle.naga_wgsl_out.specs.Within.{unfailed};
 ghost use Rattle.told_floats.specs.Told.{IsToldModule};
 
 use crate::writing::{WriteOutcome, write, write_told};
 use naga_info::ModuleInfo;
 use naga_wgsl_out::info::Unaccepted;
 use naga_wgsl_out::ir::Module;
-use naga_wgsl_out::sinks::BoundedText;
+use naga_wgsl_out::sinks::{BoundedText, unfailed};
 use naga_wgsl_out::wgsl::{Limits, Nested, WriterFlags, nested_past};
 use std::alloc::{AllocError, Global};
 use thiserror::Error as DisplayedError;
@@ -29,7 +30,8 @@ pub enum NoOutcome {
     #[error("not accepted: {0}")]
     NotAccepted(Unaccepted),
     /// What was written of the module has more bytes than the limit: its text, or of a module that is
-    /// refused what stands in front of what it is refused for.
+    /// refused what stands in front of what it is refused for. That the last is as long is not proved,
+    /// but of the text with what stands after it.
     #[error("text too long")]
     TooLong,
     /// There was no memory for the question how deep it is nested.
@@ -49,8 +51,8 @@ pub fn write_within(
     ensures nested { IfOk result (λ _. nested_past limits.nesting «module».now ≡ None) }
     ensures accepted { IfOk result (λ _. IsTrue (is_accepted «module».now info.old)) }
     ensures counted { IfOk result (λ _. IsCounted «module».now info.old info.new) }
-    ensures written { IfOk result (λ w. (failures : ℕ) × AnswersWriting flags «module».now info.new
-        w.answer w.refusal [] (string_bytes w.sink) 0 failures) }
+    ensures written { IfOk result (λ w. AnswersWriting flags «module».now info.new
+        w.answer w.refusal [] (string_bytes w.sink) 0 0) }
     ensures within { IfOk result (λ w. length (string_bytes w.sink) ≤ limits.text) }
     ensures unwritten { IfErr result (IsUnwritten flags limits «module».now «module».now info.old
         info.new) }
@@ -79,8 +81,8 @@ pub fn write_told_within(
     ensures accepted { IfOk result (λ _. IsTrue (is_accepted «module».old info.old)) }
     ensures told { IfOk result (λ _. IsToldModule «module».old «module».new) }
     ensures counted { IfOk result (λ _. IsCounted «module».new info.old info.new) }
-    ensures written { IfOk result (λ w. (failures : ℕ) × AnswersWriting flags «module».new info.new
-        w.answer w.refusal [] (string_bytes w.sink) 0 failures) }
+    ensures written { IfOk result (λ w. AnswersWriting flags «module».new info.new
+        w.answer w.refusal [] (string_bytes w.sink) 0 0) }
     ensures within { IfOk result (λ w. length (string_bytes w.sink) ≤ limits.text) }
     ensures unwritten { IfErr result (IsUnwritten flags limits «module».old «module».new info.old
         info.new) }
@@ -110,9 +112,9 @@ pub fn check_nesting(alloc: Global, module: &Module, levels: usize) -> Result<()
     }
 }
 
-/// What was written, if its text has no more than so many bytes.
+/// What was written, if its text has no more than so many bytes. Then its sink has not failed.
 fn kept(written: WriteOutcome<BoundedText>, bound: usize) -> Option<WriteOutcome<String>>
-    ensures answer { IfSome result (λ w. w.answer ≡ written.answer) }
+    ensures answer { IfSome result (λ w. w.answer ≡ unfailed written.answer) }
     ensures refusal { IfSome result (λ w. w.refusal ≡ written.refusal) }
     ensures text { IfSome result (λ w. string_bytes w.sink ≡ written.sink.text) }
     ensures within { IfSome result (λ w. length (string_bytes w.sink) ≤ bound) }
@@ -126,10 +128,9 @@ fn kept(written: WriteOutcome<BoundedText>, bound: usize) -> Option<WriteOutcome
     if sink.text().len() > bound {
         return None;
     }
-    let sink = sink.finish();
     Some(WriteOutcome {
-        answer,
+        answer: unfailed(answer),
         refusal,
-        sink,
+        sink: sink.finish(),
     })
 }

@@ -14,7 +14,7 @@ use Rattle.naga_back.specs.declared.flags.WriterFlags.{WriterFlags}
 use Rattle.naga_info.specs.declared.info.ModuleInfo.{ModuleInfo}
 use Rattle.naga_ir.specs.declared.module.Module.{Module}
 use Rattle.naga_wgsl_fns.specs.declared.refusals.error.Error.{Error}
-use Rattle.naga_wgsl_fns.specs.declared.refusals.error.Error.TheVariants.{Memory}
+use Rattle.naga_wgsl_fns.specs.declared.refusals.error.Error.TheVariants.{FmtError, Memory}
 use Rattle.naga_wgsl_out.specs.Checked.{IsCounted}
 use Rattle.naga_wgsl_out.specs.Headline.{EachReading, FaithfulWriting, MatchesModule}
 use Rattle.naga_wgsl_out.specs.Leaving.{LeavesOnError}
@@ -30,18 +30,28 @@ pub record IsTextWithin (flags : WriterFlags) (bound : ℕ) (m : Module) (info :
   pub faithful : FaithfulWriting flags m info (Ok tt) [] text 0 0
   pub matches : EachReading [] text (MatchesModule (annotates_types flags) m info)
 
+-- What the writer answers, where its sink has not failed. A text with a bound fails only where it is
+-- past that, but no contract of a sink says so: a failure that is told all the same is told as want
+-- of memory.
+abbrev pub unfailed_error : Error → Error
+unfailed_error (FmtError e) = Memory alloc_error
+unfailed_error error = error
+
+abbrev pub unfailed : Result Unit Error → Result Unit Error
+unfailed (Ok x) = Ok x
+unfailed (Err error) = Err (unfailed_error error)
+
 -- the writer refused the module, or memory was wanting, after a text that was not too long, and what
--- it left is told as of each call of the writer
+-- it left is told as of each call of the writer whose sink has not failed
 pub record IsRefusedWithin (flags : WriterFlags) (bound : ℕ) (m : Module) (info : ModuleInfo)
     (error : Error) : Type 0 where
   pub beginning : List ℕ
-  pub failures : ℕ
   pub within : length beginning ≤ bound
-  pub faithful : FaithfulWriting flags m info (Err error) [] beginning 0 failures
-  pub leaves : LeavesOnError flags m info error [] beginning 0 failures
+  pub faithful : FaithfulWriting flags m info (Err error) [] beginning 0 0
+  pub leaves : LeavesOnError flags m info error [] beginning 0 0
 
--- what is answered of an accepted module; in particular a text is too long only where the module's
--- is
+-- What is answered of an accepted module. In particular a text is too long only where the module's
+-- is; of a module that is refused that is the text with what stands after the place of the refusal.
 abbrev pub AnswersBounded : {Y : Type 0} → WriterFlags → (bound : ℕ) → Module → ModuleInfo →
     Result (String Y) LimitedError → Type 0
 AnswersBounded flags bound m info (Ok text) =

@@ -20,5 +20,6 @@
 //! }
 //! ```
 
+pub use crate::within::unfailed;
 pub use module_limits::BoundedText;
 pub use naga_words::{IoSink, Limited};

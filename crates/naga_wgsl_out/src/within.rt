@@ -3,7 +3,8 @@
 ghost use Rattle.std.specs.Prelude.{◌≡◌, IsTrue, None};
 ghost use Rattle.module_limits.specs.Nesting.{nested_past};
 ghost use Rattle.module_meaning.specs.acceptance.Accepted.{is_accepted};
-ghost use Rattle.naga_wgsl_out.specs.Within.{AnswersBounded, AnswersWithin, TellsBounded};
+ghost use Rattle.naga_wgsl_out.specs.Within.{AnswersBounded, AnswersWithin, TellsBounded, unfailed};
+ghost use Rattle.naga_wgsl_out.specs.Within.{unfailed_error};
 
 use crate::writer::Writer;
 use module_limits::{BoundedText, Limits, Nested, nested_past};
@@ -12,7 +13,7 @@ use naga_back::WriterFlags;
 use naga_info::ModuleInfo;
 use naga_ir::Module;
 use naga_wgsl_fns::Error;
-use std::alloc::Global;
+use std::alloc::{AllocError, Global};
 use thiserror::Error as DisplayedError;
 
 /// Why [`write_checked_within`] gives no text.
@@ -24,7 +25,7 @@ pub enum LimitedError {
     /// The module is not accepted: at this position, for a fault of this kind.
     #[error("not accepted: {0}")]
     NotAccepted(Unaccepted),
-    /// The module's text has more bytes than the limit.
+    /// What was written of the module has more bytes than the limit.
     #[error("text too long")]
     TooLong,
     /// The module is accepted, and the writer refuses it; or memory was wanting.
@@ -38,9 +39,9 @@ pub enum LimitedError {
 /// [`LimitedError::TooDeep`] comes where something of the module is nested deeper than
 /// `limits.nesting`, by [`nested_past`], if there is memory to find out; before anything else is
 /// asked of it, and before the stack is taken. [`LimitedError::TooLong`] comes only where the
-/// module's text has more than `limits.text` bytes, and a text that has more never comes: it is cut
-/// as soon as it has passed the limit, so that it takes no more bytes than that and a piece more,
-/// and no more time.
+/// module's text has more than `limits.text` bytes; of a module that is refused that is the text with
+/// what stands after the place. A text that has more never comes: it is cut as soon as it has passed
+/// the limit, so that it takes no more bytes than that and a piece more, and no more time.
 /// What is known of the module is as it was where it is nested too deep or not accepted; else its
 /// uses are counted, but where memory was wanting before.
 ///
@@ -110,13 +111,35 @@ fn within_bound(
     sink: BoundedText,
     bound: usize,
 ) -> Result<String, LimitedError>
-    ensures { TellsBounded bound answer sink.text result }
+    ensures { TellsBounded bound (unfailed answer) sink.text result }
 {
     if sink.text().len() > bound {
         return Err(LimitedError::TooLong);
     }
-    match answer {
+    match unfailed(answer) {
         Ok(()) => Ok(sink.finish()),
         Err(error) => Err(LimitedError::Refused(error)),
+    }
+}
+
+/// What a writer to a [`BoundedText`] answers that is not past its bound.
+///
+/// Such a sink has not failed. No contract of a sink says so: a failure that were told all the same
+/// is told as want of memory.
+pub fn unfailed(answer: Result<(), Error>) -> Result<(), Error>
+    ensures { result ≡ unfailed answer }
+{
+    match answer {
+        Ok(()) => Ok(()),
+        Err(error) => Err(unfailed_error(error)),
+    }
+}
+
+fn unfailed_error(error: Error) -> Error
+    ensures { result ≡ unfailed_error error }
+{
+    match error {
+        Error::FmtError(_) => Error::Memory(AllocError),
+        error => error,
     }
 }

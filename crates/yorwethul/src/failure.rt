@@ -1,5 +1,6 @@
 //! Why the program cannot go on.
 
+use module_answers::NESTS_TOO_DEEP;
 use naga_json::ReadError;
 use std::{fmt, io};
 
@@ -10,6 +11,8 @@ pub enum Failure<'a> {
     Input(&'a str, io::Error),
     /// The file of this name holds no module or info.
     Json(&'a str, ReadError),
+    /// The JSON in the file of this name nests deeper than it is read.
+    TooDeep(&'a str),
     /// The module and what is known of it are both asked from the standard input.
     OneInput,
     /// The output cannot be written.
@@ -23,6 +26,7 @@ impl fmt::Display for Failure<'_> {
         match self {
             Failure::Input(name, error) => write!(f, "{}: {}", title(name), error),
             Failure::Json(name, error) => write!(f, "{}: {}", title(name), error),
+            Failure::TooDeep(name) => write!(f, "{}: {NESTS_TOO_DEEP}", title(name)),
             Failure::OneInput => {
                 f.write_str("standard input: it cannot hold both the module and the info")
             }

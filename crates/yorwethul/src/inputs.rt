@@ -2,8 +2,9 @@
 
 use crate::failure::Failure;
 use crate::words::Request;
+use module_answers::nests_too_deep;
 use naga_info::ModuleInfo;
-use naga_json::{Known, read_info, read_known, read_module};
+use naga_json::{Known, ReadError, read_info, read_known, read_module};
 use naga_wgsl_out::ir::Module;
 use std::rt::Files;
 use std::{fs, io};
@@ -23,9 +24,10 @@ fn known_in<'a, R: Files + Input + AllocGlobal>(
     rt: &R,
     name: &'a str,
 ) -> Result<Known, Failure<'a>> {
-    match read_known(rt.alloc(), text_of(rt, name)?.as_str()) {
+    let text = text_of(rt, name)?;
+    match read_known(rt.alloc(), text.as_str()) {
         Ok(known) => Ok(known),
-        Err(error) => Err(Failure::Json(name, error)),
+        Err(error) => Err(unread(name, text.as_str(), error)),
     }
 }
 
@@ -48,9 +50,10 @@ fn module_in<'a, R: Files + Input + AllocGlobal>(
     rt: &R,
     name: &'a str,
 ) -> Result<Module, Failure<'a>> {
-    match read_module(rt.alloc(), text_of(rt, name)?.as_str()) {
+    let text = text_of(rt, name)?;
+    match read_module(rt.alloc(), text.as_str()) {
         Ok(module) => Ok(module),
-        Err(error) => Err(Failure::Json(name, error)),
+        Err(error) => Err(unread(name, text.as_str(), error)),
     }
 }
 
@@ -58,9 +61,18 @@ fn info_in<'a, R: Files + Input + AllocGlobal>(
     rt: &R,
     name: &'a str,
 ) -> Result<ModuleInfo, Failure<'a>> {
-    match read_info(rt.alloc(), text_of(rt, name)?.as_str()) {
+    let text = text_of(rt, name)?;
+    match read_info(rt.alloc(), text.as_str()) {
         Ok(info) => Ok(info),
-        Err(error) => Err(Failure::Json(name, error)),
+        Err(error) => Err(unread(name, text.as_str(), error)),
+    }
+}
+
+/// Why the text of the file of this name was not read.
+fn unread<'a>(name: &'a str, text: &str, error: ReadError) -> Failure<'a> {
+    match error {
+        ReadError::NoJson { .. } if nests_too_deep(text.as_bytes()) => Failure::TooDeep(name),
+        error => Failure::Json(name, error),
     }
 }
 

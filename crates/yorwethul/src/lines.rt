@@ -5,8 +5,8 @@ use crate::progress::{Outcome, Progress};
 use crate::texts::{Style, write_in};
 use json::Scratch;
 use module_answers::{
-    JsonPosition, JsonRefusalPosition, JsonRoot, NoOutcome, WriteOutcome, label_at, label_of,
-    mismatch_text, root_at,
+    JsonPosition, JsonRefusalPosition, JsonRoot, NESTS_TOO_DEEP, NoOutcome, WriteOutcome, label_at,
+    label_of, mismatch_text, nests_too_deep, root_at,
 };
 use naga_json::{Known, ReadError, known_of, parse_bytes};
 use naga_wgsl_out::info::{Unaccepted, explain};
@@ -69,7 +69,7 @@ fn line_answer(alloc: Global, line: &[u8], style: Style) -> Result<(String, Outc
     let mut scratch = Scratch::new(alloc);
     match parse_bytes(alloc, line, &mut scratch) {
         Ok(request) => answer_request(alloc, &request, style, line, &mut members)?,
-        Err(error) => tell_unread(alloc, error, &mut members)?,
+        Err(error) => tell_unread(alloc, line, error, &mut members)?,
     }
     let outcome = outcome_in(&members);
     let text = Value::Object(members).to_string(alloc)?;
@@ -190,7 +190,7 @@ fn answer_module(
 ) -> Result<(), AllocError> {
     match known_of(alloc, request) {
         Ok(mut known) => tell_known(alloc, &mut known, style, members),
-        Err(error) => tell_unread(alloc, error, members),
+        Err(error) => tell(alloc, "error", error, members),
     }
 }
 
@@ -288,8 +288,19 @@ fn tell_unaccepted(
     put(alloc, "not_accepted", Value::Object(told), members)
 }
 
-fn tell_unread(alloc: Global, error: ReadError, members: &mut Members) -> Result<(), AllocError> {
-    tell(alloc, "error", error, members)
+/// Tells why the line holds no request.
+fn tell_unread(
+    alloc: Global,
+    line: &[u8],
+    error: ReadError,
+    members: &mut Members,
+) -> Result<(), AllocError> {
+    match error {
+        ReadError::NoJson { .. } if nests_too_deep(line) => {
+            tell(alloc, "error", NESTS_TOO_DEEP, members)
+        }
+        error => tell(alloc, "error", error, members),
+    }
 }
 
 /// Adds a member whose value is a text.

@@ -24,9 +24,13 @@ pub enum Outcome {
 /// How many modules were answered, and how.
 #[derive(Clone, Copy, Debug, PartialEq, Eq)]
 pub struct Counts {
+    /// How many lines were answered.
     pub answered: u64,
+    /// How many of these hold a module that is refused.
     pub refused: u64,
+    /// How many hold one that is not accepted.
     pub not_accepted: u64,
+    /// How many hold none.
     pub unread: u64,
 }
 
@@ -55,7 +59,9 @@ impl Counts {
 /// How far a run has come after so many milliseconds, in one line.
 #[derive(Clone, Copy, Debug, PartialEq, Eq)]
 pub struct Report {
+    /// How many modules were answered, and how.
     pub counts: Counts,
+    /// The milliseconds since the run began.
     pub milliseconds: u64,
 }
 

@@ -118,7 +118,7 @@ A module is refused where operands, types or blocks stand in one another on more
 The status is 0; 1 where the module is refused or not accepted; 2 where an option is wrong, the
 input is no module, something cannot be read or written, or memory is refused. With --lines it is
 0 or 2, since each line of the output tells what becomes of its module. Where the error output is a
-terminal and the output is none, a line there tells how far the run has come.";
+terminal and the standard output is not, a line there tells how far the run has come.";
 
 fn command<'a>(alloc: Global) -> Result<Command<'a>, AllocError> {
     Command::new(alloc, "yorwethul")
@@ -153,7 +153,8 @@ fn check<'a>(alloc: Global) -> Result<Arg<'a>, AllocError> {
     let help = "Only says whether the module is accepted, and else where it is not and why";
     flag(alloc, "check", help)
         .conflicts_with("explicit-types")?
-        .conflicts_with("plain")
+        .conflicts_with("plain")?
+        .conflicts_with("text")
 }
 
 fn layout<'a>(alloc: Global) -> Result<Arg<'a>, AllocError> {
@@ -161,7 +162,8 @@ fn layout<'a>(alloc: Global) -> Result<Arg<'a>, AllocError> {
     flag(alloc, "layout", help)
         .conflicts_with("check")?
         .conflicts_with("explicit-types")?
-        .conflicts_with("plain")
+        .conflicts_with("plain")?
+        .conflicts_with("text")
 }
 
 fn explain<'a>(alloc: Global) -> Result<Arg<'a>, AllocError> {

@@ -9,10 +9,13 @@ use Rattle.naga_info.specs.declared.info.ModuleInfo.{ModuleInfo}
 use Rattle.module_meaning.specs.acceptance.Accepted.{is_accepted}
 use Rattle.naga_back.specs.declared.flags.WriterFlags.{WriterFlags}
 use Rattle.naga_back.specs.Flags.{annotates_types, bits_of}
+use Rattle.naga_wgsl_fns.specs.Refusals.{TellsOfModule}
 use Rattle.naga_wgsl_fns.specs.declared.refusals.error.Error.{Error}
 use Rattle.naga_wgsl_fns.specs.declared.refusals.error.Error.TheVariants as error
 use Rattle.naga_wgsl_out.specs.Checked.{IsCounted}
 use Rattle.naga_wgsl_out.specs.Headline.{FaithfulWriting}
+use Rattle.naga_wgsl_out.specs.ModuleRefusals.{IsRefusal}
+use Rattle.naga_words.specs.declared.sink.SinkError.TheVariants as sink
 use Rattle.naga_wgsl_out.specs.Writing.{AppendsItsText}
 use Rattle.naga_acceptance.specs.FirstFaults.{IsFirstFault}
 use Rattle.naga_acceptance.specs.declared.faults.Unaccepted.{Unaccepted}
@@ -23,11 +26,11 @@ use Rattle.module_answers.specs.declared.positions.JsonRoot.TheVariants as root
 use Rattle.module_answers.specs.Within.{IsUnwritten, TellsDepth}
 use Rattle.module_answers.specs.declared.within.NoOutcome.{NoOutcome}
 use Rattle.module_answers.specs.declared.within.NoOutcome.TheVariants as unwritten
-use Rattle.yorwethul_c.specs.Answers.{IsAccepted, IsNotAccepted, IsStopped, IsTooDeep, IsTooLong}
+use Rattle.yorwethul_c.specs.Answers.{IsAccepted, IsNotAccepted, IsRefused, IsTooDeep, IsTooLong}
 use Rattle.yorwethul_c.specs.Answers.{IsWritten, LacksMemory, Says, SaysOfError, SaysOfUnwritten}
 use Rattle.yorwethul_c.specs.Answers.{SaysOfWritten, SaysThat, TellsAnyRefusal, deepest_nesting}
 use Rattle.yorwethul_c.specs.Answers.{longest_text, TellsOfChecking, TellsOfLayouts, TellsOfReading}
-use Rattle.yorwethul_c.specs.Answers.{TellsOfWriting, IsAsAsked, status_of_error, tells_floats}
+use Rattle.yorwethul_c.specs.Answers.{TellsOfWriting, IsAsAsked, tells_floats}
 use Rattle.yorwethul_c.specs.declared.status.Status.{Status}
 use Rattle.yorwethul_c.specs.declared.status.Status.TheVariants as status
 
@@ -166,30 +169,26 @@ accepted_by m read found is accepts =
 
 -- ---- what the writer did
 
--- of what is written no failure is told
-no_failures : (flags : WriterFlags) (m : Module) (info : ModuleInfo) (content : List ℕ) (failures : ℕ) →
-    FaithfulWriting flags m info (Ok tt) [] content 0 failures →
-    FaithfulWriting flags m info (Ok tt) [] content 0 0
-no_failures flags m info content failures f =
-    record { refusals = f.refusals; reading = f.reading; interface = f.interface; runs = f.runs }
-
--- it stopped by an error
-stopped : (json : List ℕ) (flags : ℕ) (m : Module) (refusal : Option Refusal) (e : Error) (told : Status)
-    (text : List ℕ) → (TellsAnyRefusal m refusal text → IsStopped flags (status_of_error e) text) →
+-- it stopped by an error: a refusal, since its sink has not failed, or for want of memory
+stopped : (json : List ℕ) (flags : ℕ) (writer : WriterFlags) (m : Module) (info : ModuleInfo)
+    (refusal : Option Refusal) (e : Error) (told : Status) (text : List ℕ) →
+    IsRefusal (annotates_types writer) m info 0 0 e →
+    (TellsOfModule e → TellsAnyRefusal m refusal text → IsRefused flags text) →
     SaysOfError m refusal e told text → TellsOfWriting json flags told text
-stopped json flags m refusal (error.Memory e) told text is says =
+stopped json flags writer m info refusal (error.Memory e) told text reason is says =
     said_that (TellsOfWriting json flags) (TellsAnyRefusal m refusal) status.OutOfMemory told text (λ _. says.1 refl)
     refl says.0
-stopped json flags m refusal (error.FmtError e) told text is says =
-    said_that (TellsOfWriting json flags) (TellsAnyRefusal m refusal) status.Refused told text is refl says.0
-stopped json flags m refusal (error.Custom e) told text is says =
-    said_that (TellsOfWriting json flags) (TellsAnyRefusal m refusal) status.Refused told text is refl says.0
-stopped json flags m refusal (error.Unimplemented e) told text is says =
-    said_that (TellsOfWriting json flags) (TellsAnyRefusal m refusal) status.Refused told text is refl says.0
-stopped json flags m refusal (error.UnsupportedRelationalFunction e) told text is says =
-    said_that (TellsOfWriting json flags) (TellsAnyRefusal m refusal) status.Refused told text is refl says.0
-stopped json flags m refusal (error.Unsupported kind value) told text is says =
-    said_that (TellsOfWriting json flags) (TellsAnyRefusal m refusal) status.Refused told text is refl says.0
+stopped json flags writer m info refusal (error.FmtError sink.Failed) told text reason is says =
+    let none : ⊥ = omega (arith, reason) in absurd none
+stopped json flags writer m info refusal (error.FmtError (sink.Memory e)) told text reason is says = absurd reason
+stopped json flags writer m info refusal (error.Custom e) told text reason is says =
+    said_that (TellsOfWriting json flags) (TellsAnyRefusal m refusal) status.Refused told text (is tt) refl says.0
+stopped json flags writer m info refusal (error.Unimplemented e) told text reason is says =
+    said_that (TellsOfWriting json flags) (TellsAnyRefusal m refusal) status.Refused told text (is tt) refl says.0
+stopped json flags writer m info refusal (error.UnsupportedRelationalFunction e) told text reason is says =
+    said_that (TellsOfWriting json flags) (TellsAnyRefusal m refusal) status.Refused told text (is tt) refl says.0
+stopped json flags writer m info refusal (error.Unsupported kind value) told text reason is says =
+    said_that (TellsOfWriting json flags) (TellsAnyRefusal m refusal) status.Refused told text (is tt) refl says.0
 
 pub at_most_seven : (flags : ℕ) → flags < 4 → flags ≤ 7
 at_most_seven flags less = omega arith
@@ -203,58 +202,58 @@ pub with_floats_told : (flags : ℕ) (given m : Module) → 4 ≤ flags → IsTo
 with_floats_told flags given m more told =
     subst (λ asked. IsAsAsked asked given m) (sym (le-leb 4 flags more)) told
 
-pub wrote : (json : List ℕ) (flags : ℕ) (writer : WriterFlags) (given m : Module) (read info : ModuleInfo)
-    (answer : Result Unit Error) (refusal : Option Refusal) (content : List ℕ) (failures : ℕ) (told : Status)
-    (text : List ℕ) →
-    flags ≤ 7 → bits_of writer ≡ flags % 4 → IsAsAsked (tells_floats flags) given m →
-    IsTrue (is_accepted given read) → IsCounted m read info →
-    FaithfulWriting writer m info answer [] content 0 failures →
-    AppendsItsText m info writer answer [] content → TellsBeside (annotates_types writer) m info answer refusal →
-    length content ≤ longest_text →
-    SaysOfWritten m answer refusal content told text → TellsOfWriting json flags told text
-wrote json flags writer given m read info (Ok tt) refusal content failures told text known bits asked accepted counted
-    faithful appends beside within is =
-    let moved : FaithfulWriting writer m info (Ok tt) [] text 0 0 =
-    subst (λ now. FaithfulWriting writer m info (Ok tt) [] now 0 0) (sym is.1)
-    (no_failures writer m info content failures faithful) in
-    let done : IsWritten flags text =
-    record {
-      flags_are_known = known;
-      writer = writer;
-      has_bits = bits;
-      given = given;
-      m = m;
-      is_as_asked = asked;
-      read = read;
-      info = info;
-      accepted = accepted;
-      counted = counted;
-      faithful = moved;
-      text_is = is.1 ∙ appends;
-      is_within = subst (λ t. length t ≤ longest_text) (sym is.1) within;
-    } in
-    subst (λ s. TellsOfWriting json flags s text) (sym is.0) done
-wrote json flags writer given m read info (Err e) refusal content failures told text known bits asked accepted counted
-    faithful appends beside within says =
-    stopped json flags m refusal e told text
-    (λ line. record {
-      flags_are_known = known;
-      writer = writer;
-      has_bits = bits;
-      given = given;
-      m = m;
-      is_as_asked = asked;
-      read = read;
-      info = info;
-      error = e;
-      beginning = content;
-      failures = failures;
-      accepted = accepted;
-      counted = counted;
-      faithful = faithful;
-      told_is = refl;
-      refusal = refusal;
-      beside = beside;
-      line = line;
-    })
-    says
+-- what was asked of the writer
+module _ (json : List ℕ) (flags : ℕ) (writer : WriterFlags) (given m : Module) (read info : ModuleInfo)
+    (content : List ℕ) (known : flags ≤ 7) (bits : bits_of writer ≡ flags % 4)
+    (asked : IsAsAsked (tells_floats flags) given m) (accepted : IsTrue (is_accepted given read))
+    (counted : IsCounted m read info) where
+  -- an error that tells of the module is a refusal, which is told beside it
+  refusing : (e : Error) (refusal : Option Refusal) (text : List ℕ) →
+      FaithfulWriting writer m info (Err e) [] content 0 0 →
+      TellsBeside (annotates_types writer) m info (Err e) refusal → TellsOfModule e →
+      TellsAnyRefusal m refusal text → IsRefused flags text
+  refusing e None text faithful beside tells line = absurd (beside tells)
+  refusing e (Some refusal) text faithful beside tells line = record {
+    flags_are_known = known;
+    writer = writer;
+    has_bits = bits;
+    given = given;
+    m = m;
+    is_as_asked = asked;
+    read = read;
+    info = info;
+    error = e;
+    beginning = content;
+    accepted = accepted;
+    counted = counted;
+    faithful = faithful;
+    refusal = refusal;
+    beside = beside;
+    line = line;
+  }
+
+  pub wrote : (answer : Result Unit Error) (refusal : Option Refusal) (told : Status) (text : List ℕ) →
+      FaithfulWriting writer m info answer [] content 0 0 → AppendsItsText m info writer answer [] content →
+      TellsBeside (annotates_types writer) m info answer refusal → length content ≤ longest_text →
+      SaysOfWritten m answer refusal content told text → TellsOfWriting json flags told text
+  wrote (Ok tt) refusal told text faithful appends beside within is =
+      let done : IsWritten flags text =
+      record {
+        flags_are_known = known;
+        writer = writer;
+        has_bits = bits;
+        given = given;
+        m = m;
+        is_as_asked = asked;
+        read = read;
+        info = info;
+        accepted = accepted;
+        counted = counted;
+        faithful = subst (λ now. FaithfulWriting writer m info (Ok tt) [] now 0 0) (sym is.1) faithful;
+        text_is = is.1 ∙ appends;
+        is_within = subst (λ t. length t ≤ longest_text) (sym is.1) within;
+      } in
+      subst (λ s. TellsOfWriting json flags s text) (sym is.0) done
+  wrote (Err e) refusal told text faithful appends beside within says =
+      stopped json flags writer m info refusal e told text faithful.refusals
+      (refusing e refusal text faithful beside) says

@@ -15,7 +15,7 @@ use Rattle.naga_acceptance.specs.declared.faults.Unaccepted.{Unaccepted}
 use Rattle.module_meaning.specs.acceptance.Accepted.{is_accepted}
 use Rattle.module_answers.specs.Faults.{TellsFaultAt}
 use Rattle.module_answers.specs.Refusals.{TellsRefusalAt}
-use Rattle.module_answers.specs.WriteOutcomes.{TellsBeside}
+use Rattle.module_answers.specs.WriteOutcomes.{TellsRefusal}
 use Rattle.module_answers.specs.declared.positions.JsonRoot.TheVariants as root
 use Rattle.module_answers.specs.declared.within.NoOutcome.{NoOutcome}
 use Rattle.module_answers.specs.declared.within.NoOutcome.TheVariants as unwritten
@@ -29,8 +29,7 @@ use Rattle.naga_wgsl_out.specs.Checked.{IsCounted}
 use Rattle.naga_wgsl_out.specs.Headline.{FaithfulWriting}
 use Rattle.naga_wgsl_out.specs.declared.unwritable.Refusal.{Refusal}
 use Rattle.told_floats.specs.Told.{IsToldModule}
-use Rattle.yorwethul_c.specs.Nesting.{nest_past}
-use Rattle.yorwethul_c.specs.declared.nesting.Within.TheVariants as within
+use Rattle.module_answers.specs.JsonNesting.{nest_too_deep}
 use Rattle.yorwethul_c.specs.declared.status.Status.{Status}
 use Rattle.yorwethul_c.specs.declared.status.Status.TheVariants as status
 
@@ -127,10 +126,9 @@ pub record IsTooLong (flags : ℕ) : Type 0 where
   pub counted : IsCounted m read info
   pub longer : longest_text < length (layout (written_program m info writer))
 
--- The writer stopped at an accepted module, by an error of this status. So a refusal is for a
--- listed construct that stands in the module, and this line tells it with its position, or the sink
--- failed.
-pub record IsStopped (flags : ℕ) (told : Status) (text : List ℕ) : Type 0 where
+-- The writer refused an accepted module, for a listed construct that stands there and is the first,
+-- and this line tells it with its position.
+pub record IsRefused (flags : ℕ) (text : List ℕ) : Type 0 where
   pub flags_are_known : flags ≤ 7
   pub writer : WriterFlags
   pub has_bits : bits_of writer ≡ flags % 4
@@ -141,14 +139,12 @@ pub record IsStopped (flags : ℕ) (told : Status) (text : List ℕ) : Type 0 wh
   pub info : ModuleInfo
   pub error : Error
   pub beginning : List ℕ
-  pub failures : ℕ
   pub accepted : IsTrue (is_accepted given read)
   pub counted : IsCounted m read info
-  pub faithful : FaithfulWriting writer m info (Err error) [] beginning 0 failures
-  pub told_is : status_of_error error ≡ told
-  pub refusal : Option Refusal
-  pub beside : TellsBeside (annotates_types writer) m info (Err error) refusal
-  pub line : TellsAnyRefusal m refusal text
+  pub faithful : FaithfulWriting writer m info (Err error) [] beginning 0 0
+  pub refusal : Refusal
+  pub beside : TellsRefusal (annotates_types writer) m info (Err error) refusal
+  pub line : TellsRefusalAt root.Member m refusal text
 
 -- A module was read of which this is nested too deep.
 pub record IsTooDeep : Type 0 where
@@ -174,18 +170,18 @@ pub record IsNotAccepted (text : List ℕ) : Type 0 where
 -- at once, or memory was refused, and then there is no text
 abbrev pub TellsOfReading : (json : List ℕ) → Status → (text : List ℕ) → Type 0
 TellsOfReading json status.NoModule text = ⊤
-TellsOfReading json status.TooDeep text = IsTrue (nest_past 127 within.Outside 0 json)
+TellsOfReading json status.TooDeep text = IsTrue (nest_too_deep json)
 TellsOfReading json status.OutOfMemory text = text ≡ []
 TellsOfReading json _ text = ⊥
 
 -- of what nests too deep: the bytes, or the module that they hold
 abbrev pub TellsOfDepth : (json : List ℕ) → Type 0
-TellsOfDepth json = IsTrue (nest_past 127 within.Outside 0 json) ⊎ IsTooDeep
+TellsOfDepth json = IsTrue (nest_too_deep json) ⊎ IsTooDeep
 
 -- of a module that is to be written
 abbrev pub TellsOfWriting : (json : List ℕ) (flags : ℕ) → Status → (text : List ℕ) → Type 0
 TellsOfWriting json flags status.Done text = IsWritten flags text
-TellsOfWriting json flags status.Refused text = IsStopped flags status.Refused text
+TellsOfWriting json flags status.Refused text = IsRefused flags text
 TellsOfWriting json flags status.TooLong text = IsTooLong flags
 TellsOfWriting json flags status.TooDeep text = TellsOfDepth json
 TellsOfWriting json flags status.NotAccepted text = IsNotAccepted text

@@ -8,12 +8,11 @@ ghost use Rattle.yorwethul_c.specs.Answers.{SaysOfUnwritten, SaysThat, TellsAnyR
 ghost use Rattle.yorwethul_c.specs.Answers.{TellsOfChecking, TellsOfLayouts, TellsOfReading};
 ghost use Rattle.yorwethul_c.specs.Answers.{TellsOfWriting};
 
-use crate::nesting::nests_past;
 use crate::status::{Status, status_of};
 use bitflags::Flags;
 use module_answers::{
-    JsonRoot, NoOutcome, WriteOutcome, check_nesting, fault_line, layout_table, refusal_line,
-    write_told_within, write_within,
+    JsonRoot, NESTS_TOO_DEEP, NoOutcome, WriteOutcome, check_nesting, fault_line, layout_table,
+    nests_too_deep, refusal_line, write_told_within, write_within,
 };
 use naga_json::{Known, ReadError, read_known};
 use naga_wgsl_out::info::{Unaccepted, unaccepted};
@@ -40,9 +39,6 @@ const TELL_FLOATS: u32 = 4;
 
 /// All flags.
 const ALL_FLAGS: u32 = 7;
-
-/// How deep lists and objects may nest, for the reader of JSON.
-const DEEPEST: usize = 127;
 
 /// A status with its text: what was asked for, or why it is not there.
 #[derive(Drop)]
@@ -108,12 +104,8 @@ fn unread(alloc: Global, json: &[u8], error: ReadError) -> Answer
 {
     match error {
         ReadError::OutOfMemory => out_of_memory(alloc),
-        ReadError::NoJson { .. } if nests_past(json, DEEPEST) => {
-            told(
-                alloc,
-                Status::TooDeep,
-                "lists and objects nest more than 127 deep",
-            )
+        ReadError::NoJson { .. } if nests_too_deep(json) => {
+            told(alloc, Status::TooDeep, NESTS_TOO_DEEP)
         }
         error => told(alloc, Status::NoModule, error),
     }
@@ -226,7 +218,7 @@ fn not_written(alloc: Global, known: &Known, unwritten: NoOutcome) -> Answer
     match unwritten {
         NoOutcome::TooDeep(nested) => told(alloc, Status::TooDeep, nested),
         NoOutcome::NotAccepted(fault) => not_accepted(alloc, known, fault),
-        NoOutcome::TooLong => told(alloc, Status::TooLong, "text of more than 67108864 bytes"),
+        NoOutcome::TooLong => told(alloc, Status::TooLong, NoOutcome::TooLong),
         NoOutcome::Memory(_) => out_of_memory(alloc),
     }
 }

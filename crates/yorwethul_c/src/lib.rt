@@ -4,7 +4,6 @@
 
 mod answers;
 mod copying;
-mod nesting;
 mod status;
 
 ghost use Rattle.std.specs.Prelude.{◌≡◌};

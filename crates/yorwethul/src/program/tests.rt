@@ -158,6 +158,14 @@ const WORDS: &[(&[&str], Told)] = &[
     ),
     (&["--text", "-1"], (FAILED, "", "error: ")),
     (
+        &["--layout", "--text", "1"],
+        (
+            FAILED,
+            "",
+            "error: the argument '--layout' cannot be used with '--text",
+        ),
+    ),
+    (
         &["--nesting", "1", "--text", "1", "no/such.json"],
         (
             FAILED,

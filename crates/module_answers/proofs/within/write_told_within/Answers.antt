@@ -2,6 +2,7 @@ use Rattle.std.proofs.Common.{◌≡◌, ◌∙◌, ◌<◌, ◌≤◌, IfErr, I
 use Rattle.std.proofs.Common.{ap, is_ok, length, string_bytes, subst, sym}
 use Rattle.naga_acceptance.specs.FirstFaults.{IsFirstFault}
 use Rattle.naga_wgsl_out.specs.Checked.{IsCounted}
+use Rattle.naga_wgsl_out.specs.Within.{unfailed}
 use Rattle.told_floats.specs.Told.{IsToldModule}
 use Rattle.module_answers.specs.WriteOutcomes.{AnswersWriting}
 use Rattle.module_answers.proofs.Bounded.{as_kept, as_unwritten, is_too_long}
@@ -39,14 +40,12 @@ returns-in-Some-clause-written c =
     subst (λ r. IfOk r (λ w. AnswersWriting flags m info w.answer w.refusal c.new-empty.result.text
     w.sink.text c.new-empty.result.failures w.sink.failures)) c.in-Ok.is c.write_told.ensures.written in
     let begun = subst (λ s. AnswersWriting flags m info w.answer w.refusal s.text w.sink.text s.failures
-    w.sink.failures) c.new-empty.ensures written in (
-      w.sink.failures,
-      as_kept flags m info w.answer v.answer w.refusal v.refusal w.sink.text (string_bytes v.sink) w.sink.failures
-          (subst (λ o. IfSome o (λ v. v.answer ≡ w.answer)) c.in-Some.is c.kept.ensures.answer)
-          (subst (λ o. IfSome o (λ v. v.refusal ≡ w.refusal)) c.in-Some.is c.kept.ensures.refusal)
-          (subst (λ o. IfSome o (λ v. string_bytes v.sink ≡ w.sink.text)) c.in-Some.is c.kept.ensures.text)
-          begun,
-    )
+    w.sink.failures) c.new-empty.ensures written in
+    as_kept flags m info w.answer v.answer w.refusal v.refusal w.sink.text (string_bytes v.sink) w.sink.failures
+    (subst (λ o. IfSome o (λ v. v.answer ≡ unfailed w.answer)) c.in-Some.is c.kept.ensures.answer)
+    (subst (λ o. IfSome o (λ v. v.refusal ≡ w.refusal)) c.in-Some.is c.kept.ensures.refusal)
+    (subst (λ o. IfSome o (λ v. string_bytes v.sink ≡ w.sink.text)) c.in-Some.is c.kept.ensures.text)
+    begun
 
 pub returns-in-Some-clause-within : goal.returns-in-Some-clause-within
 returns-in-Some-clause-within c =

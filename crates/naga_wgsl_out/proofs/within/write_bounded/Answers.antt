@@ -1,13 +1,17 @@
 use Rattle.std.proofs.Common.{◌∙◌, ap}
-use Rattle.naga_wgsl_out.proofs.Bounded.{answers_bounded}
+use Rattle.naga_wgsl_out.specs.Within.{unfailed}
+use Rattle.naga_wgsl_out.proofs.Bounded.{answers_bounded, appends_unfailed, faithful_unfailed}
+use Rattle.naga_wgsl_out.proofs.Bounded.{leaves_unfailed, matches_unfailed}
 use Rattle.naga_wgsl_out.proofs.within.write_bounded.Goals as goal
 
 pub returns : goal.returns
 returns c =
     let begun = c.new-writer.ensures.sink ∙ c.new-empty.ensures in
     let wrote = c.write-answer.ensures in
-    answers_bounded c.args.flags _ c.args.«module».now c.args.info.now c.args.bound c.write-answer.result _ _ _
-    _ _ c.within_bound.result
-    c.new-writer.ensures.flags (ap (λ s. s.text) begun) (ap (λ s. s.failures) begun)
-    (ap (λ s. s.text) c.finish-sink.ensures)
-    wrote.faithful wrote.matches wrote.text wrote.leaves c.within_bound.ensures
+    let m = c.args.«module».now in
+    let info = c.args.info.now in
+    let answer = c.write-answer.result in
+    answers_bounded c.args.flags _ m info c.args.bound (unfailed answer) _ _ _ c.within_bound.result
+    c.new-writer.ensures.flags (ap (λ s. s.text) begun) (ap (λ s. s.text) c.finish-sink.ensures)
+    (faithful_unfailed _ m info _ _ _ _ answer wrote.faithful) (matches_unfailed _ m info _ _ answer wrote.matches)
+    (appends_unfailed _ m info _ _ answer wrote.text) (leaves_unfailed _ m info _ _ _ _ answer wrote.leaves) c.within_bound.ensures

@@ -1,4 +1,4 @@
-use Rattle.std.proofs.Common.{◌≡◌, IfErr, IfOk, length, subst, string_bytes, ◌≤◌, ℕ, []}
+use Rattle.std.proofs.Common.{◌≡◌, IfErr, IfOk, length, subst, string_bytes, ◌≤◌, []}
 use Rattle.std.specs.Prelude.{IsTrue}
 use Rattle.module_answers.specs.Within.{IsUnwritten}
 use Rattle.module_answers.specs.WriteOutcomes.{AnswersWriting}
@@ -38,10 +38,10 @@ returns-in-Ok c =
     let counted = subst (λ r. IfOk r (λ _. IsCounted m read info)) c.in-Ok.is c.write_told_within.ensures.counted in
     let told = subst (λ r. IfOk r (λ _. IsToldModule given m)) c.in-Ok.is c.write_told_within.ensures.told in
     let answers =
-    subst (λ r. IfOk r (λ w. (failures : ℕ) × AnswersWriting writer m info w.answer w.refusal []
-    (string_bytes w.sink) 0 failures)) c.in-Ok.is c.write_told_within.ensures.written in
+    subst (λ r. IfOk r (λ w. AnswersWriting writer m info w.answer w.refusal [] (string_bytes w.sink) 0 0)) c.in-Ok.is c.write_told_within.ensures.written in
     let within = subst (λ r. IfOk r (λ w. length (string_bytes w.sink) ≤ longest_text)) c.in-Ok.is
     c.write_told_within.ensures.within in
-    λ json. wrote json c.args.flags writer given m read info w.answer w.refusal (string_bytes w.sink) answers.0 _ _
+    λ json. wrote json c.args.flags writer given m read info (string_bytes w.sink)
     c.requires.known c.writer_flags.ensures (with_floats_told c.args.flags given m c.requires.told told)
-    accepted counted answers.1.faithful answers.1.text answers.1.refusal within c.told_written.ensures
+    accepted counted w.answer w.refusal _ _ answers.faithful answers.text answers.refusal within
+    c.told_written.ensures

@@ -1,8 +1,8 @@
 -- How deep lists and objects nest in the bytes of JSON, by their brackets.
 use Rattle.std.specs.Prelude.{ℕ, ◌+◌, ◌-◌, Bool, false, ◌||◌, ◌==◌, List, [], ◌∷◌}
 use Rattle.std.specs.Prelude.{if◌then◌else◌, nat_lt}
-use Rattle.yorwethul_c.specs.declared.nesting.Within.{Within}
-use Rattle.yorwethul_c.specs.declared.nesting.Within.TheVariants as within
+use Rattle.module_answers.specs.declared.json_nesting.Within.{Within}
+use Rattle.module_answers.specs.declared.json_nesting.Within.TheVariants as within
 
 -- Where the next byte stands: a quotation mark begins a string and ends it, unless a backslash is
 -- in front of it there.
@@ -25,3 +25,7 @@ nest_past most here opened [] = false
 nest_past most here opened (byte ∷ bytes) =
     nat_lt most (opened_after here byte opened)
     || nest_past most (within_after here byte) (opened_after here byte opened) bytes
+
+-- lists and objects nest deeper in these bytes than JSON is read
+abbrev pub nest_too_deep : List ℕ → Bool
+nest_too_deep json = nest_past 127 within.Outside 0 json

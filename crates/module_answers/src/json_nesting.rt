@@ -1,8 +1,8 @@
 //! How deep JSON nests.
 
 ghost use Rattle.std.specs.Prelude.{◌≡◌, ◌<◌, ◌^◌};
-ghost use Rattle.yorwethul_c.specs.Nesting.{nest_past, opened_after, within_after};
-ghost use Rattle.yorwethul_c.specs.declared.nesting.Within.TheVariants as within;
+ghost use Rattle.module_answers.specs.JsonNesting.{nest_past, nest_too_deep, opened_after, within_after};
+ghost use Rattle.module_answers.specs.declared.json_nesting.Within.TheVariants as within;
 
 /// Where a byte of JSON stands.
 #[derive(Clone, Copy, Debug, PartialEq, Eq)]
@@ -61,10 +61,8 @@ impl Within {
     }
 }
 
-/// Whether more lists and objects than this stand open somewhere in the bytes, by their brackets
-/// outside of strings. It is the question why a reader of JSON stopped, so that it does not ask for
-/// the rest.
-pub fn nests_past(json: &[u8], most: usize) -> bool
+/// Whether more lists and objects than this stand open somewhere in the bytes.
+fn nests_past(json: &[u8], most: usize) -> bool
     requires { most < 2 ^ 63 }
     ensures { result ≡ nest_past most within.Outside 0 json.now }
 {
@@ -78,4 +76,19 @@ pub fn nests_past(json: &[u8], most: usize) -> bool
         within = within.after(*byte);
     }
     false
+}
+
+/// How deep lists and objects may nest, for the reader of JSON.
+const DEEPEST: usize = 127;
+
+/// What is said of JSON that nests deeper.
+pub const NESTS_TOO_DEEP: &str = "lists and objects nest more than 127 deep";
+
+/// Whether lists and objects nest more than 127 deep in the bytes, by their brackets outside of
+/// strings. It is the question why a reader of JSON stopped, which says so of all that it does not
+/// read alike; it does not ask for the rest.
+pub fn nests_too_deep(json: &[u8]) -> bool
+    ensures { result ≡ nest_too_deep json.now }
+{
+    nests_past(json, DEEPEST)
 }

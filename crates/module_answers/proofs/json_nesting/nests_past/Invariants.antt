@@ -1,7 +1,7 @@
 use Rattle.std.proofs.Common.{◌≡◌, ◌≤◌, drop}
-use Rattle.yorwethul_c.specs.Nesting.{nest_past}
-use Rattle.yorwethul_c.specs.declared.nesting.Within.TheVariants as within
-use Rattle.yorwethul_c.proofs.nesting.nests_past.Given as goal
+use Rattle.module_answers.specs.JsonNesting.{nest_past}
+use Rattle.module_answers.specs.declared.json_nesting.Within.TheVariants as within
+use Rattle.module_answers.proofs.json_nesting.nests_past.Given as goal
 
 abbrev pub invariant-loop-byte : goal.invariant-loop-byte
 invariant-loop-byte l =
