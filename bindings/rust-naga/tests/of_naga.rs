@@ -248,8 +248,10 @@ fn deep_operands_take_a_thread() {
     emits(&mut deep, first, last);
     returns(&mut deep, last);
     module.functions.append(deep, SPAN);
-    let text = write(&module, &known(&module), Flags::empty()).unwrap();
+    let info = known(&module);
+    let text = write(&module, &info, Flags::empty()).unwrap();
     assert_eq!(text.matches("-(").count(), depth);
+    assert_eq!(layout(&module, &info).as_deref(), Ok(""));
 }
 
 /// Stages, of which naga's own may have more fields.
