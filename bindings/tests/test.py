@@ -117,7 +117,7 @@ def test_header(room):
 
 
 def test_stubs(room):
-    """The programs to copy, by the stub: a text, one that is longer than the first guess, an error, and each flag."""
+    """The programs to copy, by the stub: a text, one that is longer than the first guess, an error, each flag, and wrong calls."""
     stub = make_stub(room)
     programs = [[compile_c(room, stub / "libyorwethul.a")]]
     if is_there("c++"):
@@ -133,11 +133,10 @@ def test_stubs(room):
         order = write(room / "order", "0 1 abc")
         for words in ((order, "portabel"), (room / "missing",), (room,)):
             must(run(*program, *words, wanted=2) == "", f"{program} gives a text by {words}")
-    for program in programs:
-        # Python itself ends with another status.
         with open("/dev/full", "w") as full:
             status = subprocess.run([*program, order], stdout=full, stderr=subprocess.DEVNULL).returncode
-        must(status == (120 if program[0] == sys.executable else 2), f"{program}: status {status} on a full disk")
+        # Python ends by itself then, with a status of its own
+        must(status == 2 or (status and program[0] == sys.executable), f"{program}: status {status} on a full disk")
     run(sys.executable, BINDINGS / "python/first.py", wanted=2)
 
 

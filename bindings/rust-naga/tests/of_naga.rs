@@ -169,7 +169,7 @@ fn a_refusal_tells_the_construct_and_its_place() {
     assert_eq!(error.construct(), Some("float literal"));
     let place = "module.functions[0].expressions[0], in statement 0";
     assert_eq!(error.place(), Some(place));
-    assert_eq!(error.function(), Some("half"));
+    assert_eq!((error.function(), error.root()), (Some("half"), None));
     assert_eq!(
         error.to_string(),
         format!("refused: float literal: {place}, in \"half\"")
