@@ -1,6 +1,6 @@
 # Goes to a copy of the namer and what it stands on, with the program of this folder of bench/ above them, and with the
-# libraries that are named after it. The scripts of bench/memory, bench/times and bench/fuzz read it. They are run at the
-# top of the repository.
+# libraries that are named after it: those that it uses itself, and all below them. The scripts of bench/memory, bench/times
+# and bench/fuzz read it. They are run at the top of the repository.
 set -e
 folder=$1
 name=$(basename "$folder")
@@ -10,7 +10,8 @@ copy=$(mktemp -d)
 trap 'rm -rf "$copy"' EXIT
 cp HANDLES "$copy"
 mkdir -p "$copy/crates/$name/src" "$copy/crates/$name/specs" "$copy/crates/$name/proofs"
-for library in naga_ir naga_keywords naga_names "$@"; do
+for library in float_numerals naga_ir naga_keywords naga_names "$@"; do
+    [ -d "$copy/crates/$library" ] && continue # the program uses one of the first four itself
     tar cf - --exclude=out "crates/$library" | tar xf - -C "$copy"
     grep "^$library:" crates.txt >> "$copy/crates.txt"
 done

@@ -2,9 +2,9 @@
 # Refuses each allocation in turn of writing a sample module, `mixed`, a hundred expressions of many kinds, `layouts`,
 # structs with gaps, or `read`, a module with each kind of declaration and of statement, one in each run, and counts for
 # each the runs in which nothing was refused, and those in which the refusal was told, a beginning of the text stood there,
-# and the other call answered as with ample memory; others are wrong, and `unbuilt` are those in which the module found no
-# memory. Run it at the top of the repository, with words as those below, each list one argument, for these alone; it
-# works on a copy.
+# and the other call answered as with ample memory; others are wrong, so that the status is 1, and `unbuilt` are those in
+# which the module found no memory. Run it at the top of the repository, with words as those below, each list one argument,
+# for these alone; it works on a copy.
 
 # how many allocations, at least, are made in one run, and what is written
 [ $# -gt 0 ] || set -- '500 identity' '500 store' '500 store explicit' '500 vertex' '500 continue' '500 pointer' \
@@ -17,6 +17,7 @@ whole=$(mktemp)
 grep '^{"name":"each kind of declaration and of statement",' crates/wgsl_cases/stdin > "$whole"
 set -- refused_writing bench/memory/refused_writing/main.rt.txt bench/times/writing_times/layouts.rt.txt \
     bench/times/writing_times/mixed.rt.txt
+. bench/memory/count_runs.sh
 . bench/on_a_whole_copy.sh
 trap 'rm -rf "$copy" "$asked" "$whole"' EXIT
 
@@ -38,6 +39,11 @@ told_of() {
         parts[1] == name { print parts[2], $0 }' printed
 }
 
+# How many runs of `$words` there are.
+number_of_runs() {
+    ls cases | grep -c "^$(echo "$words" | tr ' ' -)_" || true
+}
+
 try() {
     rt try --steps 1 --fail-alloc "$last" --cases cases > printed 2> told || true
 }
@@ -57,8 +63,10 @@ while read -r number words; do
     seq $((from > 10 ? from - 10 : 0)) $((to + 10)) | add
 done < "$asked"
 try
+status=0
 while read -r number words; do
     echo "== $words"
-    told_of | cut -d ' ' -f 2- | sort | uniq -c
+    told_of | cut -d ' ' -f 2- > words
+    count_runs words "$(number_of_runs)" || status=1
 done < "$asked"
-tail -n 1 told
+exit $status

@@ -1,8 +1,8 @@
 #!/usr/bin/env python3
 """Says where yorwethul.h, the exports of crates/yorwethul_c and what calls them differ.
 
-It compares the calls with their parameters, the statuses and flags with their numbers, the version and the longest
-text. Where it finds nothing it is quiet, and its status is 0. It reads sources alone. Run it from anywhere.
+It compares the calls with their parameters, the statuses and flags with their numbers, the versions, that of the program
+too, and the longest text. Where it finds nothing it is quiet, and its status is 0. It reads sources alone. Run it from anywhere.
 """
 
 import re
@@ -199,15 +199,25 @@ def source_of(path):
 
 
 def versions_differ(number):
-    """Where another version than the header's is told."""
-    wanted = f"{number // 1_000_000}.{number // 1_000 % 1_000}.{number % 1_000}"
+    """Where another version than the header's is told, or asked for by its first two numbers."""
+    front = f"{number // 1_000_000}.{number // 1_000 % 1_000}"
     told = {
         RUST / "Cargo.toml": r'(?m)^version = "(.*)"',
         BINDINGS / "c/yorwethul.pc": r"(?m)^Version: (.*)",
         BINDINGS / "c/yorwethul-config-version.cmake": r"PACKAGE_VERSION (\d.*)\)",
         BINDINGS / "c/yorwethul.h": r"/\* (\d\S*); yorwethul_version",
+        TOP / "crates/yorwethul/src/words.rt": r'\.version\("(.*)"\)',
     }
-    found = {path: re.search(pattern, path.read_text()) for path, pattern in told.items()}
+    asked_for = {
+        BINDINGS / "rust-naga/Cargo.toml": r'(?m)^yorwethul = \{ version = "(.*?)"',
+        BINDINGS / "c/CMakeLists.txt": r"find_package\(yorwethul (\S+)",
+    }
+    return [*other_versions(told, f"{front}.{number % 1_000}"), *other_versions(asked_for, front)]
+
+
+def other_versions(patterns, wanted):
+    """Where what is found in each file is not the wanted version."""
+    found = {path: re.search(pattern, path.read_text()) for path, pattern in patterns.items()}
     return [
         f"{path.relative_to(TOP)}: version {match[1] if match else 'not told'}, by yorwethul.h {wanted}"
         for path, match in found.items()

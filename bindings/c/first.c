@@ -11,12 +11,13 @@ int main(int count, char **words) {
     uint8_t *json = malloc(room);
     while (json && (got = fread(json + length, 1, room - length, file)) > 0)
         if ((length += got) == room) json = realloc(json, room *= 2);
-    if (!json) return 2;
+    if (!json || ferror(file)) { fputs("the file could not be read\n", stderr); return 2; }
     uint32_t flags = 0;
     for (int at = 2; at < count; at++) {
         if (!strcmp(words[at], "explicit")) flags |= YORWETHUL_EXPLICIT_TYPES;
-        if (!strcmp(words[at], "portable")) flags |= YORWETHUL_PORTABLE;
-        if (!strcmp(words[at], "floats")) flags |= YORWETHUL_TELL_FLOATS;
+        else if (!strcmp(words[at], "portable")) flags |= YORWETHUL_PORTABLE;
+        else if (!strcmp(words[at], "floats")) flags |= YORWETHUL_TELL_FLOATS;
+        else { fprintf(stderr, "unknown word %s\n", words[at]); return 2; }
     }
     /* a text is nearly always shorter than its JSON, so that one call is enough */
     size_t out_length = length + 256, needed;
@@ -33,5 +34,6 @@ int main(int count, char **words) {
     if (status != YORWETHUL_DONE) fprintf(stderr, " (status %u)\n", (unsigned)status);
     free(out);
     free(json);
+    if (fflush(stdout) || ferror(stdout)) { fputs("the text could not be written\n", stderr); return 2; }
     return status != YORWETHUL_DONE;
 }

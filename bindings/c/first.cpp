@@ -26,15 +26,27 @@ static uint32_t flag_of(const std::string &word) {
     if (word == "explicit") return YORWETHUL_EXPLICIT_TYPES;
     if (word == "portable") return YORWETHUL_PORTABLE;
     if (word == "floats") return YORWETHUL_TELL_FLOATS;
-    return 0;
+    throw std::invalid_argument("unknown word " + word);
+}
+
+static std::string read_file(const std::string &path) {
+    std::ifstream file(path, std::ios::binary);
+    file.peek(); // a folder can be opened, and not read
+    if (file.fail()) throw std::invalid_argument("can't read " + path);
+    return std::string(std::istreambuf_iterator<char>(file), {});
 }
 
 int main(int count, char **words) try {
-    std::ifstream file(count > 1 ? words[1] : "/dev/stdin", std::ios::binary);
     uint32_t flags = 0;
     for (int at = 2; at < count; at++) flags |= flag_of(words[at]);
-    std::cout << write_wgsl(std::string(std::istreambuf_iterator<char>(file), {}), flags);
-} catch (const std::exception &error) {
+    std::cout << write_wgsl(read_file(count > 1 ? words[1] : "/dev/stdin"), flags) << std::flush;
+    if (std::cout) return 0;
+    std::cerr << "the text could not be written\n";
+    return 2;
+} catch (const std::runtime_error &error) {
     std::cerr << error.what() << '\n';
     return 1;
+} catch (const std::exception &error) { // the words are wrong, or memory is refused
+    std::cerr << error.what() << '\n';
+    return 2;
 }

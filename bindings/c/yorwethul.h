@@ -1,7 +1,12 @@
-/* Yorwethul: WGSL from modules of naga's intermediate representation. docs/LIBRARY.md tells more.
+/* Yorwethul: WGSL from modules of naga's intermediate representation. docs/LIBRARY.md in Yorwethul's repository
+ * tells more.
  *
- * The JSON is naga 30's own, {"module": .., "info": ..}, as docs/JSON.md has it. Calls may be made from several
+ * The JSON is naga 30's own, {"module": .., "info": ..}, as docs/JSON.md there has it. Calls may be made from several
  * threads at once. Nothing is kept between calls, and nothing has to be freed.
+ *
+ * A call takes up to 4 MiB of stack: 128 KiB, and up to 8 bytes for each byte of JSON. On a thread with less refuse
+ * longer JSON, or call on one that has as much. Not from a signal handler, nor in a forked child of a program with
+ * threads.
  */
 #ifndef YORWETHUL_H
 #define YORWETHUL_H

@@ -29,10 +29,23 @@ class Yorwethul:
                 return status, out.raw[:needed.value].decode()
 
 
+def stop(why):
+    print(why, file=sys.stderr)
+    sys.exit(2)
+
+
 def main():
+    if len(sys.argv) < 3:
+        stop(__doc__.strip())
     library, file, *words = sys.argv[1:]
+    for word in words:
+        if word not in FLAGS:
+            stop(f"unknown word {word}")
     flags = sum(number for word, number in FLAGS.items() if word in words)
-    status, text = Yorwethul(library).write(Path(file).read_bytes(), flags)
+    try:
+        status, text = Yorwethul(library).write(Path(file).read_bytes(), flags)
+    except OSError as error:
+        stop(error)
     (sys.stdout if status == DONE else sys.stderr).write(text if status == DONE else f"{text} (status {status})\n")
     sys.exit(status != DONE)
 

@@ -57,6 +57,10 @@ class Fault(Exception):
     """Why a test failed."""
 
 
+class Skipped(Exception):
+    """Why a test was not run."""
+
+
 def run(*words, wanted=0, **more):
     """What a command prints, which must end with this status."""
     done = subprocess.run([str(word) for word in words], capture_output=True, text=True, **more)
@@ -70,16 +74,24 @@ def must(holds, told):
         raise Fault(told)
 
 
-def find(*names):
-    """The first of these commands that there is. Cargo counts where its compiler is no older than the crates ask for."""
-    return next(filter(None, map(find_one, names)), None)
-
-
 @functools.cache
-def find_one(name):
+def find(name):
+    """Where this command is. Cargo counts where its compiler is no older than the crate `yorwethul` asks for."""
     if name == "cargo" and rust_version() < (1, 81):
         return None
     return shutil.which(name)
+
+
+def is_there(name):
+    """Whether a command is there by which a test tries more. Where it is not, a line says so."""
+    if not find(name):
+        print(f"skipped: what {name} would try: no {name}", flush=True)
+    return find(name)
+
+
+def lines_of(text):
+    """The lines of a text, which end with a line feed alone: others that Unicode knows may stand in it."""
+    return text.removesuffix("\n").split("\n")
 
 
 def rust_version():
@@ -97,18 +109,18 @@ def test_agreement(_):
 
 def test_header(room):
     """The header alone, as C and as C++."""
-    for compiler, standard in ((find("cc"), "c99"), (find("c++"), "c++11")):
-        if compiler:
+    for compiler, standard in (("cc", "c99"), ("c++", "c++11")):
+        if is_there(compiler):
             language = standard[:-2]
             run(compiler, f"-x{language}", f"-std={standard}", *WARNINGS, "-Werror", "-fsyntax-only", BINDINGS / "c/yorwethul.h")
     run("cc", *WARNINGS, "-std=c11", "-c", BINDINGS / "c/heap.c", "-o", room / "heap.o")
 
 
 def test_stubs(room):
-    """The programs to copy, by the stub: a text, one that is longer than the first guess, an error, and each flag."""
+    """The programs to copy, by the stub: a text, one that is longer than the first guess, an error, each flag, and wrong calls."""
     stub = make_stub(room)
     programs = [[compile_c(room, stub / "libyorwethul.a")]]
-    if find("c++"):
+    if is_there("c++"):
         programs.append([compile_cpp(room, stub / "libyorwethul.a")])
     programs.append([sys.executable, BINDINGS / "python/first.py", stub / "libyorwethul.so"])
     for program in programs:
@@ -118,6 +130,14 @@ def test_stubs(room):
         for words, flags in FLAGS_BY_WORDS.items():
             told = run(*program, write(room / "order", "0 1 abc"), *words)
             must(told == "abc" * (1 + flags), f"{program} asks for other flags by {words}")
+        order = write(room / "order", "0 1 abc")
+        for words in ((order, "portabel"), (room / "missing",), (room,)):
+            must(run(*program, *words, wanted=2) == "", f"{program} gives a text by {words}")
+        with open("/dev/full", "w") as full:
+            status = subprocess.run([*program, order], stdout=full, stderr=subprocess.DEVNULL).returncode
+        # Python ends by itself then, with a status of its own
+        must(status == 2 or (status and program[0] == sys.executable), f"{program}: status {status} on a full disk")
+    run(sys.executable, BINDINGS / "python/first.py", wanted=2)
 
 
 def make_stub(room):
@@ -202,24 +222,24 @@ class Library:
 def test_names(folder, _):
     """Only the calls can be seen in the archive."""
     if not find("nm"):
-        return "no nm"
+        raise Skipped("no nm")
     wanted = {"yorwethul_write", "yorwethul_check", "yorwethul_layout", "yorwethul_version"}
     told = run("nm", "-g", "--defined-only", folder / "libyorwethul.a")
-    seen = {line.split()[-1] for line in told.splitlines() if " " in line}
+    seen = {line.split()[-1] for line in lines_of(told) if " " in line}
     must(seen == wanted, f"the archive shows {sorted(seen ^ wanted)}")
 
 
 def test_programs(folder, room):
     """The programs to copy print of the examples what the program yorwethul prints, and with --plain."""
     programs = [[compile_c(room, folder / "libyorwethul.a")]]
-    if find("c++"):
+    if is_there("c++"):
         programs.append([compile_cpp(room, folder / "libyorwethul.a")])
     programs.append([sys.executable, BINDINGS / "python/first.py", folder / "libyorwethul.so"])
-    if find("cmake"):
+    if is_there("cmake"):
         run("cmake", "-S", BINDINGS / "c", "-B", room / "cmake", f"-Dyorwethul_DIR={folder}")
         run("cmake", "--build", room / "cmake")
         programs.append([room / "cmake/first"])
-    if find("pkg-config"):
+    if is_there("pkg-config"):
         told = run("pkg-config", "--cflags", "--libs", "yorwethul", env={**os.environ, "PKG_CONFIG_PATH": str(folder)}).split()
         run("cc", BINDINGS / "c/first.c", *told, "-o", room / "first_by_name")
         programs.append([room / "first_by_name"])
@@ -232,15 +252,17 @@ def test_programs(folder, room):
 
 def printed_examples(is_plain):
     """Each example, with the status and the text of the program: of its two lines the second asks for a plain text."""
-    answers = (CRATES / "yorwethul/stdout").read_text().splitlines()[1 if is_plain else 0::2]
-    for example, answer in zip(EXAMPLES, map(json.loads, answers)):
+    # the examples' lines come first
+    answers = lines_of((CRATES / "yorwethul/stdout").read_text())[:2 * len(EXAMPLES)][1 if is_plain else 0::2]
+    for example, answer in zip(EXAMPLES, map(json.loads, answers), strict=True):
         yield (example, 1, "") if "refused" in answer else (example, 0, answer["text"])
 
 
 def test_lines(folder, _):
     """The library answers the lines of the program's test as the program does."""
     library = Library(folder / "libyorwethul.so")
-    lines = zip((CRATES / "yorwethul/stdin").read_bytes().splitlines(), (CRATES / "yorwethul/stdout").read_text().splitlines())
+    asked = (CRATES / "yorwethul/stdin").read_bytes().splitlines()
+    lines = zip(asked, lines_of((CRATES / "yorwethul/stdout").read_text()), strict=True)
     for line, answer in ((line, json.loads(answer)) for line, answer in lines):
         if answer.get("error", "").endswith((": no truth value", ": no number of 32 bits")) or any(name in line for name in LIMITS_OF_LINES):
             continue
@@ -280,7 +302,7 @@ def test_cases(folder, _):
     cases = [(json.loads(line), line) for line in (CRATES / "wgsl_cases/stdin").read_bytes().splitlines()]
     answers = cut_answers((CRATES / "wgsl_cases/stdout").read_text(), [case["name"] for case, _ in cases])
     count = 0
-    for (case, line), wanted in zip(cases, answers):
+    for (case, line), wanted in zip(cases, answers, strict=True):
         if case.get("counted"):
             continue
         for flags, answer in wanted.items():
@@ -390,7 +412,7 @@ def test_hammer(folder, room, counts=None):
     told += run(room / "hammer", "cut", counts["cut"], *EXAMPLES)
     for seed in (1, 2):
         told += run(room / "hammer", "flip", seed, counts["flip"], *EXAMPLES)
-    return "\n    ".join(["", *told.splitlines()])
+    return "\n    ".join(["", *lines_of(told)])
 
 
 def test_whole_hammer(folder, room):
@@ -401,7 +423,7 @@ def test_whole_hammer(folder, room):
 def test_valgrind(folder, room):
     """No byte outside of what is given is read or written, of a few hostile inputs."""
     if not find("valgrind"):
-        return "no valgrind"
+        raise Skipped("no valgrind")
     words = ["valgrind", "--quiet", "--error-exitcode=9", room / "hammer"]
     run(*words, "cut", 5, *EXAMPLES[:3])
     run(*words, "flip", 3, 5, *EXAMPLES[:3])
@@ -420,11 +442,13 @@ def test_rust(folder, room):
 
 def test_rust_naga(folder, room):
     """The crate for naga, against the stand-in for it, which wants serde: from cargo's cache or from Debian's packages."""
+    if rust_version() < (1, 90):
+        raise Skipped("rustc is older than 1.90")
     crate = copy_crates(room) / "rust-naga"
     environment = {**cargo_environment(room, folder), "RUSTFLAGS": "--cfg naga_standin"}
     words = ["--offline", "--quiet", "--config", 'patch.crates-io.naga.path="../naga_standin"', *serde_of_debian()]
     if subprocess.run(["cargo", "tree", *words], cwd=crate, env=environment, capture_output=True).returncode:
-        return "left out, since there is no serde"
+        raise Skipped("no serde")
     run("cargo", "test", *words, cwd=crate, env=environment)
 
 
@@ -484,6 +508,8 @@ def main():
             except Fault as fault:
                 failed += 1
                 print(f"FAILED: {title}: {fault}")
+            except Skipped as skipped:
+                print(f"skipped: {title}: {skipped}", flush=True)
             else:
                 print(f"passed: {title} ({time.monotonic() - start:.1f} s){': ' + told if told else ''}", flush=True)
     sys.exit(1 if failed else 0)

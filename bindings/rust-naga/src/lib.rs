@@ -63,6 +63,14 @@ impl Error {
         }
     }
 
+    /// Why an operand that is out of scope at the place has no value, where that is told.
+    pub fn root(&self) -> Option<&str> {
+        match self {
+            Error::Yorwethul(error) => error.root(),
+            Error::Untold(_) => None,
+        }
+    }
+
     /// The label of the function or the entry point at the place, where there is one.
     pub fn function(&self) -> Option<&str> {
         match self {
@@ -98,6 +106,9 @@ impl From<yorwethul::Error> for Error {
 
 /// Writes a module as WGSL.
 ///
+/// Deep operands take stack by the length of the module's JSON: one of more than 64 KiB is written on a
+/// thread of its own, and a shorter one takes at most 640 KiB of the caller's.
+///
 /// # Panics
 ///
 /// Where the info is that of a module with fewer functions, entry points or expressions, as naga's own
@@ -111,13 +122,19 @@ pub fn write(module: &Module, info: &ModuleInfo, flags: Flags) -> Result<String,
     })
 }
 
-/// Tells where the members of the module's structs stand in memory.
+/// Tells where the members of the module's structs stand in memory, on a thread of its own where [`write`]
+/// takes one.
 ///
 /// # Panics
 ///
 /// As [`write`].
 pub fn layout(module: &Module, info: &ModuleInfo) -> Result<String, Error> {
-    Ok(yorwethul::layout_json(&json(module, info)?)?)
+    let json = json(module, info)?;
+    Ok(if json.len() <= LONGEST_HERE {
+        yorwethul::layout_json(&json)?
+    } else {
+        yorwethul::layout_json_on_thread(&json)?
+    })
 }
 
 /// Module and info as JSON, for Yorwethul's other calls or its program.

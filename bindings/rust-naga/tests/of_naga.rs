@@ -169,7 +169,7 @@ fn a_refusal_tells_the_construct_and_its_place() {
     assert_eq!(error.construct(), Some("float literal"));
     let place = "module.functions[0].expressions[0], in statement 0";
     assert_eq!(error.place(), Some(place));
-    assert_eq!(error.function(), Some("half"));
+    assert_eq!((error.function(), error.root()), (Some("half"), None));
     assert_eq!(
         error.to_string(),
         format!("refused: float literal: {place}, in \"half\"")
@@ -248,8 +248,10 @@ fn deep_operands_take_a_thread() {
     emits(&mut deep, first, last);
     returns(&mut deep, last);
     module.functions.append(deep, SPAN);
-    let text = write(&module, &known(&module), Flags::empty()).unwrap();
+    let info = known(&module);
+    let text = write(&module, &info, Flags::empty()).unwrap();
     assert_eq!(text.matches("-(").count(), depth);
+    assert_eq!(layout(&module, &info).as_deref(), Ok(""));
 }
 
 /// Stages, of which naga's own may have more fields.

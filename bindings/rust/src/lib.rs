@@ -41,8 +41,9 @@
 //!
 //! A call takes some 128 KiB of stack, up to 8 bytes more for each byte of the JSON where operands
 //! stand deep in one another, and never more than [`STACK`]: a module that is nested deeper than
-//! 4,000 levels is [`Error::TooDeep`]. For JSON of whatever origin call [`write_json_on_thread`], or
-//! call on a thread that has [`stack_size`] bytes.
+//! 4,000 levels is [`Error::TooDeep`]. For JSON of whatever origin call [`write_json_on_thread`],
+//! [`check_json_on_thread`] or [`layout_json_on_thread`], or call on a thread that has
+//! [`stack_size`] bytes.
 //!
 //! # Without std
 //!
@@ -94,6 +95,8 @@ pub fn write_json(json: &str, flags: Flags) -> Result<String, Error> {
 
 /// Says whether the module that the JSON holds is accepted: `Ok`, or [`Error::NotAccepted`].
 ///
+/// Deep operands take much stack: see [`check_json_on_thread`].
+///
 /// ```
 /// let json = r#"{"module": {}, "info": {"functions": [[0]]}}"#;
 /// let error = yorwethul::check_json(json).unwrap_err();
@@ -118,6 +121,8 @@ pub fn check_json(json: &str) -> Result<(), Error> {
 
 /// Tells where the members of the module's structs stand in memory, a line for each struct and each
 /// member.
+///
+/// Deep operands take much stack: see [`layout_json_on_thread`].
 ///
 /// ```
 /// let json = r#"{
@@ -150,12 +155,33 @@ pub fn layout_json(json: &str) -> Result<String, Error> {
 /// [`write_json`] on a thread of its own, whose stack is enough for the JSON.
 #[cfg(feature = "std")]
 pub fn write_json_on_thread(json: &str, flags: Flags) -> Result<String, Error> {
+    on_thread(json, || write_json(json, flags))
+}
+
+/// [`check_json`] on a thread of its own, whose stack is enough for the JSON.
+#[cfg(feature = "std")]
+pub fn check_json_on_thread(json: &str) -> Result<(), Error> {
+    on_thread(json, || check_json(json))
+}
+
+/// [`layout_json`] on a thread of its own, whose stack is enough for the JSON.
+#[cfg(feature = "std")]
+pub fn layout_json_on_thread(json: &str) -> Result<String, Error> {
+    on_thread(json, || layout_json(json))
+}
+
+/// What a call with this JSON gives, on a thread of its own, whose stack is enough for it.
+#[cfg(feature = "std")]
+fn on_thread<T: Send>(
+    json: &str,
+    call: impl FnOnce() -> Result<T, Error> + Send,
+) -> Result<T, Error> {
     use std::thread::{scope, Builder};
     scope(|scope| {
         let thread = Builder::new()
             .name("yorwethul".into())
             .stack_size(stack_size(json))
-            .spawn_scoped(scope, || write_json(json, flags))
+            .spawn_scoped(scope, call)
             .map_err(|error| Error::Thread(error.kind()))?;
         // what panicked there goes on here
         thread

@@ -184,6 +184,16 @@ fn memory_that_is_not_there_is_told() {
     assert_eq!(text_of(0, call), Err(Error::OutOfMemory));
 }
 
+#[cfg(feature = "std")]
+#[test]
+fn a_call_on_a_thread_gives_what_it_gives_here() {
+    assert_eq!(on_thread("", || Ok(7)), Ok(7));
+    let fails = || Err::<(), _>(Error::TooLong);
+    assert_eq!(on_thread("", fails), Err(Error::TooLong));
+    let name = on_thread("", || Ok(std::thread::current().name().map(String::from)));
+    assert_eq!(name, Ok(Some("yorwethul".into())));
+}
+
 #[test]
 fn an_error_goes_between_threads_and_into_a_box() {
     fn asks<T: Send + Sync + core::error::Error + 'static>() {}

@@ -1,9 +1,8 @@
 //! What the calls give, by the archive.
 
 use std::thread;
-use yorwethul::{
-    check_json, layout_json, library_version, stack_size, write_json, write_json_on_thread, STACK,
-};
+use yorwethul::{check_json, layout_json, library_version, stack_size, write_json, STACK};
+use yorwethul::{check_json_on_thread, layout_json_on_thread, write_json_on_thread};
 use yorwethul::{Error, Flags};
 
 const DOUBLE: &str = r#"{
@@ -169,6 +168,8 @@ fn deep_operands_take_a_stack() {
     let json = nested(3_999);
     let text = write_json_on_thread(&json, Flags::empty()).unwrap();
     assert_eq!(text.matches("-(").count(), 3_999);
+    assert_eq!(check_json_on_thread(&json), Ok(()));
+    assert_eq!(layout_json_on_thread(&json).as_deref(), Ok(""));
     assert!(stack_size(&json) <= STACK);
 }
 
