@@ -5,7 +5,8 @@
 #   bounds that pages keep, links that lead nowhere, and a word that none has (bounds.py);
 #   pictures that are not as they would be made (pictures.py, which also makes them);
 #   counts in docs/ADDING.md that the tree has not (places.py, which also writes them);
-#   lemmas and definitions that nothing uses (unused.py).
+#   lemmas and definitions that nothing uses (unused.py);
+#   public names that no test imports (public.py).
 # It is quiet, and its status is 0, where all is so. Run it at the top of the repository, with pages for the names of these alone.
 here=$(dirname "$0")
 status=0
@@ -14,4 +15,5 @@ python3 "$here/bounds.py" || status=1
 python3 "$here/pictures.py" --check || status=1
 python3 "$here/places.py" --check || status=1
 python3 "$here/unused.py" || status=1
+python3 "$here/public.py" || status=1
 exit $status

@@ -145,7 +145,7 @@ impl fmt::Display for Error {
             Error::NoModule { place, problem } => write!(f, "no module: {place}: {problem}"),
             Error::OutOfMemory => f.write_str("out of memory"),
             Error::TooDeep { what } => f.write_str(what),
-            Error::TooLong => f.write_str("text of more than 64 MiB"),
+            Error::TooLong => f.write_str("text too long"),
             #[cfg(feature = "std")]
             Error::Thread(kind) => write!(f, "no thread could be started: {kind}"),
             Error::Unknown(status) => {

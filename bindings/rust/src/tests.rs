@@ -90,7 +90,7 @@ fn each_status_is_told() {
         (4, "a bit", "unknown answer of libyorwethul.a, status 4"),
         (5, "", "out of memory"),
         (6, "nested too deep: types", "nested too deep: types"),
-        (7, "long", "text of more than 64 MiB"),
+        (7, "long", "text too long"),
         (8, "?", "unknown answer of libyorwethul.a, status 8"),
     ];
     for (status, text, shown) in statuses {
