@@ -10,8 +10,12 @@ returns c =
     let wrote = c.write-answer.ensures in
     let m = c.args.«module».now in
     let info = c.args.info.now in
+    let own = c.new-writer.result.flags in
+    let content = c.new-writer.result.sink.text in
     let answer = c.write-answer.result in
-    answers_bounded c.args.flags _ m info c.args.bound (unfailed answer) _ _ _ c.within_bound.result
+    answers_bounded c.args.flags own m info c.args.bound (unfailed answer) content _ _ c.within_bound.result
     c.new-writer.ensures.flags (ap (λ s. s.text) begun) (ap (λ s. s.text) c.finish-sink.ensures)
-    (faithful_unfailed _ m info _ _ _ _ answer wrote.faithful) (matches_unfailed _ m info _ _ answer wrote.matches)
-    (appends_unfailed _ m info _ _ answer wrote.text) (leaves_unfailed _ m info _ _ _ _ answer wrote.leaves) c.within_bound.ensures
+    (faithful_unfailed own m info content _ _ _ answer wrote.faithful)
+    (matches_unfailed own m info content _ answer wrote.matches)
+    (appends_unfailed own m info content _ answer wrote.text)
+    (leaves_unfailed own m info content _ _ _ answer wrote.leaves) c.within_bound.ensures
