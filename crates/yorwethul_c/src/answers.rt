@@ -218,7 +218,7 @@ fn not_written(alloc: Global, known: &Known, unwritten: NoOutcome) -> Answer
     match unwritten {
         NoOutcome::TooDeep(nested) => told(alloc, Status::TooDeep, nested),
         NoOutcome::NotAccepted(fault) => not_accepted(alloc, known, fault),
-        NoOutcome::TooLong => told(alloc, Status::TooLong, NoOutcome::TooLong),
+        NoOutcome::TooLong => told(alloc, Status::TooLong, "text too long"),
         NoOutcome::Memory(_) => out_of_memory(alloc),
     }
 }
