@@ -99,9 +99,7 @@ def is_right_of_blocks(depth, status, out, err):
     """Whether this is what is to be answered of blocks that deep."""
     if depth <= DEEPEST_BLOCKS:
         return is_written(WRITTEN, status, out, err)
-    begin = '{"Block":['
-    column = blocks(1).index(begin) + DEEPEST_BLOCKS * len(begin) + 2
-    return (status, out, err) == (2, "", f"standard input: no JSON at line 1, column {column}\n")
+    return (status, out, err) == (2, "", "standard input: lists and objects nest more than 127 deep\n")
 
 
 def short(told):
