@@ -544,7 +544,7 @@ def check_refused():
     assert is_accepted(module)
     told = {refusal("float literal"), refusal(NO_STAGE)}
     assert answers_of(module, False) == (False, told), answers_of(module, False)
-    check_behind()
+    check_in_front()
 
 
 def identity():
@@ -553,7 +553,7 @@ def identity():
     return f
 
 
-def check_behind():
+def check_in_front():
     """What stands in front of a function that is refused."""
     module = whole(functions=[identity(), skipped()], variables=[variable("v", ("scalar", F16), PRIVATE)])
     text = "enable f16;\n\nvar<private> v: f16;\n\n" + IDENTITY
