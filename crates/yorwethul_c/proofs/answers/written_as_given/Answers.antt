@@ -34,7 +34,8 @@ returns-in-Ok c =
     subst (λ r. IfOk r (λ _. IsTrue (is_accepted given read))) c.in-Ok.is c.write_within.ensures.accepted in
     let counted = subst (λ r. IfOk r (λ _. IsCounted m read info)) c.in-Ok.is c.write_within.ensures.counted in
     let answers =
-    subst (λ r. IfOk r (λ w. AnswersWriting writer m info w.answer w.refusal [] (string_bytes w.sink) 0 0)) c.in-Ok.is c.write_within.ensures.written in
+    subst (λ r. IfOk r (λ w. AnswersWriting writer m info w.answer w.refusal [] (string_bytes w.sink) 0 0))
+    c.in-Ok.is c.write_within.ensures.written in
     let within = subst (λ r. IfOk r (λ w. length (string_bytes w.sink) ≤ longest_text)) c.in-Ok.is
     c.write_within.ensures.within in
     λ json. wrote json c.args.flags writer given m read info (string_bytes w.sink)
