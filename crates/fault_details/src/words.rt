@@ -7,15 +7,21 @@ ghost use Rattle.fault_details.specs.Texts.{list_text, many_text, need_text, sin
 use naga_ir::SwizzleComponent;
 use std::fmt;
 
-/// A list of a module or of a function, of which an item is named by its number. It is shown by its
+/// A list of a module or of a function, of which an item is told by its number. It is shown by its
 /// name in the JSON of a module.
 #[derive(Debug, Clone, Copy, PartialEq, Eq)]
 pub enum ListName {
+    /// The module's types.
     Types,
+    /// The module's constants.
     Constants,
+    /// The module's overrides.
     Overrides,
+    /// The module's variables.
     GlobalVariables,
+    /// The module's own expressions.
     GlobalExpressions,
+    /// The module's functions.
     Functions,
     /// The expressions of the function at the position.
     Expressions,

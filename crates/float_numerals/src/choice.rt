@@ -34,7 +34,9 @@ pub fn single_decimal(alloc: Global, bits: u32) -> Result<Option<Decimal>, Alloc
     })
 }
 
-/// The same for an `f64`.
+/// The numeral by which the `f64` with these bits is written. Its digits are those that Rust's
+/// formatting chooses, the fewest that denote it. There is none for an infinity or a NaN, nor where
+/// these digits denote another number.
 ///
 /// ```text
 /// // Some(Decimal { negative: false, digits: 1, exponent: 16 })
@@ -62,8 +64,9 @@ pub fn double_decimal(alloc: Global, bits: u64) -> Result<Option<Decimal>, Alloc
     })
 }
 
-/// The same for an `f16`. It has the digits of the `f32` with the same value, which is how naga
-/// writes it.
+/// The numeral by which the `f16` with these bits is written. It has the digits of the `f32` with the
+/// same value, which is how naga writes it. There is none for an infinity or a NaN, nor where these
+/// digits denote another number.
 ///
 /// ```text
 /// // Some(Decimal { negative: false, digits: 99975586, exponent: -9 })

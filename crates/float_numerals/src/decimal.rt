@@ -42,7 +42,8 @@ impl Decimal {
         f32_to_bits_with_nan(nearest)
     }
 
-    /// The same of the nearest `f64`.
+    /// The bits of the `f64` that is nearest to the number; of two that are as near, of the one
+    /// whose last binary digit is 0. Those of an infinity, where the number is too great.
     ///
     /// ```text
     /// Decimal { negative: false, digits: 1, exponent: 16 }.double_bits() // 0x4341_c379_37e0_8000
@@ -54,7 +55,8 @@ impl Decimal {
         f64_to_bits_with_nan(nearest)
     }
 
-    /// The same of the nearest `f16`.
+    /// The bits of the `f16` that is nearest to the number; of two that are as near, of the one
+    /// whose last binary digit is 0. Those of an infinity, where the number is too great.
     ///
     /// ```text
     /// Decimal { negative: true, digits: 65504, exponent: 0 }.half_bits() // 0xfbff

@@ -169,7 +169,7 @@ fn push_line(
     text.push_str(line.as_str())
 }
 
-/// The name of an item, which each item of a named module has.
+/// The name of an item, where the names are those of its module; else `_`.
 fn name_in<'a>(names: &'a HashMap<NameKey, String>, key: &NameKey) -> &'a str {
     match names.get(key) {
         Some(name) => name.as_str(),

@@ -28,7 +28,7 @@ pub fn listed_position(item: FaultPosition) -> ListingPosition {
 
 /// The position of a construct for which a module is refused in a listing of what it is in: of what
 /// is out of scope the expression, with the statement that uses or gives it beside; of an
-/// expression without a form, or whose `let` tells a type without one, the expression with its line
+/// expression without a form, or whose `let` states a type without one, the expression with its line
 /// beside.
 pub fn refused_position(position: RefusalPosition) -> ListingPosition {
     match position {

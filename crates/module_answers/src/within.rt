@@ -1,6 +1,6 @@
 //! What the writer does with a module that others made, within limits.
 
-ghost use Rattle.std.specs.Prelude.{◌≡◌, ◌<◌, ◌≤◌, ℕ, [], IfErr, IfNone, IfOk, IfSome, IsTrue};
+ghost use Rattle.std.specs.Prelude.{◌≡◌, ◌<◌, ◌≤◌, [], IfErr, IfNone, IfOk, IfSome, IsTrue};
 ghost use Rattle.std.specs.Prelude.{None, OnOk, length};
 ghost use Rattle.std.specs.Prelude.{string_bytes};
 ghost use Rattle.module_answers.specs.Within.{IsUnwritten, TellsDepth};

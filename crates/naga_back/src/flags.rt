@@ -11,7 +11,7 @@ pub struct WriterFlags(u32);
 
 bitflag_items! {
     impl WriterFlags: u32 {
-        /// Each `let` names its type: `let _e2: i32 = a;`.
+        /// Each `let` states its type: `let _e2: i32 = a;`.
         const EXPLICIT_TYPES = 1;
 
         /// The text has what standard compilers ask for: `enable subgroups;` where something of

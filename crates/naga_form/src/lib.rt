@@ -84,7 +84,7 @@ pub fn resolves_as_meant()
 {}
 
 /// Its `let`s are those of the emitted handles that are bound and of the results of statements,
-/// each under its handle's name, and each tells its handle's type where types are to be told. Of
+/// each under its handle's name, and each states its handle's type where types are to be stated. Of
 /// one function it is so, whatever stands in the others.
 pub fn binds_as_counted()
     ensures whole { BindsAsCounted }
@@ -106,7 +106,7 @@ pub fn is_read_as_its_shapes()
 /// It does what the module does, where the rules of scope hold in the module. Of one function of an
 /// accepted module it is so on three conditions. What is written of it and of each function before
 /// it that it may call, called or not, has forms; but of those before it nothing is asked of the
-/// types that their `let`s tell. The rules of scope hold in all of these. And the types of all
+/// types that their `let`s state. The rules of scope hold in all of these. And the types of all
 /// variables of the module and the initialisers of all its constants with names have forms, whether
 /// or not it names them. Nothing is asked of the functions that it can't call, of how what
 /// functions take and give is bound, or of the initialisers of overrides and variables.

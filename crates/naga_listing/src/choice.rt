@@ -19,7 +19,7 @@ const RADIUS: usize = 5;
 
 /// The lines of a position, some forty at most: the first of what is listed, those near the
 /// position's own line, those of statements around it, those that it names, and the titles of their
-/// lists. A mark follows its own line, and a gap stands in the place of lines that are left out.
+/// lists. A mark follows its own line, and a gap stands for lines that are left out.
 ///
 /// Where the module has no such position, the first line is marked.
 ///
@@ -39,7 +39,8 @@ pub fn listing(
     shown_lines(alloc, &position.spot, &spots, &lines)
 }
 
-/// The same, with the lines of more items.
+/// The lines that [`listing`] gives, with those of the items `more` beside them. The only error is want
+/// of memory.
 pub fn listing_with(
     alloc: Global,
     module: &Module,
@@ -147,7 +148,7 @@ fn is_near(marked: usize, index: usize) -> bool
     index.saturating_sub(marked) <= RADIUS && marked.saturating_sub(index) <= RADIUS
 }
 
-/// What is kept of the last lines.
+/// What is held of the last lines.
 #[derive(Drop)]
 struct Kept {
     /// The lines that are shown, with gaps.
@@ -179,7 +180,7 @@ impl Kept {
         }
     }
 
-    /// Puts a line before those that were kept.
+    /// Puts a line before those that it holds.
     fn put(&mut self, level: usize, head: LineKind) -> Result<(), AllocError>
         ensures { OnOk result (self.new ≡ record self.old {
           lines = record { level = level; kind = head } ∷ self.old.lines;
@@ -214,7 +215,7 @@ impl Kept {
         }
     }
 
-    /// Puts the marked line before those that were kept, with the line that says what is wrong.
+    /// Puts the marked line before those that it holds, with the line that says what is wrong.
     fn add_marked(&mut self, line: &Line) -> Result<(), AllocError>
         ensures { OnOk result (self.new ≡ with_marked line.now self.old) }
     {
@@ -226,7 +227,7 @@ impl Kept {
         Ok(())
     }
 
-    /// Puts a line before those that were kept if it is shown, and else leaves it out.
+    /// Puts a line before those that it holds if it is shown, and else leaves it out.
     fn put_or_leave_out(&mut self, shown: bool, line: &Line) -> Result<(), AllocError>
         ensures { OnOk result (self.new ≡ record self.old {
           lines = if shown then line.now ∷ self.old.lines else after_gap self.old.lines;

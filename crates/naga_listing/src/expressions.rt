@@ -130,7 +130,7 @@ fn push_half_bits(alloc: Global, bits: u16, out: &mut String) -> Result<(), Allo
     out.push_str(")")
 }
 
-/// Appends a numeral without the letters at its end that tell its type.
+/// Appends a numeral without the letters at its end that state its type.
 fn push_without(suffix: &str, numeral: &str, out: &mut String) -> Result<(), AllocError> {
     match numeral.strip_suffix(suffix) {
         Some(digits) => out.push_str(digits),

@@ -37,7 +37,7 @@ pub(crate) fn named_spots(
     Ok(spots)
 }
 
-/// The same, with more to be seen.
+/// The items that [`named_spots`] gives, and then the items `more`.
 pub(crate) fn named_with(
     alloc: Global,
     module: &Module,

@@ -22,8 +22,8 @@ pub fn statement_at(body: &Block, number: usize) -> Option<&Statement>
     }
 }
 
-/// How many statements are left where this one and those in its blocks are gone past; nothing where
-/// fewer are to be gone past.
+/// How many of `left` statements are still to be gone past after this one and those in its blocks;
+/// `None` where these are more than `left`.
 pub fn past_statement(statement: &Statement, left: usize) -> Option<usize>
     ensures { result ≡ result_err (sought left (statement_trees (tree_of statement.now))) }
 {
@@ -33,7 +33,8 @@ pub fn past_statement(statement: &Statement, left: usize) -> Option<usize>
     }
 }
 
-/// The same of those of a block.
+/// How many of `left` statements are still to be gone past after those of this block and those in their
+/// blocks; `None` where these are more than `left`.
 pub fn past_block(block: &Block, left: usize) -> Option<usize>
     ensures { result ≡ result_err (sought left (trees_in block.now)) }
 {

@@ -23,10 +23,15 @@ pub enum Listed {
 pub enum Spot {
     /// All that is listed: its first line.
     Whole,
+    /// A type of the module.
     Type_(Handle<Type_>),
+    /// A constant of the module.
     Constant(Handle<Constant>),
+    /// An override of the module.
     Override(Handle<Override>),
+    /// A variable of the module.
     GlobalVariable(Handle<GlobalVariable>),
+    /// One of the module's own expressions.
     GlobalExpression(Handle<Expression>),
     /// A variable of the listed function.
     Local(Handle<LocalVariable>),
@@ -64,13 +69,21 @@ impl ListingPosition {
 /// The title of one list of a listing.
 #[derive(Clone, Copy, Debug, PartialEq, Eq)]
 pub enum Title {
+    /// Of the module's types.
     Types,
+    /// Of the module's constants.
     Constants,
+    /// Of the module's overrides.
     Overrides,
+    /// Of the module's variables.
     GlobalVariables,
+    /// Of the module's own expressions.
     GlobalExpressions,
+    /// Of the variables of the listed function.
     Locals,
+    /// Of the expressions of the listed function.
     Expressions,
+    /// Of the statements of the listed function.
     Statements,
 }
 

@@ -36,7 +36,8 @@ pub fn explain(
     explain_with(alloc, module, info, position, &[], message)
 }
 
-/// The same, with the lines of more items: of what led to the position.
+/// The text that [`explain`] gives, with the lines of the items `more` beside them: of what led to the
+/// position. The only error is want of memory.
 pub fn explain_with(
     alloc: Global,
     module: &Module,

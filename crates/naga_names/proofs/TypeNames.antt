@@ -1,6 +1,6 @@
 -- The names of a whole module: its values are labelled by the names of its types.
-use Rattle.std.proofs.Common.{◌≡◌, ℕ, ◌≤◌, suc, false, cond, List, [], ◌∷◌, ◌++◌, length, refl, sym}
-use Rattle.std.proofs.Common.{ap, ◌∙◌, arith, zero, ◌+◌, map, Option, Some, None, slice_get}
+use Rattle.std.proofs.Common.{◌≡◌, ℕ, ◌≤◌, false, cond, List, [], ◌∷◌, ◌++◌, length, refl, sym}
+use Rattle.std.proofs.Common.{ap, ◌∙◌, arith, ◌+◌, map, Option, Some, None, slice_get}
 use Rattle.std.proofs.Common.{unwrap_or}
 use borrow.Author.Tests.{lt-ltb}
 use Rattle.std.specs.List.{flat_map, enumerate_from, AllByRecursion}

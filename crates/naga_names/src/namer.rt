@@ -32,10 +32,11 @@ mod uses;
 
 /// Gives each label an identifier that it has given to no other label.
 ///
-/// An identifier has ASCII letters, digits and `_` alone. It is made of the label's *base* and,
-/// where the base was used before, is a word that means something, or ends in a digit, of an ending
-/// that begins with `_`. Contracts see a `Namer` as its words, its prefixes and the number of uses
-/// of each base.
+/// An identifier has ASCII letters, digits and `_` alone. It begins with the label's *base*, which is
+/// made of the label alone. The first label with a base gets the base as it is; but a `_` follows where
+/// the base ends in a digit or is a word that the namer keeps off. A later one gets the base, a `_` and
+/// the number of labels with this base before it. Contracts see a `Namer` as its words, its prefixes
+/// and the number of uses of each base.
 ///
 /// One that keeps off WGSL's words names the labels of `crates/example_names` so:
 ///

@@ -19,7 +19,12 @@ pub enum Line {
     Statement(usize),
     /// The `break if` of the loop with this number, after which the statement with the number `next`
     /// would stand: it comes after all statements in the loop.
-    BreakIf { number: usize, next: usize },
+    BreakIf {
+        /// The number of the loop.
+        number: usize,
+        /// The number that a statement after the loop would have.
+        next: usize,
+    },
 }
 
 /// What declares a type in a function.

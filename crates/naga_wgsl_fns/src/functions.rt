@@ -52,7 +52,7 @@ use std::collections::HashMap;
 ///
 /// The module is accepted with what is known of it, `tables` has what is looked up of it, and what the
 /// function takes and gives and its stage have forms. The plan is that of the function, for `let`s
-/// that tell types where the flags ask for it.
+/// that state types where the flags ask for it.
 ///
 /// Where the call gives up, because the sink failed or for want of memory, a beginning of the text
 /// stands after what the sink held. Memory is taken where the sink takes it, for the blanks of a

@@ -8,8 +8,9 @@ use std::alloc::Global;
 use std::fmt::Debug;
 use wgsl_words::TryToWgsl;
 
-/// WGSL's word for a value. One without a word is refused with its kind and its debug text, for which
-/// memory may be wanting.
+/// WGSL's word for a value. Where it has none the error is [`Error::Unsupported`], with the kind of the
+/// value and its debug text, or [`Error::Memory`] where there is no memory for that text. A value with
+/// a word needs no memory, and gives no error.
 pub fn to_wgsl_if_implemented<T: TryToWgsl + Debug + Copy>(
     alloc: Global,
     value: T,

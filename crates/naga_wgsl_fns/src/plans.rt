@@ -52,7 +52,7 @@ pub enum FunctionRefusalPosition {
     Expression(Line, Handle<Expression>),
     /// The type of what is declared here: an argument, the result or a local.
     Type_(Declared, Handle<Type_>),
-    /// The type that the `let` of this expression tells in the statement with this number.
+    /// The type that the `let` of this expression states in the statement with this number.
     Let(usize, Handle<Expression>),
 }
 
@@ -117,11 +117,14 @@ fn unplanned_error(alloc: Global, unplanned: Unplanned) -> Error
     }
 }
 
-/// The same plan, or the construct for which there is none, and where it stands. Where several stand,
-/// labels come first, and then it is the first in the order of the text: the signature, the locals,
-/// the statements, a loop's `break if` after all that stands in the loop. On one line it is the first
-/// of the rules of scope, the form of the statement, the expressions from the lowest handle on, the
-/// type that is declared, and those that `let`s tell.
+/// The plan that [`plan_of`] gives, or the construct for which there is none, and where it stands.
+/// Where several stand, labels come first, and then it is the first in the order of the text: the
+/// signature, the locals, the statements, a loop's `break if` after all that stands in the loop. On
+/// one line it is the first of the rules of scope, the form of the statement, the expressions from the
+/// lowest handle on, the type that is declared, and those that `let`s state.
+///
+/// Where memory runs out that is the answer, [`Unplanned::Memory`]. After either error `namer` has
+/// named some first ones of the function's labels.
 pub fn plan_or_refusal<'a>(
     alloc: Global,
     module: &'a Module,

@@ -7,7 +7,7 @@ use Rattle.std.proofs.lemmas.Option.{none-some}
 use Rattle.std.specs.Option.{option_map, option_map_or}
 use Rattle.std.specs.Prelude.{None, Option, Some, unwrap_or}
 use Rattle.module_meaning.proofs.Layouts.{stand_in_order}
-use Rattle.module_meaning.proofs.WrittenSizes.{Laid, aligned_at, begins_at, given, laid, placed}
+use Rattle.module_meaning.proofs.WrittenSizes.{Laid, aligned_at, begins_at, given, laid}
 use Rattle.module_meaning.proofs.WrittenSizes.{placed_none, placed_some, unlaid}
 use Rattle.module_meaning.specs.Layouts.{layout_in, span_of, written_size}
 use Rattle.naga_ir.specs.declared.module.Module.{Module}

@@ -29,7 +29,7 @@ use naga_words::{Output, TextSink};
 
 /// Writes a line for each extension that a text of the module enables, written with these flags,
 /// and an empty line after the last.
-pub fn write_enables<W: TextSink>(
+pub(crate) fn write_enables<W: TextSink>(
     module: &Module,
     info: &ModuleInfo,
     flags: WriterFlags,

@@ -2,7 +2,7 @@
 //!
 //! A sink of one's own is an `impl` of [`TextSink`](crate::types::TextSink) with one method and two
 //! ghosts: the text that it has taken, and how often it has failed. The writer's contract then
-//! says of that text what is written. A sink that keeps all that it takes and never fails:
+//! says of that text what is written. A sink that holds all that it takes and never fails:
 //!
 //! ```text
 //! #[derive(Drop)]

@@ -42,7 +42,9 @@ pub enum RefusalPosition {
 /// A construct for which a module is refused, and where it stands.
 #[derive(Clone, Copy, Debug, PartialEq, Eq)]
 pub struct Refusal {
+    /// What has no text.
     pub construct: Construct,
+    /// Where it stands.
     pub position: RefusalPosition,
 }
 
@@ -56,9 +58,10 @@ pub struct Refusal {
 /// entry points. In each of these its labels come first, and then the lines of its text: the
 /// signature, the locals, the statements, and a loop's `break if` after what stands in the loop. Of
 /// one line it is a rule of scope, then the statement itself, the written expression with the lowest
-/// handle, the type that is declared, and the one that a `let` tells.
+/// handle, the type that is declared, and the one that a `let` states.
 ///
-/// It takes the time of `write` without the text.
+/// It takes the time of `write` without the text. The only error is want of memory: it says nothing
+/// of whether the module would be refused.
 ///
 /// ```text
 /// match unwritable(alloc, &shader.module, &shader.info, no_flags())? {
@@ -102,8 +105,8 @@ pub fn unwritable(
     }
 }
 
-/// The same of a module whose declarations have forms and whose items have names, by its functions
-/// and its entry points.
+/// The answer of [`unwritable`] for a module whose declarations have forms and whose items have names,
+/// by its functions and its entry points.
 fn unwritable_function(
     alloc: Global,
     module: &Module,

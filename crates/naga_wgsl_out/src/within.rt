@@ -40,8 +40,9 @@ pub enum LimitedError {
 /// `limits.nesting`, by [`nested_past`], if there is memory to find out; before anything else is
 /// asked of it, and before the stack is taken. [`LimitedError::TooLong`] comes only where the
 /// module's text has more than `limits.text` bytes; of a module that is refused that is the text with
-/// what stands after the place. A text that has more never comes: it is cut as soon as it has passed
-/// the limit, so that it takes no more bytes than that and a piece more, and no more time.
+/// what stands after what it is refused for. A text that has more never comes: it is cut as soon as
+/// it is longer than the limit, so that it takes no more bytes than that and a chunk more, and no
+/// more time.
 /// What is known of the module is as it was where it is nested too deep or not accepted; else its
 /// uses are counted, but where memory was wanting before.
 ///
@@ -68,7 +69,7 @@ pub fn write_checked_within(
     }
 }
 
-/// The same with a module that is nested no deeper than it may be.
+/// The answer of [`write_checked_within`] for a module that is nested no deeper than it may be.
 #[tactic(auto, using(crate::proofs::Bounded::answers_within))]
 fn write_flat(
     alloc: Global,
@@ -87,7 +88,7 @@ fn write_flat(
     write_bounded(alloc, module, info, flags, limits.text)
 }
 
-/// Writes an accepted module, up to so many bytes and a piece more.
+/// Writes an accepted module, up to so many bytes and a chunk more.
 fn write_bounded(
     alloc: Global,
     module: &Module,
@@ -135,6 +136,7 @@ pub fn unfailed(answer: Result<(), Error>) -> Result<(), Error>
     }
 }
 
+/// The error, but want of memory for a failure of the sink.
 fn unfailed_error(error: Error) -> Error
     ensures { result ≡ unfailed_error error }
 {

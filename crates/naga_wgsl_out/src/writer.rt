@@ -90,7 +90,7 @@ impl<W: TextSink> Writer<W> {
     /// each result of a statement, and these of the emitted expressions: one that a front end
     /// named, under an identifier made of that label; an operation on an image; a `Load`, a
     /// derivative or the load of a cooperative matrix that is used; any other operator, but no part
-    /// at an index, that is used twice or more. `EXPLICIT_TYPES` has each `let` tell its type.
+    /// at an index, that is used twice or more. `EXPLICIT_TYPES` has each `let` state its type.
     /// `PORTABLE` has the text have what standard compilers ask for, as `enable subgroups;`.
     ///
     /// Where a struct's members are to keep their offsets, as `docs/REFUSALS.md` says, a member is
@@ -287,11 +287,15 @@ fn line_after(module: &Module, ty: &FunctionType) -> &'static str
 }
 
 /// The names of a module's items in WGSL, as [`Writer`] gives them, and the namer that gave them, which
-/// can go on from there.
+/// can go on from there. The module need not be accepted.
 ///
-/// A module of which so many labels are alike that an item gets no name is refused as `Custom`, `namer
-/// is full`, and one with more members, arguments or entry points than a key can tell as `Custom`,
-/// `name key out of range`.
+/// An item without a name is an error, which is one of these:
+///
+/// - [`Error::Custom`], `namer is full`: more than 4,294,967,296 items that are no members of structs
+///   have labels with one base.
+/// - [`Error::Custom`], `name key out of range`: no key can tell the item. A key tells 4,294,967,296
+///   members of a struct, as many arguments of a function, and 65,536 entry points.
+/// - [`Error::Memory`]: memory ran out for the names, or for the text of one of the other two.
 pub fn names_of(alloc: Global, module: &Module) -> Result<(HashMap<NameKey, String>, Namer), Error>
     ensures ok { IfOk result (λ r. HasAllNames «module».now (names_in r.0)) }
     ensures namer { IfOk result (λ r. HasNamedBefore «module».now 0 r.1) }

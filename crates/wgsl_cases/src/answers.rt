@@ -94,7 +94,7 @@ fn print_fault<W: Write>(
     writeln!(out, "\nat: {position}")
 }
 
-/// Prints what the writer makes of the module with these flags, and where each `let` tells its type
+/// Prints what the writer makes of the module with these flags, and where each `let` states its type
 /// besides, once where both are the same.
 fn print_texts<W: Write>(
     alloc: Global,

@@ -1,7 +1,8 @@
 //! Prints the WGSL text of a sample module.
 //!
 //! `wgsl_rows ROW [explicit]` builds the module that the row names, asks whether it is accepted,
-//! counts its uses, writes it, and prints the text.
+//! counts its uses, writes it, and prints the text. The names of rows are those that
+//! `SampleName::from_name` takes (`crates/sample_modules/src/rows.rt`).
 #![tactic(auto)]
 
 mod program;

@@ -59,7 +59,7 @@ pub enum Construct {
     ArrayStride,
     /// A label that gets no name, since so many are like it.
     FullNamer,
-    /// A member, an argument or an entry point past those that a key can tell.
+    /// A member, an argument or an entry point after the last that a key can tell.
     NameKey,
 }
 

@@ -2,7 +2,6 @@ use Rattle.std.proofs.Common.{IfErr, IfOk, length, subst, string_bytes, ◌≤�
 use Rattle.std.specs.Prelude.{IsTrue}
 use Rattle.module_answers.specs.Within.{IsUnwritten}
 use Rattle.module_answers.specs.WriteOutcomes.{AnswersWriting}
-use Rattle.module_answers.specs.declared.within.NoOutcome.TheVariants as unwritten
 use Rattle.module_meaning.specs.acceptance.Accepted.{is_accepted}
 use Rattle.naga_wgsl_out.specs.Checked.{IsCounted}
 use Rattle.yorwethul_c.specs.Answers.{deepest_nesting, longest_text}
