@@ -78,7 +78,8 @@ fn nests_past(json: &[u8], most: usize) -> bool
     false
 }
 
-/// How deep lists and objects may nest, for the reader of JSON.
+/// How deep lists and objects may nest, for the reader of JSON: `MOST_NESTED` of
+/// `naga_json/src/text.rt`.
 const DEEPEST: usize = 127;
 
 /// What is said of JSON that nests deeper.

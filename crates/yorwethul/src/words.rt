@@ -65,10 +65,11 @@ fn request_in<'a>(matches: &ArgMatches<'a>) -> Request<'a> {
 }
 
 /// How deep a module may be nested where no option says: half of what 8 MB of stack hold
-/// (`docs/SPEED.md`).
+/// (`docs/SPEED.md`). It is `DEEPEST_NESTING` of `yorwethul_c/src/answers.rt`.
 const NESTING: usize = 4_000;
 
-/// How many bytes a text may have where no option says.
+/// How many bytes a text may have where no option says: `LONGEST_TEXT` of
+/// `yorwethul_c/src/answers.rt`.
 const LONGEST_TEXT: usize = 67_108_864;
 
 fn limits_in(matches: &ArgMatches<'_>) -> Limits {
