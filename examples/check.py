@@ -49,7 +49,7 @@ def stands_in(example, is_plain, line):
 
 
 def missing_texts():
-    """Examples without a text beside them that have one, but no plain one: it shows how their floats are told."""
+    """Examples without a text beside them that have one, but no plain one: it shows how their floats are written."""
     for example, plain in zip(examples(), answers()[1::2]):
         if example.stem in texts() and "refused" in plain and not example.with_suffix(".wgsl").exists():
             yield f"examples/{example.stem}.wgsl is missing"

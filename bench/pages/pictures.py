@@ -47,8 +47,8 @@ LAYERS = [
     ("meanings", LAWS, [
         ("text_meaning", "what a syntax tree means"),
         ("module_meaning", "what a module means"),
-        ("told_floats", "floats get numerals"),
-        ("told_meaning", "and mean the same"),
+        ("decimal_floats", "floats get numerals"),
+        ("decimal_meaning", "and mean the same"),
     ]),
     ("the form", LAWS, [("naga_form", "which syntax tree is written for a module, and the laws of the square")]),
     ("the writer", CODE, [

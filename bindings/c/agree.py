@@ -31,7 +31,7 @@ IN_RUST = {
     "uint32_t": "u32",
 }
 # By which word the page and the programs to copy ask for a flag.
-ASKED_BY = {"explicit": "EXPLICIT_TYPES", "portable": "PORTABLE", "floats": "TELL_FLOATS"}
+ASKED_BY = {"explicit": "EXPLICIT_TYPES", "portable": "PORTABLE", "floats": "DECIMAL_FLOATS"}
 
 
 def main():
@@ -127,9 +127,9 @@ def numbers_of_crate():
 
 
 def flags_of_calls():
-    """The writer's flags, and the one by which floats are told, which is the calls' own."""
+    """The writer's flags, and the one by which floats become decimal, which is the calls' own."""
     told = re.findall(r"const (\w+) = (\d+);", (TOP / "crates/naga_back/src/flags.rt").read_text())
-    told += re.findall(r"const (TELL_FLOATS): u32 = (\d+);", (CRATE / "answers.rt").read_text())
+    told += re.findall(r"const (DECIMAL_FLOATS): u32 = (\d+);", (CRATE / "answers.rt").read_text())
     return {name: int(number) for name, number in told}
 
 

@@ -16,7 +16,7 @@ int main(int count, char **words) {
     for (int at = 2; at < count; at++) {
         if (!strcmp(words[at], "explicit")) flags |= YORWETHUL_EXPLICIT_TYPES;
         else if (!strcmp(words[at], "portable")) flags |= YORWETHUL_PORTABLE;
-        else if (!strcmp(words[at], "floats")) flags |= YORWETHUL_TELL_FLOATS;
+        else if (!strcmp(words[at], "floats")) flags |= YORWETHUL_DECIMAL_FLOATS;
         else { fprintf(stderr, "unknown word %s\n", words[at]); return 2; }
     }
     /* a text is nearly always shorter than its JSON, so that one call is enough */

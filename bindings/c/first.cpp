@@ -25,7 +25,7 @@ static std::string write_wgsl(const std::string &json, uint32_t flags = 0) {
 static uint32_t flag_of(const std::string &word) {
     if (word == "explicit") return YORWETHUL_EXPLICIT_TYPES;
     if (word == "portable") return YORWETHUL_PORTABLE;
-    if (word == "floats") return YORWETHUL_TELL_FLOATS;
+    if (word == "floats") return YORWETHUL_DECIMAL_FLOATS;
     throw std::invalid_argument("unknown word " + word);
 }
 

@@ -53,7 +53,7 @@ enum call { WRITE, WRITE_EXPLICIT, WRITE_ALL_FLAGS, CHECK, LAYOUT, CALLS };
 static const char *const names[CALLS] = {"write", "write with types", "write with all flags",
                                          "check", "layout"};
 static const uint32_t all_flags =
-    YORWETHUL_EXPLICIT_TYPES | YORWETHUL_PORTABLE | YORWETHUL_TELL_FLOATS;
+    YORWETHUL_EXPLICIT_TYPES | YORWETHUL_PORTABLE | YORWETHUL_DECIMAL_FLOATS;
 
 struct answer {
     uint32_t status;

@@ -34,17 +34,17 @@ EXAMPLES = sorted((TOP / "examples").glob("*.json"))
 WARNINGS = ["-Wall", "-Wextra", "-pedantic"]
 # as yorwethul.h numbers them; bindings/c/agree.py compares the two
 DONE, REFUSED, NOT_ACCEPTED, NO_MODULE, UNKNOWN_FLAG, OUT_OF_MEMORY, TOO_DEEP, TOO_LONG = range(8)
-EXPLICIT_TYPES, PORTABLE, TELL_FLOATS = 1, 2, 4
+EXPLICIT_TYPES, PORTABLE, DECIMAL_FLOATS = 1, 2, 4
 # what a line of the program may have in place of the program's limits; a call from C has its own
 LIMITS_OF_LINES = (b'"nesting":', b'"text":')
 DEEPEST_NESTING = 4_000
-ALL_FLAGS = EXPLICIT_TYPES | PORTABLE | TELL_FLOATS
+ALL_FLAGS = EXPLICIT_TYPES | PORTABLE | DECIMAL_FLOATS
 
 # By which words the programs to copy ask for flags.
 FLAGS_BY_WORDS = {
     ("explicit",): EXPLICIT_TYPES,
     ("portable",): PORTABLE,
-    ("floats",): TELL_FLOATS,
+    ("floats",): DECIMAL_FLOATS,
     ("portable", "floats", "explicit"): ALL_FLAGS,
 }
 
@@ -294,7 +294,7 @@ def in_function(answer):
 def flags_of_line(line):
     """The flags by which a call writes the module of a line as the program does."""
     explicit = EXPLICIT_TYPES if b'"explicit_types":true' in line else 0
-    return explicit | (0 if b'"plain":true' in line else PORTABLE | TELL_FLOATS)
+    return explicit | (0 if b'"plain":true' in line else PORTABLE | DECIMAL_FLOATS)
 
 
 def test_cases(folder, _):

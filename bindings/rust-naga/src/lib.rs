@@ -8,7 +8,7 @@
 //!
 //! let module = shader();
 //! let info = Validator::new(ValidationFlags::all(), Capabilities::all()).validate(&module).unwrap();
-//! let text = yorwethul_naga::write(&module, &info, Flags::PORTABLE | Flags::TELL_FLOATS)?;
+//! let text = yorwethul_naga::write(&module, &info, Flags::PORTABLE | Flags::DECIMAL_FLOATS)?;
 //! # Ok::<(), yorwethul_naga::Error>(())
 //! ```
 //!

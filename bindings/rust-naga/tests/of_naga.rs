@@ -175,7 +175,7 @@ fn a_refusal_tells_the_construct_and_its_place() {
         format!("refused: float literal: {place}, in \"half\"")
     );
     let text = "fn half(x: f32) -> f32 {\n    return 0.5f;\n}\n\n";
-    let told = write(&module, &known(&module), Flags::TELL_FLOATS);
+    let told = write(&module, &known(&module), Flags::DECIMAL_FLOATS);
     assert_eq!(told.as_deref(), Ok(text));
     fn is_an_error<E: std::error::Error + Send + Sync + 'static>(_: &E) {}
     is_an_error(&error);

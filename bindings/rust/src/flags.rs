@@ -14,7 +14,7 @@ impl Flags {
 
     /// Floats are written, by the digits that Rust's formatting gives them. Without this flag a
     /// module with a literal of a float is refused, as `float literal`.
-    pub const TELL_FLOATS: Flags = Flags(crate::sys::TELL_FLOATS);
+    pub const DECIMAL_FLOATS: Flags = Flags(crate::sys::DECIMAL_FLOATS);
 
     /// No flag.
     pub const fn empty() -> Flags {

@@ -19,13 +19,13 @@
 //!     },
 //!     "info": {"functions": [[0, 0, 0]]}
 //! }"#;
-//! let text = yorwethul::write_json(json, Flags::PORTABLE | Flags::TELL_FLOATS)?;
+//! let text = yorwethul::write_json(json, Flags::PORTABLE | Flags::DECIMAL_FLOATS)?;
 //! assert_eq!(text, "fn half(x: f32) -> f32 {\n    return (x * 0.5f);\n}\n\n");
 //! # Ok::<(), yorwethul::Error>(())
 //! ```
 //!
 //! With these two flags shaders are written as they come from naga. Without
-//! [`Flags::TELL_FLOATS`] a literal of a float is refused, and without [`Flags::PORTABLE`] the text
+//! [`Flags::DECIMAL_FLOATS`] a literal of a float is refused, and without [`Flags::PORTABLE`] the text
 //! lacks what only standard compilers ask for.
 //!
 //! The crate `yorwethul-naga` takes a `naga::Module` with its `ModuleInfo`.

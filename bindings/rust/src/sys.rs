@@ -36,4 +36,4 @@ pub const TOO_LONG: u32 = 7;
 
 pub const EXPLICIT_TYPES: u32 = 1;
 pub const PORTABLE: u32 = 2;
-pub const TELL_FLOATS: u32 = 4;
+pub const DECIMAL_FLOATS: u32 = 4;

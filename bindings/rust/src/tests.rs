@@ -209,5 +209,5 @@ fn flags_are_bits() {
     assert_eq!((flags.bits(), flags.contains(Flags::empty())), (1, true));
     flags |= Flags::PORTABLE;
     assert_eq!((flags.bits(), flags.contains(Flags::PORTABLE)), (3, true));
-    assert_eq!((flags | Flags::TELL_FLOATS).bits(), 7);
+    assert_eq!((flags | Flags::DECIMAL_FLOATS).bits(), 7);
 }

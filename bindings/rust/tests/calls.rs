@@ -86,7 +86,7 @@ fn a_refused_module_tells_the_construct_and_its_place() {
     let half = DOUBLE
         .replace("\"Sint\"", "\"Float\"")
         .replace(r#"{"FunctionArgument": 0}"#, r#"{"Literal": {"F32": 0.5}}"#);
-    let told = write_json(&half, Flags::TELL_FLOATS).unwrap();
+    let told = write_json(&half, Flags::DECIMAL_FLOATS).unwrap();
     assert!(told.contains("0.5f"), "{told}");
     let error = write_json(&half, Flags::empty()).unwrap_err();
     assert_eq!(error.construct(), Some("float literal"));

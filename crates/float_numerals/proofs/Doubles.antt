@@ -1,4 +1,4 @@
--- The digits and the exponent by which a number of eight bytes is written tell what its numeral
+-- The digits and the exponent by which a number of eight bytes is written give what its numeral
 -- denotes, and their text is read so.
 use Rattle.std.proofs.Common.{◌≡◌, ℕ, suc, ◌+◌, ◌-◌, ◌*◌, ◌^◌, ◌<◌, ◌≤◌, refl, sym, ap, ◌∙◌, arith}
 use Rattle.std.proofs.Common.{Bool, true, false, cond}
@@ -19,38 +19,38 @@ use lib.Ieee.Scale.{round_same}
 use lib.Pow.{pow-add}
 use Rattle.fast_float.specs.Rounding.{nearest_to_decimal}
 use Rattle.float_numerals.specs.declared.decimal.Decimal.{Decimal}
-use Rattle.float_numerals.specs.Denoted.{denoted, told}
+use Rattle.float_numerals.specs.Denoted.{denoted, decimal_float}
 use Rattle.float_numerals.specs.Texts.{whole_of, fraction_of, some_fraction_of, leading_power, has_plain_form}
 use Rattle.float_numerals.specs.Texts.{double_whole, double_fraction, double_exponent, double_numeral_text}
 use Rattle.float_numerals.proofs.Numerals.{after_append, zeros_after, front_digits, rest_digits}
-use Rattle.float_numerals.proofs.Numerals.{split, plain_told, text_read}
+use Rattle.float_numerals.proofs.Numerals.{split, decimal_plain, text_read}
 
 ten_pos : (n : ℕ) → 0 < 10 ^ n
 ten_pos n = one-le-pow n 10 (omega arith)
 
 -- a numerator and a denominator, both times a power of ten
-up_told : (f : Format) (negative : Bool) (n a m : ℕ) → round f negative (n * 10 ^ (a + m)) (10 ^ m)
+decimal_up : (f : Format) (negative : Bool) (n a m : ℕ) → round f negative (n * 10 ^ (a + m)) (10 ^ m)
     ≡ round f negative (n * 10 ^ a) 1
-up_told f negative n a m =
+decimal_up f negative n a m =
     round_same f negative (n * 10 ^ (a + m)) (10 ^ m) (n * 10 ^ a) 1 (ten_pos m) (omega arith)
     (mul-one (n * 10 ^ (a + m)) ∙ ap (λ k. n * k) (pow-add 10 a m) ∙ sym (mul_assoc n (10 ^ a) (10 ^ m)))
 
-across_told : (f : Format) (negative : Bool) (n a m : ℕ) → round f negative (n * 10 ^ a) (10 ^ (m + a))
+decimal_across : (f : Format) (negative : Bool) (n a m : ℕ) → round f negative (n * 10 ^ a) (10 ^ (m + a))
     ≡ round f negative n (10 ^ m)
-across_told f negative n a m =
+decimal_across f negative n a m =
     round_same f negative (n * 10 ^ a) (10 ^ (m + a)) n (10 ^ m) (ten_pos (m + a)) (ten_pos m)
     (mul_assoc n (10 ^ a) (10 ^ m) ∙ ap (λ k. n * k) (mul_comm (10 ^ a) (10 ^ m) ∙ sym (pow-add 10 m a)))
 
 -- with an exponent
-scientific_told : (f : Format) (negative : Bool) (ds : List ℕ) (n : ℕ) (e : ℤ) → digits_value 10 ds ≡ n →
+decimal_scientific : (f : Format) (negative : Bool) (ds : List ℕ) (n : ℕ) (e : ℤ) → digits_value 10 ds ≡ n →
     0 < length ds →
-    told f negative (take 1 ds) (drop 1 ds) (leading_power ds e) ≡ nearest_to_decimal f negative n e
-scientific_told f negative ds n (pos e) value some =
+    decimal_float f negative (take 1 ds) (drop 1 ds) (leading_power ds e) ≡ nearest_to_decimal f negative n e
+decimal_scientific f negative ds n (pos e) value some =
     let m = length ds - 1 in
     let same : digits_value 10 (take 1 ds ++ drop 1 ds) ≡ n = ap (digits_value 10) (take-append-drop 1 ds) ∙ value in
     let long : length (drop 1 ds) ≡ m = length-drop 1 ds in
-    (λ i. round f negative (same i * 10 ^ (e + m)) (10 ^ long i)) ∙ up_told f negative n e m
-scientific_told f negative ds n (negsuc e) value some = at (ltb m (suc e)) refl
+    (λ i. round f negative (same i * 10 ^ (e + m)) (10 ^ long i)) ∙ decimal_up f negative n e m
+decimal_scientific f negative ds n (negsuc e) value some = at (ltb m (suc e)) refl
   where
     m : ℕ
     m = length ds - 1
@@ -62,7 +62,7 @@ scientific_told f negative ds n (negsuc e) value some = at (ltb m (suc e)) refl
     long = length-drop 1 ds
 
     at : (b : Bool) → ltb m (suc e) ≡ b →
-        told f negative (take 1 ds) (drop 1 ds) (cond b (negsuc (suc e - suc m)) (pos (m - suc e)))
+        decimal_float f negative (take 1 ds) (drop 1 ds) (cond b (negsuc (suc e - suc m)) (pos (m - suc e)))
         ≡ round f negative n (10 ^ suc e)
     at true is =
         let whole : length (drop 1 ds) + suc (suc e - suc m) ≡ suc e = omega (arith, long, ltb-true m (suc e) is) in
@@ -70,16 +70,16 @@ scientific_told f negative ds n (negsuc e) value some = at (ltb m (suc e)) refl
     at false is =
         let whole : length (drop 1 ds) ≡ suc e + (m - suc e) = omega (arith, long, ltb-false m (suc e) is) in
         (λ i. round f negative (same i * 10 ^ (m - suc e)) (10 ^ whole i))
-        ∙ across_told f negative n (m - suc e) (suc e)
+        ∙ decimal_across f negative n (m - suc e) (suc e)
 
 -- without one
 mul_ten : (k : ℕ) → k * 10 + digit_value 48 ≡ k * 10
 mul_ten k = omega arith
 
-pointed_told : (f : Format) (negative : Bool) (ds : List ℕ) (n : ℕ) (e : ℤ) → AllDigits 10 ds →
+decimal_pointed : (f : Format) (negative : Bool) (ds : List ℕ) (n : ℕ) (e : ℤ) → AllDigits 10 ds →
     digits_value 10 ds ≡ n → 0 < length ds →
-    told f negative (whole_of ds e) (some_fraction_of ds e) (pos 0) ≡ nearest_to_decimal f negative n e
-pointed_told f negative ds n (pos e) is value some =
+    decimal_float f negative (whole_of ds e) (some_fraction_of ds e) (pos 0) ≡ nearest_to_decimal f negative n e
+decimal_pointed f negative ds n (pos e) is value some =
     let front = ds ++ replicate e 48 in
     let number : digits_value 10 front ≡ n * 10 ^ e = after_append 0 ds (replicate e 48)
     ∙ ap (λ k. digits_value_after 10 k (replicate e 48)) value ∙ zeros_after n e in
@@ -87,23 +87,24 @@ pointed_told f negative ds n (pos e) is value some =
     ∙ ap (λ k. k * 10 + digit_value 48) number ∙ mul_ten (n * 10 ^ e) in
     round_same f negative (digits_value 10 (front ++ 48 ∷ []) * 10 ^ 0) (10 ^ 1) (n * 10 ^ e) 1 (omega arith)
     (omega arith) (omega (arith, longer))
-pointed_told f negative ds n (negsuc e) is value some =
-    plain_told f negative n (negsuc e) (whole_of ds (negsuc e)) (fraction_of ds (negsuc e))
+decimal_pointed f negative ds n (negsuc e) is value some =
+    decimal_plain f negative n (negsuc e) (whole_of ds (negsuc e)) (fraction_of ds (negsuc e))
     (split ds n (negsuc e) is some value)
 
-either_told : (f : Format) (negative : Bool) (ds : List ℕ) (n : ℕ) (e : ℤ) (b : Bool) → AllDigits 10 ds →
+decimal_either : (f : Format) (negative : Bool) (ds : List ℕ) (n : ℕ) (e : ℤ) (b : Bool) → AllDigits 10 ds →
     digits_value 10 ds ≡ n → 0 < length ds →
-    told f negative (cond b (whole_of ds e) (take 1 ds)) (cond b (some_fraction_of ds e) (drop 1 ds))
+    decimal_float f negative (cond b (whole_of ds e) (take 1 ds)) (cond b (some_fraction_of ds e) (drop 1 ds))
     (cond b (pos 0) (leading_power ds e)) ≡ nearest_to_decimal f negative n e
-either_told f negative ds n e true is value some = pointed_told f negative ds n e is value some
-either_told f negative ds n e false is value some = scientific_told f negative ds n e value some
+decimal_either f negative ds n e true is value some = decimal_pointed f negative ds n e is value some
+decimal_either f negative ds n e false is value some = decimal_scientific f negative ds n e value some
 
-pub double_told : (f : Format) (d : Decimal) → d.digits < 2 ^ 64 →
-    told f d.negative (double_whole d) (double_fraction d) (double_exponent d) ≡ denoted f d
-double_told f d fits =
+pub decimal_double_is : (f : Format) (d : Decimal) → d.digits < 2 ^ 64 →
+    decimal_float f d.negative (double_whole d) (double_fraction d) (double_exponent d) ≡ denoted f d
+decimal_double_is f d fits =
     let own = decimal_is_IsNumeral d.digits fits in
     let ds = decimal d.digits in
-    either_told f d.negative ds d.digits d.exponent (has_plain_form (leading_power ds d.exponent)) own.0.1 own.1 own.0.0
+    decimal_either f d.negative ds d.digits d.exponent (has_plain_form (leading_power ds d.exponent))
+    own.0.1 own.1 own.0.0
 
 -- what is written are digits, some of them before the point, and the exponent is not too great
 
@@ -156,4 +157,4 @@ double_read f d fits small =
     let w = double_written d fits small in
     text_read f d.negative (double_whole d) (double_fraction d) (double_exponent d) w.small w.whole_digits
     w.fraction_digits w.some
-    ∙ ap Some (double_told f d fits)
+    ∙ ap Some (decimal_double_is f d fits)

@@ -1,4 +1,4 @@
--- The digits by which a numeral is written tell what it denotes, and their text is read so.
+-- The digits by which a numeral is written give what it denotes, and their text is read so.
 use Rattle.std.proofs.Common.{◌≡◌, ℕ, zero, suc, ◌+◌, ◌-◌, ◌*◌, ◌^◌, ◌<◌, ◌≤◌, refl, sym, ap, ◌∙◌}
 use Rattle.std.proofs.Common.{arith, Bool, true, false, cond}
 use Rattle.std.proofs.Common.{ℤ, pos, negsuc, nat_abs, List, [], ◌∷◌, ◌++◌, length, take, drop, replicate}
@@ -18,8 +18,8 @@ use native.Mathlib.Nat.{mul_assoc, pow-succ', pow-zero, mul-one, zero-mul}
 use lib.Ieee.{round}
 use Rattle.fast_float.specs.Rounding.{nearest_to_decimal}
 use Rattle.float_numerals.specs.declared.decimal.Decimal.{Decimal}
-use Rattle.float_numerals.specs.Half.{half_size, half_of, denoted_half, told_half}
-use Rattle.float_numerals.specs.Denoted.{denoted, told}
+use Rattle.float_numerals.specs.Half.{half_size, half_of, denoted_half, decimal_half}
+use Rattle.float_numerals.specs.Denoted.{denoted, decimal_float}
 use Rattle.float_numerals.specs.Texts.{whole_of, fraction_of, whole_digits, fraction_digits}
 use Rattle.float_numerals.specs.Texts.{fraction_text, exponent_text, numeral_text}
 
@@ -168,9 +168,9 @@ formed whole (b ∷ ds) down exponent p q r up = record {
   len_is = refl;
 }
 
--- the number that the digits and the exponent tell
-abbrev told_parts : Format → Bool → (whole fraction : List ℕ) (down : Bool) (exponent : List ℕ) → Float
-told_parts f negative whole fraction down exponent =
+-- the number that the digits and the exponent give
+abbrev decimal_parts : Format → Bool → (whole fraction : List ℕ) (down : Bool) (exponent : List ℕ) → Float
+decimal_parts f negative whole fraction down exponent =
     round f negative (digits_value 10 (whole ++ fraction) * 10 ^ cond down 0 (digits_value 10 exponent))
     (10 ^ (length fraction + cond down (digits_value 10 exponent) 0))
 
@@ -178,7 +178,7 @@ parts_read : (f : Format) (negative : Bool) (whole fraction : List ℕ) (down : 
     AllDigits 10 whole → AllDigits 10 fraction → AllDigits 10 exponent → (exponent ≡ [] → down ≡ false) →
     0 < length whole →
     parse_float f (sign_text negative ++ (whole ++ (fraction_text fraction ++ power_text down exponent)))
-    ≡ Some (told_parts f negative whole fraction down exponent)
+    ≡ Some (decimal_parts f negative whole fraction down exponent)
 parts_read f negative whole [] down exponent p q r up some =
     parse_float-text_of f negative (parts whole [] down exponent) (formed whole [] down exponent p q r up) some
 parts_read f negative whole (b ∷ ds) down exponent p q r up some =
@@ -209,7 +209,7 @@ written_power f negative whole fraction down n fits p q some =
 pub text_read : (f : Format) (negative : Bool) (whole fraction : List ℕ) (e : ℤ) → nat_abs e < 2 ^ 64 →
     AllDigits 10 whole → AllDigits 10 fraction → 0 < length whole →
     parse_float f (sign_text negative ++ (whole ++ (fraction_text fraction ++ exponent_text e)))
-    ≡ Some (told f negative whole fraction e)
+    ≡ Some (decimal_float f negative whole fraction e)
 text_read f negative whole fraction (pos zero) small p q some =
     parts_read f negative whole fraction false [] p q tt (λ e. refl) some
     ∙ ap (λ k. Some (round f negative (digits_value 10 (whole ++ fraction) * 10 ^ 0) (10 ^ k)))
@@ -223,31 +223,32 @@ text_read f negative whole fraction (negsuc n) small p q some =
     ∙ ap (λ k. Some (round f negative k (10 ^ (length fraction + suc n))))
     (mul-one (digits_value 10 (whole ++ fraction)))
 
--- what the digits of a numeral tell
+-- what the digits of a numeral give
 
-told_by : (f : Format) (negative : Bool) (n : ℕ) (e : ℤ) → round f negative (scaled n e) (10 ^ down e)
+decimal_scaled : (f : Format) (negative : Bool) (n : ℕ) (e : ℤ) → round f negative (scaled n e) (10 ^ down e)
     ≡ nearest_to_decimal f negative n e
-told_by f negative n (pos e) = refl
-told_by f negative n (negsuc e) = refl
+decimal_scaled f negative n (pos e) = refl
+decimal_scaled f negative n (negsuc e) = refl
 
-pub plain_told : (f : Format) (negative : Bool) (n : ℕ) (e : ℤ) (whole fraction : List ℕ) → IsSplit n e whole fraction →
-    told f negative whole fraction (pos 0) ≡ nearest_to_decimal f negative n e
-plain_told f negative n e whole fraction s =
+pub decimal_plain : (f : Format) (negative : Bool) (n : ℕ) (e : ℤ) (whole fraction : List ℕ) →
+    IsSplit n e whole fraction →
+    decimal_float f negative whole fraction (pos 0) ≡ nearest_to_decimal f negative n e
+decimal_plain f negative n e whole fraction s =
     ap (λ k. round f negative k (10 ^ length fraction)) (mul-one (digits_value 10 (whole ++ fraction)))
-    ∙ (λ i. round f negative (s.value i) (10 ^ s.places i)) ∙ told_by f negative n e
+    ∙ (λ i. round f negative (s.value i) (10 ^ s.places i)) ∙ decimal_scaled f negative n e
 
-pub told_is : (f : Format) (d : Decimal) → d.digits < 2 ^ 64 →
-    told f d.negative (whole_digits d) (fraction_digits d) (pos 0) ≡ denoted f d
-told_is f d fits = plain_told f d.negative d.digits d.exponent (whole_digits d) (fraction_digits d)
+pub decimal_float_is : (f : Format) (d : Decimal) → d.digits < 2 ^ 64 →
+    decimal_float f d.negative (whole_digits d) (fraction_digits d) (pos 0) ≡ denoted f d
+decimal_float_is f d fits = decimal_plain f d.negative d.digits d.exponent (whole_digits d) (fraction_digits d)
     (decimal_split d fits)
 
 half_by : (n : ℕ) (e : ℤ) → half_size (scaled n e) (10 ^ down e) ≡ half_of n e
 half_by n (pos e) = refl
 half_by n (negsuc e) = refl
 
-pub told_half_is : (d : Decimal) → d.digits < 2 ^ 64 → told_half d.negative (whole_digits d) (fraction_digits d)
+pub decimal_half_is : (d : Decimal) → d.digits < 2 ^ 64 → decimal_half d.negative (whole_digits d) (fraction_digits d)
     ≡ denoted_half d
-told_half_is d fits =
+decimal_half_is d fits =
     let s = decimal_split d fits in
     ap (λ n. cond d.negative 32768 0 + n) ((λ i. half_size (s.value i) (10 ^ s.places i)) ∙ half_by d.digits d.exponent)
 
@@ -258,4 +259,4 @@ numeral_read f d fits =
     (sym (append-nil (fraction_text (fraction_digits d))))
     ∙ text_read f d.negative (whole_digits d) (fraction_digits d) (pos 0) (omega arith) s.whole_digits
     s.fraction_digits s.some
-    ∙ ap Some (told_is f d fits)
+    ∙ ap Some (decimal_float_is f d fits)

@@ -49,16 +49,16 @@ abbrev pub is_finite_double : Decimal → Bool
 is_finite_double d =
     is_in_range d && nat_lt (denoted_bits binary64 d % 2 ^ 63) 0x7ff0_0000_0000_0000
 
--- ---- as a text tells it: by a sign, digits before a point and after it, and an exponent, which is
--- 0 where none is written (the WGSL specification, "Numeric Literals")
+-- ---- decimal, as in a text: by a sign, digits before a point and after it, and an exponent, which
+-- is 0 where none is written (the WGSL specification, "Numeric Literals")
 
--- the float nearest to the number that they tell
-abbrev pub told : Format → Bool → (whole fraction : List ℕ) → (e : ℤ) → Float
-told f negative whole fraction (pos e) =
+-- the float nearest to the number that they give
+abbrev pub decimal_float : Format → Bool → (whole fraction : List ℕ) → (e : ℤ) → Float
+decimal_float f negative whole fraction (pos e) =
     round f negative (digits_value 10 (whole ++ fraction) * 10 ^ e) (10 ^ length fraction)
-told f negative whole fraction (negsuc e) =
+decimal_float f negative whole fraction (negsuc e) =
     round f negative (digits_value 10 (whole ++ fraction)) (10 ^ (length fraction + suc e))
 
 -- its bits
-abbrev pub told_bits : Format → Bool → (whole fraction : List ℕ) → (e : ℤ) → ℕ
-told_bits f negative whole fraction e = to_bits f (told f negative whole fraction e)
+abbrev pub decimal_bits : Format → Bool → (whole fraction : List ℕ) → (e : ℤ) → ℕ
+decimal_bits f negative whole fraction e = to_bits f (decimal_float f negative whole fraction e)

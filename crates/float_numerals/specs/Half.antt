@@ -41,8 +41,8 @@ denoted_half d = (if d.negative then 32768 else 0) + half_of d.digits d.exponent
 abbrev pub is_finite_half : Decimal → Bool
 is_finite_half d = is_in_range d && nat_lt (half_of d.digits d.exponent) 31744
 
--- the bits as a text tells them: by the digits before a point and after it
-abbrev pub told_half : Bool → (whole fraction : List ℕ) → ℕ
-told_half negative whole fraction =
+-- the bits that digits before a point and after it give
+abbrev pub decimal_half : Bool → (whole fraction : List ℕ) → ℕ
+decimal_half negative whole fraction =
     (if negative then 32768 else 0) +
     half_size (digits_value 10 (whole ++ fraction)) (10 ^ length fraction)

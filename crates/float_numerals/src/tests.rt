@@ -47,32 +47,32 @@ const HALVES: &[(u16, &str)] = &[
 #[test]
 fn singles_are_written_as_by_rust(rt: HostRuntime) {
     for (bits, text) in SINGLES {
-        let mut told = String::new(rt.alloc());
+        let mut written = String::new(rt.alloc());
         if let Some(decimal) = single_decimal(rt.alloc(), *bits).expect(&rt, "memory") {
-            push_single(decimal, &mut told).expect(&rt, "memory");
+            push_single(decimal, &mut written).expect(&rt, "memory");
         }
-        assert_eq!(rt; told.as_str(), *text);
+        assert_eq!(rt; written.as_str(), *text);
     }
 }
 
 #[test]
 fn doubles_are_written_as_by_rust(rt: HostRuntime) {
     for (bits, text) in DOUBLES {
-        let mut told = String::new(rt.alloc());
+        let mut written = String::new(rt.alloc());
         if let Some(decimal) = double_decimal(rt.alloc(), *bits).expect(&rt, "memory") {
-            push_double(decimal, &mut told).expect(&rt, "memory");
+            push_double(decimal, &mut written).expect(&rt, "memory");
         }
-        assert_eq!(rt; told.as_str(), *text);
+        assert_eq!(rt; written.as_str(), *text);
     }
 }
 
 #[test]
 fn halves_are_written_as_by_rust(rt: HostRuntime) {
     for (bits, text) in HALVES {
-        let mut told = String::new(rt.alloc());
+        let mut written = String::new(rt.alloc());
         if let Some(decimal) = half_decimal(rt.alloc(), *bits).expect(&rt, "memory") {
-            push_half(decimal, &mut told).expect(&rt, "memory");
+            push_half(decimal, &mut written).expect(&rt, "memory");
         }
-        assert_eq!(rt; told.as_str(), *text);
+        assert_eq!(rt; written.as_str(), *text);
     }
 }

@@ -22,5 +22,5 @@ pub use positions::{JsonPosition, JsonRefusalPosition, JsonRoot, label_at, label
 pub use refusals::refusal_line;
 pub use roles::{Role, operands_have_roles, role_at};
 pub use root_texts::{Giver, MarkedRoot, ScopeRoot, root_at, root_spots};
-pub use within::{NoOutcome, check_nesting, write_told_within, write_within};
-pub use writing::{WriteOutcome, flags_for, write, write_told};
+pub use within::{NoOutcome, check_nesting, write_decimal_within, write_within};
+pub use writing::{WriteOutcome, flags_for, write, write_decimal};

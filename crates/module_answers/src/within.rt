@@ -9,9 +9,9 @@ ghost use Rattle.module_limits.specs.Nesting.{nested_past};
 ghost use Rattle.module_meaning.specs.acceptance.Accepted.{is_accepted};
 ghost use Rattle.naga_wgsl_out.specs.Checked.{IsCounted};
 ghost use Rattle.naga_wgsl_out.specs.Within.{unfailed};
-ghost use Rattle.told_floats.specs.Told.{IsToldModule};
+ghost use Rattle.decimal_floats.specs.Decimals.{IsDecimalModule};
 
-use crate::writing::{WriteOutcome, write, write_told};
+use crate::writing::{WriteOutcome, write, write_decimal};
 use naga_info::ModuleInfo;
 use naga_wgsl_out::info::Unaccepted;
 use naga_wgsl_out::ir::Module;
@@ -68,9 +68,9 @@ pub fn write_within(
     }
 }
 
-/// Does with a module what [`write_told`] does, within limits. One that is nested too deep or not
+/// Does with a module what [`write_decimal`] does, within limits. One that is nested too deep or not
 /// accepted is left as it is.
-pub fn write_told_within(
+pub fn write_decimal_within(
     alloc: Global,
     module: &mut Module,
     info: &mut ModuleInfo,
@@ -79,7 +79,7 @@ pub fn write_told_within(
 ) -> Result<WriteOutcome<String>, NoOutcome>
     ensures nested { IfOk result (λ _. nested_past limits.nesting «module».old ≡ None) }
     ensures accepted { IfOk result (λ _. IsTrue (is_accepted «module».old info.old)) }
-    ensures told { IfOk result (λ _. IsToldModule «module».old «module».new) }
+    ensures decimal { IfOk result (λ _. IsDecimalModule «module».old «module».new) }
     ensures counted { IfOk result (λ _. IsCounted «module».new info.old info.new) }
     ensures written { IfOk result (λ w. AnswersWriting flags «module».new info.new
         w.answer w.refusal [] (string_bytes w.sink) 0 0) }
@@ -87,11 +87,11 @@ pub fn write_told_within(
     ensures unwritten { IfErr result (IsUnwritten flags limits «module».old «module».new info.old
         info.new) }
     ensures too_long { IfErr result (λ e. e ≡ NoOutcome.TooLong →
-        IsToldModule «module».old «module».new) }
+        IsDecimalModule «module».old «module».new) }
 {
     let empty = BoundedText::new(alloc, limits.text);
     check_nesting(alloc, module, limits.nesting)?;
-    match write_told(alloc, module, info, flags, empty) {
+    match write_decimal(alloc, module, info, flags, empty) {
         Ok(written) => match kept(written, limits.text) {
             Some(whole) => Ok(whole),
             None => Err(NoOutcome::TooLong),

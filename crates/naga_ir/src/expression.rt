@@ -12,7 +12,7 @@ use crate::types::{CooperativeRole, CooperativeSize, Scalar, ScalarKind, Type_, 
 use float_numerals::Decimal;
 
 /// A number or a truth value that is written out. Floating-point numbers are held as their bits, or
-/// as the decimal numerals by which a text tells them.
+/// as the decimal numerals by which a text has them.
 #[derive(Debug, Clone, Copy, PartialEq, Eq, Hash)]
 pub enum Literal {
     /// The bits of an `f64`.

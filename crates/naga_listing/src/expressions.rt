@@ -53,8 +53,8 @@ fn push_named(
     }
 }
 
-/// Appends a literal: a float that is told by a numeral as in a text, one that is held as its bits as
-/// a number, any other as it is held.
+/// Appends a literal: a float that is decimal as in a text, one that is held as its bits as a
+/// number, any other as it is held.
 fn push_literal(alloc: Global, literal: Literal, out: &mut String) -> Result<(), AllocError> {
     match literal {
         Literal::DecimalF64(decimal) => {

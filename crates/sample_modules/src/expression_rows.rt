@@ -100,7 +100,7 @@ pub fn build_double(alloc: Global, shader: &mut ModuleBuilder) -> Result<(), All
     end_with(shader, function, last)
 }
 
-/// Returns a float that is told by a numeral.
+/// Returns a float that is decimal.
 pub fn build_numeral(alloc: Global, shader: &mut ModuleBuilder) -> Result<(), AllocError> {
     let f32_type = shader.scalar(Scalar::F32)?;
     let mut function = FunctionBuilder::new(alloc, "w")?;

@@ -55,7 +55,7 @@ pub enum SampleName {
     Negate,
     /// A function whose one expression has a text that doubles twelve times.
     Double,
-    /// A function that returns a float that is told by a numeral.
+    /// A function that returns a float that is decimal.
     Numeral,
     /// A function that returns a float literal, which is refused.
     Float,

@@ -8,8 +8,8 @@ use Rattle.wgsl_text.specs.Token.{Power, NoPower, PowerOf, Precision, Half, Sing
 use Rattle.shader_runs.specs.Value.{Value, Truth as TruthValue, Whole, Opaque}
 use Rattle.std.specs.Float.{binary32, binary64}
 use Rattle.std.specs.Str.Parse.{digits_value}
-use Rattle.float_numerals.specs.Denoted.{told_bits}
-use Rattle.float_numerals.specs.Half.{told_half}
+use Rattle.float_numerals.specs.Denoted.{decimal_bits}
+use Rattle.float_numerals.specs.Half.{decimal_half}
 
 -- the integer of a sign and a number
 abbrev pub integer_of_sign : Bool → ℕ → ℤ
@@ -24,20 +24,20 @@ suffix_type SuffixLi = codes "i64"
 suffix_type SuffixLu = codes "u64"
 suffix_type NoSuffix = []
 
--- the power of ten that is told, 0 where none is
+-- the power of ten that is written, 0 where none is
 abbrev pub power_value : Power → ℤ
 power_value NoPower = pos 0
 power_value (PowerOf negative ds) = integer_of_sign negative (digits_value 10 ds)
 
 -- a number of a floating-point type: the bits of the one nearest to what the digits and the power
--- tell
+-- give
 abbrev pub floating_value : Bool → (whole fraction : List ℕ) → Precision → Value
 floating_value negative whole fraction Half =
-    Opaque (codes "f16") (told_half negative whole fraction)
+    Opaque (codes "f16") (decimal_half negative whole fraction)
 floating_value negative whole fraction Single =
-    Opaque (codes "f32") (told_bits binary32 negative whole fraction (pos 0))
+    Opaque (codes "f32") (decimal_bits binary32 negative whole fraction (pos 0))
 floating_value negative whole fraction (Double power) =
-    Opaque (codes "f64") (told_bits binary64 negative whole fraction (power_value power))
+    Opaque (codes "f64") (decimal_bits binary64 negative whole fraction (power_value power))
 
 -- the value of a literal of the text
 abbrev pub value_read : Literal → Value

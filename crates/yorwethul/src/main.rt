@@ -1,7 +1,7 @@
 //! Reads modules from JSON, and prints their WGSL texts.
 //!
-//! `yorwethul MODULE.json` prints the text of one module, with its floats told by numerals and with
-//! what standard compilers ask for; `--plain` leaves both out. `yorwethul --layout MODULE.json`
+//! `yorwethul MODULE.json` prints the text of one module, with decimal floats and with what
+//! standard compilers ask for; `--plain` leaves both out. `yorwethul --layout MODULE.json`
 //! tells where the members of its structs stand, `yorwethul --explain MODULE.json` shows why it has
 //! no text, and `yorwethul --lines` answers many, one a line.
 #![tactic(auto)]

@@ -1,6 +1,6 @@
 //! How texts are written.
 
-use module_answers::{NoOutcome, WriteOutcome, flags_for, write_told_within, write_within};
+use module_answers::{NoOutcome, WriteOutcome, flags_for, write_decimal_within, write_within};
 use naga_json::Known;
 use naga_wgsl_out::wgsl::Limits;
 use std::alloc::Global;
@@ -17,7 +17,7 @@ pub struct Style {
     pub limits: Limits,
 }
 
-/// Writes the module in this style. Where that is not plain, its floats are told by numerals first.
+/// Writes the module in this style. Where that is not plain, its floats are made decimal first.
 pub fn write_in(
     alloc: Global,
     style: Style,
@@ -28,6 +28,6 @@ pub fn write_in(
     if style.plain {
         write_within(alloc, &known.module, &mut known.info, flags, limits)
     } else {
-        write_told_within(alloc, &mut known.module, &mut known.info, flags, limits)
+        write_decimal_within(alloc, &mut known.module, &mut known.info, flags, limits)
     }
 }

@@ -2,7 +2,7 @@
 use Rattle.std.proofs.Common.{◌≡◌, ◌≤◌, ◌∙◌, ℕ, List, [], Err, IfErr, IfOk, None, Ok, Option}
 use Rattle.std.proofs.Common.{Result, Some, ap, inl, inr, is_none, length, refl, subst, sym, arith}
 use Rattle.std.proofs.lemmas.Bool.{le-leb, lt-leb}
-use Rattle.told_floats.specs.Told.{IsToldModule}
+use Rattle.decimal_floats.specs.Decimals.{IsDecimalModule}
 use Rattle.std.specs.Prelude.{◌<◌, ◌%◌, IfSome, IsTrue}
 use Rattle.naga_ir.specs.declared.module.Module.{Module}
 use Rattle.naga_info.specs.declared.info.ModuleInfo.{ModuleInfo}
@@ -30,7 +30,7 @@ use Rattle.yorwethul_c.specs.Answers.{IsAccepted, IsNotAccepted, IsRefused, IsTo
 use Rattle.yorwethul_c.specs.Answers.{IsWritten, LacksMemory, Says, SaysOfError, SaysOfUnwritten}
 use Rattle.yorwethul_c.specs.Answers.{SaysOfWritten, SaysThat, TellsAnyRefusal, deepest_nesting}
 use Rattle.yorwethul_c.specs.Answers.{longest_text, TellsOfChecking, TellsOfLayouts, TellsOfReading}
-use Rattle.yorwethul_c.specs.Answers.{TellsOfWriting, IsAsAsked, tells_floats}
+use Rattle.yorwethul_c.specs.Answers.{TellsOfWriting, IsAsAsked, asks_decimal_floats}
 use Rattle.yorwethul_c.specs.declared.status.Status.{Status}
 use Rattle.yorwethul_c.specs.declared.status.Status.TheVariants as status
 
@@ -127,7 +127,8 @@ too_deep Tells m info (unwritten.Memory error) told text deep lacks past says =
 -- the writer was not asked for it, or was stopped
 pub not_written : (json : List ℕ) (flags : ℕ) (writer : WriterFlags) (given m : Module) (read info : ModuleInfo)
     (reason : NoOutcome) (told : Status) (text : List ℕ) →
-    flags ≤ 7 → bits_of writer ≡ flags % 4 → (reason ≡ unwritten.TooLong → IsAsAsked (tells_floats flags) given m) →
+    flags ≤ 7 → bits_of writer ≡ flags % 4 →
+    (reason ≡ unwritten.TooLong → IsAsAsked (asks_decimal_floats flags) given m) →
     IsUnwritten writer (record { nesting = deepest_nesting; text = longest_text }) given m read info reason →
     SaysOfUnwritten m info reason told text → TellsOfWriting json flags told text
 not_written json flags writer given m read info (unwritten.TooDeep nested) told text known bits asked is says =
@@ -194,18 +195,18 @@ pub at_most_seven : (flags : ℕ) → flags < 4 → flags ≤ 7
 at_most_seven flags less = omega arith
 
 -- what is asked of floats, without the flag and with it
-pub as_given : (flags : ℕ) (m : Module) → flags < 4 → IsAsAsked (tells_floats flags) m m
-as_given flags m less = subst (λ told. IsAsAsked told m m) (sym (lt-leb 4 flags less)) refl
+pub as_given : (flags : ℕ) (m : Module) → flags < 4 → IsAsAsked (asks_decimal_floats flags) m m
+as_given flags m less = subst (λ asked. IsAsAsked asked m m) (sym (lt-leb 4 flags less)) refl
 
-pub with_floats_told : (flags : ℕ) (given m : Module) → 4 ≤ flags → IsToldModule given m →
-    IsAsAsked (tells_floats flags) given m
-with_floats_told flags given m more told =
-    subst (λ asked. IsAsAsked asked given m) (sym (le-leb 4 flags more)) told
+pub with_decimal_floats : (flags : ℕ) (given m : Module) → 4 ≤ flags → IsDecimalModule given m →
+    IsAsAsked (asks_decimal_floats flags) given m
+with_decimal_floats flags given m more decimal =
+    subst (λ asked. IsAsAsked asked given m) (sym (le-leb 4 flags more)) decimal
 
 -- what was asked of the writer
 module _ (json : List ℕ) (flags : ℕ) (writer : WriterFlags) (given m : Module) (read info : ModuleInfo)
     (content : List ℕ) (known : flags ≤ 7) (bits : bits_of writer ≡ flags % 4)
-    (asked : IsAsAsked (tells_floats flags) given m) (accepted : IsTrue (is_accepted given read))
+    (asked : IsAsAsked (asks_decimal_floats flags) given m) (accepted : IsTrue (is_accepted given read))
     (counted : IsCounted m read info) where
   -- an error that tells of the module is a refusal, which is told beside it
   refusing : (e : Error) (refusal : Option Refusal) (text : List ℕ) →

@@ -28,7 +28,7 @@ use Rattle.naga_wgsl_fns.specs.declared.refusals.error.Error.TheVariants as erro
 use Rattle.naga_wgsl_out.specs.Checked.{IsCounted}
 use Rattle.naga_wgsl_out.specs.Headline.{FaithfulWriting}
 use Rattle.naga_wgsl_out.specs.declared.unwritable.Refusal.{Refusal}
-use Rattle.told_floats.specs.Told.{IsToldModule}
+use Rattle.decimal_floats.specs.Decimals.{IsDecimalModule}
 use Rattle.module_answers.specs.JsonNesting.{nest_too_deep}
 use Rattle.yorwethul_c.specs.declared.status.Status.{Status}
 use Rattle.yorwethul_c.specs.declared.status.Status.TheVariants as status
@@ -88,13 +88,13 @@ abbrev pub deepest_nesting : ℕ
 deepest_nesting = 4000
 
 -- Of the flags in yorwethul.h the two lowest bits are the writer's own. The next one asks that the
--- floats of a module are told before it is written; else it is written as it is given.
-abbrev pub IsAsAsked : (floats_are_told : Bool) → (given m : Module) → Type 0
-IsAsAsked true given m = IsToldModule given m
+-- floats of a module are made decimal before it is written; else it is written as it is given.
+abbrev pub IsAsAsked : (are_decimal : Bool) → (given m : Module) → Type 0
+IsAsAsked true given m = IsDecimalModule given m
 IsAsAsked false given m = m ≡ given
 
-abbrev pub tells_floats : (flags : ℕ) → Bool
-tells_floats flags = nat_le 4 flags
+abbrev pub asks_decimal_floats : (flags : ℕ) → Bool
+asks_decimal_floats flags = nat_le 4 flags
 
 -- The text is that of an accepted module, written as asked, and faithfully.
 pub record IsWritten (flags : ℕ) (text : List ℕ) : Type 0 where
@@ -103,7 +103,7 @@ pub record IsWritten (flags : ℕ) (text : List ℕ) : Type 0 where
   pub has_bits : bits_of writer ≡ flags % 4
   pub given : Module
   pub m : Module
-  pub is_as_asked : IsAsAsked (tells_floats flags) given m
+  pub is_as_asked : IsAsAsked (asks_decimal_floats flags) given m
   pub read : ModuleInfo
   pub info : ModuleInfo
   pub accepted : IsTrue (is_accepted given read)
@@ -119,7 +119,7 @@ pub record IsTooLong (flags : ℕ) : Type 0 where
   pub has_bits : bits_of writer ≡ flags % 4
   pub given : Module
   pub m : Module
-  pub is_as_asked : IsAsAsked (tells_floats flags) given m
+  pub is_as_asked : IsAsAsked (asks_decimal_floats flags) given m
   pub read : ModuleInfo
   pub info : ModuleInfo
   pub accepted : IsTrue (is_accepted given read)
@@ -134,7 +134,7 @@ pub record IsRefused (flags : ℕ) (text : List ℕ) : Type 0 where
   pub has_bits : bits_of writer ≡ flags % 4
   pub given : Module
   pub m : Module
-  pub is_as_asked : IsAsAsked (tells_floats flags) given m
+  pub is_as_asked : IsAsAsked (asks_decimal_floats flags) given m
   pub read : ModuleInfo
   pub info : ModuleInfo
   pub error : Error

@@ -12,7 +12,7 @@ use crate::status::{Status, status_of};
 use bitflags::Flags;
 use module_answers::{
     JsonRoot, NESTS_TOO_DEEP, NoOutcome, WriteOutcome, check_nesting, fault_line, layout_table,
-    nests_too_deep, refusal_line, write_told_within, write_within,
+    nests_too_deep, refusal_line, write_decimal_within, write_within,
 };
 use naga_json::{Known, ReadError, read_known};
 use naga_wgsl_out::info::{Unaccepted, unaccepted};
@@ -34,8 +34,8 @@ const LIMITS: Limits = Limits {
     text: LONGEST_TEXT,
 };
 
-/// The flag by which floats are told. Those below it are the writer's own.
-const TELL_FLOATS: u32 = 4;
+/// The flag by which floats become decimal. Those below it are the writer's own.
+const DECIMAL_FLOATS: u32 = 4;
 
 /// All flags.
 const ALL_FLAGS: u32 = 7;
@@ -115,10 +115,10 @@ fn written_known(alloc: Global, known: &mut Known, flags: u32) -> Answer
     requires known { flags ≤ 7 }
     ensures { (json : List ℕ) → TellsOfWriting json flags result.status (string_bytes result.text) }
 {
-    if flags < TELL_FLOATS {
+    if flags < DECIMAL_FLOATS {
         written_as_given(alloc, known, flags)
     } else {
-        written_told(alloc, known, flags)
+        written_with_decimals(alloc, known, flags)
     }
 }
 
@@ -138,12 +138,12 @@ fn written_as_given(alloc: Global, known: &mut Known, flags: u32) -> Answer
     }
 }
 
-fn written_told(alloc: Global, known: &mut Known, flags: u32) -> Answer
-    requires told { 4 ≤ flags }
+fn written_with_decimals(alloc: Global, known: &mut Known, flags: u32) -> Answer
+    requires decimal { 4 ≤ flags }
     requires known { flags ≤ 7 }
     ensures { (json : List ℕ) → TellsOfWriting json flags result.status (string_bytes result.text) }
 {
-    match write_told_within(
+    match write_decimal_within(
         alloc,
         &mut known.module,
         &mut known.info,
@@ -159,7 +159,7 @@ fn written_told(alloc: Global, known: &mut Known, flags: u32) -> Answer
 fn writer_flags(flags: u32) -> WriterFlags
     ensures { bits_of result ≡ flags % 4 }
 {
-    WriterFlags::from_bits_retain(flags % TELL_FLOATS)
+    WriterFlags::from_bits_retain(flags % DECIMAL_FLOATS)
 }
 
 fn told_written(alloc: Global, module: &Module, written: WriteOutcome<String>) -> Answer

@@ -57,7 +57,7 @@ const FLOAT_LITERAL: &str = r#"{
     "info": {"functions": [[0]]}
 }"#;
 
-/// `fn größe() -> f32`, with a literal of an infinity, which no numeral tells.
+/// `fn größe() -> f32`, with a literal of an infinity, which no numeral denotes.
 const PAST_ASCII: &str = r#"{
     "module": {
         "types": [{"inner": {"Scalar": {"kind": "Float", "width": 4}}}],

@@ -3,7 +3,7 @@
 The model was written from the rules, apart from the writer: which modules are accepted, the names of labels, the
 count of uses, what a `let` binds, what is in scope, which members of structs get sizes, the text, and for which
 constructs a module is refused. Each module is written plainly and for standard compilers, where floats that it holds
-as bits are told by their numerals, without and with the types of its `let`s. It reads each text and compares what it
+as bits are decimal, without and with the types of its `let`s. It reads each text and compares what it
 declares, and where the members of its structs stand by the words of their types, with what the module has. It runs
 each module and each text, from each function and entry point, over terms in which each operator stands for any
 function, in worlds that tell of each condition whether it holds, and compares the events, the endings and the results.
@@ -34,7 +34,7 @@ from acceptance import is_accepted, is_read
 from asking import STYLES, answers_to
 from declaration_rows import MOST, check_declaration_rows, many
 from generator import generate, generate_structs
-from numerals import told
+from numerals import with_decimals
 from refusals import refusal
 from rows import check_rows
 from serde import line_of, lines_of
@@ -92,7 +92,7 @@ def own_text(module, is_plain, explicit):
 
 
 def styled_answers(module, is_plain, explicit):
-    return answers_of(module, explicit) if is_plain else answers_of(told(module), explicit, True)
+    return answers_of(module, explicit) if is_plain else answers_of(with_decimals(module), explicit, True)
 
 
 def text_in(answer):
@@ -113,7 +113,7 @@ def compare(module, number, texts, tally):
             tally.add(name)
             return
     for (is_plain, explicit), text in zip(STYLES, given):
-        in_style = module if is_plain else told(module)
+        in_style = module if is_plain else with_decimals(module)
         is_written, answers = answers_of(in_style, explicit, not is_plain)
         if tally.check(number, module, text, answers) and is_written:
             tally.run(number, in_style, text, not is_plain)

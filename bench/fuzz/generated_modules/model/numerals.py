@@ -14,7 +14,7 @@ from spelling import F16, F32, F64
 
 # the forms of the bits and of the number, for `struct`
 FORMS = {F16: ("<H", "<e"), F32: ("<I", "<f"), F64: ("<Q", "<d")}
-# how many digits tell each of their floats
+# how many digits are enough for each of their floats
 DIGITS = {F32: 9, F64: 17}
 
 
@@ -44,8 +44,8 @@ def is_read_as(scalar, numeral, number):
     whole, real = FORMS[scalar]
     bits, = struct.unpack(whole, struct.pack(real, number))
     least, most = middle(scalar, bits - 1, bits) if bits else Fraction(0), middle(scalar, bits, bits + 1)
-    told = Fraction(numeral)
-    return least < told < most or (bits % 2 == 0 and told in (least, most)) or (not bits and told == 0)
+    number = Fraction(numeral)
+    return least < number < most or (bits % 2 == 0 and number in (least, most)) or (not bits and number == 0)
 
 
 def middle(scalar, low, high):
@@ -69,7 +69,7 @@ def digits_of(text):
     return digits, exponent if digits else 0
 
 
-def told(module):
+def with_decimals(module):
     """The module, each of whose floats that are held as bits and have a numeral is held as that."""
     module = copy.deepcopy(module)
     for f in module.groups():

@@ -12,7 +12,7 @@ from words import (
 
 # the scalars of literals, by their numbers
 LITERALS = [BOOL, I32, U32, I64, U64, F32, F64, I16, U16, F16, ("abstract", 8), ("abstract float", 8), F32, F64, F16]
-# those from here on are told by a numeral: a sign, digits and a power of ten
+# those from here on are decimal: a sign, digits and a power of ten
 NUMERALS = {F32: 12, F64: 13, F16: 14}
 # where the numbers that are nearest to an infinity begin, halfway from the greatest to what would be the next
 TOO_GREAT = {F16: 65520, F32: (2**25 - 1) * 2**103, F64: (2**54 - 1) * 2**970}

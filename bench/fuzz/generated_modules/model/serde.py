@@ -45,7 +45,7 @@ LEAF_NAMES = {
 
 def line_of(module, explicit, is_plain=True):
     """The module with what is known of it, in a line, as one whose `let`s are to tell types or not, in a plain text or
-    in one that tells floats and has what standard compilers ask for."""
+    in one that has decimal floats and what standard compilers ask for."""
     return lines_of(module, [(is_plain, explicit)])[0]
 
 

@@ -5,7 +5,7 @@ Modules are those of the model's generator that are accepted and written. Each c
 accepted by the model, and has nothing else for which it is refused. In each style of the model the
 program has to tell this construct, this place and this function, and in one, where all that can be
 refused is, the text in front. In a style in which the construct does not stand, as a float where
-floats are told by their numerals, the module has to be written.
+floats are decimal, the module has to be written.
 
 Usage: planted PROGRAM MODULES SEED
        planted PROGRAM many

@@ -91,7 +91,7 @@ INFINITE = {5: (0x7f800000, 0xffc00001), 6: (0x7ff << 52, 0xfff8 << 48), 9: (0x7
 
 
 def stands_as(number, bits):
-    """Floats that have a numeral are told by it, where a text is not plain."""
+    """Floats that have a numeral are decimal where a text is not plain."""
     has_numeral = numeral_of(LITERALS[number], bits) is not None
     return (lambda is_plain, explicit: is_plain) if has_numeral else always
 

@@ -27,8 +27,8 @@ fn operands_before(expressions: usize, expression: &Expression) -> bool
     true
 }
 
-/// Whether a literal's value is one of its type. It always is, unless a numeral tells it, which has
-/// to be in range and to denote no infinity.
+/// Whether a literal's value is one of its type. It always is, but for a decimal one, whose numeral
+/// has to be in range and to denote no infinity.
 pub(crate) fn literal_is_within(literal: Literal) -> bool
     ensures { result ≡ literal_is_within literal }
 {

@@ -9,11 +9,11 @@ use Rattle.std.specs.Str.Parse.{AllDigits}
 use Rattle.std.proofs.lemmas.Bool.{false≢true, eqb-true, ltb-true, eqb-false, and_parts}
 use Rattle.std.proofs.lemmas.Fmt.{decimal_is_IsNumeral}
 use Rattle.float_numerals.specs.declared.decimal.Decimal.{Decimal}
-use Rattle.float_numerals.specs.Denoted.{told, has_near_power, has_plain_zero, is_in_range}
+use Rattle.float_numerals.specs.Denoted.{decimal_float, has_near_power, has_plain_zero, is_in_range}
 use Rattle.float_numerals.specs.Texts.{double_exponent, double_fraction, double_whole}
 use Rattle.float_numerals.specs.Texts.{fraction_digits, whole_digits}
-use Rattle.float_numerals.proofs.Doubles.{double_told, double_written}
-use Rattle.float_numerals.proofs.Numerals.{decimal_split, told_is, told_half_is}
+use Rattle.float_numerals.proofs.Doubles.{decimal_double_is, double_written}
+use Rattle.float_numerals.proofs.Numerals.{decimal_split, decimal_float_is, decimal_half_is}
 use Rattle.naga_ir.specs.declared.expression.Literal.{Literal}
 use Rattle.naga_ir.specs.declared.expression.Literal as ir_literal
 use Rattle.naga_ir.specs.declared.expression.Literal.TheVariants as literal
@@ -82,13 +82,13 @@ literal_read (literal.DecimalF64 numeral) w =
     let fits = digits_fit numeral w in
     let d = double_written numeral fits (exponent_fits numeral w) in
     ap (λ e. Opaque (codes "f64")
-    (to_bits binary64 (told binary64 numeral.negative (double_whole numeral) (double_fraction numeral) e)))
+    (to_bits binary64 (decimal_float binary64 numeral.negative (double_whole numeral) (double_fraction numeral) e)))
     (power_read (double_exponent numeral) d.small)
-    ∙ ap (λ x. Opaque (codes "f64") (to_bits binary64 x)) (double_told binary64 numeral fits)
+    ∙ ap (λ x. Opaque (codes "f64") (to_bits binary64 x)) (decimal_double_is binary64 numeral fits)
 literal_read (literal.DecimalF32 numeral) w = ap (λ x. Opaque (codes "f32") (to_bits binary32 x))
-    (told_is binary32 numeral (digits_fit numeral w))
+    (decimal_float_is binary32 numeral (digits_fit numeral w))
 literal_read (literal.DecimalF16 numeral) w =
-    ap (λ n. Opaque (codes "f16") n) (told_half_is numeral (digits_fit numeral w))
+    ap (λ n. Opaque (codes "f16") n) (decimal_half_is numeral (digits_fit numeral w))
 literal_read _ w = absurd (false≢true w)
 
 -- of the grammar

@@ -239,7 +239,7 @@ const FLOAT_LITERAL: &str = r#"{
     "info": {"functions": [[0]]}
 }"#;
 
-/// `fn endless() -> f32`, with a literal of an infinity, which no numeral tells.
+/// `fn endless() -> f32`, with a literal of an infinity, which no numeral denotes.
 const INFINITE_LITERAL: &str = r#"{
     "module": {
         "types": [{"inner": {"Scalar": {"kind": "Float", "width": 4}}}],

@@ -1,0 +1,4 @@
+pub mod Literals
+pub mod Lists
+pub mod DecimalItems
+pub mod Acceptance

@@ -1,0 +1,106 @@
+//! Which literals become decimal, and where they stand.
+
+ghost use Rattle.std.specs.Prelude.{IfOk, IsTrue};
+ghost use Rattle.std.specs.List.{AllZip};
+ghost use Rattle.naga_info.specs.declared.info.ModuleInfo.{ModuleInfo};
+ghost use Rattle.module_meaning.specs.acceptance.Accepted.{is_accepted};
+ghost use Rattle.decimal_floats.specs.Decimals.{IsDecimalEntryPoint, IsDecimalExpression};
+ghost use Rattle.decimal_floats.specs.Decimals.{IsDecimalFunction, IsDecimalLiteral};
+ghost use Rattle.decimal_floats.specs.Decimals.{IsDecimalModule};
+
+use float_numerals::{double_decimal, half_decimal, single_decimal};
+use naga_ir::{Arena, EntryPoint, Expression, Function, ItemIndex, Literal, Module};
+use std::alloc::{AllocError, Global};
+
+/// Gives each float literal of the module that is held as bits a decimal numeral: in its functions,
+/// its entry points and its own expressions. A literal for which there is none, as an infinity or a
+/// NaN, stays as it is. Nothing else changes, and a module that was accepted before is accepted
+/// afterwards.
+///
+/// Where memory is refused, some literals are decimal, and each has its value all the same. A
+/// further call goes on.
+///
+/// ```text
+/// floats_to_decimals(alloc, &mut shader.module)?;
+/// ```
+pub fn floats_to_decimals(alloc: Global, module: &mut Module) -> Result<(), AllocError>
+    ensures decimal { IsDecimalModule «module».old «module».new }
+    ensures accepted { (info : ModuleInfo) → IsTrue (is_accepted «module».old info) →
+        IsTrue (is_accepted «module».new info) }
+{
+    expressions_to_decimal(alloc, &mut module.global_expressions)?;
+    functions_to_decimal(alloc, &mut module.functions)?;
+    entry_points_to_decimal(alloc, module.entry_points.as_mut_slice())
+}
+
+/// The literal with a decimal numeral, if it is a float that is held as bits and has one; else
+/// itself.
+///
+/// ```text
+/// // Literal::DecimalF32(Decimal { negative: false, digits: 5, exponent: -1 })
+/// decimal_literal(alloc, Literal::F32(0x3f00_0000))?
+/// ```
+pub fn decimal_literal(alloc: Global, literal: Literal) -> Result<Literal, AllocError>
+    ensures { IfOk result (IsDecimalLiteral literal) }
+{
+    match literal {
+        Literal::F64(bits) => match double_decimal(alloc, bits)? {
+            Some(numeral) => Ok(Literal::DecimalF64(numeral)),
+            None => Ok(literal),
+        },
+        Literal::F32(bits) => match single_decimal(alloc, bits)? {
+            Some(numeral) => Ok(Literal::DecimalF32(numeral)),
+            None => Ok(literal),
+        },
+        Literal::F16(bits) => match half_decimal(alloc, bits)? {
+            Some(numeral) => Ok(Literal::DecimalF16(numeral)),
+            None => Ok(literal),
+        },
+        _ => Ok(literal),
+    }
+}
+
+fn entry_points_to_decimal(alloc: Global, entry_points: &mut [EntryPoint]) -> Result<(), AllocError>
+    ensures { AllZip IsDecimalEntryPoint entry_points.old entry_points.new }
+{
+    for entry_point in entry_points.iter_mut() {
+        function_to_decimal(alloc, &mut entry_point.function)?;
+    }
+    Ok(())
+}
+
+fn functions_to_decimal(alloc: Global, functions: &mut Arena<Function>) -> Result<(), AllocError>
+    ensures { AllZip IsDecimalFunction functions.old functions.new }
+{
+    for index in 0..functions.len() {
+        function_to_decimal(alloc, functions.get_mut(ItemIndex::from_index(index)))?;
+    }
+    Ok(())
+}
+
+fn function_to_decimal(alloc: Global, function: &mut Function) -> Result<(), AllocError>
+    ensures { IsDecimalFunction function.old function.new }
+{
+    expressions_to_decimal(alloc, &mut function.expressions)
+}
+
+fn expressions_to_decimal(
+    alloc: Global,
+    expressions: &mut Arena<Expression>,
+) -> Result<(), AllocError>
+    ensures { AllZip IsDecimalExpression expressions.old expressions.new }
+{
+    for index in 0..expressions.len() {
+        expression_to_decimal(alloc, expressions.get_mut(ItemIndex::from_index(index)))?;
+    }
+    Ok(())
+}
+
+fn expression_to_decimal(alloc: Global, expression: &mut Expression) -> Result<(), AllocError>
+    ensures { IsDecimalExpression expression.old expression.new }
+{
+    if let Expression::Literal(literal) = *expression {
+        *expression = Expression::Literal(decimal_literal(alloc, literal)?);
+    }
+    Ok(())
+}

@@ -1,0 +1,8 @@
+pub mod SideBySide
+pub mod DecimalFunctions
+pub mod DecimalNames
+pub mod DecimalContexts
+pub mod DecimalPlaces
+pub mod DecimalShapes
+pub mod DecimalInterfaces
+pub mod DecimalFaithfully

@@ -1,0 +1,86 @@
+use Rattle.std.proofs.Common.{◌≡◌, ◌∙◌, ◌<◌, ◌≤◌, IfErr, IfNone, IfOk, IfSome}
+use Rattle.std.proofs.Common.{ap, is_ok, length, string_bytes, subst, sym}
+use Rattle.naga_acceptance.specs.FirstFaults.{IsFirstFault}
+use Rattle.naga_wgsl_out.specs.Checked.{IsCounted}
+use Rattle.naga_wgsl_out.specs.Within.{unfailed}
+use Rattle.decimal_floats.specs.Decimals.{IsDecimalModule}
+use Rattle.module_answers.specs.WriteOutcomes.{AnswersWriting}
+use Rattle.module_answers.proofs.Bounded.{as_kept, as_unwritten, is_too_long}
+use Rattle.module_answers.proofs.within.write_decimal_within.Goals as goal
+
+pub returns-in_err-check_nesting-clause-unwritten : goal.returns-in_err-check_nesting-clause-unwritten
+returns-in_err-check_nesting-clause-unwritten c =
+    as_unwritten c.args.flags c.args.limits c.args.«module».now c.args.info.now c.from_residual.result _
+    c.from_residual.ensures.1 c.in_err-check_nesting.ensures.deep
+
+pub returns-in-Some-clause-nested : goal.returns-in-Some-clause-nested
+returns-in-Some-clause-nested c = c.in_ok-check_nesting.ensures.flat
+
+pub returns-in-Some-clause-accepted : goal.returns-in-Some-clause-accepted
+returns-in-Some-clause-accepted c = sym c.write_decimal.ensures.accepted ∙ ap is_ok c.in-Ok.is
+
+pub returns-in-Some-clause-decimal : goal.returns-in-Some-clause-decimal
+returns-in-Some-clause-decimal c =
+    subst (λ r. IfOk r (λ _. IsDecimalModule c.args.«module».now c.write_decimal.new.«module»)) c.in-Ok.is
+    c.write_decimal.ensures.decimal
+
+pub returns-in-Some-clause-counted : goal.returns-in-Some-clause-counted
+returns-in-Some-clause-counted c =
+    subst (λ r. IfOk r (λ _. IsCounted c.write_decimal.new.«module» c.args.info.now c.write_decimal.new.info))
+    c.in-Ok.is c.write_decimal.ensures.counted
+
+pub returns-in-Some-clause-written : goal.returns-in-Some-clause-written
+returns-in-Some-clause-written c =
+    let flags = c.args.flags in
+    let m = c.write_decimal.new.«module» in
+    let info = c.write_decimal.new.info in
+    let w = c.in-Ok.written in
+    let v = c.in-Some.whole in
+    let written =
+    subst (λ r. IfOk r (λ w. AnswersWriting flags m info w.answer w.refusal c.new-empty.result.text
+    w.sink.text c.new-empty.result.failures w.sink.failures)) c.in-Ok.is c.write_decimal.ensures.written in
+    let begun = subst (λ s. AnswersWriting flags m info w.answer w.refusal s.text w.sink.text s.failures
+    w.sink.failures) c.new-empty.ensures written in
+    as_kept flags m info w.answer v.answer w.refusal v.refusal w.sink.text (string_bytes v.sink) w.sink.failures
+    (subst (λ o. IfSome o (λ v. v.answer ≡ unfailed w.answer)) c.in-Some.is c.kept.ensures.answer)
+    (subst (λ o. IfSome o (λ v. v.refusal ≡ w.refusal)) c.in-Some.is c.kept.ensures.refusal)
+    (subst (λ o. IfSome o (λ v. string_bytes v.sink ≡ w.sink.text)) c.in-Some.is c.kept.ensures.text)
+    begun
+
+pub returns-in-Some-clause-within : goal.returns-in-Some-clause-within
+returns-in-Some-clause-within c =
+    subst (λ o. IfSome o (λ v. length (string_bytes v.sink) ≤ c.args.limits.text)) c.in-Some.is c.kept.ensures.within
+
+pub returns-in-None-clause-unwritten : goal.returns-in-None-clause-unwritten
+returns-in-None-clause-unwritten c =
+    let flags = c.args.flags in
+    let m = c.write_decimal.new.«module» in
+    let info = c.write_decimal.new.info in
+    let w = c.in-Ok.written in
+    let written =
+    subst (λ r. IfOk r (λ w. AnswersWriting flags m info w.answer w.refusal c.new-empty.result.text
+    w.sink.text c.new-empty.result.failures w.sink.failures)) c.in-Ok.is c.write_decimal.ensures.written in
+    is_too_long flags c.args.limits c.args.«module».now m c.args.info.now info w.answer w.refusal w.sink.text
+    w.sink.failures
+    c.in_ok-check_nesting.ensures.flat
+    (sym c.write_decimal.ensures.accepted ∙ ap is_ok c.in-Ok.is)
+    (subst (λ r. IfOk r (λ _. IsCounted m c.args.info.now info)) c.in-Ok.is c.write_decimal.ensures.counted)
+    (subst (λ s. AnswersWriting flags m info w.answer w.refusal s.text w.sink.text s.failures w.sink.failures)
+    c.new-empty.ensures written)
+    (subst (λ o. IfNone o (c.args.limits.text < length w.sink.text)) c.in-None.is c.kept.ensures.too_long)
+
+pub returns-in-None-clause-too_long : goal.returns-in-None-clause-too_long
+returns-in-None-clause-too_long c =
+    λ _. subst (λ r. IfOk r (λ _. IsDecimalModule c.args.«module».now c.write_decimal.new.«module»)) c.in-Ok.is
+    c.write_decimal.ensures.decimal
+
+pub returns-in-Err-clause-unwritten : goal.returns-in-Err-clause-unwritten
+returns-in-Err-clause-unwritten c =
+    let untouched =
+    subst (λ r. IfErr r (λ _. (c.write_decimal.new.«module» ≡ c.args.«module».now)
+    × (c.write_decimal.new.info ≡ c.args.info.now))) c.in-Err.is c.write_decimal.ensures.untouched in (
+      c.in_ok-check_nesting.ensures.flat,
+      subst (λ r. IfErr r (IsFirstFault c.args.«module».now c.args.info.now)) c.in-Err.is c.write_decimal.ensures.fault,
+      untouched.0,
+      untouched.1,
+    )

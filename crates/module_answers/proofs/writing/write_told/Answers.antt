@@ -1,7 +1,0 @@
-use Rattle.naga_wgsl_out.proofs.Faithful.{after_nothing}
-use Rattle.module_answers.proofs.Wants.{want}
-use Rattle.module_answers.proofs.writing.write_told.Goals as goal
-
--- nothing is written
-pub returns-in-Err-clause-written : goal.returns-in-Err-clause-written
-returns-in-Err-clause-written g c = want _ _ _ _ _ _ _ _ (after_nothing _ _)

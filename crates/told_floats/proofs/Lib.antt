@@ -1,4 +1,0 @@
-pub mod Literals
-pub mod Lists
-pub mod ToldItems
-pub mod Acceptance
