@@ -274,7 +274,7 @@ def test_lines(folder, _):
         elif "not_accepted" in answer:
             told = answer["not_accepted"]
             reason = ": ".join(told[name] for name in ("fault", "reason") if name in told)
-            wanted = (NOT_ACCEPTED, told["place"] + in_function(told) + ": " + reason)
+            wanted = (NOT_ACCEPTED, told["position"] + in_function(told) + ": " + reason)
         else:
             too_deep = answer["error"].endswith(" deep")
             wanted = (TOO_DEEP if too_deep else NO_MODULE, answer["error"])

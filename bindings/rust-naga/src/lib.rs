@@ -54,16 +54,16 @@ impl Error {
         }
     }
 
-    /// The place in the module, where one is told: `module.functions[0].expressions[3], in
+    /// The position in the module, where one is told: `module.functions[0].expressions[3], in
     /// statement 1`.
-    pub fn place(&self) -> Option<&str> {
+    pub fn position(&self) -> Option<&str> {
         match self {
-            Error::Yorwethul(error) => error.place(),
+            Error::Yorwethul(error) => error.position(),
             Error::Untold(_) => None,
         }
     }
 
-    /// Why an operand that is out of scope at the place has no value, where that is told.
+    /// Why an operand that is out of scope at the position has no value, where that is told.
     pub fn root(&self) -> Option<&str> {
         match self {
             Error::Yorwethul(error) => error.root(),
@@ -71,7 +71,7 @@ impl Error {
         }
     }
 
-    /// The label of the function or the entry point at the place, where there is one.
+    /// The label of the function or the entry point at the position, where there is one.
     pub fn function(&self) -> Option<&str> {
         match self {
             Error::Yorwethul(error) => error.function(),

@@ -167,12 +167,12 @@ fn a_refusal_tells_the_construct_and_its_place() {
     module.functions.append(half, SPAN);
     let error = write(&module, &known(&module), Flags::empty()).unwrap_err();
     assert_eq!(error.construct(), Some("float literal"));
-    let place = "module.functions[0].expressions[0], in statement 0";
-    assert_eq!(error.place(), Some(place));
+    let position = "module.functions[0].expressions[0], in statement 0";
+    assert_eq!(error.position(), Some(position));
     assert_eq!((error.function(), error.root()), (Some("half"), None));
     assert_eq!(
         error.to_string(),
-        format!("refused: float literal: {place}, in \"half\"")
+        format!("refused: float literal: {position}, in \"half\"")
     );
     let text = "fn half(x: f32) -> f32 {\n    return 0.5f;\n}\n\n";
     let told = write(&module, &known(&module), Flags::DECIMAL_FLOATS);
@@ -193,7 +193,7 @@ fn an_info_of_another_module_is_not_accepted() {
     let Error::Yorwethul(error) = error else {
         panic!("{error}")
     };
-    assert_eq!(error.place(), Some("module.functions[0], statement 1"));
+    assert_eq!(error.position(), Some("module.functions[0], statement 1"));
     assert_eq!(error.function(), Some("double"));
 }
 
@@ -316,7 +316,7 @@ mod stages {
             panic!("{error}")
         };
         assert_eq!(
-            error.place(),
+            error.position(),
             Some("module.entry_points[0].early_depth_test")
         );
     }

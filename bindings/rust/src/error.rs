@@ -12,7 +12,7 @@ pub enum Error {
         construct: String,
         /// Where it stands: `module.functions[0].expressions[3]`. It is empty where memory was
         /// refused to find it.
-        place: String,
+        position: String,
         /// The label of the function or the entry point there, where there is one.
         function: Option<String>,
         /// Why an operand that is out of scope there has no value:
@@ -23,7 +23,7 @@ pub enum Error {
     #[non_exhaustive]
     NotAccepted {
         /// Where: `module.functions[0].expressions[3]`, or `module.functions[0], statement 3`.
-        place: String,
+        position: String,
         /// The label of the function or the entry point there, where there is one.
         function: Option<String>,
         /// What is wrong there, and what was expected:
@@ -35,7 +35,7 @@ pub enum Error {
     NoModule {
         /// Where: `module.functions[2].expressions[7].Binary.left`. It is empty where the text is
         /// no JSON, or is nothing like a module as a whole.
-        place: String,
+        position: String,
         /// Why: `no number`, or `no JSON at line 1, column 0`.
         problem: String,
     },
@@ -67,19 +67,19 @@ impl Error {
         }
     }
 
-    /// The place in the JSON, where one is told.
-    pub fn place(&self) -> Option<&str> {
+    /// The position in the JSON, where one is told.
+    pub fn position(&self) -> Option<&str> {
         match self {
-            Error::Refused { place, .. }
-            | Error::NotAccepted { place, .. }
-            | Error::NoModule { place, .. } => Some(place)
-                .filter(|place| !place.is_empty())
+            Error::Refused { position, .. }
+            | Error::NotAccepted { position, .. }
+            | Error::NoModule { position, .. } => Some(position)
+                .filter(|position| !position.is_empty())
                 .map(String::as_str),
             _ => None,
         }
     }
 
-    /// Why an operand that is out of scope at the place has no value, where that is told.
+    /// Why an operand that is out of scope at the position has no value, where that is told.
     pub fn root(&self) -> Option<&str> {
         match self {
             Error::Refused { root, .. } => root.as_deref(),
@@ -87,7 +87,7 @@ impl Error {
         }
     }
 
-    /// The label of the function or the entry point at the place, where there is one.
+    /// The label of the function or the entry point at the position, where there is one.
     pub fn function(&self) -> Option<&str> {
         match self {
             Error::Refused { function, .. } | Error::NotAccepted { function, .. } => {
@@ -98,7 +98,7 @@ impl Error {
     }
 }
 
-/// A label after its place: `, in "half"`.
+/// A label after its position: `, in "half"`.
 struct InFunction<'a>(&'a Option<String>);
 
 impl fmt::Display for InFunction<'_> {
@@ -114,35 +114,35 @@ impl fmt::Display for Error {
     fn fmt(&self, f: &mut fmt::Formatter<'_>) -> fmt::Result {
         match self {
             Error::Refused {
-                construct, place, ..
-            } if place.is_empty() => {
+                construct, position, ..
+            } if position.is_empty() => {
                 write!(f, "refused: {construct}")
             }
             Error::Refused {
                 construct,
-                place,
+                position,
                 function,
                 root,
             } => {
                 let label = InFunction(function);
-                write!(f, "refused: {construct}: {place}{label}")?;
+                write!(f, "refused: {construct}: {position}{label}")?;
                 match root {
                     Some(root) => write!(f, ": {root}"),
                     None => Ok(()),
                 }
             }
             Error::NotAccepted {
-                place,
+                position,
                 function,
                 fault,
             } => {
                 let label = InFunction(function);
-                write!(f, "not accepted: {place}{label}: {fault}")
+                write!(f, "not accepted: {position}{label}: {fault}")
             }
-            Error::NoModule { place, problem } if place.is_empty() => {
+            Error::NoModule { position, problem } if position.is_empty() => {
                 write!(f, "no module: {problem}")
             }
-            Error::NoModule { place, problem } => write!(f, "no module: {place}: {problem}"),
+            Error::NoModule { position, problem } => write!(f, "no module: {position}: {problem}"),
             Error::OutOfMemory => f.write_str("out of memory"),
             Error::TooDeep { what } => f.write_str(what),
             Error::TooLong => f.write_str("text too long"),

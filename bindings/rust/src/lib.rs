@@ -100,7 +100,7 @@ pub fn write_json(json: &str, flags: Flags) -> Result<String, Error> {
 /// ```
 /// let json = r#"{"module": {}, "info": {"functions": [[0]]}}"#;
 /// let error = yorwethul::check_json(json).unwrap_err();
-/// assert_eq!(error.place(), Some("module"));
+/// assert_eq!(error.position(), Some("module"));
 /// assert_eq!(yorwethul::check_json(r#"{"module": {}, "info": {}}"#), Ok(()));
 /// ```
 pub fn check_json(json: &str) -> Result<(), Error> {
@@ -242,25 +242,25 @@ fn answer(status: u32, text: String) -> Result<String, Error> {
     Err(match status {
         sys::DONE => return Ok(text),
         sys::REFUSED => {
-            let (construct, place, function, root) = refused_at(&text);
+            let (construct, position, function, root) = refused_at(&text);
             Error::Refused {
                 construct,
-                place,
+                position,
                 function,
                 root,
             }
         }
         sys::NOT_ACCEPTED => {
-            let (place, function, fault) = fault_at(&text);
+            let (position, function, fault) = fault_at(&text);
             Error::NotAccepted {
-                place,
+                position,
                 function,
                 fault,
             }
         }
         sys::NO_MODULE => {
-            let (place, problem) = placed(&text);
-            Error::NoModule { place, problem }
+            let (position, problem) = placed(&text);
+            Error::NoModule { position, problem }
         }
         sys::OUT_OF_MEMORY => Error::OutOfMemory,
         sys::TOO_DEEP => Error::TooDeep { what: text },
@@ -270,7 +270,7 @@ fn answer(status: u32, text: String) -> Result<String, Error> {
     })
 }
 
-/// The construct in front of its place, the place, which is empty where none is told, the label
+/// The construct in front of its position, the position, which is empty where none is told, the label
 /// there, and why an operand there has no value.
 fn refused_at(text: &str) -> (String, String, Option<String>, Option<String>) {
     let Some(at) = text.find(": module") else {
@@ -278,33 +278,33 @@ fn refused_at(text: &str) -> (String, String, Option<String>, Option<String>) {
     };
     let construct = text[..at].into();
     match labelled(&text[at + 2..]) {
-        (place, Some(function), rest) => {
+        (position, Some(function), rest) => {
             let root = rest.strip_prefix(": ").map(String::from);
-            (construct, place.into(), Some(function), root)
+            (construct, position.into(), Some(function), root)
         }
         (whole, None, _) => match whole.split_once(": ") {
-            Some((place, root)) => (construct, place.into(), None, Some(root.into())),
+            Some((position, root)) => (construct, position.into(), None, Some(root.into())),
             None => (construct, whole.into(), None, None),
         },
     }
 }
 
-/// The place of a fault, the label there, and the fault.
+/// The position of a fault, the label there, and the fault.
 fn fault_at(text: &str) -> (String, Option<String>, String) {
     match labelled(text) {
-        (place, Some(function), fault) => {
+        (position, Some(function), fault) => {
             let fault = fault.strip_prefix(": ").unwrap_or(fault);
-            (place.into(), Some(function), fault.into())
+            (position.into(), Some(function), fault.into())
         }
         _ => {
-            let (place, fault) = placed(text);
-            (place, None, fault)
+            let (position, fault) = placed(text);
+            (position, None, fault)
         }
     }
 }
 
-/// The place in front of a label in quotes, the label, and what stands after it; or the whole, where
-/// no label follows the place, which has no `: ` itself.
+/// The position in front of a label in quotes, the label, and what stands after it; or the whole, where
+/// no label follows the position, which has no `: ` itself.
 fn labelled(text: &str) -> (&str, Option<String>, &str) {
     const IN: &str = ", in \"";
     match text.find(IN) {
@@ -345,8 +345,8 @@ fn unescaped(rest: &mut Chars<'_>) -> Option<char> {
     }
 }
 
-/// The place in front of a reason, and the reason.
+/// The position in front of a reason, and the reason.
 fn placed(text: &str) -> (String, String) {
-    let (place, reason) = text.split_once(": ").unwrap_or(("", text));
-    (place.into(), reason.into())
+    let (position, reason) = text.split_once(": ").unwrap_or(("", text));
+    (position.into(), reason.into())
 }

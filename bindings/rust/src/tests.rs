@@ -48,7 +48,7 @@ fn a_longer_error_takes_two() {
         told(sys::REFUSED, &construct),
         Err(Error::Refused {
             construct,
-            place: String::new(),
+            position: String::new(),
             function: None,
             root: None
         })
@@ -105,18 +105,18 @@ fn a_place_is_apart_from_its_reason() {
         "module.functions[0], statement 3: no: such",
     )
     .unwrap_err();
-    assert_eq!(error.place(), Some("module.functions[0], statement 3"));
+    assert_eq!(error.position(), Some("module.functions[0], statement 3"));
     assert!(matches!(error, Error::NotAccepted { fault, .. } if fault == "no: such"));
     let error = told(sys::NO_MODULE, "no JSON at line 1, column 0").unwrap_err();
-    assert_eq!(error.place(), None);
+    assert_eq!(error.position(), None);
     assert_eq!(error.construct(), None);
     let error = told(sys::REFUSED, "float literal").unwrap_err();
     assert_eq!(error.construct(), Some("float literal"));
-    assert_eq!(error.place(), None);
+    assert_eq!(error.position(), None);
     let text = "Unsupported math function: Outer: module.functions[0].expressions[1]";
     let error = told(sys::REFUSED, text).unwrap_err();
     assert_eq!(error.construct(), Some("Unsupported math function: Outer"));
-    assert_eq!(error.place(), Some("module.functions[0].expressions[1]"));
+    assert_eq!(error.position(), Some("module.functions[0].expressions[1]"));
 }
 
 #[test]
@@ -134,7 +134,7 @@ fn a_label_is_apart_from_its_place() {
             &alloc::format!("module.functions[0], statement 3, in {label:?}: no: such"),
         )
         .unwrap_err();
-        assert_eq!(error.place(), Some("module.functions[0], statement 3"));
+        assert_eq!(error.position(), Some("module.functions[0], statement 3"));
         assert_eq!(error.function(), Some(label));
         assert!(matches!(error, Error::NotAccepted { fault, .. } if fault == "no: such"));
         let at = "module.functions[0].expressions[3], in statement 1";
@@ -144,7 +144,7 @@ fn a_label_is_apart_from_its_place() {
         )
         .unwrap_err();
         assert_eq!(error.construct(), Some("float literal"));
-        assert_eq!(error.place(), Some(at));
+        assert_eq!(error.position(), Some(at));
         assert_eq!(error.function(), Some(label));
     }
     // a root after a label, and without one
@@ -152,13 +152,13 @@ fn a_label_is_apart_from_its_place() {
     for label in [", in \"half\"", ""] {
         let text = alloc::format!("operand out of scope: {at}{label}: no statement gives it");
         let error = told(sys::REFUSED, &text).unwrap_err();
-        assert_eq!(error.place(), Some(at));
+        assert_eq!(error.position(), Some(at));
         assert_eq!(error.root(), Some("no statement gives it"));
     }
     // a fault may name a label, but not so
     let error = told(sys::NOT_ACCEPTED, "module.types[3]: bad, in \"s\"").unwrap_err();
     assert_eq!(
-        (error.place(), error.function()),
+        (error.position(), error.function()),
         (Some("module.types[3]"), None)
     );
 }

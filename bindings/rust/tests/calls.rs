@@ -90,15 +90,15 @@ fn a_refused_module_tells_the_construct_and_its_place() {
     assert!(told.contains("0.5f"), "{told}");
     let error = write_json(&half, Flags::empty()).unwrap_err();
     assert_eq!(error.construct(), Some("float literal"));
-    let place = error.place().unwrap();
+    let position = error.position().unwrap();
     assert!(
-        place.starts_with("module.functions[0].expressions["),
-        "{place}"
+        position.starts_with("module.functions[0].expressions["),
+        "{position}"
     );
     assert_eq!(error.function(), Some("double"));
     assert_eq!(
         error.to_string(),
-        format!("refused: float literal: {place}, in \"double\"")
+        format!("refused: float literal: {position}, in \"double\"")
     );
     assert_eq!(check_json(&half), Ok(()));
 }
@@ -112,25 +112,25 @@ fn a_module_that_is_not_accepted_tells_the_place() {
         layout_json(&odd).unwrap_err(),
     ] {
         assert!(matches!(error, Error::NotAccepted { .. }), "{error}");
-        assert_eq!(error.place(), Some("module.functions[0].expressions[1]"));
+        assert_eq!(error.position(), Some("module.functions[0].expressions[1]"));
         assert_eq!(error.function(), Some("double"));
     }
 }
 
 #[test]
 fn what_is_no_module_tells_why() {
-    for (json, place, shown) in [
+    for (json, position, shown) in [
         ("", None, "no module: no JSON at line 1, column 0"),
         ("{}", Some("module"), "no module: module: missing"),
         ("[]", None, "no module: no object"),
     ] {
         let error = write_json(json, Flags::empty()).unwrap_err();
-        assert_eq!((error.place(), error.to_string().as_str()), (place, shown));
+        assert_eq!((error.position(), error.to_string().as_str()), (position, shown));
     }
     let odd = DOUBLE.replace("\"left\": 0", "\"left\": true");
     let error = write_json(&odd, Flags::empty()).unwrap_err();
     assert_eq!(
-        error.place(),
+        error.position(),
         Some("module.functions[0].expressions[1].Binary.left")
     );
 }

@@ -259,14 +259,14 @@ module _ (m new : Module) (all : IsDecimalModule m new) where
       (λ f g r. ap (λ (k : Function). option_map (λ r. type_of.Handle r.ty) k.result) r.rest)
       m.functions fs functions f
 
-  wanted_same : (f : Option Function) (known : List TypeResolution) (e : Expression) →
+  expected_same : (f : Option Function) (known : List TypeResolution) (e : Expression) →
       expected_type n f known e ≡ expected_type m f known e
-  wanted_same f known (expression.CallResult callee) = ap only (result_type_same callee)
-  wanted_same f known _ = refl
+  expected_same f known (expression.CallResult callee) = ap only (result_type_same callee)
+  expected_same f known _ = refl
 
   type_same : (f : Option Function) (known : List TypeResolution) (e d : Expression) →
       IsDecimalExpression e d → expected_type n f known d ≡ expected_type m f known e
-  type_same f known _ _ (same e) = wanted_same f known e
+  type_same f known _ _ (same e) = expected_same f known e
   type_same f known _ _ (to_decimal v w r) =
       ap (λ s. LikeThis (type_of.Value (inner.Scalar s))) (decimal_scalar v w r)
 

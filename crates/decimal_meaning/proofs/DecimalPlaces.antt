@@ -18,7 +18,7 @@ use Rattle.naga_info.specs.declared.info.TypeResolution.TheVariants.{Value}
 use Rattle.naga_names.specs.declared.key.NameKey.TheVariants as key
 use Rattle.module_meaning.specs.acceptance.AgreeingOperators.{function_groups, further_groups_of}
 use Rattle.module_meaning.specs.acceptance.AgreeingOperators.{Group, groups_of}
-use Rattle.module_meaning.specs.AlikeTypes.{is_spelled}
+use Rattle.module_meaning.specs.AlikeTypes.{has_type_form}
 use Rattle.module_meaning.specs.ExpressionContexts.{declared}
 use Rattle.module_meaning.specs.Names.{name_in}
 use Rattle.module_meaning.specs.PlaceParts.{member_part, member_taken, members_taken, own_types}
@@ -115,7 +115,7 @@ module _ (m new : Module) (all : IsDecimalModule m new) (info : ModuleInfo) wher
 
   member_pointers_same : pointer_to_member n info ≡ pointer_to_member m info
   member_pointers_same = λ i whole word r.
-      if is_spelled m.types r then r
+      if has_type_form m.types r then r
       else unwrap_or (slice_get (all_taken_same whole word i) 0) r
 
   member_parts_same : member_part n info ≡ member_part m info

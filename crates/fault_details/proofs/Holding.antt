@@ -260,18 +260,18 @@ module _ (m : Module) where
   typeless_holds known own (expression.CallResult function) = tt
   typeless_holds known own _ = tt
 
-  wanted_holds : (known : List TypeResolution) (own : TypeResolution) (e : Expression) (expected : ExpectedType) →
+  expected_holds : (known : List TypeResolution) (own : TypeResolution) (e : Expression) (expected : ExpectedType) →
       Holds (expected_reason m.types known own e expected)
-  wanted_holds known own e (LikeThis gives) =
+  expected_holds known own e (LikeThis gives) =
       unless_holds (IsReason m) (are_alike m.types own gives) (KnownType gives own) (λ fails. fails)
-  wanted_holds known own e Anything = tt
-  wanted_holds known own e Nothing = typeless_holds known own e
+  expected_holds known own e Anything = tt
+  expected_holds known own e Nothing = typeless_holds known own e
 
   own_type_holds : (f : Option Function) (known : List TypeResolution) (h : ℕ) (e : Expression) →
       Holds (own_type_reason m f known h e)
   own_type_holds f known h e =
       then_holds (IsReason m) (λ own. expected_reason m.types known own e (expected_type m f known e))
-      (λ own. wanted_holds known own e (expected_type m f known e)) (slice_get known h)
+      (λ own. expected_holds known own e (expected_type m f known e)) (slice_get known h)
 
   index_holds : (index count : ℕ) → Holds (index_reason index count)
   index_holds index count = unless_holds (IsReason m) (nat_lt index count) (PastParts count index)

@@ -11,9 +11,9 @@ too_few_known : mismatch_text (mismatch.Number counted.Expressions 12 11) ≡ co
 unfolding digits
 too_few_known = refl
 
-one_wanted : many_text 1 counted.Arguments ≡ codes "1 argument"
+one_argument_expected : many_text 1 counted.Arguments ≡ codes "1 argument"
 unfolding digits
-one_wanted = refl
+one_argument_expected = refl
 
 not_before : mismatch_text (mismatch.EarlierItem list.Expressions 7 3 12)
     ≡ codes "names expressions[7], expected one before expressions[3], of 12"

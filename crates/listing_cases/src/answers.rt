@@ -20,7 +20,7 @@ pub fn answer_line<W: Write>(alloc: Global, line: &str, out: &mut W) -> io::Resu
 fn answer_case<W: Write>(alloc: Global, case: &Value<'_>, out: &mut W) -> io::Result<()> {
     let name = text_in(case, "name").unwrap_or("");
     match known_of(alloc, case) {
-        Ok(known) => answer_known(alloc, name, &known, place_in(case), out),
+        Ok(known) => answer_known(alloc, name, &known, position_in(case), out),
         Err(error) => writeln!(out, "== {name}\nnot read: {error}"),
     }
 }
@@ -36,7 +36,7 @@ fn answer_known<W: Write>(
     write!(out, "== {name}\n{listing}")
 }
 
-fn place_in(case: &Value<'_>) -> ListingPosition {
+fn position_in(case: &Value<'_>) -> ListingPosition {
     ListingPosition {
         listed: listed_in(case),
         spot: spot_of(text_in(case, "spot"), number_in(case, "index")),

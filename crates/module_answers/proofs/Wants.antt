@@ -82,10 +82,10 @@ module _ (flags : WriterFlags) (m : Module) (info : ModuleInfo) (content now : L
     refusal = λ of. of;
   }
 
-  in_place : (answer : Result Unit Error) → IsErrAnd answer TellsOfModule →
+  following_written : (answer : Result Unit Error) → IsErrAnd answer TellsOfModule →
       Leaves flags m info answer content now before after → IsAfter content (written_text m info flags) now
-  in_place (Ok x) tells leaves = absurd tells
-  in_place (Err e) tells leaves = leaves.following
+  following_written (Ok x) tells leaves = absurd tells
+  following_written (Err e) tells leaves = leaves.following
 
   -- ---- the writer's answer, or want of memory in its place
   pub answer_or_want : (answer told : Result Unit Error) (found : Option Refusal) → IsAnswerOrWant answer told →
@@ -106,7 +106,7 @@ module _ (flags : WriterFlags) (m : Module) (info : ModuleInfo) (content now : L
       }
   answer_or_want answer told found (inr wanted) faithful matches text leaves beside =
       let back = sym wanted.1 in
-      let following = in_place answer wanted.0 leaves in
+      let following = following_written answer wanted.0 leaves in
       record {
         faithful = subst (λ r. FaithfulWriting flags m info r content now before after) back
             (refused flags m info (Memory alloc_error) content now before after tt);

@@ -25,7 +25,7 @@ use Rattle.wgsl_text.specs.Operators.{is_built_in}
 use Rattle.wgsl_text.specs.Types.{TypeSpecifier, of_two}
 use Rattle.wgsl_text.specs.WorkedTrees as worked
 use Rattle.text_meaning.specs.Resolution.{Item, StructItem, ValueItem, item_named, member_named}
-use Rattle.text_meaning.specs.Resolution.{place_among, program_initialiser_targets, stage_targets}
+use Rattle.text_meaning.specs.Resolution.{index_among, program_initialiser_targets, stage_targets}
 use Rattle.text_meaning.specs.Resolution.{type_items, types_are_not_hidden}
 use Prim.Native.String as native
 use Rattle.text_meaning.specs.Vocabulary.{vocabulary_read}
@@ -206,7 +206,7 @@ module _ (other : ir_module.Module) (label : String Global) (members : Vec ir_me
     own_members : own_words ≡ codes "fract" ∷ codes "whole" ∷ []
     own_members = refl
 
-    own_member_found : place_among (codes "whole") own_words ≡ Some 1
+    own_member_found : index_among (codes "whole") own_words ≡ Some 1
     own_member_found = refl
 
     -- a stage names what it has in a text alone

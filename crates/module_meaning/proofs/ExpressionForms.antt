@@ -10,7 +10,7 @@ use Rattle.naga_info.specs.declared.info.ExpressionInfo.{ExpressionInfo}
 use Rattle.naga_info.specs.declared.info.TypeResolution.{TypeResolution}
 use Rattle.naga_info.specs.declared.info.TypeResolution.TheVariants.{Handle, Value}
 use Rattle.naga_words.specs.Spelling.{is_struct}
-use Rattle.module_meaning.specs.AlikeTypes.{is_spelled}
+use Rattle.module_meaning.specs.AlikeTypes.{has_type_form}
 use Rattle.module_meaning.specs.ExpressionForms.{expression_has_form, expression_has_own_form}
 use Rattle.module_meaning.specs.Sampling.{own_offset_has_form}
 use Rattle.module_meaning.specs.Types.{called_spelling, spelled_resolution, type_names}
@@ -30,9 +30,9 @@ has_form_parts m known es e has =
 -- ---- types that a text can spell
 -- such a type has a form, and names no struct that no text declares
 pub spellable_parts : (m : Module) (r : TypeResolution) → is_spellable m r ≡ true →
-    (is_spelled m.types r ≡ true) × (names_undeclared m r ≡ false)
+    (has_type_form m.types r ≡ true) × (names_undeclared m r ≡ false)
 spellable_parts m r is =
-    let parts = and_parts (is_spelled m.types r) (not (names_undeclared m r)) is in
+    let parts = and_parts (has_type_form m.types r) (not (names_undeclared m r)) is in
     (parts.0, not-true (names_undeclared m r) parts.1)
 
 -- it is no such struct itself
@@ -67,6 +67,6 @@ called_spelled m r w at = by (is_undeclared_struct m r) at
     by true e = absurd cc
     by false e = (refl, e)
 
-pub spelled_of_spellable : (m : Module) (r : TypeResolution) → is_spellable m r ≡ true →
-    is_spelled m.types r ≡ true
-spelled_of_spellable m r is = (spellable_parts m r is).0
+pub type_form_of_spellable : (m : Module) (r : TypeResolution) → is_spellable m r ≡ true →
+    has_type_form m.types r ≡ true
+type_form_of_spellable m r is = (spellable_parts m r is).0

@@ -322,8 +322,8 @@ module _ (other : ir_module.Module) (info : ModuleInfo) (label : String Global)
     abbrev id : ℕ → Attribute
     id n = Numbered attributes.Id n
 
-    abbrev bound : ℕ → List Attribute → List Attribute
-    bound n more = Numbered attributes.Group 0 ∷ Numbered attributes.Binding n ∷ more
+    abbrev grouped : ℕ → List Attribute → List Attribute
+    grouped n more = Numbered attributes.Group 0 ∷ Numbered attributes.Binding n ∷ more
 
     abbrev coherent : List Attribute
     coherent = Plain attributes.Coherent ∷ []
@@ -341,16 +341,16 @@ module _ (other : ir_module.Module) (info : ModuleInfo) (label : String Global)
     vertex =
         worked.entry_point (Plain attributes.Vertex ∷ [])
         (worked.function "main"
-        (worked.bound_parameter (worked.worded_attribute attributes.Builtin "vertex_index" ∷ []) "i" u32 ∷ [])
+        (worked.attributed_parameter (worked.worded_attribute attributes.Builtin "vertex_index" ∷ []) "i" u32 ∷ [])
         (worked.gives "VertexOutput") [] [])
 
     abbrev index : List Attribute
     index = worked.worded_attribute attributes.Builtin "local_invocation_index" ∷ []
 
-    abbrev compute : (stage bound : List Attribute) → EntryPoint
-    compute stage bound =
+    abbrev compute : (stage grouped : List Attribute) → EntryPoint
+    compute stage grouped =
         worked.entry_point stage
-        (worked.function "main_1" (worked.bound_parameter bound "i" u32 ∷ []) NoResult [] [])
+        (worked.function "main_1" (worked.attributed_parameter grouped "i" u32 ∷ []) NoResult [] [])
 
     abbrev sized : ℕ → List Attribute
     sized n = Plain attributes.Compute ∷ WorkgroupSize n 1 1 ∷ []
@@ -393,7 +393,7 @@ module _ (other : ir_module.Module) (info : ModuleInfo) (label : String Global)
           overrides =
               worked.override (id 3 ∷ []) "override_type" u32 None ∷
               worked.override [] "depth" i32 (Some (worked.name "N")) ∷ [];
-          globals = buf (bound 1 coherent) read_write ∷ count (Some (worked.integer 7)) ∷ [];
+          globals = buf (grouped 1 coherent) read_write ∷ count (Some (worked.integer 7)) ∷ [];
           functions = selecting (all_cases 2 after) ∷ [];
           entry_points = vertex ∷ compute (sized 64) index ∷ [];
         }
@@ -408,7 +408,7 @@ module _ (other : ir_module.Module) (info : ModuleInfo) (label : String Global)
     -- ---- other texts of the same interface
     -- an initialiser counts by its value, however it is written
     named_initialiser : read
-        (record text { globals = buf (bound 1 coherent) read_write ∷ count (Some (worked.name "N")) ∷ [] }) ≡ declared
+        (record text { globals = buf (grouped 1 coherent) read_write ∷ count (Some (worked.name "N")) ∷ [] }) ≡ declared
     unfolding type_segments layout_at
     named_initialiser = refl
 
@@ -437,7 +437,7 @@ module _ (other : ir_module.Module) (info : ModuleInfo) (label : String Global)
     unfolding type_segments layout_at
     sized_member = differ (first_member (λ st. is_some st.size)) _ _ refl refl
 
-    -- a member that is bound to nothing, a struct left out, and one that no text declares
+    -- a member without a binding, a struct left out, and one that no text declares
     abbrev is_builtin : StageBinding → Bool
     is_builtin (BuiltinValue word invariant) = true
     is_builtin _ = false
@@ -507,7 +507,7 @@ module _ (other : ir_module.Module) (info : ModuleInfo) (label : String Global)
         differ (λ i. passes (λ o. option_map_or (λ value. option_map_or (same_integer_as 2) value false)
         o.initialiser false) 1 i.overrides) _ _ refl refl
 
-    -- a variable that is bound elsewhere, in another space, with another access, without its
+    -- a variable with another binding, in another space, with another access, without its
     -- decoration, and of another first value
     abbrev first_global : (GlobalInterface → Bool) → Interface → Bool
     first_global test i = passes test 0 i.globals
@@ -515,7 +515,7 @@ module _ (other : ir_module.Module) (info : ModuleInfo) (label : String Global)
     abbrev with_buf : tree.Global → Program
     with_buf g = record text { globals = g ∷ count (Some (worked.integer 7)) ∷ [] }
 
-    other_binding : another (with_buf (buf (bound 2 coherent) read_write))
+    other_binding : another (with_buf (buf (grouped 2 coherent) read_write))
     unfolding type_segments layout_at
     other_binding = differ (first_global (λ g. option_map_or (λ b. b.binding == 2) g.binding false)) _ _ refl refl
 
@@ -523,25 +523,25 @@ module _ (other : ir_module.Module) (info : ModuleInfo) (label : String Global)
     unfolding type_segments layout_at
     binding_left_out = differ (first_global (λ g. is_none g.binding)) _ _ refl refl
 
-    other_space : another (with_buf (buf (bound 1 coherent) (worked.space "uniform")))
+    other_space : another (with_buf (buf (grouped 1 coherent) (worked.space "uniform")))
     unfolding type_segments layout_at
     other_space = differ (first_global (λ g. option_map_or (bytes_eq (codes "uniform")) g.space false)) _ _ refl refl
 
-    access_left_out : another (with_buf (buf (bound 1 coherent) (worked.space "storage")))
+    access_left_out : another (with_buf (buf (grouped 1 coherent) (worked.space "storage")))
     unfolding type_segments layout_at
     access_left_out = differ (first_global (λ g. is_none g.access)) _ _ refl refl
 
-    decoration_left_out : another (with_buf (buf (bound 1 []) read_write))
+    decoration_left_out : another (with_buf (buf (grouped 1 []) read_write))
     unfolding type_segments layout_at
     decoration_left_out e = differ (first_global (λ g. g.coherent)) _ _ refl refl (sym e)
 
     decoration_added : another
-        (with_buf (buf (bound 1 (Plain attributes.Coherent ∷ Plain attributes.Volatile ∷ [])) read_write))
+        (with_buf (buf (grouped 1 (Plain attributes.Coherent ∷ Plain attributes.Volatile ∷ [])) read_write))
     unfolding type_segments layout_at
     decoration_added = differ (first_global (λ g. g.volatile)) _ _ refl refl
 
     abbrev with_count : Option Expression → Program
-    with_count value = record text { globals = buf (bound 1 coherent) read_write ∷ count value ∷ [] }
+    with_count value = record text { globals = buf (grouped 1 coherent) read_write ∷ count value ∷ [] }
 
     other_first_value : another (with_count (Some (worked.integer 8)))
     unfolding type_segments layout_at
@@ -592,7 +592,7 @@ module _ (other : ir_module.Module) (info : ModuleInfo) (label : String Global)
     unfolding type_segments layout_at
     inner_left_out = differ (λ i. passes (λ g. length g.switches == 1) 0 i.functions) _ _ refl refl
 
-    -- an entry point whose argument is bound to nothing, one of another size, of another stage, and one
+    -- an entry point whose argument has no binding, one of another size, of another stage, and one
     -- left out
     argument_unbound : another (record text { entry_points = vertex ∷ compute (sized 64) [] ∷ [] })
     unfolding type_segments layout_at

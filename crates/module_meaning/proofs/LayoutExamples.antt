@@ -31,8 +31,8 @@ module _ (other : Module) (members : Vec StructMember Global) where
   abbrev at : (ty offset : ℕ) → StructMember
   at ty offset = record { name = None; ty = ty; binding = None; offset = offset }
 
-  abbrev bound : (ty offset : ℕ) → StructMember
-  bound ty offset =
+  abbrev with_location : (ty offset : ℕ) → StructMember
+  with_location ty offset =
       record (at ty offset) { binding = Some (binding.BuiltIn (builtin.Position false)) }
 
   abbrev pair : (a b : StructMember) → (span : ℕ) → TypeInner
@@ -62,9 +62,9 @@ module _ (other : Module) (members : Vec StructMember Global) where
       pair (at 0 0) (at 0 6) 12 ∷
       alone (at 0 4) 8 ∷
       pair (at 1 0) (at 0 8) 16 ∷
-      -- 12: both at the start; 13: bound; 14: with an array as long as its buffer; 15: with one before
+      -- 12: both at the start; 13: with a binding; 14: with an array as long as its buffer; 15: with one before
       pair (at 0 0) (at 0 0) 4 ∷
-      pair (at 0 0) (bound 1 16) 32 ∷
+      pair (at 0 0) (with_location 1 16) 32 ∷
       inner.Array 0 size.Dynamic 4 ∷
       pair (at 14 0) (at 0 4) 8 ∷
       -- 16: it ends so; 17: a truth value; 18: a struct with one; 19: of external textures
@@ -102,7 +102,7 @@ module _ (other : Module) (members : Vec StructMember Global) where
   unfolding layout_at
   ends_with_its_buffer = refl
 
-  -- no scalar, no struct with two members at the start, with a bound member, with an array of unknown
+  -- no scalar, no struct with two members at the start, with a member that has a binding, with an array of unknown
   -- length before its end, with a type that has no layout, and none that no text declares
   no_others : map (λ h. is_none (concerned_members m h)) (0 ∷ 12 ∷ 13 ∷ 15 ∷ 18 ∷ 19 ∷ 99 ∷ [])
       ≡ true ∷ true ∷ true ∷ true ∷ true ∷ true ∷ true ∷ []

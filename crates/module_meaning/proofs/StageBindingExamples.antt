@@ -15,7 +15,7 @@ use Rattle.std.specs.Str.{bytes_eq}
 use Rattle.wgsl_text.specs.Attributes.{Attribute, Plain, Numbered, Invariant, PerPrimitive, Location}
 use Rattle.wgsl_text.specs.Attributes.{BlendSource, Builtin, Interpolate}
 use Rattle.wgsl_text.specs.WorkedTrees.{interpolated_attribute, worded_attribute}
-use Rattle.text_meaning.specs.Attributes.{AtLocation, BuiltinValue, LocationBinding, NotBound}
+use Rattle.text_meaning.specs.Attributes.{AtLocation, BuiltinValue, LocationBinding, WithoutBinding}
 use Rattle.text_meaning.specs.Attributes.{StageBinding, stage_binding_read}
 use Rattle.module_meaning.specs.StageBindings.{stage_binding}
 
@@ -140,9 +140,9 @@ primitive_left_out : TellAnother (at_location (Numbered BlendSource 1 ∷ [])) (
 primitive_left_out e = differ (passes (λ l. l.per_primitive)) _ _ refl refl (sym e)
 
 -- attributes that no value may have bind it to nothing
-abbrev is_bound : StageBinding → Bool
-is_bound (NotBound attributes) = false
-is_bound _ = true
+abbrev has_binding : StageBinding → Bool
+has_binding (WithoutBinding attributes) = false
+has_binding _ = true
 
 out_of_order : TellAnother (Plain Invariant ∷ worded_attribute Builtin "position" ∷ []) (position true)
-out_of_order e = differ is_bound _ _ refl refl (sym e)
+out_of_order e = differ has_binding _ _ refl refl (sym e)

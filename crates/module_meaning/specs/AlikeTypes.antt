@@ -149,9 +149,9 @@ abbrev pub type_key : List Type_ → TypeResolution → Option (List ℕ)
 type_key types (Handle h) = handle_key types h
 type_key types (Value it) = inner_key types it
 
--- Does WGSL spell the type?
-abbrev pub is_spelled : List Type_ → TypeResolution → Bool
-is_spelled types r = is_some (type_key types r)
+-- Has WGSL a form for the type? A struct counts by its handle.
+abbrev pub has_type_form : List Type_ → TypeResolution → Bool
+has_type_form types r = is_some (type_key types r)
 
 -- what tells a type from those that are not alike to it
 abbrev pub type_identity : List Type_ → TypeResolution → List ℕ

@@ -28,7 +28,7 @@ use Rattle.naga_info.specs.Resolution.{inner_of}
 use Rattle.naga_info.specs.declared.info.ExpressionInfo.{ExpressionInfo}
 use Rattle.naga_info.specs.declared.info.TypeResolution.TheVariants.{Handle, Value}
 use Rattle.float_numerals.specs.Denoted.{is_in_range}
-use Rattle.module_meaning.specs.AlikeTypes.{is_spelled}
+use Rattle.module_meaning.specs.AlikeTypes.{has_type_form}
 use Rattle.module_meaning.specs.Conversions.{conversion_target}
 use Rattle.module_meaning.specs.ExpressionOperators.{has_parts, own_operator, pointee_scalar}
 use Rattle.module_meaning.specs.OperatorTable.{has_word}
@@ -61,13 +61,13 @@ known_passes types es test h =
 -- a value of this type is converted to one of a type that has a form
 abbrev pub converts : List Type_ → ScalarKind → (convert : Option ℕ) → TypeInner → Bool
 converts types kind convert it =
-    option_map_or (λ new. is_spelled types (Value new)) (conversion_target it kind convert) false
+    option_map_or (λ new. has_type_form types (Value new)) (conversion_target it kind convert) false
 
 -- a cooperative matrix of the scalars that a pointer of this type points to has a form
 abbrev pub loads_matrix : List Type_ → (columns rows : CooperativeSize) → CooperativeRole →
     TypeInner → Bool
 loads_matrix types columns rows role it =
-    option_map_or (λ s. is_spelled types (Value (inner.CooperativeMatrix columns rows s role)))
+    option_map_or (λ s. has_type_form types (Value (inner.CooperativeMatrix columns rows s role)))
     (pointee_scalar types it) false
 
 -- ---- constants

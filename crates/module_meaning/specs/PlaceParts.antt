@@ -24,7 +24,7 @@ use Rattle.naga_info.specs.declared.info.TypeResolution.{TypeResolution}
 use Rattle.naga_info.specs.declared.info.TypeResolution.TheVariants.{Handle, Value}
 use Rattle.naga_names.specs.declared.key.NameKey.TheVariants as key
 use Rattle.module_meaning.specs.acceptance.AgreeingOperators.{Group, groups_of}
-use Rattle.module_meaning.specs.AlikeTypes.{is_spelled}
+use Rattle.module_meaning.specs.AlikeTypes.{has_type_form}
 use Rattle.module_meaning.specs.ExpressionContexts.{declared}
 use Rattle.module_meaning.specs.ExpressionShapes.{Declared, part_selector}
 use Rattle.module_meaning.specs.Names.{module_names, name_in}
@@ -118,7 +118,7 @@ members_taken m info whole word g =
 abbrev pub pointer_to_member :
     Module → ModuleInfo → (whole word : List ℕ) → TypeResolution → TypeResolution
 pointer_to_member m info whole word r =
-    if is_spelled m.types r then r
+    if has_type_form m.types r then r
     else unwrap_or (slice_get (flat_map (members_taken m info whole word) (groups_of m info)) 0) r
 
 -- the member of a struct with this handle, at an index, by its word

@@ -28,7 +28,7 @@ use Rattle.module_meaning.specs.acceptance.Ranges.{resolution_fits}
 use Rattle.module_meaning.specs.Types.{spelled_resolution, type_names}
 use Rattle.module_meaning.specs.Undeclared.{is_declared, is_spellable, is_undeclared}
 use Rattle.text_meaning.specs.Abstraction.{function_read, functions_of, program_read}
-use Rattle.text_meaning.specs.Resolution.{item_named, member_named, place_among}
+use Rattle.text_meaning.specs.Resolution.{item_named, member_named, index_among}
 use Rattle.text_meaning.specs.Resolution.{program_initialiser_targets, stage_targets, type_items}
 use Rattle.text_meaning.specs.Resolution.{hides_no_type, types_are_not_hidden}
 
@@ -90,7 +90,7 @@ OwnMembersResolve m =
     (h : ℕ) (t : Type_) → slice_get m.types h ≡ Some t →
     IsTrue (is_undeclared m.special_types h) →
     (i : ℕ) (member : StructMember) → slice_get (members_of t.inner) i ≡ Some member →
-    place_among (name_in (module_names m) (key.StructMember h i))
+    index_among (name_in (module_names m) (key.StructMember h i))
     (words_of_members (module_names m) h t)
     ≡ Some i
 

@@ -11,7 +11,7 @@ use Rattle.naga_ir.specs.declared.binding.BuiltIn as builtins
 use Rattle.naga_ir.specs.declared.binding.BuiltIn.TheVariants as builtin
 use Rattle.naga_ir.specs.declared.flags.MemoryDecorations.{MemoryDecorations}
 use Rattle.wgsl_words.specs.Words.{builtin_word, interpolation_word, sampling_word}
-use Rattle.text_meaning.specs.Attributes.{StageBinding, NotBound, BuiltinValue, AtLocation}
+use Rattle.text_meaning.specs.Attributes.{StageBinding, WithoutBinding, BuiltinValue, AtLocation}
 use Rattle.text_meaning.specs.Attributes.{default_interpolation, default_sampling}
 
 -- only a position may be computed alike in each pipeline
@@ -33,7 +33,7 @@ binding_meant (Location location interpolation sampling blend_src per_primitive)
 
 -- how an argument, a result or a member passes
 abbrev pub stage_binding : Option Binding → StageBinding
-stage_binding None = NotBound []
+stage_binding None = WithoutBinding []
 stage_binding (Some b) = binding_meant b
 
 -- ---- decorations

@@ -53,17 +53,17 @@ source_of (mode.QuadBroadcast index) = QuadIndexed
 source_of (mode.QuadSwap direction) = QuadSwapped direction
 
 -- the bit is set
-abbrev pub is_kept : (bit : ℕ) → Flags → Bool
-is_kept bit flags = bit_and flags.0 bit == bit
+abbrev pub is_set : (bit : ℕ) → Flags → Bool
+is_set bit flags = bit_and flags.0 bit == bit
 
 -- a barrier keeps apart what its flags name, in the order of their bits
 abbrev pub barrier_bits : Flags → BarrierBits
 barrier_bits flags =
     record {
-      storage = is_kept 1 flags;
-      work_group = is_kept 2 flags;
-      sub_group = is_kept 4 flags;
-      texture = is_kept 8 flags;
+      storage = is_set 1 flags;
+      work_group = is_set 2 flags;
+      sub_group = is_set 4 flags;
+      texture = is_set 8 flags;
     }
 
 -- the operator that a statement asks for, if it is an act that asks for one of the table's

@@ -27,7 +27,7 @@ use Rattle.naga_names.specs.Reset.{members_of}
 use Rattle.naga_names.specs.declared.key.NameKey.TheVariants as key
 use Rattle.naga_words.specs.Spelling.{is_struct}
 use Rattle.wgsl_text.specs.Words.{stands_in}
-use Rattle.module_meaning.specs.AlikeTypes.{is_spelled}
+use Rattle.module_meaning.specs.AlikeTypes.{has_type_form}
 use Rattle.module_meaning.specs.LackingScalars.{base_type}
 use Rattle.module_meaning.specs.Names.{module_names, name_in}
 
@@ -83,7 +83,7 @@ names_undeclared m (Value it) = option_map_or (handle_names_undeclared m) (base_
 
 -- a text can spell the type
 abbrev pub is_spellable : Module → TypeResolution → Bool
-is_spellable m r = is_spelled m.types r && not (names_undeclared m r)
+is_spellable m r = has_type_form m.types r && not (names_undeclared m r)
 
 -- ---- members
 -- the members of the structs that WGSL's own functions give

@@ -77,7 +77,7 @@ fn entry_point_holds(
 ) {
     let mut function = FunctionBuilder::unlabelled(alloc);
     let mask = Binding::BuiltIn(BuiltIn::SampleMask);
-    function.returns_bound(ty, mask);
+    function.returns_with_binding(ty, mask);
     let output_variable = Handle::<GlobalVariable>::from_index(0);
     let parts = StageParts {
         mesh_info: Some(MeshStageInfo { output_variable }),

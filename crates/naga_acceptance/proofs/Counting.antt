@@ -18,7 +18,7 @@ use Rattle.std.proofs.lemmas.List.{drop_more}
 use Rattle.naga_ir.specs.Operands.{expression_operands, statement_operands, block_operands}
 use Rattle.naga_ir.specs.Operands.{cases_operands}
 use Rattle.naga_acceptance.specs.Counts.{with_use, with_uses, used_again, with_counts_from}
-use Rattle.naga_acceptance.specs.Counts.{use_count, without_uses, operand_positions, with_counts}
+use Rattle.naga_acceptance.specs.Counts.{use_count, without_uses, operand_handles, with_counts}
 use Rattle.naga_acceptance.specs.Counts.{all_with_counts, functions_of}
 use Rattle.naga_info.specs.UseCounts.{greatest_count}
 
@@ -91,10 +91,10 @@ with_use-with_counts_from c handle (e ∷ es) zero =
     ∷ with_counts_from-same c (λ k. cond (handle + 0 == k) 1 0 + c k) (handle + 1) es
     (λ k h. count_kept (c k) (handle + 0) k (omega (arith, h))) i
 with_use-with_counts_from c handle (e ∷ es) (suc n) =
-    let same_place : handle + 1 + n ≡ handle + suc n = omega arith
+    let same_index : handle + 1 + n ≡ handle + suc n = omega arith
     in λ i. record e { ref_count = min (count_kept (c handle) (handle + suc n) handle (omega arith) i) greatest_count }
     ∷ (with_use-with_counts_from c (handle + 1) es n
-    ∙ ap (λ m. with_counts_from (λ k. cond (m == k) 1 0 + c k) (handle + 1) es) same_place) i
+    ∙ ap (λ m. with_counts_from (λ k. cond (m == k) 1 0 + c k) (handle + 1) es) same_index) i
 
 use_count-cons : (p : ℕ) (ps : List ℕ) (k : ℕ) → use_count (p ∷ ps) k ≡ cond (p == k) 1 0 + use_count ps k
 use_count-cons p ps k = sum_by-cons (λ held. cond (held == k) 1 0) p ps
@@ -128,10 +128,10 @@ pub counted_by_uses : (f : Function) (es : List ExpressionInfo)
     (block_operands f.body) ≡ with_counts f es
 counted_by_uses f es =
     sym (with_uses_append (without_uses es) (flat_map expression_operands f.expressions) (block_operands f.body))
-    ∙ ap (λ fs. with_uses fs (operand_positions f)) (with_counts_from-zero 0 es)
-    ∙ with_uses-with_counts_from (λ k. 0) es (operand_positions f)
-    ∙ with_counts_from-same (λ k. use_count (operand_positions f) k + 0) (use_count (operand_positions f)) 0 es
-    (λ k h. add-zero (use_count (operand_positions f) k))
+    ∙ ap (λ fs. with_uses fs (operand_handles f)) (with_counts_from-zero 0 es)
+    ∙ with_uses-with_counts_from (λ k. 0) es (operand_handles f)
+    ∙ with_counts_from-same (λ k. use_count (operand_handles f) k + 0) (use_count (operand_handles f)) 0 es
+    (λ k h. add-zero (use_count (operand_handles f) k))
 
 pub length-without_uses : (es : List ExpressionInfo) → length (without_uses es) ≡ length es
 length-without_uses [] = refl

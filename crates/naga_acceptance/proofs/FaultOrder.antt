@@ -244,10 +244,10 @@ module _ (m : Module) (info : ModuleInfo) where
   typed_named (Some u) is = λ typed. absurd (subst (λ found. IfSome found ItemIsOther) (sym is) ranges_other typed)
 
   -- one of what is wanted, where there is none before it
-  pub first_wanted : (named wanted : Option Unaccepted) → named ≡ ranges_fault m info → is_some named ≡ false →
+  pub first_needed : (named wanted : Option Unaccepted) → named ≡ ranges_fault m info → is_some named ≡ false →
       wanted ≡ sound_fault m info → IfSome wanted (IsFirst m info)
-  first_wanted named None is none next = tt
-  first_wanted named (Some u) is none next = Needed (ranges_pass named is none) (sym next)
+  first_needed named None is none next = tt
+  first_needed named (Some u) is none next = Needed (ranges_pass named is none) (sym next)
 
   -- one of operators, where there are none of both
   pub first_operator : (named wanted found : Option Unaccepted) → named ≡ ranges_fault m info → is_some named ≡ false →

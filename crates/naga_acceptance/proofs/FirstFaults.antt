@@ -608,16 +608,16 @@ module _ (m : Module) (info : ModuleInfo) where
       passes named (module_ranges_fit m info)
       (subst (λ found. Finds found (module_ranges_fit m info) (Fails m info)) (sym is) ranges_found) none
 
-  pub accepted_wanted : (named wanted : Option Unaccepted) → named ≡ ranges_fault m info → is_some named ≡ false →
+  pub accepted_needed : (named wanted : Option Unaccepted) → named ≡ ranges_fault m info → is_some named ≡ false →
       wanted ≡ sound_fault m info → is_some wanted ≡ true → is_none wanted ≡ is_accepted m info
   unfolding is_accepted
-  accepted_wanted named wanted is none next some =
+  accepted_needed named wanted is none next some =
       stops wanted (module_is_sound m info) (module_operators_agree m info)
       (subst (λ found. Finds found (module_is_sound m info) (Fails m info)) (sym next) sound_found) some
       ∙ ap (λ b. b && (module_is_sound m info && module_operators_agree m info)) (sym (fits_named named is none))
 
-  pub fails_wanted : (wanted : Option Unaccepted) → wanted ≡ sound_fault m info → IfSome wanted (Fails m info)
-  fails_wanted wanted is = subst (λ found. IfSome found (Fails m info)) (sym is) sound_found.fails
+  pub fails_needed : (wanted : Option Unaccepted) → wanted ≡ sound_fault m info → IfSome wanted (Fails m info)
+  fails_needed wanted is = subst (λ found. IfSome found (Fails m info)) (sym is) sound_found.fails
 
   pub accepted_operators : (named wanted found : Option Unaccepted) → named ≡ ranges_fault m info →
       is_some named ≡ false →

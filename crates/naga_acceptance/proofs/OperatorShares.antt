@@ -255,13 +255,13 @@ module _ (types : List Type_) (gs : List Group) where
       (joined_below (λ k. option_to_list (use_in types h k)) j, refl)
 
   -- before a place that does not stand before this one
-  front_of_place : (a b : UsePosition) (g h : Group) → slice_get gs a.group ≡ Some g →
+  front_of_use : (a b : UsePosition) (g h : Group) → slice_get gs a.group ≡ Some g →
       slice_get gs b.group ≡ Some h → a.index ≤ length g.expressions →
       (a.group < b.group) ⊎ ((a.group ≡ b.group) × (a.index ≤ b.index)) →
       StandsInFront (earlier_uses types gs a.group g a.index) (earlier_uses types gs b.group h b.index)
-  front_of_place a b g h here there within (inl before) =
+  front_of_use a b g h here there within (inl before) =
       front_of_later a.group b.group g h a.index b.index here within before
-  front_of_place a b g h here there within (inr beside) =
+  front_of_use a b g h here there within (inr beside) =
       let same : g ≡ h = same_Some g h (sym here ∙ ap (slice_get gs) beside.0 ∙ there)
       in let front = earlier_uses types gs a.group g a.index
       in subst (λ k. StandsInFront front (earlier_uses types gs k h b.index)) beside.0
@@ -271,12 +271,12 @@ module _ (types : List Type_) (gs : List Group) where
   -- ---- the first use that does not agree
 
   -- it is so among more uses, where the others agree as far as it
-  place_among_more : (r p q : Operation → Bool) → IsCovered r p q →
+  index_among_more : (r p q : Operation → Bool) → IsCovered r p q →
       ((v : Operation) → p v ≡ true → r v ≡ true) → (a : UsePosition)
       → (fails : DisagreesFirst types gs p a.group a.index)
       → all_agree (filter q (earlier_uses types gs a.group fails.0 a.index)) ≡ true
       → DisagreesFirst types gs r a.group a.index
-  place_among_more r p q covered within a fails other = (
+  index_among_more r p q covered within a fails other = (
     fails.0,
     fails.1,
     fails.2,
@@ -292,12 +292,12 @@ module _ (types : List Type_) (gs : List Group) where
   first_of_both r p q one two in_p in_q None None none_p none_q =
       covered_agree r p q one (group_uses types gs (length gs)) none_p none_q
   first_of_both r p q one two in_p in_q None (Some b) none_p fails_q =
-      place_among_more r q p two in_q b fails_q
+      index_among_more r q p two in_q b fails_q
       (front_agrees p (earlier_uses types gs b.group fails_q.0 b.index) (group_uses types gs (length gs))
       (front_of_groups b.group (length gs) fails_q.0 b.index fails_q.1 (omega (arith, fails_q.2))
       (slice_get_within gs b.group fails_q.0 fails_q.1)) none_p)
   first_of_both r p q one two in_p in_q (Some a) None fails_p none_q =
-      place_among_more r p q one in_p a fails_p
+      index_among_more r p q one in_p a fails_p
       (front_agrees q (earlier_uses types gs a.group fails_p.0 a.index) (group_uses types gs (length gs))
       (front_of_groups a.group (length gs) fails_p.0 a.index fails_p.1 (omega (arith, fails_p.2))
       (slice_get_within gs a.group fails_p.0 fails_p.1)) none_q)
@@ -341,17 +341,17 @@ module _ (types : List Type_) (gs : List Group) where
           IsFirstDisagreement types gs r (if stands_before a b then Some a else Some b)
       by_order true e =
           subst (λ t. IsFirstDisagreement types gs r (if t then Some a else Some b)) (sym e)
-          (place_among_more r p q one in_p a fails_p
+          (index_among_more r p q one in_p a fails_p
           (front_agrees q (earlier_uses types gs a.group fails_p.0 a.index)
           (earlier_uses types gs b.group fails_q.0 b.index)
-          (front_of_place a b fails_p.0 fails_q.0 fails_p.1 fails_q.1 (omega (arith, fails_p.2)) (before e))
+          (front_of_use a b fails_p.0 fails_q.0 fails_p.1 fails_q.1 (omega (arith, fails_p.2)) (before e))
           fails_q.3))
       by_order false e =
           subst (λ t. IsFirstDisagreement types gs r (if t then Some a else Some b)) (sym e)
-          (place_among_more r q p two in_q b fails_q
+          (index_among_more r q p two in_q b fails_q
           (front_agrees p (earlier_uses types gs b.group fails_q.0 b.index)
           (earlier_uses types gs a.group fails_p.0 a.index)
-          (front_of_place b a fails_q.0 fails_p.0 fails_q.1 fails_p.1 (omega (arith, fails_q.2)) (following e))
+          (front_of_use b a fails_q.0 fails_p.0 fails_q.1 fails_p.1 (omega (arith, fails_q.2)) (following e))
           fails_p.3))
 
 -- ---- shares of the operators

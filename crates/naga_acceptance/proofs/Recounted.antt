@@ -19,7 +19,7 @@ use Rattle.module_meaning.specs.acceptance.Ranges.{resolution_fits}
 use Rattle.module_meaning.specs.acceptance.Soundness.{declarations_are_sound, entry_point_is_sound}
 use Rattle.module_meaning.specs.acceptance.Soundness.{function_is_sound, module_is_sound}
 use Rattle.module_meaning.specs.acceptance.Soundness.{typed_function_is_sound}
-use Rattle.naga_acceptance.specs.Counts.{all_with_counts, functions_of, operand_positions}
+use Rattle.naga_acceptance.specs.Counts.{all_with_counts, functions_of, operand_handles}
 use Rattle.naga_acceptance.specs.Counts.{use_count, with_counts, with_counts_from}
 use Rattle.naga_acceptance.proofs.Counting.{length-all_with_counts}
 
@@ -45,7 +45,7 @@ all_same_known : (test : TypeResolution → Bool) (fs : List Function)
     (list_all (λ k. test k.ty)) ess
 all_same_known test [] ess = refl
 all_same_known test (f ∷ fs) [] = refl
-all_same_known test (f ∷ fs) (es ∷ ess) = λ i. same_known test (use_count (operand_positions f)) 0 es i
+all_same_known test (f ∷ fs) (es ∷ ess) = λ i. same_known test (use_count (operand_handles f)) 0 es i
     && all_same_known test fs ess i
 
 -- items side by side with what is known of functions, by a test that doesn't look at the counts
@@ -69,7 +69,7 @@ same_groups fs [] ess = refl
 same_groups fs (g ∷ gs) [] = refl
 same_groups [] (g ∷ gs) (es ∷ ess) = refl
 same_groups (f ∷ fs) (g ∷ gs) (es ∷ ess) =
-    λ i. record { expressions = f.expressions; known = same_types (use_count (operand_positions g)) 0 es i }
+    λ i. record { expressions = f.expressions; known = same_types (use_count (operand_handles g)) 0 es i }
     ∷ same_groups fs gs ess i
 
 module _ (m : Module) (old new : ModuleInfo)

@@ -38,22 +38,22 @@ among_last os v = (length os, at_sum os (v ∷ []) 0 (length os) (omega arith))
 -- one of these is the last, or it stands in front
 pub among_either : (os : List Operation) (v w : Operation) → IsAmong w (os ++ v ∷ []) →
     IsAmong w os ⊎ (w ≡ v)
-among_either [] v w among = by_place among.0 among.1
+among_either [] v w among = among_at among.0 among.1
   where
-    by_place : (i : ℕ) → slice_get (v ∷ []) i ≡ Some w → IsAmong w [] ⊎ (w ≡ v)
-    by_place zero here = inr (sym (same_Some v w here))
-    by_place (suc i) here = absurd cc
+    among_at : (i : ℕ) → slice_get (v ∷ []) i ≡ Some w → IsAmong w [] ⊎ (w ≡ v)
+    among_at zero here = inr (sym (same_Some v w here))
+    among_at (suc i) here = absurd cc
 among_either (x ∷ os) v w among =
-    by_place (λ i here. among_either os v w (i, here)) among.0 among.1
+    among_at (λ i here. among_either os v w (i, here)) among.0 among.1
   where
     further : IsAmong w os ⊎ (w ≡ v) → IsAmong w (x ∷ os) ⊎ (w ≡ v)
     further (inl own) = inl (suc own.0, own.1)
     further (inr last) = inr last
 
-    by_place : ((i : ℕ) → slice_get (os ++ v ∷ []) i ≡ Some w → IsAmong w os ⊎ (w ≡ v)) →
+    among_at : ((i : ℕ) → slice_get (os ++ v ∷ []) i ≡ Some w → IsAmong w os ⊎ (w ≡ v)) →
         (i : ℕ) → slice_get (x ∷ os ++ v ∷ []) i ≡ Some w → IsAmong w (x ∷ os) ⊎ (w ≡ v)
-    by_place rest zero here = inl (0, here)
-    by_place rest (suc i) here = further (rest i here)
+    among_at rest zero here = inl (0, here)
+    among_at rest (suc i) here = further (rest i here)
 
 -- uses of one operator have one hash
 pub same_hash : (v w : Operation) → is_same_operator v w ≡ true → hash_of v ≡ hash_of w
@@ -249,8 +249,8 @@ pub entered_remembered : (types : List Type_) (gs : List Group) (os : List Opera
     Remembers types gs (os ++ v ∷ []) slots (slice_set table slot (Some site))
 entered_remembered types gs os slots table v slot site remembered probed there hashed = record {
   size = length-set table slot (Some site) ∙ remembered.size;
-  sites = λ place other at. site_at place other (by_place place other at);
-  hashed = λ place other at. hashed_at place other (by_place place other at);
+  sites = λ place other at. site_at place other (among_at place other at);
+  hashed = λ place other at. hashed_at place other (among_at place other at);
   found = λ w among. either w (among_either os v w among);
 }
   where
@@ -258,10 +258,10 @@ entered_remembered types gs os slots table v slot site remembered probed there h
     inside = omega (arith, remembered.size, slot_within types gs slots table v slot probed)
 
     -- what a slot has is the new site, or it was there
-    by_place : (place : ℕ) (other : Site) →
+    among_at : (place : ℕ) (other : Site) →
         slice_index_or (slice_set table slot (Some site)) place None ≡ Some other →
         (other ≡ site) ⊎ (slice_index_or table place None ≡ Some other)
-    by_place place other at = by_slot (place == slot) refl
+    among_at place other at = by_slot (place == slot) refl
       where
         by_slot : (b : Bool) → (place == slot) ≡ b →
             (other ≡ site) ⊎ (slice_index_or table place None ≡ Some other)

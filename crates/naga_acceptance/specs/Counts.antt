@@ -9,8 +9,8 @@ use Rattle.naga_info.specs.declared.info.ExpressionInfo.{ExpressionInfo}
 use Rattle.naga_ir.specs.Operands.{expression_operands, block_operands}
 
 -- the operand places of a function's expressions and statements
-abbrev pub operand_positions : Function → List ℕ
-operand_positions f = flat_map expression_operands f.expressions ++ block_operands f.body
+abbrev pub operand_handles : Function → List ℕ
+operand_handles f = flat_map expression_operands f.expressions ++ block_operands f.body
 
 -- how many of the places hold the handle
 abbrev pub use_count : List ℕ → ℕ → ℕ
@@ -25,7 +25,7 @@ with_counts_from count handle (e ∷ es) =
 
 -- what is known of a function's expressions, each with the number of operand places that hold it
 abbrev pub with_counts : Function → List ExpressionInfo → List ExpressionInfo
-with_counts f es = with_counts_from (use_count (operand_positions f)) 0 es
+with_counts f es = with_counts_from (use_count (operand_handles f)) 0 es
 
 -- the same for functions in order; what is known of a function that there isn't stays
 abbrev pub all_with_counts : List Function → List (List ExpressionInfo) → List (List ExpressionInfo)

@@ -6,7 +6,7 @@ ghost use Rattle.std.specs.Prelude.{None};
 ghost use Rattle.std.specs.Option.{IfSome, is_some, option_and_then, option_map};
 ghost use Rattle.std.specs.Str.{bytes_eq};
 ghost use Rattle.module_meaning.specs.AlikeTypes.{are_alike as types_alike, key_within};
-ghost use Rattle.module_meaning.specs.AlikeTypes.{handle_key, is_spelled, image_key};
+ghost use Rattle.module_meaning.specs.AlikeTypes.{handle_key, has_type_form, image_key};
 ghost use Rattle.module_meaning.specs.AlikeTypes.{access_number, inner_key_by, over_scalar};
 ghost use Rattle.module_meaning.specs.AlikeTypes.{type_key, type_identity, value_key};
 ghost use Rattle.module_meaning.specs.AlikeTypes.{value_pointer_key};
@@ -339,7 +339,7 @@ fn resolution_top(types: &UniqueArena<Type_>, ty: &TypeResolution) -> Option<Top
 }
 
 /// Whether what a type is over has a form.
-fn over_is_spelled(types: &UniqueArena<Type_>, over: Over) -> bool
+fn over_has_type_form(types: &UniqueArena<Type_>, over: Over) -> bool
     ensures { result ≡ is_some (over_key types.now over) }
 {
     let mut over = over;
@@ -355,20 +355,20 @@ fn over_is_spelled(types: &UniqueArena<Type_>, over: Over) -> bool
     }
 }
 
-fn top_is_spelled(types: &UniqueArena<Type_>, top: Option<Top>) -> bool
+fn top_has_type_form(types: &UniqueArena<Type_>, top: Option<Top>) -> bool
     ensures { result ≡ is_some (top_key types.now top) }
 {
     match top {
-        Some(top) => over_is_spelled(types, top.over),
+        Some(top) => over_has_type_form(types, top.over),
         None => false,
     }
 }
 
 /// Whether WGSL spells the type.
-pub(crate) fn inferred_is_spelled(types: &UniqueArena<Type_>, ty: &InferredType) -> bool
-    ensures { result ≡ is_spelled types.now (inferred ty.now) }
+pub(crate) fn inferred_has_type_form(types: &UniqueArena<Type_>, ty: &InferredType) -> bool
+    ensures { result ≡ has_type_form types.now (inferred ty.now) }
 {
-    top_is_spelled(types, inferred_top(types, ty))
+    top_has_type_form(types, inferred_top(types, ty))
 }
 
 /// What `over` is, if it is something that has a level.
@@ -417,7 +417,7 @@ fn formed(types: &UniqueArena<Type_>, top: Option<Top>) -> Option<Top>
     ensures over { IfSome result (λ top. is_some (over_key types.now top.over) ≡ true) }
 {
     match top {
-        Some(top) if over_is_spelled(types, top.over) => Some(top),
+        Some(top) if over_has_type_form(types, top.over) => Some(top),
         _ => None,
     }
 }

@@ -18,7 +18,7 @@ ghost use Rattle.module_meaning.specs.acceptance.AgreeingOperators.{typed_key, w
 ghost use Rattle.module_meaning.specs.acceptance.AgreeingOperators.{word_key};
 ghost use Rattle.module_meaning.specs.Conversions.{conversion_target, keeps_bits};
 
-use crate::alike::{are_alike, inferred_identity, inferred_is_spelled};
+use crate::alike::{are_alike, inferred_has_type_form, inferred_identity};
 use crate::parts::{InferredType, Known, component_count, known_inner};
 use crate::type_numbers::{Level, is_same_level, kind_number, level_of, truth_number};
 use module_meaning::called_str;
@@ -61,7 +61,7 @@ fn constructor_key(types: &UniqueArena<Type_>, ty: Handle<Type_>) -> Key
     ensures { key types.now result ≡ constructor_key types.now ty }
 {
     let constructed = InferredType::Handle(ty);
-    if inferred_is_spelled(types, &constructed) {
+    if inferred_has_type_form(types, &constructed) {
         typed_key(false, constructed)
     } else {
         one_key(0, ty.index())
@@ -133,7 +133,7 @@ fn target_key(
     ensures { (it : ir_inner.TypeInner) → inferred target.now ≡ Value it →
         key types.now result ≡ target_key types.now kind convert bits it }
 {
-    if inferred_is_spelled(types, target) {
+    if inferred_has_type_form(types, target) {
         typed_key(bits, *target)
     } else {
         unsupported_key(kind, convert)
@@ -161,13 +161,13 @@ fn conversion_key(
     }
 }
 
-/// The letter at a place of a swizzle, of which `size` are written.
-fn letter_number(size: VectorSize, pattern: &[SwizzleComponent; 4], place: usize) -> usize
-    requires { place < 4 }
-    ensures { result ≡ letter_number size pattern.now place }
+/// The letter of this number in a swizzle, of which `size` are written.
+fn letter_number(size: VectorSize, pattern: &[SwizzleComponent; 4], number: usize) -> usize
+    requires { number < 4 }
+    ensures { result ≡ letter_number size pattern.now number }
 {
-    if place < component_count(size) {
-        pattern[place] as usize
+    if number < component_count(size) {
+        pattern[number] as usize
     } else {
         0
     }

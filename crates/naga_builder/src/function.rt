@@ -158,7 +158,7 @@ impl FunctionBuilder {
     }
 
     /// Gives the function a result of this type, bound so.
-    pub fn returns_bound(&mut self, ty: Handle<Type_>, binding: Binding)
+    pub fn returns_with_binding(&mut self, ty: Handle<Type_>, binding: Binding)
         ensures { self.new ≡ record self.old {
           function = record self.old.function {
             result = Some (record { ty = ty; binding = Some binding });

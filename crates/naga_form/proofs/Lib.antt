@@ -2,10 +2,10 @@ pub mod Facts
 pub mod Splits
 pub mod Fits
 pub mod FreeModules
-pub mod ListPlaces
+pub mod ListIndices
 pub mod Meanings
 pub mod ModuleFits
-pub mod ModulePlaces
+pub mod ModuleIndices
 pub mod Programs
 pub mod Runs
 pub mod names

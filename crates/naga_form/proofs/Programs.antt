@@ -8,7 +8,7 @@ use Rattle.module_meaning.specs.acceptance.OperandDemands.{are_operands_fit}
 use Rattle.module_meaning.specs.ExpressionForms.{constant_has_form}
 use Rattle.module_meaning.specs.acceptance.Ranges.{function_in_range, local_in_range, is_below}
 use Rattle.module_meaning.proofs.Lists.{list_all_at}
-use Rattle.module_meaning.proofs.ExpressionForms.{spelled_of_spellable}
+use Rattle.module_meaning.proofs.ExpressionForms.{type_form_of_spellable}
 use Rattle.naga_form.proofs.statements.AcceptedFunctions.{bindings_are_in_range, entry_info_among}
 use Rattle.naga_form.proofs.statements.AcceptedFunctions.{locals_are_in_range, of_number}
 use Rattle.naga_form.proofs.statements.AcceptedFunctions.{ranges_are, soundness_is}
@@ -125,7 +125,7 @@ module _ (m : Module) (info : ModuleInfo) (g : ℕ) (f : ir_function.Function)
       let parts = and_parts (nat_lt v.ty (length m.types)) (is_below (length f.expressions) v.init) both.0 in (
         record {
           name = item_is_identifier m (local_item m g l here.0) (local_there m g f l here.0 found here.1);
-          type = is_type_at m types v.ty (spelled_of_spellable m (Handle v.ty)
+          type = is_type_at m types v.ty (type_form_of_spellable m (Handle v.ty)
               (spelled (Handle v.ty) (OfLocal l v (ap (slice_get f.local_variables) (sym (zero-add l)) ∙ sym (at 0)))));
           value = first_is v.init
               (closed.firsts l v (ap (slice_get f.local_variables) (sym (zero-add l)) ∙ sym (at 0)));
@@ -167,7 +167,7 @@ module _ (m : Module) (info : ModuleInfo) (g : ℕ) (f : ir_function.Function)
           name =
               item_is_identifier m (argument_item m g n a) (argument_there m g f n a found here);
           type = is_type_at m types a.ty
-              (spelled_of_spellable m (Handle a.ty) (spelled (Handle a.ty) (OfArgument n a here)));
+              (type_form_of_spellable m (Handle a.ty) (spelled (Handle a.ty) (OfArgument n a here)));
         },
         parameters_are (n + 1) args next later,
       )
@@ -183,7 +183,7 @@ module _ (m : Module) (info : ModuleInfo) (g : ℕ) (f : ir_function.Function)
     passing_is r.binding
         (sym (ap (λ o. option_map_or (λ r. option_map_or binding_fits_32_bits r.binding true) o true) at) ∙ bindings.1),
     passing_io r.binding,
-    is_type_at m types r.ty (spelled_of_spellable m (Handle r.ty) (spelled (Handle r.ty) (OfResult r at))),
+    is_type_at m types r.ty (type_form_of_spellable m (Handle r.ty) (spelled (Handle r.ty) (OfResult r at))),
   )
 
   -- functions that it calls and results have identifiers

@@ -202,12 +202,12 @@ impl Variants for Binding {
     ) -> Result<Binding, ReadError> {
         match variant {
             BindingName::BuiltIn => Ok(Binding::BuiltIn(FromJson::from_json(alloc, content)?)),
-            BindingName::Location => bound_location(alloc, content),
+            BindingName::Location => location_binding(alloc, content),
         }
     }
 }
 
-fn bound_location(alloc: Global, content: &Value) -> Result<Binding, ReadError> {
+fn location_binding(alloc: Global, content: &Value) -> Result<Binding, ReadError> {
     expect_members(
         alloc,
         content,

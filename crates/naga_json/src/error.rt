@@ -60,7 +60,7 @@ pub enum Problem {
     /// It is an object with a member of this name, which is none of those that are read or let be
     /// there. The name is told as an unknown one is.
     UnknownMember(String),
-    /// It is not null, and says what modules here have no place for, as a workgroup size that an
+    /// It is not null, and says what modules here have no room for, as a workgroup size that an
     /// override sets.
     Unsupported,
     /// It is an object with members, of which the info that is wanted has none.
@@ -94,7 +94,7 @@ impl fmt::Display for Problem {
 pub enum ReadError {
     /// Memory was refused.
     OutOfMemory,
-    /// The text is no JSON from about this place on. It is said too where lists and objects nest
+    /// The text is no JSON from about this position on. It is said too where lists and objects nest
     /// more than 127 deep there, or where a number is beyond those of eight bytes: the parser
     /// refuses both, and tells them no otherwise.
     NoJson {
@@ -109,7 +109,7 @@ pub enum ReadError {
         /// Where: the names of members and variants and the numbers of items, counted from zero,
         /// that lead there from the outermost value. At that value itself it is empty. A member's
         /// name is told as an unknown one is.
-        place: String,
+        position: String,
         /// What is wrong there.
         problem: Problem,
     },
@@ -122,11 +122,11 @@ impl fmt::Display for ReadError {
             ReadError::NoJson { line, column } => {
                 write!(f, "no JSON at line {line}, column {column}")
             }
-            ReadError::Misfit { place, problem } => {
-                if place.is_empty() {
+            ReadError::Misfit { position, problem } => {
+                if position.is_empty() {
                     write!(f, "{problem}")
                 } else {
-                    write!(f, "{place}: {problem}")
+                    write!(f, "{position}: {problem}")
                 }
             }
         }
@@ -139,7 +139,7 @@ impl ReadError {
     /// The problem, at the value itself.
     pub(crate) fn at(alloc: Global, problem: Problem) -> ReadError {
         ReadError::Misfit {
-            place: String::new(alloc),
+            position: String::new(alloc),
             problem,
         }
     }
@@ -147,8 +147,12 @@ impl ReadError {
     /// The same, seen from the value around it.
     pub(crate) fn within(self, alloc: Global, step: &str) -> ReadError {
         match self {
-            ReadError::Misfit { place, problem } => match joined(alloc, step, place.as_str()) {
-                Ok(place) => ReadError::Misfit { place, problem },
+            ReadError::Misfit { position, problem } => match joined(
+                alloc,
+                step,
+                position.as_str(),
+            ) {
+                Ok(position) => ReadError::Misfit { position, problem },
                 Err(_) => ReadError::OutOfMemory,
             },
             error => error,
@@ -179,13 +183,13 @@ fn write_escaped(told: &mut String, character: char) -> Result<(), AllocError> {
     Ok(())
 }
 
-/// The place after a step.
-fn joined(alloc: Global, step: &str, place: &str) -> Result<String, AllocError> {
+/// The position after a step.
+fn joined(alloc: Global, step: &str, position: &str) -> Result<String, AllocError> {
     let step = told_name(alloc, step)?;
-    if place.is_empty() || place.starts_with('[') {
-        format!(in alloc; "{step}{place}")
+    if position.is_empty() || position.starts_with('[') {
+        format!(in alloc; "{step}{position}")
     } else {
-        format!(in alloc; "{step}.{place}")
+        format!(in alloc; "{step}.{position}")
     }
 }
 

@@ -111,16 +111,16 @@ fn numeral_fits(text: &str) -> bool
     }
 }
 
-/// The error of a text that is no JSON from this place on. Where a number that does not fit stands
-/// before it, that is the place.
+/// The error of a text that is no JSON from this position on. Where a number that does not fit stands
+/// before it, that is the position.
 #[cold]
-fn no_json(alloc: Global, text: &str, place: usize) -> ReadError
+fn no_json(alloc: Global, text: &str, position: usize) -> ReadError
     ensures { IsNoJson result }
 {
-    no_json_at(text.as_bytes(), place.min(first_unfit(alloc, text)))
+    no_json_at(text.as_bytes(), position.min(first_unfit(alloc, text)))
 }
 
-/// The place after the first number that does not fit, or the end of the text.
+/// The position after the first number that does not fit, or the end of the text.
 fn first_unfit(alloc: Global, text: &str) -> usize {
     let mut scratch = Scratch::new(alloc);
     let Ok(mut reader) = Reader::new(text, &mut scratch) else {
@@ -137,13 +137,13 @@ fn first_unfit(alloc: Global, text: &str) -> usize {
     text.len()
 }
 
-/// The error of bytes that are no JSON from this place on, by its line and column.
-fn no_json_at(bytes: &[u8], place: usize) -> ReadError
+/// The error of bytes that are no JSON from this position on, by its line and column.
+fn no_json_at(bytes: &[u8], position: usize) -> ReadError
     ensures { IsNoJson result }
 {
     let mut line = 1usize;
     let mut column = 0usize;
-    for byte in bytes.iter().take(place) {
+    for byte in bytes.iter().take(position) {
         if *byte == b'\n' {
             line = line.saturating_add(1);
             column = 0;
@@ -151,7 +151,7 @@ fn no_json_at(bytes: &[u8], place: usize) -> ReadError
             column = column.saturating_add(1);
         }
     }
-    if place < bytes.len() {
+    if position < bytes.len() {
         column = column.saturating_add(1);
     }
     ReadError::NoJson { line, column }

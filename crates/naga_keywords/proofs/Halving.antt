@@ -12,7 +12,7 @@ use Rattle.std.specs.declared.cmp.Ordering.{Ordering}
 use Rattle.std.proofs.lemmas.Map.Lookups.{exact_bytes}
 use Rattle.std.specs.declared.cmp.Ordering.TheVariants.{Less, Equal, Greater}
 use Rattle.std.proofs.lemmas.Map.Keys.{Less-from_sorted, sorted_from_all_adjacent}
-use Rattle.naga_keywords.specs.SortedWords.{StandsAt, IsPlaceOf, IsWithinDigits, keys_of}
+use Rattle.naga_keywords.specs.SortedWords.{StandsAt, IsIndexOf, IsWithinDigits, keys_of}
 use Rattle.naga_keywords.specs.SortedWords.{comparison_key}
 use Rattle.naga_keywords.specs.SortedWords.{word_cmp}
 use Rattle.naga_keywords.specs.declared.sorted.Case.{Case}
@@ -36,7 +36,7 @@ module _ (ks : List (List ℕ)) (w : List ℕ) where
     following = λ i d from below. absurd (omega (arith, from, below, is));
   }
 
-  pub nowhere : (low high : ℕ) → high ≤ low → IsBetween ks w low high → IsPlaceOf ks w low
+  pub nowhere : (low high : ℕ) → high ≤ low → IsBetween ks w low high → IsIndexOf ks w low
   nowhere low high met b = record {
     within = omega (arith, b.ascend, b.within, met);
     before = b.before;
@@ -89,10 +89,10 @@ module _ (ks : List (List ℕ)) (w : List ℕ) where
     }
 
 -- where the last comes before the wanted one, all do
-pub place_after : (ks : List (List ℕ)) (w : List ℕ) → IsStrictlySortedBy word_cmp ks → (n : ℕ) →
+pub index_after : (ks : List (List ℕ)) (w : List ℕ) → IsStrictlySortedBy word_cmp ks → (n : ℕ) →
     n ≡ length ks → 0 < n → ((d : List ℕ) → word_cmp (get_or ks (n - 1) d) w ≡ Less) →
-    IsPlaceOf ks w n
-place_after ks w up n is some less =
+    IsIndexOf ks w n
+index_after ks w up n is some less =
     let last : n - 1 < length ks = omega (arith, is, some) in
     let all = goes_after ks w up (n - 1) last 0 n (omega (arith, some)) (everywhere ks w n is) less in
     let following_all : n - 1 + 1 ≡ n = omega (arith, some) in

@@ -19,7 +19,7 @@ use Rattle.std.proofs.lemmas.List.Sorted.{IsPermutation-insert}
 use Rattle.naga_keywords.proofs.SetLemmas.{or_true_right, texts_of-again, texts_of-permuted}
 use Rattle.std.proofs.lemmas.Map.Lookups.{exact_bytes}
 use Rattle.std.proofs.lemmas.Map.Keys.{sorted_head, sorted_tail}
-use Rattle.naga_keywords.specs.SortedWords.{IsFoundAt, IsPlaceOf, SetView, StandsAt, keys_of}
+use Rattle.naga_keywords.specs.SortedWords.{IsFoundAt, IsIndexOf, SetView, StandsAt, keys_of}
 use Rattle.naga_keywords.specs.SortedWords.{comparison_key}
 use Rattle.naga_keywords.specs.SortedWords.{view_of_words, word_cmp}
 use Rattle.naga_keywords.specs.declared.sorted.Case.{Case}
@@ -55,18 +55,18 @@ module _ (w : List ℕ) where
         ∙ list_any_at (eq_by_cmp word_cmp w) ks i [] at.within
         (ap (eq_by_cmp word_cmp w) (at.is []) ∙ is_itself)
 
-    other_at : (i : ℕ) → IsPlaceOf ks w i → (j : ℕ) (d : List ℕ) → j < length ks → (b : Bool) →
+    other_at : (i : ℕ) → IsIndexOf ks w i → (j : ℕ) (d : List ℕ) → j < length ks → (b : Bool) →
         nat_lt j i ≡ b → eq_by_cmp word_cmp w (get_or ks j d) ≡ false
-    other_at i place j d end true less =
-        differs (get_or ks j d) Less refl (place.before j d (ltb-true j i less))
-    other_at i place j d end false from =
-        differs (get_or ks j d) Greater refl (place.following j d (ltb-false j i from) end)
+    other_at i found j d end true less =
+        differs (get_or ks j d) Less refl (found.before j d (ltb-true j i less))
+    other_at i found j d end false from =
+        differs (get_or ks j d) Greater refl (found.following j d (ltb-false j i from) end)
 
-    pub not_contained : (i : ℕ) → IsPlaceOf ks w i → set.contains (set_of ks) w ≡ false
-    not_contained i place =
+    pub not_contained : (i : ℕ) → IsIndexOf ks w i → set.contains (set_of ks) w ≡ false
+    not_contained i found =
         set.contains-from_list nat_list_cmp_total ks w
         ∙ none_passes (eq_by_cmp word_cmp w) ks
-        (λ j d end. other_at i place j d end (nat_lt j i) refl)
+        (λ j d end. other_at i found j d end (nat_lt j i) refl)
 
 -- ---- how many
 -- a word that comes before all is none of them
@@ -102,24 +102,24 @@ before_all w k [] less all = tt
 before_all w k (y ∷ ks) less all =
     (nat_list_cmp_total.trans w k y less all.0, before_all w k ks less all.1)
 
--- words in ascending order stay so, where one is put at its place
+-- words in ascending order stay so, where one is put at its index
 pub sorted_insert : (ks : List (List ℕ)) (w : List ℕ) (i : ℕ) → IsStrictlySortedBy word_cmp ks →
-    IsPlaceOf ks w i → IsStrictlySortedBy word_cmp (insert ks i w)
+    IsIndexOf ks w i → IsStrictlySortedBy word_cmp (insert ks i w)
 unfolding IsStrictlySortedBy
-sorted_insert [] w zero up place = (tt, tt)
-sorted_insert [] w (suc i) up place = (tt, tt)
-sorted_insert (k ∷ ks) w zero up place =
+sorted_insert [] w zero up found = (tt, tt)
+sorted_insert [] w (suc i) up found = (tt, tt)
+sorted_insert (k ∷ ks) w zero up found =
     let less : word_cmp w k ≡ Less =
     nat_list_cmp_total.antisymm w k
-    ∙ ap ordering_reverse (place.following 0 [] (omega arith) (omega arith)) in
+    ∙ ap ordering_reverse (found.following 0 [] (omega arith) (omega arith)) in
     ((less, before_all w k ks less up.0), up)
-sorted_insert (k ∷ ks) w (suc i) up place =
-    let here : IsPlaceOf ks w i = record {
-      within = omega (arith, place.within);
-      before = λ j d less. place.before (suc j) d (omega (arith, less));
-      following = λ j d from end. place.following (suc j) d (omega (arith, from)) (omega (arith, end));
+sorted_insert (k ∷ ks) w (suc i) up found =
+    let here : IsIndexOf ks w i = record {
+      within = omega (arith, found.within);
+      before = λ j d less. found.before (suc j) d (omega (arith, less));
+      following = λ j d from end. found.following (suc j) d (omega (arith, from)) (omega (arith, end));
     } in
-    (before_more k w ks i up.0 (place.before 0 [] (omega arith)), sorted_insert ks w i up.1 here)
+    (before_more k w ks i up.0 (found.before 0 [] (omega arith)), sorted_insert ks w i up.1 here)
 
 -- what a member put among members is compared by is put among what these are compared by
 pub keys_insert : (case : Case) (members : List (Bor (List ℕ))) (i : ℕ) (x : Bor (List ℕ)) →
@@ -136,16 +136,16 @@ unfolding IsStrictlySortedBy
 none_sorted case [] is = tt
 none_sorted case (m ∷ members) is = absurd (cc)
 
--- what members are after one was put at its place, or after there was no memory for it
+-- what members are after one was put at its index, or after there was no memory for it
 pub stays_sorted : (case : Case) (old new : List (Bor (List ℕ))) (x : Bor (List ℕ)) (i : ℕ)
     (done : Bool) → IsStrictlySortedBy word_cmp (keys_of case old) →
-    IsPlaceOf (keys_of case old) (comparison_key case x.now) i →
+    IsIndexOf (keys_of case old) (comparison_key case x.now) i →
     new ≡ (if done then insert old i x else old) → IsStrictlySortedBy word_cmp (keys_of case new)
-stays_sorted case old new x i true up place is =
+stays_sorted case old new x i true up found is =
     subst (IsStrictlySortedBy word_cmp)
     (sym (ap (keys_of case) is ∙ keys_insert case old i x))
-    (sorted_insert (keys_of case old) (comparison_key case x.now) i up place)
-stays_sorted case old new x i false up place is =
+    (sorted_insert (keys_of case old) (comparison_key case x.now) i up found)
+stays_sorted case old new x i false up found is =
     subst (λ members. IsStrictlySortedBy word_cmp (keys_of case members)) (sym is) up
 
 -- a set with one member more

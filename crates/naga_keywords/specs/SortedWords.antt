@@ -28,7 +28,7 @@ abbrev pub keys_of : Case → List (Bor (List ℕ)) → List (List ℕ)
 keys_of case members = map (λ member. comparison_key case member.now) members
 
 -- all keys before the index come before the wanted one, and those from there on after it
-pub record IsPlaceOf (ks : List (List ℕ)) (w : List ℕ) (index : ℕ) : Type 0 where
+pub record IsIndexOf (ks : List (List ℕ)) (w : List ℕ) (index : ℕ) : Type 0 where
   pub within : index ≤ length ks
   pub before : (i : ℕ) (d : List ℕ) → i < index → word_cmp (get_or ks i d) w ≡ Less
   pub following : (i : ℕ) (d : List ℕ) → index ≤ i → i < length ks →
@@ -41,7 +41,7 @@ pub record StandsAt (ks : List (List ℕ)) (w : List ℕ) (index : ℕ) : Type 0
 
 -- where the wanted one stands, or where it would be put
 abbrev pub IsFoundAt : List (List ℕ) → List ℕ → Result ℕ ℕ → Type 0
-IsFoundAt ks w place = MatchResult place (StandsAt ks w) (IsPlaceOf ks w)
+IsFoundAt ks w found = MatchResult found (StandsAt ks w) (IsIndexOf ks w)
 
 -- No more comparisons than the number of members has binary digits, which are the least k for which
 -- it is below 2 ^ k.
@@ -49,8 +49,8 @@ abbrev pub IsWithinDigits : (comparisons members : ℕ) → Type 0
 IsWithinDigits comparisons members = (k : ℕ) → members < 2 ^ k → comparisons ≤ k
 
 -- where the wanted one is to be put, if it isn't there
-abbrev pub IsPlaceFor : List (List ℕ) → List ℕ → Option ℕ → Type 0
-IsPlaceFor ks w place = MatchOption place ((index : ℕ) × StandsAt ks w index) (IsPlaceOf ks w)
+abbrev pub IsIndexFor : List (List ℕ) → List ℕ → Option ℕ → Type 0
+IsIndexFor ks w found = MatchOption found ((index : ℕ) × StandsAt ks w index) (IsIndexOf ks w)
 
 -- what contracts see of a set: how its words are read, and these as they are read
 pub record SetView : Type 0 where

@@ -6,7 +6,7 @@ ghost use Rattle.std.specs.Prelude.{if◌then◌else◌, is_ok, length, map};
 ghost use Rattle.std.specs.FinSet as set;
 ghost use Rattle.std.specs.Iterator.{IsFinite};
 ghost use Rattle.std.specs.List.Sorted.{IsStrictlySortedBy};
-ghost use Rattle.naga_keywords.specs.SortedWords.{IsFoundAt, IsPlaceFor, IsWithinDigits, keys_of};
+ghost use Rattle.naga_keywords.specs.SortedWords.{IsFoundAt, IsIndexFor, IsWithinDigits, keys_of};
 ghost use Rattle.naga_keywords.specs.SortedWords.{SetView, comparison_key, view_code};
 ghost use Rattle.naga_keywords.specs.SortedWords.{view_of_words, word_cmp};
 ghost use Rattle.naga_keywords.specs.Words.{AddsAll, AddsSome, in_lower_case, same_words};
@@ -117,9 +117,9 @@ fn ascend(case: Case, words: &[&'static str]) -> bool
 
 /// Where the word is to be put among words in ascending order, if it isn't there. One that comes
 /// after all of them takes one comparison.
-fn place(case: Case, members: &[&'static str], word: &str) -> Option<usize>
+fn insertion_index(case: Case, members: &[&'static str], word: &str) -> Option<usize>
     requires sorted { IsStrictlySortedBy word_cmp (keys_of case members.now) }
-    ensures { IsPlaceFor (keys_of case members.now) (comparison_key case word.now) result }
+    ensures { IsIndexFor (keys_of case members.now) (comparison_key case word.now) result }
 {
     let Some(last) = members.last() else {
         return Some(0);
@@ -215,7 +215,7 @@ impl SortedWords {
             ≡ set.insert self.old.words (comparison_key self.old.case word.now)) }
         ensures err { OnErr result (self.new.words ≡ self.old.words) }
     {
-        if let Some(index) = place(self.case, self.members.as_slice(), word) {
+        if let Some(index) = insertion_index(self.case, self.members.as_slice(), word) {
             put_among(self.alloc, &mut self.members, index, word)?;
         }
         Ok(())

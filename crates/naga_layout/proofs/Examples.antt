@@ -79,8 +79,8 @@ module _ (v : Vec StructMember Global) where
   abbrev member : (ty offset : ℕ) → StructMember
   member ty offset = record { name = None; ty = ty; binding = None; offset = offset }
 
-  abbrev bound : (ty offset : ℕ) → StructMember
-  bound ty offset =
+  abbrev with_location : (ty offset : ℕ) → StructMember
+  with_location ty offset =
       record { name = None; ty = ty; binding = Some (BuiltIn VertexIndex); offset = offset }
 
   abbrev one : StructMember → Vec StructMember Global
@@ -115,7 +115,7 @@ module _ (v : Vec StructMember Global) where
       inner.Array 1 size.Dynamic 4 ∷
       inner.Struct (two (member 1 0) (member 12 16)) 20 ∷
       inner.Array 1 (size.Pending 0) 4 ∷
-      inner.Struct (one (bound 1 0)) 4 ∷
+      inner.Struct (one (with_location 1 0)) 4 ∷
       inner.Struct (two (member 12 0) (member 1 16)) 20 ∷
       array 1 1073741823 4 ∷
       array 8 1 32 ∷ [])

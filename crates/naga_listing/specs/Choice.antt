@@ -45,7 +45,7 @@ abbrev pub is_near : (marked i : ℕ) → Bool
 is_near marked i = nat_le (i - marked) radius && nat_le (marked - i) radius
 
 -- what is kept of the last lines
-pub record Kept : Type 0 where
+pub record Shown : Type 0 where
   -- the lines that are shown, with gaps
   pub lines : List Line
   -- the level of the first line that encloses the marked one, and 0 before that is met: what is at
@@ -63,13 +63,13 @@ after_gap lines = if begins_with_gap lines then lines else line 0 kind.Gap ∷ l
 
 -- Is a line shown that is not marked? A title is, of which a line is shown, and any other line that
 -- is the first, near the marked one, around it, or named.
-abbrev pub is_shown : (marked : ℕ) (spots : List Spot) (i : ℕ) → Line → Kept → Bool
+abbrev pub is_shown : (marked : ℕ) (spots : List Spot) (i : ℕ) → Line → Shown → Bool
 is_shown marked spots i l k =
     if is_title l.kind then k.opened
     else (((is_near marked i || nat_lt l.level k.level) || (i == 0)) || is_named spots l.kind)
 
 -- a line that is shown, or left out, before those that were kept
-abbrev pub with_line : (shown : Bool) → Line → Kept → Kept
+abbrev pub with_line : (shown : Bool) → Line → Shown → Shown
 with_line shown l k = record {
   lines = if shown then l ∷ k.lines else after_gap k.lines;
   level = min k.level l.level;
@@ -77,22 +77,22 @@ with_line shown l k = record {
 }
 
 -- the marked line, with the line that says what is wrong
-abbrev pub with_marked : Line → Kept → Kept
+abbrev pub with_marked : Line → Shown → Shown
 with_marked l k = record {
   lines = l ∷ line l.level kind.Mark ∷ k.lines;
   level = l.level;
   opened = true;
 }
 
-abbrev pub with_any : (marked : ℕ) (spots : List Spot) (i : ℕ) → Line → Kept → Kept
+abbrev pub with_any : (marked : ℕ) (spots : List Spot) (i : ℕ) → Line → Shown → Shown
 with_any marked spots i l k =
     if i == marked then with_marked l k else with_line (is_shown marked spots i l k) l k
 
 -- what is kept of the lines from i on
-abbrev pub kept_from : (marked : ℕ) (spots : List Spot) (i : ℕ) → List Line → Kept
-kept_from marked spots i [] = record { lines = []; level = 0; opened = false }
-kept_from marked spots i (l ∷ ls) =
-    with_any marked spots i l (kept_from marked spots (suc i) ls)
+abbrev pub shown_from : (marked : ℕ) (spots : List Spot) (i : ℕ) → List Line → Shown
+shown_from marked spots i [] = record { lines = []; level = 0; opened = false }
+shown_from marked spots i (l ∷ ls) =
+    with_any marked spots i l (shown_from marked spots (suc i) ls)
 
 -- the number of the line that is about this, or that of the first line
 abbrev pub marked_line : Spot → List Line → ℕ
@@ -100,7 +100,7 @@ marked_line s lines = unwrap_or (position (λ l. is_about s l.kind) lines) 0
 
 -- the lines that are shown of all lines
 abbrev pub shown_lines : Spot → (spots : List Spot) → List Line → List Line
-shown_lines s spots lines = (kept_from (marked_line s lines) spots 0 lines).lines
+shown_lines s spots lines = (shown_from (marked_line s lines) spots 0 lines).lines
 
 -- The lines of a position: those near its own, which is marked, those that enclose it, and those
 -- that it names. In the position of others stands a gap.

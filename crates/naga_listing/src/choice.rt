@@ -3,7 +3,7 @@
 ghost use Rattle.std.specs.Prelude.{◌≡◌, ◌||◌, false, if◌then◌else◌, IfOk, OnOk};
 ghost use Rattle.naga_listing.specs.Choice.{after_gap, begins_with_gap, is_about, is_gap};
 ghost use Rattle.naga_listing.specs.Choice.{is_named, is_near, lines_with};
-ghost use Rattle.naga_listing.specs.Choice.{is_shown, is_title, kept_from, marked_line};
+ghost use Rattle.naga_listing.specs.Choice.{is_shown, is_title, shown_from, marked_line};
 ghost use Rattle.naga_listing.specs.Choice.{position_lines, shown_lines, with_any, with_line};
 ghost use Rattle.naga_listing.specs.Choice.{with_marked};
 
@@ -65,7 +65,7 @@ fn shown_lines(
 {
     let marked = marked_line(spot, lines);
     let kept = kept_lines(alloc, marked, spots, lines)?;
-    let Kept { lines, .. } = kept;
+    let Shown { lines, .. } = kept;
     Ok(lines)
 }
 
@@ -85,10 +85,10 @@ fn kept_lines(
     marked: usize,
     spots: &[Spot],
     lines: &[Line],
-) -> Result<Kept, AllocError>
-    ensures { IfOk result (λ kept. kept ≡ kept_from marked spots.now 0 lines.now) }
+) -> Result<Shown, AllocError>
+    ensures { IfOk result (λ kept. kept ≡ shown_from marked spots.now 0 lines.now) }
 {
-    let mut kept = Kept::new(alloc);
+    let mut kept = Shown::new(alloc);
     for index in (0..lines.len()).rev() {
         kept.add(marked, spots, index, &lines[index])?;
     }
@@ -150,7 +150,7 @@ fn is_near(marked: usize, index: usize) -> bool
 
 /// What is held of the last lines.
 #[derive(Drop)]
-struct Kept {
+struct Shown {
     /// The lines that are shown, with gaps.
     lines: Vec<Line>,
     /// The level of the first line that encloses the marked one, and 0 before that is met.
@@ -159,21 +159,21 @@ struct Kept {
     opened: bool,
 }
 
-impl Model for Kept {
-    ghost use Rattle.naga_listing.specs.Choice.{Kept as KeptLines};
+impl Model for Shown {
+    ghost use Rattle.naga_listing.specs.Choice.{Shown as ShownLines};
 
-    ghost Value = { KeptLines };
+    ghost Value = { ShownLines };
 
     ghost view = { λ k. record { lines = k.lines.items; level = k.level; opened = k.opened } };
 }
 
-impl Kept {
+impl Shown {
     ghost use Rattle.std.specs.Prelude.{[], ◌∷◌};
 
     fn new(alloc: Global) -> Self
         ensures { result ≡ record { lines = []; level = 0; opened = false } }
     {
-        Kept {
+        Shown {
             lines: Vec::new(alloc),
             level: 0,
             opened: false,

@@ -24,7 +24,7 @@ pub(crate) fn all_lines(
     ensures { IfOk result (λ lines. lines.items ≡ all_lines «module».now listed.now) }
 {
     let mut lines = Vec::new(alloc);
-    push_row(&mut lines, 0, LineKind::Item(Spot::Whole))?;
+    push_line(&mut lines, 0, LineKind::Item(Spot::Whole))?;
     add_parts(&mut lines, module, listed)?;
     Ok(lines)
 }
@@ -78,7 +78,7 @@ fn add_section(lines: &mut Vec<Line>, title: Title, count: usize) -> Result<(), 
     if count == 0 {
         return Ok(());
     }
-    push_row(lines, 1, LineKind::Title(title))?;
+    push_line(lines, 1, LineKind::Title(title))?;
     add_items(lines, title, count)
 }
 
@@ -86,7 +86,7 @@ fn add_items(lines: &mut Vec<Line>, title: Title, count: usize) -> Result<(), Al
     ensures { IfOk result (λ _. lines.new.items ≡ lines.old.items ++ items_below title count) }
 {
     for index in 0..count {
-        push_row(lines, 2, LineKind::Item(spot_in(title, index)))?;
+        push_line(lines, 2, LineKind::Item(spot_in(title, index)))?;
     }
     Ok(())
 }
@@ -114,12 +114,12 @@ fn add_body(lines: &mut Vec<Line>, body: &Block) -> Result<(), AllocError>
     if body.is_empty() {
         return Ok(());
     }
-    push_row(lines, 1, LineKind::Title(Title::Statements))?;
+    push_line(lines, 1, LineKind::Title(Title::Statements))?;
     add_block(lines, body, 2, 0)?;
     Ok(())
 }
 
-fn push_row(lines: &mut Vec<Line>, level: usize, head: LineKind) -> Result<(), AllocError>
+fn push_line(lines: &mut Vec<Line>, level: usize, head: LineKind) -> Result<(), AllocError>
     ensures { IfOk result (λ _. lines.new.items
         ≡ lines.old.items ++ record { level = level; kind = head } ∷ []) }
 {
@@ -141,7 +141,7 @@ fn add_statement(
         ≡ lines.old.items ++ statement_lines level number (tree_of statement.now)) }
     ensures next { IfOk result (λ next. next ≡ after_statement number (tree_of statement.now)) }
 {
-    push_row(lines, level, LineKind::Item(Spot::Statement(number)))?;
+    push_line(lines, level, LineKind::Item(Spot::Statement(number)))?;
     add_inside(lines, statement, level, number.wrapping_add(1))
 }
 
@@ -229,7 +229,7 @@ fn add_headed(
         ≡ lines.old.items ++ headed_lines head level first block.now) }
     ensures next { IfOk result (λ next. next ≡ after_block first block.now) }
 {
-    push_row(lines, level.wrapping_add(1), head)?;
+    push_line(lines, level.wrapping_add(1), head)?;
     add_block(lines, block, level.wrapping_add(2), first)
 }
 

@@ -21,11 +21,11 @@ split_at (x ∷ labels) (suc i) label e = let rest = split_at labels i label e i
 
 -- a label that has this base, after so many others that have it
 record Counted (names : Names) (labels : List (List ℕ)) (base : List ℕ) (number : ℕ) : Type 0 where
-  place : ℕ
+  index : ℕ
   label : List ℕ
-  there : slice_get labels place ≡ Some label
+  there : slice_get labels index ≡ Some label
   own : label_base names label ≡ base
-  before : labels_with_base names (take place labels) base ≡ number
+  before : labels_with_base names (take index labels) base ≡ number
 
 module _ (names : Names) (base : List ℕ) where
   counted_first : (label : List ℕ) (labels : List (List ℕ)) → labels_with_base names (label ∷ labels) base
@@ -35,7 +35,7 @@ module _ (names : Names) (base : List ℕ) where
   here : (label : List ℕ) (labels : List (List ℕ)) → bytes_eq (label_base names label) base ≡ true →
       Counted names (label ∷ labels) base 0
   here label labels is = record {
-    place = 0;
+    index = 0;
     label = label;
     there = refl;
     own = (bytes_decides (label_base names label) base).0 is;
@@ -46,13 +46,13 @@ module _ (names : Names) (base : List ℕ) where
       bytes_eq (label_base names x) base ≡ b → cond b 1 0 + k ≡ number →
       Counted names labels base k → Counted names (x ∷ labels) base number
   following x labels k number b is total inner = record {
-    place = suc inner.place;
+    index = suc inner.index;
     label = inner.label;
     there = inner.there;
     own = inner.own;
     before =
-        counted_first x (take inner.place labels)
-        ∙ ap (λ t. cond t 1 0 + labels_with_base names (take inner.place labels) base) is
+        counted_first x (take inner.index labels)
+        ∙ ap (λ t. cond t 1 0 + labels_with_base names (take inner.index labels) base) is
         ∙ ap (λ n. cond b 1 0 + n) inner.before ∙ total;
   }
 
@@ -82,15 +82,15 @@ module _ (names : Names) (labels : List (List ℕ)) (has : HasNamed names labels
   pub assigned_follow : (word : List ℕ) → WasAssigned names labels word → FollowsFromUses names word
   assigned_follow word assigned =
       let base : List ℕ = label_base names assigned.label in
-      let parts = split_at labels assigned.place assigned.label assigned.there in
-      let more : labels_with_base names labels base ≡ labels_with_base names (take assigned.place labels) base
+      let parts = split_at labels assigned.index assigned.label assigned.there in
+      let more : labels_with_base names labels base ≡ labels_with_base names (take assigned.index labels) base
       + (1 + labels_with_base names parts.0 base) =
       ap (λ all. labels_with_base names all base) parts.1
-      ∙ counted_more names (take assigned.place labels) assigned.label parts.0 base refl in
+      ∙ counted_more names (take assigned.index labels) assigned.label parts.0 base refl in
       let used : uses_of names.uses base ≡ labels_with_base names labels base = has.uses_are base in
       record {
         base = base;
-        number = labels_with_base names (take assigned.place labels) base;
+        number = labels_with_base names (take assigned.index labels) base;
         used = omega (arith, more, used);
         is = assigned.is;
       }
@@ -102,11 +102,11 @@ module _ (names : Names) (labels : List (List ℕ)) (has : HasNamed names labels
       let less : follows.number < uses_of names.uses follows.base = follows.used in
       let one = counted names follows.base labels follows.number (omega (arith, used, less)) in
       record {
-        place = one.place;
+        index = one.index;
         label = one.label;
         there = one.there;
         is = follows.is ∙ ap (name_of_base names follows.base) (sym one.before)
-            ∙ ap (λ b. name_of_base names b (labels_with_base names (take one.place labels) b)) (sym one.own);
+            ∙ ap (λ b. name_of_base names b (labels_with_base names (take one.index labels) b)) (sym one.own);
       }
 
   pub next_is_new : (label : List ℕ) → FollowsFromUses names (name_of names label) → ⊥

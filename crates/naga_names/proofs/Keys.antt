@@ -46,7 +46,7 @@ part_code (Plane n) = n + 2
 part_code Params = 1
 
 -- the group of a key (types, entry points, functions, globals, constants, overrides), its owner's
--- place, and what of the owner it is for: the kind, the place among that kind, and the part
+-- index, and what of the owner it is for: the kind, the index among that kind, and the part
 abbrev pub key_code : NameKey → List ℕ
 key_code (Type_ t) = 0 ∷ t ∷ 0 ∷ 0 ∷ 0 ∷ []
 key_code (StructMember t n) = 0 ∷ t ∷ 1 ∷ n ∷ 0 ∷ []

@@ -46,7 +46,7 @@ use Rattle.naga_ir.specs.declared.module.Module.{Module}
 use Rattle.naga_ir.specs.declared.types.Type_.{Type_}
 use Rattle.naga_keywords.specs.declared.keywords.TheConstants.{RESERVED}
 use Rattle.naga_keywords.specs.Plain.{HasPlainEnds}
-use Rattle.naga_names.proofs.NamedItems.{place_left, item_put, order}
+use Rattle.naga_names.proofs.NamedItems.{index_left, item_put, order}
 use Rattle.naga_names.proofs.NameShapes.{name_after_no_keyword, plain_ends, names_differ}
 use Rattle.naga_keywords.proofs.Plains.{words_are}
 
@@ -342,20 +342,20 @@ reserved_plain = plain_ends (map (λ word. word.now) RESERVED.now) (words_are (m
 
 -- the item stands among these, directly after those
 pub record StandsAfter (items : List LabelledItem) (item : LabelledItem) (done : List LabelledItem) : Type 0 where
-  pub place : ℕ
-  pub there : slice_get items place ≡ Some item
+  pub index : ℕ
+  pub there : slice_get items index ≡ Some item
   pub front : List LabelledItem
-  pub before : take place items ≡ front ++ done
+  pub before : take index items ≡ front ++ done
 
 after_left : (xs ys : List LabelledItem) (item : LabelledItem) (done : List LabelledItem) →
     StandsAfter xs item done → StandsAfter (xs ++ ys) item done
 after_left xs ys item done s =
-    let le : s.place ≤ length xs = omega (arith, slice_get_within xs s.place item s.there) in
+    let le : s.index ≤ length xs = omega (arith, slice_get_within xs s.index item s.there) in
     record {
-      place = s.place;
-      there = place_left xs ys s.place item s.there;
+      index = s.index;
+      there = index_left xs ys s.index item s.there;
       front = s.front;
-      before = take-append-le s.place xs ys le ∙ s.before;
+      before = take-append-le s.index xs ys le ∙ s.before;
     }
 
 after_right : (xs ys : List LabelledItem) (item : LabelledItem) (done : List LabelledItem) →
@@ -364,7 +364,7 @@ after_right [] ys item done s = s
 after_right (x ∷ xs) ys item done s =
     let inner = after_right xs ys item done s in
     record {
-      place = suc inner.place;
+      index = suc inner.index;
       there = inner.there;
       front = x ∷ inner.front;
       before = ap (λ items. x ∷ items) inner.before;
@@ -417,7 +417,7 @@ module _ (start : Names) («module» : Module) (t : ℕ) (ty : Type_)
   in_type =
       let same : 0 + n ≡ n = omega arith in
       record {
-        place = suc n;
+        index = suc n;
         there = entry_at (λ n (m : StructMember). (key.StructMember t n, member_label m)) 0 n
             (members_of ty.inner) member there ∙ ap (λ k. Some (key.StructMember t k, member_label member)) same;
         front = (key.Type_ t, type_label «module».entry_points.items t ty) ∷ [];
@@ -451,7 +451,7 @@ module _ (start : Names) («module» : Module) (t : ℕ) (ty : Type_)
         (λ p. (key.StructMember t p.0, member_label p.1))
         ∙ length-enumerate_from 0 (take n (members_of ty.inner)) ∙ long in
         item_put start before now (labelled_items start «module») put (items_apart start «module»)
-        in_module.place item in_module.there
+        in_module.index item in_module.there
         ∙ ap (λ items. Some (item_name start items item)) in_module.before
         ∙ ap Some (member_name start t in_module.front done n (member_label member) done_long)
         ∙ ap (λ labels. Some (name_after (member_names start) labels (member_label member)))

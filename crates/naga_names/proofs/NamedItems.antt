@@ -36,7 +36,7 @@ use Rattle.naga_names.proofs.Reset.{labels_of-around, item_name-outside}
 use Rattle.naga_names.proofs.Keys.{same_key_laws, AreApart, single, items_apart}
 use Rattle.naga_names.proofs.NameShapes.{names_differ}
 
--- ---- the name of the item at a place
+-- ---- the name of the item at an index
 abbrev named_from : Names → List LabelledItem → List LabelledItem → List (NameKey × List ℕ)
 named_from start earlier items = scan (λ earlier item. earlier ++ item ∷ [])
     (λ earlier item. (item.0, item_name start earlier item)) earlier items
@@ -98,7 +98,7 @@ module _ (start : Names) (items : List LabelledItem) where
       names_differ start front x.1 (labels_of parts.middle) y.1
       (same ∙ ap (λ labels. name_after start labels y.1) before)
 
-  -- two places with one name are one place
+  -- two indices with one name are one
   pub item_names_tell : (i j : ℕ) (x y : LabelledItem) → slice_get items i ≡ Some x →
       slice_get items j ≡ Some y → is_member x.0 ≡ false → is_member y.0 ≡ false →
       name_after start (labels_of (take i items)) x.1 ≡ name_after start (labels_of (take j items))
@@ -124,11 +124,11 @@ keys_distinct start earlier [] apart = tt
 keys_distinct start earlier (x ∷ items) apart =
     (apart_from start x.0 (earlier ++ x ∷ []) items apart.0, keys_distinct start (earlier ++ x ∷ []) items apart.1)
 
-at_place : (P : LabelledItem → Type 0) (xs : List LabelledItem) (i : ℕ) (y : LabelledItem) →
+at_index : (P : LabelledItem → Type 0) (xs : List LabelledItem) (i : ℕ) (y : LabelledItem) →
     AllByRecursion P xs → slice_get xs i ≡ Some y → P y
-at_place P [] i y all e = absurd (none-some y e)
-at_place P (x ∷ xs) zero y all e = subst P (same_Some x y e) all.0
-at_place P (x ∷ xs) (suc i) y all e = at_place P xs i y all.1 e
+at_index P [] i y all e = absurd (none-some y e)
+at_index P (x ∷ xs) zero y all e = subst P (same_Some x y e) all.0
+at_index P (x ∷ xs) (suc i) y all e = at_index P xs i y all.1 e
 
 found : (start : Names) (earlier items : List LabelledItem) (i : ℕ) (item : LabelledItem) →
     AreApart items → slice_get items i ≡ Some item →
@@ -142,7 +142,7 @@ found start earlier (x ∷ items) zero item apart e =
     (lookup (same_key item.0) (named_from start (earlier ++ x ∷ []) items))) yes
     ∙ (λ j. Some (item_name start (sym (append-nil earlier) j) (same j)))
 found start earlier (x ∷ items) (suc i) item apart e =
-    let other = same_key_laws.symm item.0 x.0 ∙ at_place (λ y. same_key x.0 y.0 ≡ false) items i item apart.0 e in
+    let other = same_key_laws.symm item.0 x.0 ∙ at_index (λ y. same_key x.0 y.0 ≡ false) items i item apart.0 e in
     ap (λ b. cond b (Some (item_name start earlier x))
     (lookup (same_key item.0) (named_from start (earlier ++ x ∷ []) items))) other
     ∙ found start (earlier ++ x ∷ []) items i item apart.1 e
@@ -166,7 +166,7 @@ pub name_absent : (start : Names) (items : List LabelledItem) (k : NameKey) →
     AllByRecursion (λ y. same_key k y.0 ≡ false) items → lookup (same_key k) (named_items start items) ≡ None
 name_absent start items k none = absent start k [] items none
 
--- the name of the item at a place is in the map
+-- the name of the item at an index is in the map
 pub item_put : (start : Names) (before now : NameMap) (items : List LabelledItem) →
     PutsInto before (named_items start items) now → AreApart items → (i : ℕ) (item : LabelledItem) →
     slice_get items i ≡ Some item → now item.0 ≡ Some (item_name start (take i items) item)
@@ -187,38 +187,38 @@ put_at start before now items put apart i item e outside = item_put start before
 -- ---- where an item stands
 -- the item is one of these
 pub record IsAmong (items : List LabelledItem) (item : LabelledItem) : Type 0 where
-  pub place : ℕ
-  pub there : slice_get items place ≡ Some item
+  pub index : ℕ
+  pub there : slice_get items index ≡ Some item
 
 -- the item stands among these, and is no member of a struct
 pub record Stands (items : List LabelledItem) (item : LabelledItem) : Type 0 where
-  pub place : ℕ
-  pub there : slice_get items place ≡ Some item
+  pub index : ℕ
+  pub there : slice_get items index ≡ Some item
   pub outside : is_member item.0 ≡ false
 
 among : {items : List LabelledItem} {item : LabelledItem} → Stands items item → IsAmong items item
-among s = record { place = s.place; there = s.there }
+among s = record { index = s.index; there = s.there }
 
 standing : {items others : List LabelledItem} {item : LabelledItem} → Stands others item → IsAmong items item →
     Stands items item
-standing s a = record { place = a.place; there = a.there; outside = s.outside }
+standing s a = record { index = a.index; there = a.there; outside = s.outside }
 
 pub first_among : (item : LabelledItem) (items : List LabelledItem) → IsAmong (item ∷ items) item
-first_among item items = record { place = 0; there = refl }
+first_among item items = record { index = 0; there = refl }
 
-pub place_left : (xs ys : List LabelledItem) (i : ℕ) (item : LabelledItem) → slice_get xs i ≡ Some item →
+pub index_left : (xs ys : List LabelledItem) (i : ℕ) (item : LabelledItem) → slice_get xs i ≡ Some item →
     slice_get (xs ++ ys) i ≡ Some item
-place_left [] ys i item e = absurd (none-some item e)
-place_left (x ∷ xs) ys zero item e = e
-place_left (x ∷ xs) ys (suc i) item e = place_left xs ys i item e
+index_left [] ys i item e = absurd (none-some item e)
+index_left (x ∷ xs) ys zero item e = e
+index_left (x ∷ xs) ys (suc i) item e = index_left xs ys i item e
 
 pub among_left : (xs ys : List LabelledItem) (item : LabelledItem) → IsAmong xs item → IsAmong (xs ++ ys) item
-among_left xs ys item s = record { place = s.place; there = place_left xs ys s.place item s.there }
+among_left xs ys item s = record { index = s.index; there = index_left xs ys s.index item s.there }
 
 pub among_right : (xs ys : List LabelledItem) (item : LabelledItem) → IsAmong ys item → IsAmong (xs ++ ys) item
 among_right [] ys item s = s
 among_right (x ∷ xs) ys item s = let inner = among_right xs ys item s in
-    record { place = suc inner.place; there = inner.there }
+    record { index = suc inner.index; there = inner.there }
 
 pub among_sections : {X : Type 0} (section : ℕ → X → List LabelledItem) (n i : ℕ) (xs : List X)
     (x : X) (item : LabelledItem) → slice_get xs i ≡ Some x → IsAmong (section (n + i) x) item →
@@ -244,7 +244,7 @@ among_entries entry i xs x e =
 
 pub stands_first : (item : LabelledItem) (items : List LabelledItem) → is_member item.0 ≡ false →
     Stands (item ∷ items) item
-stands_first item items outside = record { place = 0; there = refl; outside = outside }
+stands_first item items outside = record { index = 0; there = refl; outside = outside }
 
 pub stands_left : (xs ys : List LabelledItem) (item : LabelledItem) → Stands xs item → Stands (xs ++ ys) item
 stands_left xs ys item s = standing s (among_left xs ys item (among s))
@@ -261,7 +261,7 @@ pub stands_in_entries : {X : Type 0} (entry : ℕ → X → LabelledItem) (i : �
     slice_get xs i ≡ Some x → is_member (entry i x).0 ≡ false →
     Stands (map (λ p. entry p.0 p.1) (enumerate_from 0 xs)) (entry i x)
 stands_in_entries entry i xs x e outside = let a = among_entries entry i xs x e in
-    record { place = a.place; there = a.there; outside = outside }
+    record { index = a.index; there = a.there; outside = outside }
 
 -- ---- the items of a module, each where its list has it
 pub type_among_types : (start : Names) («module» : Module) (t : ℕ) (ty : Type_) →
@@ -487,18 +487,18 @@ module _ (start : Names) (before : NameMap) («module» : Module) (names : Names
     (has : HasNamedItems start before (labelled_items start «module») names now) where
   -- each item has its name in the map
   pub named_there : (item : LabelledItem) (s : Stands (labelled_items start «module») item) →
-      now item.0 ≡ Some (name_after start (labels_of (take s.place (labelled_items start «module»))) item.1)
+      now item.0 ≡ Some (name_after start (labels_of (take s.index (labelled_items start «module»))) item.1)
   named_there item s = put_at start before now (labelled_items start «module») has.put
-      (items_apart start «module») s.place item s.there s.outside
+      (items_apart start «module») s.index item s.there s.outside
 
   -- items with one name are one item
   pub names_tell : (a b : LabelledItem) → Stands (labelled_items start «module») a →
       Stands (labelled_items start «module») b → now a.0 ≡ now b.0 → a ≡ b
   names_tell a b s t same =
       let one = same_Some _ _ (sym (named_there a s) ∙ same ∙ named_there b t) in
-      let place = item_names_tell start (labelled_items start «module») s.place t.place a b s.there t.there
+      let index = item_names_tell start (labelled_items start «module») s.index t.index a b s.there t.there
       s.outside t.outside one in
-      same_Some a b (sym s.there ∙ ap (slice_get (labelled_items start «module»)) place ∙ t.there)
+      same_Some a b (sym s.there ∙ ap (slice_get (labelled_items start «module»)) index ∙ t.there)
 
   pub type_named : (t : ℕ) (ty : Type_) → slice_get «module».types t ≡ Some ty → (name : List ℕ)
       × (now (key.Type_ t) ≡ Some name)

@@ -161,11 +161,11 @@ pub one_each : {X : Type 0} (own : X → LabelledItem) (xs : List X) → flat_ma
 one_each own [] = refl
 one_each own (x ∷ xs) = ap (λ items. own x ∷ items) (one_each own xs)
 
--- what is left of a list from a place on
+-- what is left of a list from an index on
 module _ {X : Type 0} where
-  pub at_place : (xs : List X) (i : ℕ) (x : X) → i < length xs → x ≡ get_or xs i x →
+  pub at_index : (xs : List X) (i : ℕ) (x : X) → i < length xs → x ≡ get_or xs i x →
       enumerate_from i (drop i xs) ≡ (i, x) ∷ enumerate_from (i + 1) (drop (i + 1) xs)
-  at_place xs i x lt is =
+  at_index xs i x lt is =
       let split : drop i xs ≡ get_or xs i x ∷ drop (i + 1) xs = rw add-one (drop-cons xs i x lt) in
       ap (enumerate_from i) split ∙ ap (λ y. (i, y) ∷ enumerate_from (i + 1) (drop (i + 1) xs)) (sym is)
 

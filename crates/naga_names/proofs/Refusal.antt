@@ -50,26 +50,26 @@ module _ (start : Names) («module» : Module) where
   run_out_unfit (inl long) =
       let last = element «module».entry_points.items (2 ^ 16) long in
       let s = entry_point_stands start «module» (2 ^ 16) last.0 last.1 in
-      one_unfit (labelled_items start «module») s.place (key.EntryPoint (2 ^ 16), string_bytes last.0.name)
+      one_unfit (labelled_items start «module») s.index (key.EntryPoint (2 ^ 16), string_bytes last.0.name)
       s.there (not_below (2 ^ 16) (2 ^ 16) (λ lt. omega (arith, lt)))
   run_out_unfit (inr (inl long)) =
       let last = element (members_of long.ty.inner) (2 ^ 32) long.long in
-      let s = in_module start «module» long.place long.ty long.there (2 ^ 32) last.0 last.1 in
-      one_unfit (labelled_items start «module») s.place
-      (key.StructMember long.place (2 ^ 32), member_label last.0) s.there
+      let s = in_module start «module» long.index long.ty long.there (2 ^ 32) last.0 last.1 in
+      one_unfit (labelled_items start «module») s.index
+      (key.StructMember long.index (2 ^ 32), member_label last.0) s.there
       (not_below (2 ^ 32) (2 ^ 32) (λ lt. omega (arith, lt)))
   run_out_unfit (inr (inr (inl long))) =
       let last = element long.function.arguments.items (2 ^ 32) long.long in
-      let s = argument_stands start «module» long.place long.function (2 ^ 32) last.0 long.there last.1 in
-      one_unfit (labelled_items start «module») s.place
-      (key.FunctionArgument long.place (2 ^ 32), label_or last.0.name (codes "param")) s.there
+      let s = argument_stands start «module» long.index long.function (2 ^ 32) last.0 long.there last.1 in
+      one_unfit (labelled_items start «module») s.index
+      (key.FunctionArgument long.index (2 ^ 32), label_or last.0.name (codes "param")) s.there
       (not_below (2 ^ 32) (2 ^ 32) (λ lt. omega (arith, lt)))
   run_out_unfit (inr (inr (inr long))) =
       let last = element long.entry_point.function.arguments.items (2 ^ 32) long.long in
-      let s = entry_argument_stands start «module» long.place long.entry_point (2 ^ 32) last.0 long.there last.1 in
-      one_unfit (labelled_items start «module») s.place
-      (key.EntryPointArgument long.place (2 ^ 32), label_or last.0.name (codes "param")) s.there
-      (or_not_this (nat_lt long.place (2 ^ 16)) (nat_lt (2 ^ 32) (2 ^ 32))
+      let s = entry_argument_stands start «module» long.index long.entry_point (2 ^ 32) last.0 long.there last.1 in
+      one_unfit (labelled_items start «module») s.index
+      (key.EntryPointArgument long.index (2 ^ 32), label_or last.0.name (codes "param")) s.there
+      (or_not_this (nat_lt long.index (2 ^ 16)) (nat_lt (2 ^ 32) (2 ^ 32))
       (not_below (2 ^ 32) (2 ^ 32) (λ lt. omega (arith, lt))))
 
 -- ---- where a key does not fit
@@ -124,7 +124,7 @@ module _ (start : Names) («module» : Module) where
     entries_in Unfit (λ n (m : StructMember). (key.StructMember (0 + t) n, member_label m)) 0 (members_of ty.inner)
         (λ n m there unfit. inr
         (inl (record {
-          place = t;
+          index = t;
           ty = ty;
           there = found;
           long =
@@ -157,7 +157,7 @@ module _ (start : Names) («module» : Module) where
       either e p found lt n few (inr unfit) =
           inr (inr (inr
           (record {
-            place = e;
+            index = e;
             entry_point = p;
             there = found;
             long = too_long n (2 ^ 32) (length p.function.arguments.items) few unfit;
@@ -173,7 +173,7 @@ module _ (start : Names) («module» : Module) where
             let long : nat_lt (0 + n) (2 ^ 32) ≡ false → KeysRunOut «module» =
             λ unfit. inr
             (inr (inl (record {
-              place = h;
+              index = h;
               function = f;
               there = found;
               long =

@@ -257,7 +257,7 @@ enumerate_from-append n (x ∷ xs) ys =
     ap (λ items. (n, x) ∷ items) (enumerate_from-append (n + 1) xs ys
     ∙ ap (λ m. enumerate_from (n + 1) xs ++ enumerate_from m ys) long)
 
--- items that come of a list, in order, each by its place and the entry there
+-- items that come of a list, in order, each by its index and the entry there
 module _ {X : Type 0} (items : ℕ → List X → List LabelledItem) (own : ℕ → X → List LabelledItem)
     (grown : (n : ℕ) (xs ys : List X) → items n (xs ++ ys) ≡ items n xs ++ items (n + length xs) ys)
     (single : (n : ℕ) (x : X) → items n (x ∷ []) ≡ own n x) (xs : List X) (i : ℕ) (x : X)

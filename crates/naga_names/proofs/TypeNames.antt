@@ -20,7 +20,7 @@ use Rattle.naga_names.specs.Reset.{labelled_entry_points, labelled_functions, la
 use Rattle.naga_names.specs.Reset.{labelled_declarations, type_label, type_name}
 use Rattle.naga_names.proofs.Keys.{all_append, unlike_types, types_apart, declarations_apart}
 use Rattle.naga_names.proofs.Reset.{not_below}
-use Rattle.naga_names.proofs.NamedItems.{place_left, item_put, type_among_types, name_found}
+use Rattle.naga_names.proofs.NamedItems.{index_left, item_put, type_among_types, name_found}
 use Rattle.naga_names.proofs.NamedItems.{name_absent}
 
 -- no item is a type after the last one
@@ -58,12 +58,12 @@ module _ (start : Names) («module» : Module) where
     there t ty e =
         let item : LabelledItem = (key.Type_ t, type_label «module».entry_points.items t ty) in
         let s = type_among_types start «module» t ty e in
-        let le : s.place ≤ length the_types = omega (arith, slice_get_within the_types s.place item s.there) in
-        item_put start first now (labelled_declarations «module») has.put (declarations_apart «module») s.place
-        item (place_left the_types the_others s.place item s.there)
-        ∙ ap (λ items. Some (item_name start items item)) (take-append-le s.place the_types the_others le)
+        let le : s.index ≤ length the_types = omega (arith, slice_get_within the_types s.index item s.there) in
+        item_put start first now (labelled_declarations «module») has.put (declarations_apart «module») s.index
+        item (index_left the_types the_others s.index item s.there)
+        ∙ ap (λ items. Some (item_name start items item)) (take-append-le s.index the_types the_others le)
         ∙ sym (ap (λ o. Some (unwrap_or o []))
-        (name_found start the_types s.place item (types_apart «module».entry_points.items «module».types) s.there))
+        (name_found start the_types s.index item (types_apart «module».entry_points.items «module».types) s.there))
 
     agrees : (t : ℕ) → type_names_in now (length «module».types) t ≡ type_name start «module» t
     agrees t = by (slice_get «module».types t) refl

@@ -118,10 +118,10 @@ MembersAreNotReserved =
 -- ---- what was given so far
 -- one of these labels, which were named one after another, got this identifier
 pub record WasAssigned (start : Names) (labels : List (List ℕ)) (word : List ℕ) : Type 0 where
-  pub place : ℕ
+  pub index : ℕ
   pub label : List ℕ
-  pub there : slice_get labels place ≡ Some label
-  pub is : word ≡ name_after start (take place labels) label
+  pub there : slice_get labels index ≡ Some label
+  pub is : word ≡ name_after start (take index labels) label
 
 -- a base that was used n times gave its first form and the numbers below n
 pub record FollowsFromUses (names : Names) (word : List ℕ) : Type 0 where

@@ -40,23 +40,23 @@ SomeKeyIsFull items = keys_fit items ≡ false
 
 -- a struct with more members than a `u32` can count
 pub record HasLongStruct (module_ : Module) : Type 0 where
-  pub place : ℕ
+  pub index : ℕ
   pub ty : Type_
-  pub there : slice_get module_.types place ≡ Some ty
+  pub there : slice_get module_.types index ≡ Some ty
   pub long : 2 ^ 32 < length (members_of ty.inner)
 
 -- a function with more arguments than that
 pub record HasLongFunction (module_ : Module) : Type 0 where
-  pub place : ℕ
+  pub index : ℕ
   pub function : Function
-  pub there : slice_get module_.functions place ≡ Some function
+  pub there : slice_get module_.functions index ≡ Some function
   pub long : 2 ^ 32 < length function.arguments.items
 
 -- an entry point with so many
 pub record HasLongEntryPoint (module_ : Module) : Type 0 where
-  pub place : ℕ
+  pub index : ℕ
   pub entry_point : EntryPoint
-  pub there : slice_get module_.entry_points.items place ≡ Some entry_point
+  pub there : slice_get module_.entry_points.items index ≡ Some entry_point
   pub long : 2 ^ 32 < length entry_point.function.arguments.items
 
 -- the module has more than 65,536 entry points, or an

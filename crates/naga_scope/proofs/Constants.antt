@@ -25,7 +25,7 @@ use Rattle.module_meaning.specs.FunctionShapes.{function_shape}
 use Rattle.module_meaning.specs.Names.{numbered_name}
 use Rattle.module_meaning.specs.Premises.{OperandsStandBefore}
 use Rattle.module_meaning.specs.ExpressionContexts.{declared, types_known}
-use Rattle.naga_form.proofs.ModulePlaces.{no_expression_at, shapes_length}
+use Rattle.naga_form.proofs.ModuleIndices.{no_expression_at, shapes_length}
 use Rattle.naga_scope.specs.declared.points.Availability.{Availability}
 use Rattle.naga_scope.specs.declared.points.Availability.TheVariants.{Absent}
 use Rattle.naga_scope.specs.Availabilities.{availability_of, handles_of, is_everywhere}

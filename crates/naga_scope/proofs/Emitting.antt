@@ -26,7 +26,7 @@ use Rattle.shader_runs.specs.Scope.{after_one}
 use Rattle.module_meaning.specs.ExpressionLabels.{label_of}
 use Rattle.module_meaning.specs.Names.{numbered_name}
 use Rattle.naga_form.proofs.Fits.{named_is}
-use Rattle.naga_form.proofs.ModulePlaces.{no_expression_at}
+use Rattle.naga_form.proofs.ModuleIndices.{no_expression_at}
 use Rattle.naga_scope.specs.declared.points.BoundName.{BoundName}
 use Rattle.naga_scope.specs.declared.points.Availability.{Availability}
 use Rattle.naga_scope.specs.declared.points.Availability.TheVariants.{Absent, Bound}

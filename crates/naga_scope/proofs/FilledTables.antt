@@ -14,7 +14,7 @@ use Rattle.std.proofs.lemmas.List.Folds.{list_any-append}
 use Rattle.std.proofs.lemmas.Option.{same_Some, slice_get_past, slice_get_within}
 use Rattle.indexmap.specs.IndexMap.{values}
 use Rattle.module_meaning.specs.acceptance.Accepted.{is_accepted}
-use Rattle.module_meaning.specs.AlikeTypes.{found_key_by, handle_key, inner_key_by, is_spelled}
+use Rattle.module_meaning.specs.AlikeTypes.{found_key_by, handle_key, inner_key_by, has_type_form}
 use Rattle.module_meaning.specs.AlikeTypes.{key_within, value_key}
 use Rattle.module_meaning.specs.LackingScalars.{base_type, wordless}
 use Rattle.module_meaning.specs.acceptance.Ranges.{is_below, parts_before, parts_stand_before}
@@ -47,9 +47,9 @@ use Rattle.naga_scope.proofs.Marking.{just_marked}
 use Rattle.naga_scope.proofs.WrittenConstants.{MarksBelow, globals_in_order}
 use Rattle.naga_scope.specs.Marks.{MarksAlso, is_marked, is_one_of}
 use Rattle.naga_scope.specs.Tables.{AreRepresentatives, ItemsStandInOrder, MarksNaming}
-use Rattle.naga_scope.specs.Tables.{MarksSpelled, MarksUndeclared, is_marked_over, is_marked_type}
-use Rattle.naga_scope.specs.Tables.{is_spelled_alone, item_is_spelled, representative_at}
-use Rattle.naga_scope.specs.Tables.{representative_over, spelled_over, type_is_spelled}
+use Rattle.naga_scope.specs.Tables.{MarksTypeForms, MarksUndeclared, is_marked_over, is_marked_type}
+use Rattle.naga_scope.specs.Tables.{has_type_form_alone, item_has_type_form, representative_at}
+use Rattle.naga_scope.specs.Tables.{representative_over, type_form_over, type_has_form_by_marks}
 use Rattle.naga_scope.specs.Tables.{undeclared_handles}
 
 -- ---- structs that no text declares
@@ -226,15 +226,15 @@ type_marked m marks are (Value it) = by (base_type it)
 
 -- ---- types that are spelled
 -- a type that is over one is spelled where that one is
-spelled_as_base : (f : ℕ → Option (List ℕ)) (it : TypeInner) (base : ℕ) → base_type it ≡ Some base →
+type_form_as_base : (f : ℕ → Option (List ℕ)) (it : TypeInner) (base : ℕ) → base_type it ≡ Some base →
     is_some (inner_key_by f it) ≡ is_some (f base)
-spelled_as_base f (inner.Pointer b at) base is =
+type_form_as_base f (inner.Pointer b at) base is =
     some_kept _ (f b) ∙ ap (λ x. is_some (f x)) (same_Some b base is)
-spelled_as_base f (inner.Array b n stride) base is =
+type_form_as_base f (inner.Array b n stride) base is =
     some_kept _ (f b) ∙ ap (λ x. is_some (f x)) (same_Some b base is)
-spelled_as_base f (inner.BindingArray b n) base is =
+type_form_as_base f (inner.BindingArray b n) base is =
     some_kept _ (f b) ∙ ap (λ x. is_some (f x)) (same_Some b base is)
-spelled_as_base f _ base is = absurd cc
+type_form_as_base f _ base is = absurd cc
 
 -- one that is over none is spelled where it is by itself
 decided : (b : Bool) (key : List ℕ) (s : Scalar) →
@@ -253,22 +253,22 @@ value_decided : (n : Option VectorSize) (s : Scalar) →
 value_decided None s = decided (is_some (scalar_word s)) _ s
 value_decided (Some n) s = decided (is_some (scalar_word s)) _ s
 
-spelled_alone : (f : ℕ → Option (List ℕ)) (it : TypeInner) → base_type it ≡ None →
-    is_some (inner_key_by f it) ≡ is_spelled_alone it
-spelled_alone f (inner.Scalar s) none = decided (is_some (scalar_word s)) _ s
-spelled_alone f (inner.Vector n s) none = decided (is_some (scalar_word s)) _ s
-spelled_alone f (inner.Matrix columns rows s) none = decided (is_some (scalar_word s)) _ s
-spelled_alone f (inner.CooperativeMatrix columns rows s role) none =
+type_form_alone : (f : ℕ → Option (List ℕ)) (it : TypeInner) → base_type it ≡ None →
+    is_some (inner_key_by f it) ≡ has_type_form_alone it
+type_form_alone f (inner.Scalar s) none = decided (is_some (scalar_word s)) _ s
+type_form_alone f (inner.Vector n s) none = decided (is_some (scalar_word s)) _ s
+type_form_alone f (inner.Matrix columns rows s) none = decided (is_some (scalar_word s)) _ s
+type_form_alone f (inner.CooperativeMatrix columns rows s role) none =
     decided (is_some (scalar_word s)) _ s
-spelled_alone f (inner.Atomic s) none = decided (is_some (scalar_word s)) _ s
-spelled_alone f (inner.Pointer base at) none = absurd cc
-spelled_alone f (inner.ValuePointer n s at) none =
+type_form_alone f (inner.Atomic s) none = decided (is_some (scalar_word s)) _ s
+type_form_alone f (inner.Pointer base at) none = absurd cc
+type_form_alone f (inner.ValuePointer n s at) none =
     pointer_decided (space_word at) _ (value_key n s) (is_none (wordless s)) (value_decided n s)
-spelled_alone f (inner.Array base n stride) none = absurd cc
-spelled_alone f (inner.BindingArray base n) none = absurd cc
-spelled_alone f (inner.Image dim arrayed (class.Sampled kind multi)) none =
+type_form_alone f (inner.Array base n stride) none = absurd cc
+type_form_alone f (inner.BindingArray base n) none = absurd cc
+type_form_alone f (inner.Image dim arrayed (class.Sampled kind multi)) none =
     let s : Scalar = record { kind = kind; width = 4 } in decided (is_some (scalar_word s)) _ s
-spelled_alone f _ none = refl
+type_form_alone f _ none = refl
 
 -- a struct of the module is spelled
 named_decided : (b spelled : Bool) (name key : Option (List ℕ)) → is_some name ≡ true →
@@ -279,41 +279,41 @@ named_decided false spelled name key named same = same
 module _ (m : Module) (stand : IsTrue (parts_stand_before m.types)) where
   -- so a type is spelled by which of those before it are
   pub spelled_by : (h : ℕ) (t : Type_) → slice_get m.types h ≡ Some t → (marks : List Bool) →
-      MarksBelow (λ h. is_spelled m.types (Handle h)) (length m.types) marks h →
-      item_is_spelled marks t.inner ≡ is_spelled m.types (Handle h)
+      MarksBelow (λ h. has_type_form m.types (Handle h)) (length m.types) marks h →
+      item_has_type_form marks t.inner ≡ has_type_form m.types (Handle h)
   unfolding handle_key
   spelled_by h t at marks below =
-      named_decided (is_struct t.inner) (spelled_over marks t.inner) (Some (level 8 h 0 0 0 0))
+      named_decided (is_struct t.inner) (type_form_over marks t.inner) (Some (level 8 h 0 0 0 0))
       (inner_key_by (key_within h m.types) t.inner) refl (by (base_type t.inner) refl)
       ∙ sym (ap (λ o. is_some (found_key_by (key_within h m.types) h o)) at)
     where
       by : (o : Option ℕ) → base_type t.inner ≡ o →
-          option_map_or (is_marked marks) o (is_spelled_alone t.inner) ≡
+          option_map_or (is_marked marks) o (has_type_form_alone t.inner) ≡
           is_some (inner_key_by (key_within h m.types) t.inner)
-      by None is = sym (spelled_alone (key_within h m.types) t.inner is)
+      by None is = sym (type_form_alone (key_within h m.types) t.inner is)
       by (Some base) is =
           let before = base_before m stand h base t at is in
           below.cells base before
           ∙ sym
-          (spelled_as_base (key_within h m.types) t.inner base is
+          (type_form_as_base (key_within h m.types) t.inner base is
           ∙ ap is_some (at_depth m (parts_stand m stand) h base before))
 
-pub no_spelled_beyond : (m : Module) (h : ℕ) → length m.types ≤ h →
-    is_spelled m.types (Handle h) ≡ false
+pub no_type_form_beyond : (m : Module) (h : ℕ) → length m.types ≤ h →
+    has_type_form m.types (Handle h) ≡ false
 unfolding handle_key
-no_spelled_beyond m h le =
+no_type_form_beyond m h le =
     ap (λ o. is_some (found_key_by (key_within h m.types) h o)) (slice_get_past m.types h le)
 
 -- the type of an expression is spelled, by the marks
-pub spelled_marked : (m : Module) (marks : List Bool) → MarksSpelled m marks → (r : TypeResolution) →
-    type_is_spelled marks r ≡ is_spelled m.types r
-spelled_marked m marks are (Handle h) = are h
-spelled_marked m marks are (Value it) = by (base_type it) refl
+pub type_form_marked : (m : Module) (marks : List Bool) → MarksTypeForms m marks → (r : TypeResolution) →
+    type_has_form_by_marks marks r ≡ has_type_form m.types r
+type_form_marked m marks are (Handle h) = are h
+type_form_marked m marks are (Value it) = by (base_type it) refl
   where
     by : (o : Option ℕ) → base_type it ≡ o →
-        option_map_or (is_marked marks) o (is_spelled_alone it) ≡ is_spelled m.types (Value it)
-    by None is = sym (spelled_alone (handle_key m.types) it is)
-    by (Some base) is = are base ∙ sym (spelled_as_base (handle_key m.types) it base is)
+        option_map_or (is_marked marks) o (has_type_form_alone it) ≡ has_type_form m.types (Value it)
+    by None is = sym (type_form_alone (handle_key m.types) it is)
+    by (Some base) is = are base ∙ sym (type_form_as_base (handle_key m.types) it base is)
 
 -- ---- own expressions
 -- a table in which the cells below i are right

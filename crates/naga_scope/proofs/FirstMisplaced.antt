@@ -11,8 +11,8 @@ use Rattle.wgsl_layout.specs.declared.layouts.Placed.{Placed}
 use Rattle.wgsl_layout.specs.declared.members.Misplaced.{Misplaced}
 use Rattle.naga_scope.specs.Declarations.{FindsMisplaced, placed_before}
 
--- the member in front of this place
-abbrev prior : (before : Option Placed) → List Placed → (place : ℕ) → Option Placed
+-- the member in front of this index
+abbrev prior : (before : Option Placed) → List Placed → (index : ℕ) → Option Placed
 prior before ks zero = before
 prior before ks (suc i) = slice_get ks i
 
@@ -25,19 +25,19 @@ prior_is : (ks : List Placed) (i : ℕ) → prior None ks i ≡ placed_before ks
 prior_is ks zero = refl
 prior_is ks (suc i) = refl
 
--- the first fault of these members stands at this place
+-- the first fault of these members stands at this index
 record FirstFrom (before : Option Placed) (ks : List Placed) (it : Misplaced) : Type 0 where
-  place : ℕ
+  index : ℕ
   member : Placed
-  at : slice_get ks place ≡ Some member
-  has : own_fault (prior before ks place) member ≡ Some it
-  earlier : (j : ℕ) (x : Placed) → j < place → slice_get ks j ≡ Some x →
+  at : slice_get ks index ≡ Some member
+  has : own_fault (prior before ks index) member ≡ Some it
+  earlier : (j : ℕ) (x : Placed) → j < index → slice_get ks j ≡ Some x →
       own_fault (prior before ks j) x ≡ None
 
 module _ (before : Option Placed) (k : Placed) (more : List Placed) (it : Misplaced) where
   here : own_fault before k ≡ Some it → FirstFrom before (k ∷ more) it
   here is = record {
-    place = 0;
+    index = 0;
     member = k;
     at = refl;
     has = is;
@@ -46,14 +46,14 @@ module _ (before : Option Placed) (k : Placed) (more : List Placed) (it : Mispla
 
   later : own_fault before k ≡ None → FirstFrom (Some k) more it → FirstFrom before (k ∷ more) it
   later none f = record {
-    place = suc f.place;
+    index = suc f.index;
     member = f.member;
     at = f.at;
-    has = ap (λ b. own_fault b f.member) (prior_next before k more f.place) ∙ f.has;
+    has = ap (λ b. own_fault b f.member) (prior_next before k more f.index) ∙ f.has;
     earlier = by;
   }
     where
-      by : (j : ℕ) (x : Placed) → j < suc f.place → slice_get (k ∷ more) j ≡ Some x →
+      by : (j : ℕ) (x : Placed) → j < suc f.index → slice_get (k ∷ more) j ≡ Some x →
           own_fault (prior before (k ∷ more) j) x ≡ None
       by zero x lt at =
           let same : k ≡ x = cc in
@@ -98,9 +98,9 @@ first_misplaced ks it is = by None refl (found_first None None ks it is)
         FindsMisplaced ks (Some it)
     by found none (inl same) = absurd cc
     by found none (inr (same, f)) = (
-      f.place,
+      f.index,
       f.member,
       f.at,
       (λ j x lt at. subst (λ b. own_fault b x ≡ None) (prior_is ks j) (f.earlier j x lt at)),
-      subst (λ b. own_fault b f.member ≡ Some it) (prior_is ks f.place) f.has,
+      subst (λ b. own_fault b f.member ≡ Some it) (prior_is ks f.index) f.has,
     )

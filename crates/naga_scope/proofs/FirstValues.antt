@@ -23,7 +23,7 @@ use Rattle.module_meaning.specs.ExpressionShapes.{part_selector, part_shape}
 use Rattle.module_meaning.specs.FunctionShapes.{function_shape}
 use Rattle.module_meaning.specs.OperatorTable.{Operator as TableOperator, AtomicLoad, BinarySign}
 use Rattle.module_meaning.specs.ExpressionContexts.{declared, types_known}
-use Rattle.naga_form.proofs.ModulePlaces.{expression_at, no_expression_at}
+use Rattle.naga_form.proofs.ModuleIndices.{expression_at, no_expression_at}
 use Rattle.naga_form.proofs.statements.WellFormed.{applied_any}
 use Rattle.naga_info.specs.declared.info.ModuleInfo.{ModuleInfo}
 use Rattle.shader_runs.specs.Value.{Selector}

@@ -367,12 +367,12 @@ module _ (f : Function) (ordered : (h : ℕ) → AllBelow h (operands_of (expres
 
   -- this one is out of scope, and none in front of it is
   record FirstOut (i : ℕ) (os : List (Option ℕ)) (e : ScopeFault) : Type 0 where
-    place : ℕ
+    index : ℕ
     value : ℕ
-    at : slice_get os place ≡ Some (Some value)
-    is : FirstValue (i + place) value ≡ e
-    out : IsOutOfScopeAt (before_local f (i + place)) start_state value
-    earlier : (k h : ℕ) → k < place → slice_get os k ≡ Some (Some h) →
+    at : slice_get os index ≡ Some (Some value)
+    is : FirstValue (i + index) value ≡ e
+    out : IsOutOfScopeAt (before_local f (i + index)) start_state value
+    earlier : (k h : ℕ) → k < index → slice_get os k ≡ Some (Some h) →
         IsOutOfScopeAt (before_local f (i + k)) start_state h → ⊥
 
   values_break : (i : ℕ) (os : List (Option ℕ)) (e : ScopeFault) → check_first_values f i os ≡ Err e → FirstOut i os e
@@ -391,7 +391,7 @@ module _ (f : Function) (ordered : (h : ℕ) → AllBelow h (operands_of (expres
           ((t.used h).1 d) in
           let none : i ≡ i + 0 = omega arith in
           record {
-            place = 0;
+            index = 0;
             value = h;
             at = ap Some same;
             is = ap (λ j. FirstValue j h) (sym none) ∙ x.1;
@@ -401,9 +401,9 @@ module _ (f : Function) (ordered : (h : ℕ) → AllBelow h (operands_of (expres
 
       further : IsTrue (is_ok (check_first f i o)) → FirstOut (suc i) os e → FirstOut i (o ∷ os) e
       further holds x =
-          let more : suc i + x.place ≡ i + suc x.place = omega arith in
+          let more : suc i + x.index ≡ i + suc x.index = omega arith in
           record {
-            place = suc x.place;
+            index = suc x.index;
             value = x.value;
             at = x.at;
             is = ap (λ j. FirstValue j x.value) (sym more) ∙ x.is;
@@ -411,7 +411,7 @@ module _ (f : Function) (ordered : (h : ℕ) → AllBelow h (operands_of (expres
             earlier = by;
           }
         where
-          by : (k h : ℕ) → k < suc x.place → slice_get (o ∷ os) k ≡ Some (Some h) →
+          by : (k h : ℕ) → k < suc x.index → slice_get (o ∷ os) k ≡ Some (Some h) →
               IsOutOfScopeAt (before_local f (i + k)) start_state h → ⊥
           by zero h lt at out =
               let same : i + 0 ≡ i = omega arith in
@@ -438,15 +438,15 @@ module _ (f : Function) (ordered : (h : ℕ) → AllBelow h (operands_of (expres
         is_before (line_of_fault c) (line_of_fault e) ≡ false) x.is (by c is);
   }
     where
-      none : 0 + x.place ≡ x.place
+      none : 0 + x.index ≡ x.index
       none = omega arith
 
-      here : IsScopeFault f (FirstValue (0 + x.place) x.value)
+      here : IsScopeFault f (FirstValue (0 + x.index) x.value)
       here = (ap (slice_get f.first_values) none ∙ x.at, x.out)
 
-      by : (c : ScopeFault) → IsScopeFault f c → is_before (line_of_fault c) (line.Local (0 + x.place)) ≡ false
-      by (FirstValue i h) is = never (line.Local i) (line.Local (0 + x.place)) (λ before.
-          let lt = ltb-true i (0 + x.place) before in
+      by : (c : ScopeFault) → IsScopeFault f c → is_before (line_of_fault c) (line.Local (0 + x.index)) ≡ false
+      by (FirstValue i h) is = never (line.Local i) (line.Local (0 + x.index)) (λ before.
+          let lt = ltb-true i (0 + x.index) before in
           let same : i ≡ 0 + i = omega arith in
           x.earlier i h (omega (arith, lt)) is.0
           (subst (λ j. IsOutOfScopeAt (before_local f j) start_state h) same is.1))

@@ -7,7 +7,7 @@ use Rattle.std.proofs.lemmas.Option.{slice_get_within}
 
 module _ {X : Type 0} (HasForm : (i : ℕ) → X → Type 0) (xs : List X) where
   -- ---- the items of a slice
-  -- those before this place have forms
+  -- those before this index have forms
   pub record Passed (n : ℕ) : Type 0 where
     pub formed : (i : ℕ) (x : X) → i < n → slice_get xs i ≡ Some x → HasForm i x
 
@@ -21,10 +21,10 @@ module _ {X : Type 0} (HasForm : (i : ℕ) → X → Type 0) (xs : List X) where
       by : (i : ℕ) (y : X) → i < n + 1 → slice_get xs i ≡ Some y → (i < n) ⊎ (n ≤ i) → HasForm i y
       by i y lt at (inl earlier) = before.formed i y earlier at
       by i y lt at (inr le) =
-          let place : n ≡ i = omega (arith, lt, le) in
-          let same : Some x ≡ Some y = sym here ∙ ap (slice_get xs) place ∙ at in
+          let index : n ≡ i = omega (arith, lt, le) in
+          let same : Some x ≡ Some y = sym here ∙ ap (slice_get xs) index ∙ at in
           let item : x ≡ y = cc in
-          subst (λ k. HasForm k y) place (subst (HasForm n) item has)
+          subst (λ k. HasForm k y) index (subst (HasForm n) item has)
 
   pub all_passed : (n : ℕ) → length xs ≤ n → Passed n → (i : ℕ) (x : X) → slice_get xs i ≡ Some x → HasForm i x
   all_passed n le before i x at =
@@ -35,42 +35,42 @@ module _ {X : Type 0} (HasForm : (i : ℕ) → X → Type 0) (xs : List X) where
   -- these are left of its items with their handles, and all before them have forms
   pub record Left (rest : List (ℕ × X)) : Type 0 where
     pub items : List X
-    pub place : ℕ
-    pub numbered : rest ≡ enumerate_from place items
-    pub stands : (i : ℕ) → slice_get items i ≡ slice_get xs (place + i)
-    pub passed : Passed place
+    pub index : ℕ
+    pub numbered : rest ≡ enumerate_from index items
+    pub stands : (i : ℕ) → slice_get items i ≡ slice_get xs (index + i)
+    pub passed : Passed index
 
   -- the first that is left stands in the arena, and so do the others after it
-  record Turn (h : ℕ) (x : X) (rest : List (ℕ × X)) (place : ℕ) : Type 0 where
-    at : h ≡ place
+  record Turn (h : ℕ) (x : X) (rest : List (ℕ × X)) (index : ℕ) : Type 0 where
+    at : h ≡ index
     here : slice_get xs h ≡ Some x
     items : List X
-    numbered : rest ≡ enumerate_from (place + 1) items
-    stands : (i : ℕ) → slice_get items i ≡ slice_get xs (place + 1 + i)
+    numbered : rest ≡ enumerate_from (index + 1) items
+    stands : (i : ℕ) → slice_get items i ≡ slice_get xs (index + 1 + i)
 
-  turn : (h : ℕ) (x : X) (rest : List (ℕ × X)) (items : List X) (place : ℕ) →
-      (h, x) ∷ rest ≡ enumerate_from place items →
-      ((i : ℕ) → slice_get items i ≡ slice_get xs (place + i)) → Turn h x rest place
-  turn h x rest [] place is stands = absurd cc
-  turn h x rest (y ∷ ys) place is stands =
+  turn : (h : ℕ) (x : X) (rest : List (ℕ × X)) (items : List X) (index : ℕ) →
+      (h, x) ∷ rest ≡ enumerate_from index items →
+      ((i : ℕ) → slice_get items i ≡ slice_get xs (index + i)) → Turn h x rest index
+  turn h x rest [] index is stands = absurd cc
+  turn h x rest (y ∷ ys) index is stands =
       let one : ℕ × X = (h, x) in
-      let other : ℕ × X = (place, y) in
+      let other : ℕ × X = (index, y) in
       let first : one ≡ other = cc in
-      let at : h ≡ place = ap (λ p. p.0) first in
+      let at : h ≡ index = ap (λ p. p.0) first in
       let item : x ≡ y = ap (λ p. p.1) first in
-      let start : place + 0 ≡ place = omega arith in
+      let start : index + 0 ≡ index = omega arith in
       record {
         at = at;
         here = ap (slice_get xs) (at ∙ sym start) ∙ sym (stands 0) ∙ ap Some (sym item);
         items = ys;
         numbered = cc;
-        stands = λ i. let next : place + suc i ≡ place + 1 + i = omega arith in stands (suc i) ∙ ap (slice_get xs) next;
+        stands = λ i. let next : index + suc i ≡ index + 1 + i = omega arith in stands (suc i) ∙ ap (slice_get xs) next;
       }
 
   turn_of : (old rest : List (ℕ × X)) (h : ℕ) (x : X) → old ≡ (h, x) ∷ rest → (left : Left old) →
-      Turn h x rest left.place
+      Turn h x rest left.index
   turn_of old rest h x is left =
-      turn h x rest left.items left.place (sym is ∙ left.numbered) left.stands
+      turn h x rest left.items left.index (sym is ∙ left.numbered) left.stands
 
   pub here_left : (old rest : List (ℕ × X)) (h : ℕ) (x : X) → old ≡ (h, x) ∷ rest → Left old → slice_get xs h ≡ Some x
   here_left old rest h x is left = (turn_of old rest h x is left).here
@@ -88,7 +88,7 @@ module _ {X : Type 0} (HasForm : (i : ℕ) → X → Type 0) (xs : List X) where
       let t = turn_of old rest h x is left in
       record {
         items = t.items;
-        place = left.place + 1;
+        index = left.index + 1;
         numbered = t.numbered;
         stands = t.stands;
         passed = subst (λ n. Passed (n + 1)) t.at (one_passed h x t.here has (subst Passed (sym t.at) left.passed));
@@ -99,16 +99,16 @@ module _ {X : Type 0} (HasForm : (i : ℕ) → X → Type 0) (xs : List X) where
       HasForm i x
   none_left rest is left = by left.items (sym is ∙ left.numbered) left.stands
     where
-      by : (items : List X) → [] ≡ enumerate_from left.place items →
-          ((i : ℕ) → slice_get items i ≡ slice_get xs (left.place + i)) →
+      by : (items : List X) → [] ≡ enumerate_from left.index items →
+          ((i : ℕ) → slice_get items i ≡ slice_get xs (left.index + i)) →
           (i : ℕ) (x : X) → slice_get xs i ≡ Some x → HasForm i x
-      by [] is stands i x at = inside (cases_lt i left.place)
+      by [] is stands i x at = inside (cases_lt i left.index)
         where
-          inside : (i < left.place) ⊎ (left.place ≤ i) → HasForm i x
+          inside : (i < left.index) ⊎ (left.index ≤ i) → HasForm i x
           inside (inl lt) = left.passed.formed i x lt at
           inside (inr le) =
-              let same : i ≡ left.place + (i - left.place) = omega (arith, le) in
-              let none = stands (i - left.place) in
+              let same : i ≡ left.index + (i - left.index) = omega (arith, le) in
+              let none = stands (i - left.index) in
               let clash = none ∙ ap (slice_get xs) (sym same) ∙ at in
               absurd cc
       by (y ∷ ys) is stands i x at = absurd cc

@@ -34,7 +34,7 @@ use Rattle.module_meaning.specs.Types.{declared_type}
 use Rattle.module_meaning.proofs.ExpressionShapes.{kind_shaped, shape_kinds, shape_operands}
 use Rattle.naga_form.proofs.Fits.{named_is, mapped_length}
 use Rattle.module_meaning.specs.ExpressionLabels.{label_of}
-use Rattle.naga_form.proofs.ModulePlaces.{expression_at, no_expression_at}
+use Rattle.naga_form.proofs.ModuleIndices.{expression_at, no_expression_at}
 use Rattle.naga_form.proofs.statements.WellFormed.{applied_any}
 use Rattle.naga_scope.specs.Availabilities.{kind_at, operands_at, is_pure_kind, is_constant_kind}
 use Rattle.naga_scope.specs.Availabilities.{is_emittable_kind, usable_by}

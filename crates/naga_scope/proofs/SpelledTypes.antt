@@ -9,7 +9,7 @@ use Rattle.std.specs.Option.{option_map, option_map_or, option_or}
 use Rattle.std.proofs.lemmas.Bool.{and_parts, ltb-true, not-false, not-true, or_cases, or_left, or_right}
 use Rattle.std.proofs.lemmas.List.Folds.{find-append, list_any-append}
 use Rattle.naga_ir.proofs.Listed.{drop_first}
-use Rattle.module_meaning.specs.AlikeTypes.{is_spelled}
+use Rattle.module_meaning.specs.AlikeTypes.{has_type_form}
 use Rattle.module_meaning.specs.Undeclared.{is_spellable, names_undeclared}
 use Rattle.module_meaning.specs.FunctionShapes.{function_shape}
 use Rattle.module_meaning.specs.Written.{IsSpelledIn, OfArgument, OfLet, OfLocal, OfResult}
@@ -395,9 +395,9 @@ module _ (explicit : Bool) (m : Module) (info : ModuleInfo) (f : Function) (es :
       let_formed true tells st none h k one at declared =
           let place = there_among (own_lets bound st) h (one_among (own_lets bound st) h one) in
           let fails = none_passes annotated (own_lets bound st) none place.0 h place.1 in
-          let formed = not-false (is_spelled m.types k.ty)
+          let formed = not-false (has_type_form m.types k.ty)
           (sym (ap (λ o. option_map_or (λ k. is_annotated_unsupported m k.ty) o false) at
-          ∙ ap (λ b. not b && not (is_spelled m.types k.ty)) declared)
+          ∙ ap (λ b. not b && not (has_type_form m.types k.ty)) declared)
           ∙ fails) in
           λ i. formed i && not (declared i)
 
@@ -424,9 +424,9 @@ module _ (explicit : Bool) (m : Module) (info : ModuleInfo) (f : Function) (es :
           IsSomeAnd o (λ k. IsSpelledIn explicit m info f es k.ty × IsFalse (is_spellable m k.ty))
       known None at tells among lacks = absurd cc
       known (Some k) at tells among lacks =
-          let parts = and_parts (not (names_undeclared m k.ty)) (not (is_spelled m.types k.ty)) lacks in (
+          let parts = and_parts (not (names_undeclared m k.ty)) (not (has_type_form m.types k.ty)) lacks in (
             OfLet h k tells among at (not-true (names_undeclared m k.ty) parts.0),
-            ap (λ b. b && not (names_undeclared m k.ty)) (not-true (is_spelled m.types k.ty) parts.1),
+            ap (λ b. b && not (names_undeclared m k.ty)) (not-true (has_type_form m.types k.ty) parts.1),
           )
 
       by : (b : Bool) → explicit ≡ b → own_annotated b m es bound st ≡ Some h → IsAmong (lets_at bound f n) h

@@ -242,9 +242,9 @@ module _ (m : Module) where
     pub first : HaveFormsBefore m found.0
 
   -- what is said of a place is said of one that is the same
-  at_place : (at here : DeclarationPosition) (it : UnsupportedDeclaration) → at ≡ here → IsUnsupportedDeclaration m it →
+  at_one : (at here : DeclarationPosition) (it : UnsupportedDeclaration) → at ≡ here → IsUnsupportedDeclaration m it →
       IsUnsupportedIn m here it → HaveFormsBefore m here → IsFound (at, it)
-  at_place at here it same some stands first = record {
+  at_one at here it same some stands first = record {
     some = some;
     place = subst (λ at. IsUnsupportedIn m at it) (sym same) stands;
     first = subst (HaveFormsBefore m) (sym same) first;
@@ -253,21 +253,21 @@ module _ (m : Module) where
   pub of_types : (found : DeclarationPosition × UnsupportedDeclaration) →
       FindsFirst m.types (TypeHasForm m) (λ h. position.Struct h) (IsUnsupportedType m) (Some found) → IsFound found
   of_types (at, it) (h, t, there, same, earlier, lacks) =
-      at_place at (position.Struct h) it same (types_lack h t there it lacks) (t, there, lacks) earlier
+      at_one at (position.Struct h) it same (types_lack h t there it lacks) (t, there, lacks) earlier
 
   module _ (types : TypesHaveForms m) where
     pub of_constants : (found : DeclarationPosition × UnsupportedDeclaration) →
         FindsFirst m.constants (λ i. ConstantHasForm m) (λ h. position.Constant h)
         (λ i. IsUnsupportedConstant m) (Some found) → IsFound found
     of_constants (at, it) (h, c, there, same, earlier, lacks) =
-        at_place at (position.Constant h) it same (constants_lack h c there it lacks) (c, there, lacks) (types, earlier)
+        at_one at (position.Constant h) it same (constants_lack h c there it lacks) (c, there, lacks) (types, earlier)
 
     module _ (constants : ConstantsHaveForms m) where
       pub of_overrides : (found : DeclarationPosition × UnsupportedDeclaration) →
           FindsFirst m.overrides (λ i o. ValueHasForm m o.ty o.init) (λ h. position.Override h)
           (λ i o. IsUnsupportedValue m o.ty o.init) (Some found) → IsFound found
       of_overrides (at, it) (h, o, there, same, earlier, lacks) =
-          at_place at (position.Override h) it same (overrides_lack h o there it lacks) (o, there, lacks)
+          at_one at (position.Override h) it same (overrides_lack h o there it lacks) (o, there, lacks)
           (types, constants, earlier)
 
       module _ (overrides : OverridesHaveForms m) where
@@ -275,7 +275,7 @@ module _ (m : Module) where
             FindsFirst m.global_variables (λ i g. ValueHasForm m g.ty g.init) (λ h. position.GlobalVariable h)
             (λ i g. IsUnsupportedValue m g.ty g.init) (Some found) → IsFound found
         of_variables (at, it) (h, g, there, same, earlier, lacks) =
-            at_place at (position.GlobalVariable h) it same (variables_lack h g there it lacks)
+            at_one at (position.GlobalVariable h) it same (variables_lack h g there it lacks)
             (g, there, lacks) (types, constants, overrides, earlier)
 
         module _ (variables : VariablesHaveForms m) where
@@ -283,7 +283,7 @@ module _ (m : Module) where
               FindsFirst m.functions (λ i. PassedHasForm) (λ h. position.Function h)
               (λ i. IsUnsupportedFunction) (Some found) → IsFound found
           of_functions (at, it) (h, f, there, same, earlier, lacks) =
-              at_place at (position.Function h) it same (functions_lack h f there it lacks) (f, there, lacks)
+              at_one at (position.Function h) it same (functions_lack h f there it lacks) (f, there, lacks)
               (types, constants, overrides, variables, earlier)
 
           pub of_entry_points : FunctionsHaveForms m → (found : ℕ × UnsupportedHead) →
@@ -291,7 +291,7 @@ module _ (m : Module) where
               (Some found) →
               IsFound (position.EntryPoint found.0, declaration.Head found.1)
           of_entry_points functions (at, it) (j, p, there, same, earlier, lacks) =
-              at_place (position.EntryPoint at) (position.EntryPoint j) (declaration.Head it)
+              at_one (position.EntryPoint at) (position.EntryPoint j) (declaration.Head it)
               (ap (λ j. position.EntryPoint j) same)
               (length m.functions + j, entry_point_lacks j p there it lacks) (p, there, lacks)
               (types, constants, overrides, variables, functions, earlier)

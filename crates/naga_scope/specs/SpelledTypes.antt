@@ -8,7 +8,7 @@ use Rattle.std.specs.Prelude.{◌≡◌, ℕ, Bool, false, List, ◌&&◌, ◌++
 use Rattle.std.specs.Prelude.{if◌then◌else◌, not, slice_get}
 use Rattle.std.specs.List.{enumerate_from, find}
 use Rattle.std.specs.Option.{option_map, option_map_or, option_to_list}
-use Rattle.module_meaning.specs.AlikeTypes.{is_spelled}
+use Rattle.module_meaning.specs.AlikeTypes.{has_type_form}
 use Rattle.module_meaning.specs.Undeclared.{is_spellable, names_undeclared}
 use Rattle.naga_info.specs.declared.info.ExpressionInfo.{ExpressionInfo}
 use Rattle.naga_info.specs.declared.info.TypeResolution.{TypeResolution}
@@ -51,7 +51,7 @@ declared_unsupported m f = first_unsupported m (declared_types f)
 
 -- a type is told, since it names no struct that no text declares, and has no form
 abbrev pub is_annotated_unsupported : Module → TypeResolution → Bool
-is_annotated_unsupported m r = not (names_undeclared m r) && not (is_spelled m.types r)
+is_annotated_unsupported m r = not (names_undeclared m r) && not (has_type_form m.types r)
 
 -- the type of the expression is known, told where a `let` names it, and has no form
 abbrev pub is_unsupported_let : Module → List ExpressionInfo → (h : ℕ) → Bool

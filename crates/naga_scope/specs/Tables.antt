@@ -8,7 +8,7 @@ use Rattle.std.specs.Prelude.{IsTrue, get_or, if◌then◌else◌, length, slice
 use Rattle.std.specs.Option.{is_none, is_some, option_and_then, option_map, option_map_or}
 use Rattle.std.specs.Option.{option_to_list}
 use Rattle.indexmap.specs.IndexMap.{values}
-use Rattle.module_meaning.specs.AlikeTypes.{is_spelled}
+use Rattle.module_meaning.specs.AlikeTypes.{has_type_form}
 use Rattle.module_meaning.specs.LackingScalars.{base_type, own_unwritable_scalar}
 use Rattle.module_meaning.specs.Layouts.{layout_in, module_rule}
 use Rattle.module_meaning.specs.acceptance.Ranges.{parts_stand_before, special_types_fit}
@@ -69,8 +69,8 @@ is_marked_type marks (Value it) = is_marked_over marks it
 
 -- Just the types that WGSL spells have marks. A struct counts as spelled, by its handle, whether a
 -- text declares it or not.
-abbrev pub MarksSpelled : Module → List Bool → Type 0
-MarksSpelled m marks = (h : ℕ) → is_marked marks h ≡ is_spelled m.types (Handle h)
+abbrev pub MarksTypeForms : Module → List Bool → Type 0
+MarksTypeForms m marks = (h : ℕ) → is_marked marks h ≡ has_type_form m.types (Handle h)
 
 -- a type by itself that is over none of the module's, and neither a struct nor a pointer into a
 -- space without a word
@@ -83,21 +83,21 @@ stands_alone (inner.Struct members span) = false
 stands_alone _ = true
 
 -- such a type is spelled where it is made of no scalar without a word
-abbrev pub is_spelled_alone : TypeInner → Bool
-is_spelled_alone it = stands_alone it && is_none (own_unwritable_scalar it)
+abbrev pub has_type_form_alone : TypeInner → Bool
+has_type_form_alone it = stands_alone it && is_none (own_unwritable_scalar it)
 
 -- what a type by itself is over has a mark, or it is over none and spelled
-abbrev pub spelled_over : List Bool → TypeInner → Bool
-spelled_over marks it = option_map_or (is_marked marks) (base_type it) (is_spelled_alone it)
+abbrev pub type_form_over : List Bool → TypeInner → Bool
+type_form_over marks it = option_map_or (is_marked marks) (base_type it) (has_type_form_alone it)
 
 -- the same of a type of the module: a struct is spelled
-abbrev pub item_is_spelled : List Bool → TypeInner → Bool
-item_is_spelled marks it = if is_struct it then true else spelled_over marks it
+abbrev pub item_has_type_form : List Bool → TypeInner → Bool
+item_has_type_form marks it = if is_struct it then true else type_form_over marks it
 
 -- and of the type of an expression
-abbrev pub type_is_spelled : List Bool → TypeResolution → Bool
-type_is_spelled marks (Handle h) = is_marked marks h
-type_is_spelled marks (Value it) = spelled_over marks it
+abbrev pub type_has_form_by_marks : List Bool → TypeResolution → Bool
+type_has_form_by_marks marks (Handle h) = is_marked marks h
+type_has_form_by_marks marks (Value it) = type_form_over marks it
 
 -- ---- layouts
 -- Each cell tells how its type is laid out, if it has a layout: as the text is to be written, where
@@ -151,6 +151,6 @@ pub record AreTablesOf (m : Module) (t : Tables) : Type 0 where
   pub representatives : AreRepresentatives m t.representatives
   pub undeclared : MarksUndeclared m t.undeclared
   pub naming : MarksNaming m t.naming
-  pub spelled : MarksSpelled m t.spelled
+  pub spelled : MarksTypeForms m t.spelled
   pub layouts : TellsLayouts m t.layouts
   pub strides : TellsStrides m t.strides

@@ -4,7 +4,7 @@ ghost use Rattle.std.specs.Prelude.{◌≡◌};
 ghost use Rattle.std.specs.Option.{is_some};
 ghost use Rattle.module_meaning.specs.LackingScalars.{image_lacks, base_type, own_unwritable_scalar};
 ghost use Rattle.module_meaning.specs.LackingScalars.{wordless};
-ghost use Rattle.naga_scope.specs.Tables.{is_spelled_alone, stands_alone};
+ghost use Rattle.naga_scope.specs.Tables.{has_type_form_alone, stands_alone};
 ghost use Rattle.wgsl_words.specs.Words.{space_word};
 
 use crate::forms::has_word;
@@ -81,8 +81,8 @@ fn has_space_word(space: AddressSpace) -> bool
 
 /// Whether WGSL spells it, where it is over no type of the module. A struct it spells by its handle,
 /// and so none by itself.
-pub(crate) fn is_spelled_alone(inner: &TypeInner) -> bool
-    ensures { result ≡ is_spelled_alone inner.now }
+pub(crate) fn has_type_form_alone(inner: &TypeInner) -> bool
+    ensures { result ≡ has_type_form_alone inner.now }
 {
     stands_alone(inner) && own_unwritable_scalar(inner).is_none()
 }

@@ -109,7 +109,7 @@ fn is_known_unsupported(
 {
     match info.expressions.get(handle.index()) {
         Some(known) => {
-            !tables.names_undeclared(module, &known.ty) && !tables.is_spelled(module, &known.ty)
+            !tables.names_undeclared(module, &known.ty) && !tables.has_type_form(module, &known.ty)
         }
         None => false,
     }

@@ -4,7 +4,7 @@ ghost use Rattle.std.specs.Prelude.{◌≡◌, IfOk, IfSome, None, false, if◌t
 ghost use Rattle.std.specs.Prelude.{length, replicate};
 ghost use Rattle.std.specs.Option.{is_some, option_and_then, option_map};
 ghost use Rattle.indexmap.specs.IndexMap.{values};
-ghost use Rattle.module_meaning.specs.AlikeTypes.{is_spelled};
+ghost use Rattle.module_meaning.specs.AlikeTypes.{has_type_form};
 ghost use Rattle.module_meaning.specs.ExpressionForms.{constant_has_form};
 ghost use Rattle.module_meaning.specs.ExpressionForms.{constant_has_form_over};
 ghost use Rattle.module_meaning.specs.ExpressionForms.{global_has_form, global_has_form_over};
@@ -16,18 +16,18 @@ ghost use Rattle.naga_layout.specs.Tables.{cell_at, mark_at};
 ghost use Rattle.naga_layout.specs.Types.{arrays_are_kept, kept_struct, placed_members};
 ghost use Rattle.naga_scope.specs.Marks.{MarksAlso, MarksGlobals, is_marked};
 ghost use Rattle.naga_scope.specs.Tables.{AreRepresentatives, AreTablesOf, ItemsStandInOrder};
-ghost use Rattle.naga_scope.specs.Tables.{MarksNaming, MarksSpelled, MarksUndeclared};
+ghost use Rattle.naga_scope.specs.Tables.{MarksNaming, MarksTypeForms, MarksUndeclared};
 ghost use Rattle.naga_scope.specs.Tables.{TellsLayouts, TellsStrides};
 ghost use Rattle.naga_scope.specs.Tables.{is_marked_over, is_marked_type, representative_at};
-ghost use Rattle.naga_scope.specs.Tables.{item_is_spelled, representative_over, spelled_over};
-ghost use Rattle.naga_scope.specs.Tables.{type_is_spelled};
+ghost use Rattle.naga_scope.specs.Tables.{item_has_type_form, representative_over, type_form_over};
+ghost use Rattle.naga_scope.specs.Tables.{type_has_form_by_marks};
 ghost use Rattle.naga_scope.specs.Tables.{undeclared_handles, unnamed_initialiser, unnamed_value};
 ghost use Rattle.naga_words.specs.Spelling.{is_struct};
 ghost use Rattle.wgsl_layout.specs.Capped.{IsAlignment, capped};
 ghost use Rattle.wgsl_layout.specs.Faults.{first_fault};
 
 use crate::forms::literal_has_form;
-use crate::single_types::{base_type, is_spelled_alone};
+use crate::single_types::{base_type, has_type_form_alone};
 use crate::written::{are_marked, is_marked, mark, mark_present, no_marks};
 use naga_info::TypeResolution;
 use naga_ir::{
@@ -83,7 +83,7 @@ impl ModuleTables {
     {
         let undeclared = undeclared_structs(alloc, module)?;
         let naming = naming_types(alloc, module, &undeclared)?;
-        let spelled = spelled_types(alloc, module)?;
+        let spelled = type_form_marks(alloc, module)?;
         let written = written_globals(alloc, module, &naming, &spelled)?;
         let representatives = representatives_of(alloc, module)?;
         let layouts = layouts(alloc, module, &undeclared)?;
@@ -153,11 +153,11 @@ impl ModuleTables {
     }
 
     /// Whether WGSL spells an expression's type.
-    pub(crate) fn is_spelled(&self, module: &Module, ty: &TypeResolution) -> bool
+    pub(crate) fn has_type_form(&self, module: &Module, ty: &TypeResolution) -> bool
         requires tables { AreTablesOf «module».now self.now }
-        ensures { result ≡ is_spelled «module».now.types ty.now }
+        ensures { result ≡ has_type_form «module».now.types ty.now }
     {
-        type_is_spelled(&self.spelled, ty)
+        type_has_form_by_marks(&self.spelled, ty)
     }
 
     /// How the type with this handle is laid out, as the module's text is to be written: none where
@@ -357,55 +357,55 @@ fn is_marked_type(marks: &[bool], ty: &TypeResolution) -> bool
 }
 
 /// Marks the types that WGSL spells.
-fn spelled_types(alloc: Global, module: &Module) -> Result<Vec<bool>, AllocError>
+fn type_form_marks(alloc: Global, module: &Module) -> Result<Vec<bool>, AllocError>
     requires ordered { ItemsStandInOrder «module».now }
-    ensures { IfOk result (λ marks. MarksSpelled «module».now marks.items) }
+    ensures { IfOk result (λ marks. MarksTypeForms «module».now marks.items) }
 {
     let mut marks = no_marks(alloc, module.types.len())?;
-    mark_spelled(&mut marks, module);
+    mark_type_forms(&mut marks, module);
     Ok(marks)
 }
 
 /// Marks them from the first to the last.
-fn mark_spelled(marks: &mut [bool], module: &Module)
+fn mark_type_forms(marks: &mut [bool], module: &Module)
     requires size { length marks.old ≡ length «module».now.types }
     requires ordered { ItemsStandInOrder «module».now }
-    ensures { MarksSpelled «module».now marks.new }
+    ensures { MarksTypeForms «module».now marks.new }
 {
     for index in 0..module.types.len() {
         let handle: Handle<Type_> = ItemIndex::from_index(index);
-        let spelled = item_is_spelled(marks, &module.types[handle].inner);
+        let spelled = item_has_type_form(marks, &module.types[handle].inner);
         marks[index] = spelled;
     }
 }
 
 /// Whether WGSL spells a type of the module, by marks of those before it. A struct it does.
-fn item_is_spelled(marks: &[bool], inner: &TypeInner) -> bool
-    ensures { result ≡ item_is_spelled marks.now inner.now }
+fn item_has_type_form(marks: &[bool], inner: &TypeInner) -> bool
+    ensures { result ≡ item_has_type_form marks.now inner.now }
 {
     match inner {
         TypeInner::Struct { .. } => true,
-        _ => spelled_over(marks, inner),
+        _ => type_form_over(marks, inner),
     }
 }
 
 /// Whether WGSL spells a type by itself, by marks of the module's: as what it is over, or alone.
-fn spelled_over(marks: &[bool], inner: &TypeInner) -> bool
-    ensures { result ≡ spelled_over marks.now inner.now }
+fn type_form_over(marks: &[bool], inner: &TypeInner) -> bool
+    ensures { result ≡ type_form_over marks.now inner.now }
 {
     match base_type(inner) {
         Some(under) => is_marked(marks, under),
-        None => is_spelled_alone(inner),
+        None => has_type_form_alone(inner),
     }
 }
 
 /// Whether WGSL spells an expression's type, by marks of the module's types.
-fn type_is_spelled(marks: &[bool], ty: &TypeResolution) -> bool
-    ensures { result ≡ type_is_spelled marks.now ty.now }
+fn type_has_form_by_marks(marks: &[bool], ty: &TypeResolution) -> bool
+    ensures { result ≡ type_has_form_by_marks marks.now ty.now }
 {
     match ty {
         TypeResolution::Handle(handle) => is_marked(marks, *handle),
-        TypeResolution::Value(inner) => spelled_over(marks, inner),
+        TypeResolution::Value(inner) => type_form_over(marks, inner),
     }
 }
 
@@ -413,16 +413,16 @@ fn type_is_spelled(marks: &[bool], ty: &TypeResolution) -> bool
 /// text declares, and of those that WGSL spells.
 fn is_spellable_by(naming: &[bool], spelled: &[bool], module: &Module, ty: Handle<Type_>) -> bool
     requires naming { MarksNaming «module».now naming.now }
-    requires spelled { MarksSpelled «module».now spelled.now }
+    requires spelled { MarksTypeForms «module».now spelled.now }
     ensures { result ≡ is_spellable «module».now (OfHandle ty) }
 {
-    handle_is_spelled(spelled, module, ty) && !handle_names(naming, module, ty)
+    handle_has_type_form(spelled, module, ty) && !handle_names(naming, module, ty)
 }
 
 /// Whether WGSL spells the type with this handle, by such marks.
-fn handle_is_spelled(spelled: &[bool], module: &Module, ty: Handle<Type_>) -> bool
-    requires spelled { MarksSpelled «module».now spelled.now }
-    ensures { result ≡ is_spelled «module».now.types (OfHandle ty) }
+fn handle_has_type_form(spelled: &[bool], module: &Module, ty: Handle<Type_>) -> bool
+    requires spelled { MarksTypeForms «module».now spelled.now }
+    ensures { result ≡ has_type_form «module».now.types (OfHandle ty) }
 {
     is_marked(spelled, ty)
 }
@@ -444,7 +444,7 @@ fn written_globals(
 ) -> Result<Vec<bool>, AllocError>
     requires ordered { ItemsStandInOrder «module».now }
     requires naming { MarksNaming «module».now naming.now }
-    requires spelled { MarksSpelled «module».now spelled.now }
+    requires spelled { MarksTypeForms «module».now spelled.now }
     ensures { IfOk result (λ marks. MarksGlobals «module».now marks.items) }
 {
     let mut marks = no_marks(alloc, module.global_expressions.len())?;
@@ -457,7 +457,7 @@ fn mark_globals(marks: &mut [bool], naming: &[bool], spelled: &[bool], module: &
     requires size { length marks.old ≡ length «module».now.global_expressions }
     requires ordered { ItemsStandInOrder «module».now }
     requires naming { MarksNaming «module».now naming.now }
-    requires spelled { MarksSpelled «module».now spelled.now }
+    requires spelled { MarksTypeForms «module».now spelled.now }
     ensures { MarksGlobals «module».now marks.new }
 {
     for index in 0..module.global_expressions.len() {
@@ -476,7 +476,7 @@ fn has_form_over(
     expression: &Expression,
 ) -> bool
     requires naming { MarksNaming «module».now naming.now }
-    requires spelled { MarksSpelled «module».now spelled.now }
+    requires spelled { MarksTypeForms «module».now spelled.now }
     ensures { result ≡ global_has_form_over «module».now (is_marked marks.now) expression.now }
 {
     match expression {

@@ -4,7 +4,7 @@ use Rattle.std.proofs.Common.{Option, Some, None, refl, sym, ap, ◌∙◌, appe
 use Rattle.std.proofs.lemmas.List.{append-nil}
 use Rattle.naga_back.specs.Indentation.{indentation}
 use Rattle.module_meaning.specs.Names.{numbered_name}
-use Rattle.module_meaning.specs.StatementShapes.{is_kept}
+use Rattle.module_meaning.specs.StatementShapes.{is_set}
 use Rattle.naga_form.specs.Expressions.{value_forms}
 use Rattle.naga_form.specs.Statements.{act_line, barrier_lines, let_form}
 use Rattle.naga_ir.specs.StatementTree.{simple, control_barrier, memory_barrier}
@@ -112,17 +112,17 @@ barrier_then i true word words =
     ∙ ap (λ t. t ++ (word ++ codes "();\n")) (sym (indentation_row i))))
 
 pub barriers_row : (i : ℕ) (flags : Barrier)
-    → barriers_text i flags ≡ joined_texts (barrier_text i (is_kept 1 flags) (codes "storageBarrier();\n"))
-    (joined_texts (barrier_text i (is_kept 2 flags) (codes "workgroupBarrier();\n"))
-    (joined_texts (barrier_text i (is_kept 4 flags) (codes "subgroupBarrier();\n"))
-    (barrier_text i (is_kept 8 flags) (codes "textureBarrier();\n"))))
+    → barriers_text i flags ≡ joined_texts (barrier_text i (is_set 1 flags) (codes "storageBarrier();\n"))
+    (joined_texts (barrier_text i (is_set 2 flags) (codes "workgroupBarrier();\n"))
+    (joined_texts (barrier_text i (is_set 4 flags) (codes "subgroupBarrier();\n"))
+    (barrier_text i (is_set 8 flags) (codes "textureBarrier();\n"))))
 unfolding barriers_text joined_texts
 barriers_row i flags =
-    barrier_then i (is_kept 1 flags) (codes "storageBarrier") _
-    ∙ ap (λ t. barrier_text i (is_kept 1 flags) (codes "storageBarrier();\n") ++ t)
-    (barrier_then i (is_kept 2 flags) (codes "workgroupBarrier") _
-    ∙ ap (λ t. barrier_text i (is_kept 2 flags) (codes "workgroupBarrier();\n") ++ t)
-    (barrier_then i (is_kept 4 flags) (codes "subgroupBarrier") _
-    ∙ ap (λ t. barrier_text i (is_kept 4 flags) (codes "subgroupBarrier();\n") ++ t)
-    (barrier_then i (is_kept 8 flags) (codes "textureBarrier") []
-    ∙ append-nil (barrier_text i (is_kept 8 flags) (codes "textureBarrier();\n")))))
+    barrier_then i (is_set 1 flags) (codes "storageBarrier") _
+    ∙ ap (λ t. barrier_text i (is_set 1 flags) (codes "storageBarrier();\n") ++ t)
+    (barrier_then i (is_set 2 flags) (codes "workgroupBarrier") _
+    ∙ ap (λ t. barrier_text i (is_set 2 flags) (codes "workgroupBarrier();\n") ++ t)
+    (barrier_then i (is_set 4 flags) (codes "subgroupBarrier") _
+    ∙ ap (λ t. barrier_text i (is_set 4 flags) (codes "subgroupBarrier();\n") ++ t)
+    (barrier_then i (is_set 8 flags) (codes "textureBarrier") []
+    ∙ append-nil (barrier_text i (is_set 8 flags) (codes "textureBarrier();\n")))))

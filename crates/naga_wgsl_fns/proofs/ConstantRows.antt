@@ -8,7 +8,7 @@ use Rattle.std.specs.Option.{is_some, option_map_or}
 use Rattle.std.proofs.lemmas.Bool.{and_parts, ltb-true}
 use Rattle.std.proofs.lemmas.Option.{same_Some, slice_get_within}
 use Rattle.module_meaning.proofs.Stepwise.{by_those_before}
-use Rattle.module_meaning.specs.AlikeTypes.{is_spelled}
+use Rattle.module_meaning.specs.AlikeTypes.{has_type_form}
 use Rattle.module_meaning.specs.OperatorTable.{Splat, run_word}
 use Rattle.module_meaning.specs.Names.{constant_name, module_names}
 use Rattle.module_meaning.specs.ExpressionForms.{constant_has_form, global_has_form}
@@ -45,7 +45,7 @@ use Rattle.naga_names.specs.declared.key.NameKey.TheVariants as key
 use Rattle.naga_wgsl_fns.specs.Literals.{literal_text}
 use Rattle.naga_wgsl_fns.specs.Names.{name_of_constant, name_of_override}
 use Rattle.naga_wgsl_fns.specs.Types.{spelled_text}
-use Rattle.module_meaning.proofs.ExpressionForms.{spelled_of_spellable}
+use Rattle.module_meaning.proofs.ExpressionForms.{type_form_of_spellable}
 use Rattle.module_meaning.specs.Undeclared.{is_spellable}
 use Rattle.shader_runs.specs.Premises.{AllBelow}
 use Rattle.wgsl_text.proofs.Expressions.{argument_text as argument_row_text}
@@ -185,15 +185,15 @@ module _ (m : Module) (ordered : GlobalsStandInOrder m) where
 
   pub zero_passes : (h : ℕ) (e : ir.Expression) (ty : ℕ) → slice_get m.global_expressions h ≡ Some e →
       e ≡ expression.ZeroValue ty → global_has_form m h ≡ true →
-      is_spelled m.types (Handle ty) ≡ true
+      has_type_form m.types (Handle ty) ≡ true
   zero_passes h e ty at same is =
-      spelled_of_spellable m (Handle ty) (written_over h (expression.ZeroValue ty) (at ∙ ap Some same) is)
+      type_form_of_spellable m (Handle ty) (written_over h (expression.ZeroValue ty) (at ∙ ap Some same) is)
 
   pub composed_passes : (h : ℕ) (e : ir.Expression) (ty : ℕ) (parts : _) →
       slice_get m.global_expressions h ≡ Some e → e ≡ expression.Compose ty parts →
-      global_has_form m h ≡ true → is_spelled m.types (Handle ty) ≡ true
+      global_has_form m h ≡ true → has_type_form m.types (Handle ty) ≡ true
   composed_passes h e ty parts at same is =
-      spelled_of_spellable m (Handle ty)
+      type_form_of_spellable m (Handle ty)
       (and_parts (is_spellable m (Handle ty)) (list_all (global_has_form m) parts.items)
       (written_over h (expression.Compose ty parts) (at ∙ ap Some same) is)).0
 
@@ -311,7 +311,7 @@ literal_row m can h e value at same =
 -- a value of a type, from the parts of its expression
 made_of : (m : Module) → CanWriteOf m → (h ty components : ℕ) (e own : ir.Expression) →
     slice_get m.global_expressions h ≡ Some e → e ≡ own →
-    is_spelled m.types (Handle ty) ≡ true →
+    has_type_form m.types (Handle ty) ≡ true →
     built_form (expression_context m (λ x. None)) (type_names m) ty components
     (map (global_at m) (expression_operands own)) ≡
     over m (type_names m) (global_at m) own →
@@ -334,13 +334,13 @@ made_of m can h ty components e own at same formed is =
 
 pub zero_row : (m : Module) → CanWriteOf m → (h ty : ℕ) (e : ir.Expression) →
     slice_get m.global_expressions h ≡ Some e → e ≡ expression.ZeroValue ty →
-    is_spelled m.types (Handle ty) ≡ true → made_global_text m ty h ≡ global_text m h
+    has_type_form m.types (Handle ty) ≡ true → made_global_text m ty h ≡ global_text m h
 zero_row m can h ty e at same formed =
     made_of m can h ty 0 e (expression.ZeroValue ty) at same formed refl
 
 pub composed_row : (m : Module) → CanWriteOf m → (h ty : ℕ) (parts : _) (e : ir.Expression) →
     slice_get m.global_expressions h ≡ Some e → e ≡ expression.Compose ty parts →
-    is_spelled m.types (Handle ty) ≡ true → made_global_text m ty h ≡ global_text m h
+    has_type_form m.types (Handle ty) ≡ true → made_global_text m ty h ≡ global_text m h
 composed_row m can h ty parts e at same formed =
     made_of m can h ty (length parts.items) e (expression.Compose ty parts) at same formed refl
 

@@ -5,7 +5,7 @@ use Rattle.std.proofs.lemmas.Option.{same_Some}
 use Rattle.std.specs.Prelude.{slice_get, unwrap_or, if◌then◌else◌}
 use Rattle.module_meaning.specs.Conversions.{conversion_target, keeps_bits}
 use Rattle.module_meaning.specs.ExpressionOperators.{type_known}
-use Rattle.module_meaning.specs.AlikeTypes.{is_spelled}
+use Rattle.module_meaning.specs.AlikeTypes.{has_type_form}
 use Rattle.module_meaning.specs.ExpressionForms.{expression_has_own_form}
 use Rattle.module_meaning.specs.acceptance.Ranges.{resolution_fits}
 use Rattle.naga_form.proofs.operators.AllowedParts.{conversion}
@@ -68,7 +68,7 @@ target_fits overrides types _ to kind convert is = absurd cc
 module _ (f : FunctionText) (operand : ℕ) (kind : ScalarKind) (convert : Option ℕ)
     (from to : TypeInner) (known : type_known (context f) operand ≡ Some from)
     (target : conversion_target from kind convert ≡ Some to)
-    (formed : is_spelled f.shader.now.types (Value to) ≡ true) where
+    (formed : has_type_form f.shader.now.types (Value to) ≡ true) where
   abbrev tree : TypeSpecifier
   tree = (tree_there (type_names_of f) (Value to) formed).0
 

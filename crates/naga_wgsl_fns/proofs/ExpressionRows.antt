@@ -35,7 +35,7 @@ use Rattle.naga_form.proofs.operators.Operators.{typed_notation, unary_row}
 use Rattle.module_meaning.specs.Names.{module_names, numbered_name}
 use Rattle.naga_form.proofs.types.SameValues.{or_nothing}
 use Rattle.naga_names.specs.declared.key.NameKey.TheVariants as key
-use Rattle.module_meaning.specs.AlikeTypes.{is_spelled}
+use Rattle.module_meaning.specs.AlikeTypes.{has_type_form}
 use Rattle.naga_info.specs.declared.info.TypeResolution.TheVariants.{Handle}
 use Rattle.naga_form.proofs.types.WrittenTypes.{tree_there}
 use Rattle.naga_form.specs.TypeTrees.{type_tree}
@@ -530,7 +530,7 @@ own_typed f table handle e own t n can within called here is made =
 -- or makes a value of a type of the module
 pub own_made : (f : FunctionText) (table : List Availability) {handle : ℕ} (ty components : ℕ)
     {e own : ir.Expression} → CanWrite f → IsInText f handle →
-    IsTrue (is_spelled f.shader.now.types (Handle ty)) →
+    IsTrue (has_type_form f.shader.now.types (Handle ty)) →
     slice_get (expressions f) handle ≡ Some e → e ≡ own →
     own_at f table handle (Some own) ≡
     applied_text f table

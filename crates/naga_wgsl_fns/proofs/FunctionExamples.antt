@@ -105,9 +105,9 @@ module _ (other : Module) (more : ModuleInfo) (o : Override) (first : Function)
     meant : IsMeantUnder named flags m info (item.Function 0) content now
     meant = (writing.meaning later begins).under named agree
 
-    bindings : BindsAt named m info (annotates_types flags)
+    lets : BindsAt named m info (annotates_types flags)
         (program_under named m info flags) 0
-    bindings = meant.bindings
+    lets = meant.lets
 
     words : BodyResolves named m info (program_under named m info flags) 0
     words = meant.resolution.body

@@ -4,7 +4,7 @@ use Rattle.std.proofs.Common.{◌≡◌, ℕ, Bool, true, false, List, [], ◌�
 use Rattle.std.proofs.Common.{sym, ◌∙◌}
 use Rattle.std.specs.Prelude.{slice_get, unwrap_or, if◌then◌else◌}
 use Rattle.std.specs.Option.{option_map_or}
-use Rattle.module_meaning.specs.AlikeTypes.{is_spelled}
+use Rattle.module_meaning.specs.AlikeTypes.{has_type_form}
 use Rattle.module_meaning.specs.ExpressionOperators.{is_atomic_pointer}
 use Rattle.module_meaning.specs.OperatorTable.{AtomicLoad, run_word}
 use Rattle.module_meaning.specs.ExpressionForms.{expression_has_own_form}
@@ -81,7 +81,7 @@ module _ (f : FunctionText) (columns rows : CooperativeSize) (role : Cooperative
     (place : CooperativeData) (s : Scalar)
     (known : scalar_pointed (context f) place.pointer ≡ Some s)
     (formed :
-    is_spelled f.shader.now.types (Value (inner.CooperativeMatrix columns rows s role)) ≡ true)
+    has_type_form f.shader.now.types (Value (inner.CooperativeMatrix columns rows s role)) ≡ true)
   where
     abbrev it : TypeInner
     it = inner.CooperativeMatrix columns rows s role

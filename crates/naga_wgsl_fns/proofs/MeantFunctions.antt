@@ -133,7 +133,7 @@ meant_under named flags m info accepted are ty earlier writable content now stan
     let number = function_number m ty in
     record {
       stands = stands;
-      bindings = binds_at m info flags named accepted number writable.formed;
+      lets = binds_at m info flags named accepted number writable.formed;
       resolution =
           resolves_at m info flags named accepted are number writable.formed writable.in_scope;
       runs = λ items have scopes.

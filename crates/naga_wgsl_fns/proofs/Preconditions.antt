@@ -25,13 +25,13 @@ use Rattle.naga_ir.specs.declared.types.CooperativeSize.{CooperativeSize}
 use Rattle.naga_ir.specs.declared.types.VectorSize.{VectorSize}
 use Rattle.naga_info.specs.declared.info.ExpressionInfo.{ExpressionInfo}
 use Rattle.module_meaning.proofs.Lists.{list_all_at}
-use Rattle.module_meaning.proofs.ExpressionForms.{spelled_of_spellable, has_form_parts}
+use Rattle.module_meaning.proofs.ExpressionForms.{type_form_of_spellable, has_form_parts}
 use Rattle.module_meaning.specs.Sampling.{own_offset_has_form}
 use Rattle.naga_ir.specs.declared.expression.SampleLevel.{SampleLevel}
 use Rattle.naga_wgsl_fns.specs.FunctionText.{named_in, AreInText, source, CanWrite, IsInText, IsLet}
 use Rattle.naga_wgsl_fns.specs.FunctionText.{context, naming, callees, number}
 use Rattle.module_meaning.specs.Names.{module_names, name_in, numbered_name}
-use Rattle.module_meaning.specs.AlikeTypes.{is_spelled}
+use Rattle.module_meaning.specs.AlikeTypes.{has_type_form}
 use Rattle.module_meaning.specs.DeclarationForms.{binding_has_form}
 use Rattle.module_meaning.specs.DeclarationForms.IsPassed.{OfArgument as PassedArgument}
 use Rattle.module_meaning.specs.DeclarationForms.IsPassed.{OfResult as PassedResult}
@@ -191,14 +191,15 @@ module _ (t : FunctionText) (can : CanWrite t) where
   -- ---- types
   -- the types of arguments, of the result and of locals have forms
   pub argument_is_formed : (n : ℕ) (a : argument.FunctionArgument) → slice_get f.arguments.items n ≡ Some a →
-      IsTrue (is_spelled m.types (resolution.Handle a.ty))
+      IsTrue (has_type_form m.types (resolution.Handle a.ty))
   argument_is_formed n a here =
-      spelled_of_spellable m (resolution.Handle a.ty)
+      type_form_of_spellable m (resolution.Handle a.ty)
       (can.formed.types (resolution.Handle a.ty) (OfArgument n a here))
 
-  pub answer_is_formed : (r : FunctionResult) → f.result ≡ Some r → IsTrue (is_spelled m.types (resolution.Handle r.ty))
+  pub answer_is_formed : (r : FunctionResult) → f.result ≡ Some r →
+      IsTrue (has_type_form m.types (resolution.Handle r.ty))
   answer_is_formed r is =
-      spelled_of_spellable m (resolution.Handle r.ty)
+      type_form_of_spellable m (resolution.Handle r.ty)
       (can.formed.types (resolution.Handle r.ty) (OfResult r is))
 
   -- what they pass by has a form
@@ -218,9 +219,9 @@ module _ (t : FunctionText) (can : CanWrite t) where
       passes r.binding (λ k bound. can.head.bindings f can.function k (PassedResult r k is bound))
 
   pub local_is_formed : (l : ℕ) (v : LocalVariable) → slice_get f.local_variables l ≡ Some v →
-      IsTrue (is_spelled m.types (resolution.Handle v.ty))
+      IsTrue (has_type_form m.types (resolution.Handle v.ty))
   local_is_formed l v here =
-      spelled_of_spellable m (resolution.Handle v.ty)
+      type_form_of_spellable m (resolution.Handle v.ty)
       (can.formed.types (resolution.Handle v.ty) (OfLocal l v here))
 
   -- a local's first value is one of the function's expressions
@@ -239,9 +240,9 @@ module _ (t : FunctionText) (can : CanWrite t) where
   -- the type that a `let` tells has a form
   pub annotated_is_formed : (h : ℕ) (k : ExpressionInfo) → slice_get es h ≡ Some k →
       annotates_types t.flags ≡ true → IsLet t h →
-      names_undeclared m k.ty ≡ false → IsTrue (is_spelled m.types k.ty)
+      names_undeclared m k.ty ≡ false → IsTrue (has_type_form m.types k.ty)
   annotated_is_formed h k at tells named declared =
-      spelled_of_spellable m k.ty (can.formed.types k.ty (OfLet h k tells named at declared))
+      type_form_of_spellable m k.ty (can.formed.types k.ty (OfLet h k tells named at declared))
 
   pub known_resolution_fits : (h : ℕ) (k : ExpressionInfo) → slice_get es h ≡ Some k →
       IsTrue (resolution_fits (length m.overrides) (length m.types) k.ty)
@@ -388,7 +389,7 @@ module _ (t : FunctionText) (can : CanWrite t) where
 
   -- the type that a `let` tells, where it tells one
   pub annotated_row : (h : ℕ) (k : ExpressionInfo) → slice_get es h ≡ Some k → annotates_types t.flags ≡ true →
-      names_undeclared m k.ty ≡ false → IsTrue (is_spelled m.types k.ty) →
+      names_undeclared m k.ty ≡ false → IsTrue (has_type_form m.types k.ty) →
       annotation_text t k.ty ≡ let_annotation_text t h
   unfolding annotation_text resolution_text let_annotation_text
   annotated_row h k at is declared formed =
@@ -533,7 +534,7 @@ module _ (t : FunctionText) (can : CanWrite t) where
       expression_has_own_form m es (expression.As x kind convert) ≡ true → (from : TypeInner) →
       type_known (context t) x ≡ Some from →
       (to : TypeInner) × ((conversion_target from kind convert ≡ Some to)
-      × (is_spelled m.types (resolution.Value to) ≡ true))
+      × (has_type_form m.types (resolution.Value to) ≡ true))
   converted_is x kind convert may from known =
       let c = conversion m info es x kind convert may in
       let same = same_Some c.from from (sym c.known ∙ known) in
@@ -564,9 +565,9 @@ module _ (t : FunctionText) (can : CanWrite t) where
   pub made_value : {h : ℕ} {e own : Expression} (ty : ℕ) → slice_get f.expressions h ≡ Some e →
       IsInText t h → e ≡ own →
       expression_has_own_form m es own ≡ is_spellable m (resolution.Handle ty) →
-      IsTrue (is_spelled m.types (resolution.Handle ty))
+      IsTrue (has_type_form m.types (resolution.Handle ty))
   made_value {h} {e} {own} ty here within is names =
-      spelled_of_spellable m (resolution.Handle ty) (sym names ∙ written_as here within is)
+      type_form_of_spellable m (resolution.Handle ty) (sym names ∙ written_as here within is)
 
   -- ---- names of handles
   pub named_after_one : (h k : ℕ) → named_after (naming t).function h k ≡ k + length (option_to_list (label_of f h))

@@ -35,7 +35,7 @@ use Rattle.naga_words.specs.Words.{vector_word}
 use Rattle.wgsl_text.proofs.Text.{text-append}
 use Rattle.wgsl_text.specs.Reading.{type_layout}
 use Rattle.wgsl_words.specs.Words.{scalar_word, space_access_word, space_word}
-use Rattle.module_meaning.specs.AlikeTypes.{is_spelled, type_key}
+use Rattle.module_meaning.specs.AlikeTypes.{has_type_form, type_key}
 use Rattle.module_meaning.specs.Undeclared.{is_spellable, names_undeclared}
 use Rattle.naga_form.proofs.types.AlikeTypes.{form_is_read, form_read}
 use Rattle.naga_form.proofs.types.TypeTrees.{type_row}
@@ -163,10 +163,10 @@ module _ (n : Names) (knows : ℕ → Bool) where
 
 -- ---- a type whose text was written
 -- WGSL spells it
-written_is_spelled : (m : Module) (names : NameMap) (h : ℕ) (content now : List ℕ) →
+written_has_type_form : (m : Module) (names : NameMap) (h : ℕ) (content now : List ℕ) →
     HasWritten (type_segments (names_context m.types names) h) content now →
-    is_spelled m.types (Handle h) ≡ true
-written_is_spelled m names h content now written =
+    has_type_form m.types (Handle h) ≡ true
+written_has_type_form m names h content now written =
     by (type_key m.types (Handle h))
     (sym (text_known written.is_text (type_shows (names_of m.types names) (λ o. true) h))
     ∙ (type_row text-append (names_of m.types names) (λ o. true) h
@@ -183,5 +183,5 @@ pub written_is_spellable : (m : Module) (names : NameMap) (h : ℕ) (content now
     HasWritten (type_segments (names_context m.types names) h) content now →
     names_undeclared m (Handle h) ≡ false → IsTrue (is_spellable m (Handle h))
 written_is_spellable m names h content now written names_none =
-    and_from (is_spelled m.types (Handle h)) (not (names_undeclared m (Handle h)))
-    (written_is_spelled m names h content now written) (ap not names_none)
+    and_from (has_type_form m.types (Handle h)) (not (names_undeclared m (Handle h)))
+    (written_has_type_form m names h content now written) (ap not names_none)

@@ -32,7 +32,7 @@ use Rattle.naga_wgsl_fns.specs.declared.functions.FunctionText.{FunctionText}
 use Rattle.naga_wgsl_fns.specs.FunctionText.{CanWrite}
 use Rattle.naga_wgsl_fns.specs.ModuleText.{CanWriteOf}
 use Rattle.naga_wgsl_fns.proofs.ModuleTexts.{can_of}
-use Rattle.module_meaning.specs.AlikeTypes.{key_within, found_key_by, handle_key, is_spelled}
+use Rattle.module_meaning.specs.AlikeTypes.{key_within, found_key_by, handle_key, has_type_form}
 use Rattle.module_meaning.specs.acceptance.Ranges.{resolution_fits}
 use Rattle.module_meaning.specs.Types.{type_names}
 use Rattle.naga_form.proofs.types.PartTypes.{known_before, known_within, named_alike, type_before}
@@ -98,7 +98,8 @@ row_of types names (resolution.Handle h) = type_row text-append (names_of types 
 row_of types names (resolution.Value i) = inner_tree_row text-append (names_of types names) (λ handle. true) i
 
 -- a type of the module that has a form is there
-pub formed_within : (types : List Type_) (ty : ℕ) → IsTrue (is_spelled types (resolution.Handle ty)) → ty < length types
+pub formed_within : (types : List Type_) (ty : ℕ) → IsTrue (has_type_form types (resolution.Handle ty))
+    → ty < length types
 unfolding handle_key
 formed_within types ty is = by (slice_get types ty) refl is
   where
@@ -138,7 +139,7 @@ module _ (m : Module) (can : CanWriteOf m) (names : NameMap) where
 
   module _ (named : HasNamesOf m names) where
     -- the spelling of a type that has a form, under the map's names, which are the module's
-    formed_known : (r : TypeResolution) → IsTrue (is_spelled m.types r) →
+    formed_known : (r : TypeResolution) → IsTrue (has_type_form m.types r) →
         ((it : TypeInner) → r ≡ resolution.Value it → length_within (length m.overrides) it ≡ true) →
         known_text (resolution_segments (names_context m.types names) r) ≡
         Some (type_layout (unwrap_or (resolution_tree (type_names m) r) (Named [])))
@@ -149,12 +150,12 @@ module _ (m : Module) (can : CanWriteOf m) (names : NameMap) where
         row_of m.types names r ∙ ap (option_map type_layout) (same ∙ t.1)
         ∙ ap (λ o. Some (type_layout (unwrap_or o (Named [])))) (sym t.1)
 
-    pub type_known : (ty : ℕ) → IsTrue (is_spelled m.types (resolution.Handle ty)) →
+    pub type_known : (ty : ℕ) → IsTrue (has_type_form m.types (resolution.Handle ty)) →
         known_text (type_segments (names_context m.types names) ty) ≡ Some (spelled_text m ty)
     unfolding spelled_text
     type_known ty formed = formed_known (resolution.Handle ty) formed (λ it is. absurd (cc))
 
-    pub resolution_spelled : (r : TypeResolution) → IsTrue (is_spelled m.types r) →
+    pub resolution_spelled : (r : TypeResolution) → IsTrue (has_type_form m.types r) →
         IsTrue (resolution_fits (length m.overrides) (length m.types) r) →
         known_text (resolution_segments (names_context m.types names) r) ≡
         Some (type_layout (unwrap_or (resolution_tree (type_names m) r) (Named [])))
@@ -167,7 +168,7 @@ unfolding spelled_text type_text
 type_same f ty = refl
 
 pub resolution_known : (f : FunctionText) (can : CanWrite f) (r : TypeResolution) →
-    IsTrue (is_spelled f.shader.now.types r) →
+    IsTrue (has_type_form f.shader.now.types r) →
     IsTrue (resolution_fits (length f.shader.now.overrides) (length f.shader.now.types) r) →
     known_text (resolution_segments (names_context f.shader.now.types (names_in f.names.now)) r) ≡
     Some (resolution_text f r)

@@ -135,7 +135,7 @@ pub record IsMeantUnder (named : LabelNames) (flags : WriterFlags) (m : Module) 
     (ty : FunctionType) (content now : List ℕ) : Type 0 where
   pub stands : StandsIn ty content now (program_under named m info flags)
   -- The function has the module's `let`s. No item is asked for its form.
-  pub bindings : BindsAt named m info (annotates_types flags) (program_under named m info flags)
+  pub lets : BindsAt named m info (annotates_types flags) (program_under named m info flags)
       (function_number m ty)
   -- Each of its identifiers and words stands for what the module means, and so does each name
   -- outside of functions. Of items only initialisers are asked for forms, for what they themselves

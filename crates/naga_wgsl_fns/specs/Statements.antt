@@ -143,8 +143,8 @@ outcome_text f (Some h) =
     codes "let " ++ (numbered_name h ++ (let_annotation_text f h ++ codes " = "))
 
 -- a barrier's line, where it is one of that kind
-unfoldable pub barrier_text : (i : ℕ) → (is_kept : Bool) → (line : List ℕ) → List ℕ
-barrier_text i is_kept line = if is_kept then line_start i line else []
+unfoldable pub barrier_text : (i : ℕ) → (is_set : Bool) → (line : List ℕ) → List ℕ
+barrier_text i is_set line = if is_set then line_start i line else []
 
 -- all of them
 unfoldable pub barriers_text : (i : ℕ) → Barrier → List ℕ

@@ -300,10 +300,10 @@ pub(crate) fn write_barrier<W: TextSink>(barrier: Barrier, at: &BodyState, out: 
 
 /// The line of a barrier, where it is of that kind.
 #[tactic(auto, using(naga_words::proofs::Writing::writes_nothing), unfolding(crate::specs::Statements::barrier_text))]
-fn write_barrier_if<W: TextSink>(is_kept: bool, line: &str, at: &BodyState, out: &mut Output<'_, W>)
-    ensures { Writes W.text W.failures out.old out.new (barrier_text at.now.indent is_kept line.now) }
+fn write_barrier_if<W: TextSink>(is_set: bool, line: &str, at: &BodyState, out: &mut Output<'_, W>)
+    ensures { Writes W.text W.failures out.old out.new (barrier_text at.now.indent is_set line.now) }
 {
-    if is_kept {
+    if is_set {
         at.write_start(line, out);
     }
 }

@@ -42,7 +42,7 @@ pub fn write_worded<W: TextSink>(front: &str, word: &str, out: &mut Output<'_, W
 
 /// Writes a piece if the condition holds.
 #[tactic(auto, unfolding(crate::specs::Attributes::text_if))]
-pub fn write_optional_piece<W: TextSink>(there: bool, piece: &str, out: &mut Output<'_, W>)
+pub fn write_optional_chunk<W: TextSink>(there: bool, piece: &str, out: &mut Output<'_, W>)
     ensures { Writes W.text W.failures out.old out.new (text_if there piece.now) }
 {
     out.put(if there { piece } else { "" });

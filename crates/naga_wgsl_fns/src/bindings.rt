@@ -17,7 +17,7 @@ ghost use Rattle.naga_wgsl_fns.specs.Bindings.{BindingWriting, passing_has_form}
 ghost use Rattle.naga_wgsl_fns.specs.DeclarationRefusals.{NamesBuiltin};
 ghost use Rattle.naga_wgsl_fns.specs.Errors.{IsWant};
 
-use crate::attributes::{write_interpolated, write_numbered, write_optional_piece, write_worded};
+use crate::attributes::{write_interpolated, write_numbered, write_optional_chunk, write_worded};
 use crate::implemented::to_wgsl_if_implemented;
 use crate::refusals::error::{Error, error_of_want};
 use naga_ir::{Binding, BuiltIn, Interpolation, Sampling};
@@ -108,7 +108,7 @@ fn write_attributes<W: TextSink>(binding: Binding, out: &mut Output<'_, W>)
             write_numbered("@location(", location, out);
             write_blend_source(blend_src, out);
             write_interpolation(interpolation, sampling, out);
-            write_optional_piece(per_primitive, "@per_primitive ", out);
+            write_optional_chunk(per_primitive, "@per_primitive ", out);
         }
     }
 }
@@ -121,7 +121,7 @@ fn write_builtin<W: TextSink>(value: BuiltIn, out: &mut Output<'_, W>)
     match value.try_to_wgsl() {
         Some(word) => {
             write_worded("@builtin(", word, out);
-            write_optional_piece(is_invariant(value), "@invariant ", out);
+            write_optional_chunk(is_invariant(value), "@invariant ", out);
         }
         None => unreachable!(),
     }

@@ -1,7 +1,7 @@
 //! Constants, which are written as their names, and without one as their initialisers are.
 
 ghost use Rattle.std.specs.Prelude.{◌≡◌, IsTrue};
-ghost use Rattle.module_meaning.specs.AlikeTypes.{is_spelled};
+ghost use Rattle.module_meaning.specs.AlikeTypes.{has_type_form};
 ghost use Rattle.module_meaning.specs.ExpressionForms.{constant_has_form, global_has_form};
 ghost use Rattle.naga_info.specs.declared.info.TypeResolution.TheVariants as resolution;
 ghost use Rattle.naga_words.specs.Output.{Writes};
@@ -123,7 +123,7 @@ impl ModuleText<'_> {
         out: &mut Output<'_, W>,
     )
         requires can { CanWriteIn self.now }
-        requires formed { IsTrue (is_spelled self.now.shader.now.types (resolution.Handle ty)) }
+        requires formed { IsTrue (has_type_form self.now.shader.now.types (resolution.Handle ty)) }
         requires written { IsTrue (global_has_form self.now.shader.now handle) }
         ensures { Writes W.text W.failures out.old out.new
             (made_global_text self.now.shader.now ty handle) }

@@ -3,7 +3,7 @@
 ghost use Rattle.std.specs.Prelude.{◌≡◌, ◌<◌, IsTrue, Some, length};
 ghost use Rattle.std.specs.Option.{is_some};
 ghost use Rattle.module_meaning.specs.Conversions.{conversion_target, keeps_bits};
-ghost use Rattle.module_meaning.specs.AlikeTypes.{is_spelled};
+ghost use Rattle.module_meaning.specs.AlikeTypes.{has_type_form};
 ghost use Rattle.module_meaning.specs.ExpressionForms.{expression_has_own_form};
 ghost use Rattle.module_meaning.specs.acceptance.Ranges.{resolution_fits};
 ghost use Rattle.naga_ir.specs.declared.expression.Expression.TheVariants.{As};
@@ -73,7 +73,7 @@ impl FunctionText<'_> {
         out: &mut Output<'_, W>,
     )
         requires can { CanWrite self.now }
-        requires formed { IsTrue (is_spelled self.now.shader.now.types target.now) }
+        requires formed { IsTrue (has_type_form self.now.shader.now.types target.now) }
         requires fits { IsTrue (resolution_fits (length self.now.shader.now.overrides)
             (length self.now.shader.now.types) target.now) }
         ensures { Writes W.text W.failures out.old out.new
@@ -89,7 +89,7 @@ impl FunctionText<'_> {
     #[tactic(auto, using(naga_words::proofs::Writing::writes_then, crate::proofs::ConversionRows::bitcast_row))]
     fn write_bitcast<W: TextSink>(&self, target: &TypeResolution, out: &mut Output<'_, W>)
         requires can { CanWrite self.now }
-        requires formed { IsTrue (is_spelled self.now.shader.now.types target.now) }
+        requires formed { IsTrue (has_type_form self.now.shader.now.types target.now) }
         requires fits { IsTrue (resolution_fits (length self.now.shader.now.overrides)
             (length self.now.shader.now.types) target.now) }
         ensures { Writes W.text W.failures out.old out.new (bitcast_text self.now target.now) }

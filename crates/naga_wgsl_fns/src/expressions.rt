@@ -1,7 +1,7 @@
 //! Writes expressions.
 
 ghost use Rattle.std.specs.Prelude.{[], ◌∷◌, ◌<◌, ◌≡◌, length, IsTrue};
-ghost use Rattle.module_meaning.specs.AlikeTypes.{is_spelled};
+ghost use Rattle.module_meaning.specs.AlikeTypes.{has_type_form};
 ghost use Rattle.naga_info.specs.declared.info.TypeResolution.TheVariants as resolution;
 ghost use Rattle.naga_form.specs.Operators.{Infix, Prefix, operator_form, unary_form};
 ghost use Rattle.naga_words.specs.Output.{Writes};
@@ -232,7 +232,7 @@ impl FunctionText<'_> {
     )
         requires can { CanWrite self.now }
         requires handle { IsInText self.now handle }
-        requires formed { IsTrue (is_spelled self.now.shader.now.types (resolution.Handle ty)) }
+        requires formed { IsTrue (has_type_form self.now.shader.now.types (resolution.Handle ty)) }
         ensures { Writes W.text W.failures out.old out.new
             (made_text self.now scope.now.table (made_type self.now ty) handle) }
     {

@@ -3,7 +3,7 @@
 ghost use Rattle.std.specs.Prelude.{◌≡◌, ◌<◌, ◌++◌, IfErr, IsTrue, OnErr, OnOk, Some, length};
 ghost use Rattle.std.specs.Prelude.{slice_get, true};
 ghost use Rattle.module_meaning.specs.acceptance.Accepted.{is_accepted};
-ghost use Rattle.module_meaning.specs.AlikeTypes.{is_spelled};
+ghost use Rattle.module_meaning.specs.AlikeTypes.{has_type_form};
 ghost use Rattle.naga_info.specs.declared.info.TypeResolution.TheVariants as resolution;
 ghost use Rattle.module_meaning.specs.DeclarationForms.{HeadHasForm, binding_has_form};
 ghost use Rattle.module_meaning.specs.FunctionNumbers.{IsFunctionOf, function_number};
@@ -249,7 +249,7 @@ impl FunctionText<'_> {
         requires can { CanWrite self.now }
         requires passing { IsTrue (option_map_or binding_has_form answer.now.binding true) }
         requires formed { IsTrue
-            (is_spelled self.now.shader.now.types (resolution.Handle answer.now.ty)) }
+            (has_type_form self.now.shader.now.types (resolution.Handle answer.now.ty)) }
         ensures { Writes W.text W.failures out.old out.new (answer_text self.now answer.now) }
     {
         out.put(" -> ");

@@ -2,7 +2,7 @@
 
 ghost use Rattle.std.specs.Prelude.{◌≡◌, ◌<◌, IsTrue, Some, length, slice_get};
 ghost use Rattle.std.specs.Option.{is_some};
-ghost use Rattle.module_meaning.specs.AlikeTypes.{is_spelled};
+ghost use Rattle.module_meaning.specs.AlikeTypes.{has_type_form};
 ghost use Rattle.module_meaning.specs.ExpressionOperators.{is_atomic_pointer};
 ghost use Rattle.module_meaning.specs.ExpressionForms.{expression_has_own_form};
 ghost use Rattle.module_meaning.specs.acceptance.Ranges.{resolution_fits};
@@ -132,7 +132,7 @@ impl FunctionText<'_> {
     #[tactic(auto, using(naga_words::proofs::Writing::writes_then, crate::proofs::LoadRows::taking_row))]
     fn write_taking<W: TextSink>(&self, word: &str, ty: &TypeResolution, out: &mut Output<'_, W>)
         requires can { CanWrite self.now }
-        requires formed { IsTrue (is_spelled self.now.shader.now.types ty.now) }
+        requires formed { IsTrue (has_type_form self.now.shader.now.types ty.now) }
         requires fits { IsTrue (resolution_fits (length self.now.shader.now.overrides)
             (length self.now.shader.now.types) ty.now) }
         ensures { Writes W.text W.failures out.old out.new (taking_text self.now word.now ty.now) }

@@ -1,7 +1,7 @@
 //! What the texts of a module's types and of its own expressions are made from.
 
 ghost use Rattle.std.specs.Prelude.{IsTrue};
-ghost use Rattle.module_meaning.specs.AlikeTypes.{is_spelled};
+ghost use Rattle.module_meaning.specs.AlikeTypes.{has_type_form};
 ghost use Rattle.naga_info.specs.declared.info.TypeResolution.TheVariants as resolution;
 ghost use Rattle.naga_words.specs.Output.{Writes};
 ghost use Rattle.naga_wgsl_fns.specs.ModuleText.{CanWriteIn};
@@ -34,7 +34,7 @@ impl ModuleText<'_> {
     /// The type with this handle.
     pub fn write_type<W: TextSink>(&self, alloc: Global, ty: Handle<Type_>, out: &mut Output<'_, W>)
         requires can { CanWriteIn self.now }
-        requires formed { IsTrue (is_spelled self.now.shader.now.types (resolution.Handle ty)) }
+        requires formed { IsTrue (has_type_form self.now.shader.now.types (resolution.Handle ty)) }
         ensures { Writes W.text W.failures out.old out.new (spelled_text self.now.shader.now ty) }
     {
         let context = WriterTypeContext {

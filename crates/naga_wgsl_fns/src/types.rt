@@ -1,7 +1,7 @@
 //! Types, spelled under the names of the module's items.
 
 ghost use Rattle.std.specs.Prelude.{◌<◌, IsTrue, length};
-ghost use Rattle.module_meaning.specs.AlikeTypes.{is_spelled};
+ghost use Rattle.module_meaning.specs.AlikeTypes.{has_type_form};
 ghost use Rattle.module_meaning.specs.acceptance.Ranges.{resolution_fits};
 ghost use Rattle.naga_info.specs.declared.info.TypeResolution.TheVariants as resolution;
 ghost use Rattle.naga_words.specs.Output.{Writes};
@@ -21,7 +21,7 @@ impl FunctionText<'_> {
     /// The type with this handle.
     pub(crate) fn write_type<W: TextSink>(&self, ty: Handle<Type_>, out: &mut Output<'_, W>)
         requires can { CanWrite self.now }
-        requires formed { IsTrue (is_spelled self.now.shader.now.types (resolution.Handle ty)) }
+        requires formed { IsTrue (has_type_form self.now.shader.now.types (resolution.Handle ty)) }
         ensures { Writes W.text W.failures out.old out.new (type_text self.now ty) }
     {
         self.of_module().write_type(self.alloc, ty, out);
@@ -31,7 +31,7 @@ impl FunctionText<'_> {
     #[tactic(auto, using(naga_words::proofs::Writing::writes_then, crate::proofs::TypeRows::annotation_row))]
     fn write_annotation<W: TextSink>(&self, ty: &TypeResolution, out: &mut Output<'_, W>)
         requires can { CanWrite self.now }
-        requires formed { IsTrue (is_spelled self.now.shader.now.types ty.now) }
+        requires formed { IsTrue (has_type_form self.now.shader.now.types ty.now) }
         requires fits { IsTrue (resolution_fits (length self.now.shader.now.overrides)
             (length self.now.shader.now.types) ty.now) }
         ensures { Writes W.text W.failures out.old out.new (annotation_text self.now ty.now) }
@@ -43,7 +43,7 @@ impl FunctionText<'_> {
     /// The type of an expression.
     pub(crate) fn write_type_of<W: TextSink>(&self, ty: &TypeResolution, out: &mut Output<'_, W>)
         requires can { CanWrite self.now }
-        requires formed { IsTrue (is_spelled self.now.shader.now.types ty.now) }
+        requires formed { IsTrue (has_type_form self.now.shader.now.types ty.now) }
         requires fits { IsTrue (resolution_fits (length self.now.shader.now.overrides)
             (length self.now.shader.now.types) ty.now) }
         ensures { Writes W.text W.failures out.old out.new (resolution_text self.now ty.now) }

@@ -13,8 +13,8 @@ use Rattle.naga_ir.specs.declared.module.Constant.{Constant}
 use Rattle.naga_ir.specs.declared.module.Module.{Module}
 use Rattle.naga_ir.specs.declared.module.Override as ir_override
 use Rattle.naga_names.specs.declared.key.NameKey.TheVariants as key
-use Rattle.module_meaning.proofs.ExpressionForms.{spelled_of_spellable}
-use Rattle.module_meaning.specs.AlikeTypes.{is_spelled}
+use Rattle.module_meaning.proofs.ExpressionForms.{type_form_of_spellable}
+use Rattle.module_meaning.specs.AlikeTypes.{has_type_form}
 use Rattle.module_meaning.specs.DeclarationForms.{IsDeclaredType, IsInitialiser}
 use Rattle.module_meaning.specs.Names.{module_names, name_in}
 use Rattle.module_meaning.specs.Types.{type_names}
@@ -186,9 +186,9 @@ module _ (t : ModuleText) (can : CanDeclare t) (h : ℕ) where
     pub constant_is_named : IsNamedIn t (key.Constant h)
     constant_is_named = can.can.named.constants h (slice_get_within m.constants h c at)
 
-    pub constant_is_spelled : IsTrue (is_some c.name) → IsTrue (is_spelled m.types (Handle c.ty))
-    constant_is_spelled named =
-        spelled_of_spellable m (Handle c.ty)
+    pub constant_has_type_form : IsTrue (is_some c.name) → IsTrue (has_type_form m.types (Handle c.ty))
+    constant_has_type_form named =
+        type_form_of_spellable m (Handle c.ty)
         (can.forms.types c.ty (IsDeclaredType.OfConstant h c at named))
 
     pub constant_is_formed : IsTrue (is_some c.name) → IsTrue (global_has_form m c.init)
@@ -199,9 +199,9 @@ module _ (t : ModuleText) (can : CanDeclare t) (h : ℕ) where
     pub override_is_named : IsNamedIn t (key.Override h)
     override_is_named = can.can.named.overrides h (slice_get_within m.overrides h o at)
 
-    pub override_is_spelled : IsTrue (is_spelled m.types (Handle o.ty))
-    override_is_spelled =
-        spelled_of_spellable m (Handle o.ty)
+    pub override_has_type_form : IsTrue (has_type_form m.types (Handle o.ty))
+    override_has_type_form =
+        type_form_of_spellable m (Handle o.ty)
         (can.forms.types o.ty (IsDeclaredType.OfOverride h o at))
 
     pub override_is_formed : (value : ℕ) → o.init ≡ Some value → IsTrue (global_has_form m value)

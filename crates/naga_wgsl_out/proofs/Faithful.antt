@@ -246,7 +246,7 @@ module _ (m : Module) (info : ModuleInfo) (flags : WriterFlags)
             };
             matches = reading (MatchesModule explicit m info) (record {
               resolution = resolves m info flags accepted declarations have rules;
-              bindings = binds_as m info flags accepted declarations have;
+              lets = binds_as m info flags accepted declarations have;
               layouts = told.layouts;
             });
             text = appended;

@@ -83,10 +83,10 @@ module _ (explicit : Bool) (m : Module) (info : ModuleInfo) (number : ℕ) where
       (writable.formed stands.function stands.known stands.stands stands.is_known) writable.nameable
 
   -- the first stands at one part
-  one_place : (found other : Construct × FunctionRefusalPosition) →
+  stand_together : (found other : Construct × FunctionRefusalPosition) →
       StandsInFunction explicit m info number found → StandsInFunction explicit m info number other →
       found.1 ≡ other.1
-  one_place found other stands stood =
+  stand_together found other stands stood =
       stands.first.1
       ∙ one_part explicit m info number stands.function stands.known stands.first.0 stood.first.0 found.0 other.0
       (subst (λ at. StandsAtPart explicit m info number stands.function stands.known at found.0) stands.first.1
@@ -394,7 +394,7 @@ module _ (explicit : Bool) (m : Module) (info : ModuleInfo) where
   one_at : (n k : ℕ) (at by : FunctionRefusalPosition) (it that : Construct) → n ≡ k →
       StandsInFunction explicit m info n (it, at) → StandsInFunction explicit m info k (that, by) → at ≡ by
   one_at n k at by it that same stands stood =
-      one_place explicit m info n (it, at) (that, by) stands
+      stand_together explicit m info n (it, at) (that, by) stands
       (subst (λ n. StandsInFunction explicit m info n (that, by)) (sym same) stood)
 
   -- the first stands at one place

@@ -74,7 +74,7 @@ module _ (m : Module) (before now : NameMap) (names : Names)
         let s = argument_there m g f n a.0 found a.1 in
         ltb-true n (2 ^ 32)
         (number_fits (function_type m g) n
-        (list_all_at (λ item. key_fits item.0) (labelled_items wgsl_names m) s.place
+        (list_all_at (λ item. key_fits item.0) (labelled_items wgsl_names m) s.index
         (argument_item m g n a.0) has.keys s.there)));
     globals = λ v lt.
         let k = element m.global_variables v lt in

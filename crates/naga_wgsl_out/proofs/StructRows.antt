@@ -21,8 +21,8 @@ use Rattle.naga_names.proofs.Refusal.{run_out_unfit}
 use Rattle.naga_names.specs.Refusal.{HasLongStruct}
 use Rattle.naga_names.specs.Reset.{members_of}
 use Rattle.naga_names.specs.declared.key.NameKey.TheVariants as key
-use Rattle.module_meaning.proofs.ExpressionForms.{spelled_of_spellable}
-use Rattle.module_meaning.specs.AlikeTypes.{is_spelled}
+use Rattle.module_meaning.proofs.ExpressionForms.{type_form_of_spellable}
+use Rattle.module_meaning.specs.AlikeTypes.{has_type_form}
 use Rattle.module_meaning.specs.DeclarationForms.{IsDeclaredType, IsMemberBinding}
 use Rattle.module_meaning.specs.Layouts.{span_of, written_size}
 use Rattle.module_meaning.specs.Names.{module_names, name_in, wgsl_names}
@@ -213,9 +213,9 @@ module _ (t : ModuleText) (can : CanDeclare t) (h i : ℕ) (s : ir_member.Struct
   pub member_is_named : IsNamedIn t (key.StructMember h i)
   member_is_named = can.can.named.members h there.whole there.at i s there.there
 
-  pub member_is_spelled : IsTrue (is_spelled m.types (Handle s.ty))
-  member_is_spelled =
-      spelled_of_spellable m (Handle s.ty)
+  pub member_has_type_form : IsTrue (has_type_form m.types (Handle s.ty))
+  member_has_type_form =
+      type_form_of_spellable m (Handle s.ty)
       (can.forms.types s.ty
       (IsDeclaredType.OfMember h i there.whole s there.at there.declared there.there))
 
@@ -240,5 +240,5 @@ number_fits m keys h t at i s there = by (nat_lt i (2 ^ 32)) refl
         let past = ltb-false i (2 ^ 32) is in
         let within = slice_get_within (members_of t.inner) i s there in
         let long : HasLongStruct m =
-        record { place = h; ty = t; there = at; long = omega (arith, past, within) } in
+        record { index = h; ty = t; there = at; long = omega (arith, past, within) } in
         absurd (keys (run_out_unfit wgsl_names m (inr (inl long))))

@@ -15,8 +15,8 @@ use Rattle.naga_ir.specs.declared.module.GlobalVariable.{GlobalVariable}
 use Rattle.naga_ir.specs.declared.module.Module.{Module}
 use Rattle.naga_ir.specs.declared.types.AddressSpace.{AddressSpace}
 use Rattle.naga_names.specs.declared.key.NameKey.TheVariants as key
-use Rattle.module_meaning.proofs.ExpressionForms.{spelled_of_spellable}
-use Rattle.module_meaning.specs.AlikeTypes.{is_spelled}
+use Rattle.module_meaning.proofs.ExpressionForms.{type_form_of_spellable}
+use Rattle.module_meaning.specs.AlikeTypes.{has_type_form}
 use Rattle.module_meaning.specs.DeclarationForms.{IsDeclaredType, IsInitialiser}
 use Rattle.module_meaning.specs.Names.{module_names, name_in}
 use Rattle.module_meaning.specs.StageBindings.{is_coherent_memory, is_volatile_memory}
@@ -216,9 +216,9 @@ module _ (t : ModuleText) (can : CanDeclare t) (h : ℕ) (v : GlobalVariable)
   pub variable_is_named : IsNamedIn t (key.GlobalVariable h)
   variable_is_named = can.can.named.globals h (slice_get_within m.global_variables h v at)
 
-  pub variable_is_spelled : IsTrue (is_spelled m.types (Handle v.ty))
-  variable_is_spelled =
-      spelled_of_spellable m (Handle v.ty)
+  pub variable_has_type_form : IsTrue (has_type_form m.types (Handle v.ty))
+  variable_has_type_form =
+      type_form_of_spellable m (Handle v.ty)
       (can.forms.types v.ty (IsDeclaredType.OfVariable h v at))
 
   pub variable_is_formed : (value : ℕ) → v.init ≡ Some value → IsTrue (global_has_form m value)

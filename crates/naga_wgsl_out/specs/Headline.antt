@@ -53,7 +53,7 @@ pub record MatchesModule (explicit : Bool) (m : Module) (info : ModuleInfo) (pro
   pub resolution : ResolvesAs m info program
   -- the `let`s are those of the emitted expressions that are to be bound, and tell the types of
   -- these if that is asked for
-  pub bindings : BindsAs m info explicit program
+  pub lets : BindsAs m info explicit program
   -- WGSL's rules, by the program's own structs, leave the members of each struct that is concerned
   -- at the module's offsets, and give it the module's span, where that can be
   pub layouts : KeepsLayouts m program

@@ -2,7 +2,7 @@
 //! and variables.
 
 ghost use Rattle.std.specs.Prelude.{◌≡◌, ℕ, IsTrue, Some};
-ghost use Rattle.module_meaning.specs.AlikeTypes.{is_spelled};
+ghost use Rattle.module_meaning.specs.AlikeTypes.{has_type_form};
 ghost use Rattle.module_meaning.specs.DeclarationForms.{DeclarationsHaveForms};
 ghost use Rattle.module_meaning.specs.Names.{HasNamesOf};
 ghost use Rattle.module_meaning.specs.ExpressionForms.{global_has_form};
@@ -86,7 +86,7 @@ pub(crate) fn write_typed<W: TextSink>(
 )
     requires can { CanWriteIn text.now }
     requires named { IsNamedIn text.now key.now }
-    requires formed { IsTrue (is_spelled text.now.shader.now.types (resolution.Handle ty)) }
+    requires formed { IsTrue (has_type_form text.now.shader.now.types (resolution.Handle ty)) }
     ensures { Writes W.text W.failures out.old out.new
         (typed_text text.now.shader.now key.now ty) }
 {

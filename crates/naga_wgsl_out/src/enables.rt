@@ -251,7 +251,7 @@ fn of_arguments(arguments: &[FunctionArgument]) -> Enables
 {
     let mut found = Enables::none();
     for argument in arguments {
-        found = found.or(of_bound(argument.binding));
+        found = found.or(of_any_binding(argument.binding));
     }
     found
 }
@@ -261,7 +261,7 @@ fn of_result(answer: Option<FunctionResult>) -> Enables
         (λ x. option_map_or (λ r. option_map_or x.for_binding r.binding false) answer false) }
 {
     match answer {
-        Some(answer) => of_bound(answer.binding),
+        Some(answer) => of_any_binding(answer.binding),
         None => Enables::none(),
     }
 }
@@ -272,7 +272,7 @@ fn of_members(members: &[StructMember]) -> Enables
 {
     let mut found = Enables::none();
     for member in members {
-        found = found.or(of_bound(member.binding));
+        found = found.or(of_any_binding(member.binding));
     }
     found
 }
@@ -323,7 +323,7 @@ fn of_scalar(scalar: Scalar) -> Enables
     }
 }
 
-fn of_bound(binding: Option<Binding>) -> Enables
+fn of_any_binding(binding: Option<Binding>) -> Enables
     ensures { result ≡ enables_of (λ x. option_map_or x.for_binding binding false) }
 {
     match binding {

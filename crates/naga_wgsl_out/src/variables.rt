@@ -13,7 +13,7 @@ use crate::declarations::{write_typed, write_value};
 use bitflags::Flags;
 use naga_ir::{AddressSpace, GlobalVariable, Handle, MemoryDecorations, ResourceBinding};
 use naga_names::NameKey;
-use naga_wgsl_fns::attributes::{write_numbered, write_optional_piece};
+use naga_wgsl_fns::attributes::{write_numbered, write_optional_chunk};
 use naga_wgsl_fns::functions::write_group_end;
 use naga_wgsl_fns::module_text::ModuleText;
 use naga_words::{Output, TextSink};
@@ -85,13 +85,13 @@ fn write_resource<W: TextSink>(binding: Option<ResourceBinding>, out: &mut Outpu
     ensures { Writes W.text W.failures out.old out.new (resource_text binding) }
 {
     match binding {
-        Some(binding) => write_place(binding, out),
+        Some(binding) => write_resource_binding(binding, out),
         None => {}
     }
 }
 
 #[tactic(auto, using(naga_words::proofs::Writing::writes_then, crate::proofs::VariableRows::resource_row))]
-fn write_place<W: TextSink>(binding: ResourceBinding, out: &mut Output<'_, W>)
+fn write_resource_binding<W: TextSink>(binding: ResourceBinding, out: &mut Output<'_, W>)
     ensures { Writes W.text W.failures out.old out.new (resource_text (Some binding)) }
 {
     write_numbered("@group(", binding.group, out);
@@ -104,12 +104,12 @@ fn write_decorations<W: TextSink>(decorations: MemoryDecorations, out: &mut Outp
     ensures { Writes W.text W.failures out.old out.new
         (attributes_text (decoration_attributes decorations)) }
 {
-    write_optional_piece(
+    write_optional_chunk(
         decorations.contains(MemoryDecorations::COHERENT),
         "@coherent ",
         out,
     );
-    write_optional_piece(
+    write_optional_chunk(
         decorations.contains(MemoryDecorations::VOLATILE),
         "@volatile ",
         out,

@@ -103,11 +103,11 @@ fn write_bounded(
     let mut writer = Writer::new(alloc, empty, flags);
     let answer = writer.write(module, info);
     let sink = writer.finish();
-    within_bound(answer, sink, bound)
+    within_limit(answer, sink, bound)
 }
 
 /// The answer of the writer, or that the text is too long, by the length of what its sink took.
-fn within_bound(
+fn within_limit(
     answer: Result<(), Error>,
     sink: BoundedText,
     bound: usize,

@@ -7,7 +7,7 @@ use Rattle.shader_runs.specs.World.{Event, entries}
 use Rattle.shader_runs.specs.Outcome.{Stop, OutOfTurns, ReachedOrHalted, Gives, Halts}
 use Rattle.shader_runs.specs.ProgramRun.{EmittedValues}
 use Rattle.shader_runs.proofs.Process.{Pause, DoneWith, ContinuedWith, BrokeWith, ReturnedWith}
-use Rattle.shader_runs.proofs.Process.{Process, gives, stuck, unreturned, discards, tells, wants}
+use Rattle.shader_runs.proofs.Process.{Process, gives, stuck, unreturned, discards, tells, awaits}
 use Rattle.shader_runs.proofs.Process.{looks, sequence, repeats, resumed}
 use Rattle.shader_runs.proofs.Courses.{IsNoMistake, Course, comes_to, stops, makes, asks, counts}
 use Rattle.shader_runs.proofs.Courses.{joins, lap_on}
@@ -48,7 +48,7 @@ course_cut j n le stuck = cut_stop
 course_cut j n le unreturned = cut_stop
 course_cut j n le discards = cut_event cut_stop
 course_cut j n le (tells e p) = cut_event (course_cut j n le p)
-course_cut j n le (wants parts k r next) = cut_ask (λ v. course_cut j n le (next v))
+course_cut j n le (awaits parts k r next) = cut_ask (λ v. course_cut j n le (next v))
 course_cut j n le (looks next) = cut_count (λ i. course_cut j n le (next i))
 course_cut j n le (sequence p next) = cut_join (course_cut j n le p) (λ x. course_cut j n le (next x))
 course_cut j n le (repeats once s) =

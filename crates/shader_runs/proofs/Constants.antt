@@ -38,9 +38,9 @@ use Rattle.shader_runs.proofs.Names.{known_some, globals_other, held_values, cho
 use Rattle.shader_runs.proofs.Names.{module_names_in_scope, no_name_among}
 
 -- a place in a list, or one past its end
-by_place : {X A : Type 0} (xs : List X) (i : ℕ) → ((x : X) → slice_get xs i ≡ Some x → i < length xs → A) →
+inside_or_past : {X A : Type 0} (xs : List X) (i : ℕ) → ((x : X) → slice_get xs i ≡ Some x → i < length xs → A) →
     (length xs ≤ i → A) → A
-by_place xs i inside past =
+inside_or_past xs i inside past =
     elim (slice_get_cases xs i).1 [ inl found ↦ inside found.0 found.2 found.1 | inr none ↦ past none.0 ]
 
 -- ---- what is found of the constants and the overrides
@@ -194,7 +194,7 @@ module _ (p : Module) (n : ModuleNames) (fits : ConstantsFit p n) (s : Settings)
       ((e : ConstantTree) → slice_get p.initialisers k ≡ Some e → position k < position i → A) →
       (constant_count p ≤ k → A) → A
   by_kind i k may constant override =
-      by_place p.initialisers k (λ e q l. constant e q (earlier k i l (may.1 l))) override
+      inside_or_past p.initialisers k (λ e q l. constant e q (earlier k i l (may.1 l))) override
 
   found_counted : (rounds : ℕ) → length (found_after p s m rounds) ≡ length p.constant_types
   found_counted zero = found_length (λ e. None) p.initialisers p.parts p.constant_types s.overrides fits.counted
@@ -258,7 +258,7 @@ module _ (p : Module) (n : ModuleNames) (fits : ConstantsFit p n) (s : Settings)
   each_typed : (i : ℕ) → i < length p.constant_types → TypedValue p.parts (type_at p.constant_types i)
       (known_value all_rounds i)
   each_typed i lt =
-      by_place p.initialisers i (λ e q l. found_typed (constant_count p) i e q (position_small i e q))
+      inside_or_past p.initialisers i (λ e q l. found_typed (constant_count p) i e q (position_small i e q))
       (λ l. override_typed (constant_count p) i l lt)
 
   -- the values of all
@@ -329,7 +329,7 @@ module _ (p : Module) (n : ModuleNames) (fits : ConstantsFit p n) (s : Settings)
 
     each_agrees : (i : ℕ) → slice_get other.constants i ≡ slice_get env.constants i
     each_agrees i =
-        by_place p.initialisers i (λ e q l. constant_agrees (constant_count p) i e q (position_small i e q))
+        inside_or_past p.initialisers i (λ e q l. constant_agrees (constant_count p) i e q (position_small i e q))
         (λ l. override_agrees i l)
 
     pub only_solution : other ≡ env

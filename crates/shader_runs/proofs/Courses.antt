@@ -10,7 +10,7 @@ use Rattle.shader_runs.specs.Outcome.{ReachedOrHalted, Gives, Halts}
 use Rattle.shader_runs.specs.ProgramRun.{EmittedValues}
 use Rattle.shader_runs.proofs.Process.{reached_events, Pause, DoneWith, ContinuedWith, BrokeWith}
 use Rattle.shader_runs.proofs.Process.{ReturnedWith, Process, gives, stuck, unreturned, discards}
-use Rattle.shader_runs.proofs.Process.{tells, wants, looks, sequence, repeats, answered, resumed}
+use Rattle.shader_runs.proofs.Process.{tells, awaits, looks, sequence, repeats, answered, resumed}
 use Rattle.shader_runs.proofs.Process.{again, rounds, perform}
 use Rattle.shader_runs.proofs.Typing.{default_value, default_typed}
 
@@ -46,7 +46,7 @@ course n stuck = stops Stuck tt
 course n unreturned = stops Unreturned tt
 course n discards = makes Discard (stops Discarded tt)
 course n (tells e p) = makes e (course n p)
-course n (wants parts k r next) = asks parts k r (λ v. course n (next v))
+course n (awaits parts k r next) = asks parts k r (λ v. course n (next v))
 course n (looks next) = counts (λ i. course n (next i))
 course n (sequence p next) = joins (course n p) (λ x. course n (next x))
 course n (repeats once s) = laps n (λ s. course n (once s)) s
@@ -90,7 +90,7 @@ process_runs w n stuck t = refl
 process_runs w n unreturned t = refl
 process_runs w n discards t = refl
 process_runs w n (tells e p) t = process_runs w n p (e ∷ t)
-process_runs w n (wants parts k r next) t =
+process_runs w n (awaits parts k r next) t =
     ap (answered (has_type parts k (w t r)) (r ∷ t)) (process_runs w n (next (w t r)) (r ∷ t))
 process_runs w n (looks next) t = process_runs w n (next (entries t)) t
 process_runs w n (sequence p next) t =

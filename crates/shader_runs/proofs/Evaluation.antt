@@ -2,7 +2,7 @@
 use Rattle.std.proofs.Common.{◌≡◌, ℕ, Bool, true, false, cond, List, [], ◌∷◌, Option, Some, None}
 use Rattle.std.proofs.Common.{refl, sym, ap, ◌∙◌, true≢false, ℤ, option_map, subst}
 use Rattle.std.specs.Prelude.{option_and_then, IsTrue}
-use Rattle.shader_runs.specs.Value.{Bytes, PartTypes, position_at, place_to, Selector, MemberNamed}
+use Rattle.shader_runs.specs.Value.{Bytes, PartTypes, element_place, place_to, Selector, MemberNamed}
 use Rattle.shader_runs.specs.Value.{ValueType, PointerType, has_type, has_types, Value, Truth}
 use Rattle.shader_runs.specs.Value.{Whole, Pointer, Spelled, PartWord, IndexWord, ShortCircuit}
 use Rattle.shader_runs.specs.Value.{truth_in, integer_in, place_in, Place, type_of}
@@ -243,11 +243,11 @@ module _ (c : Call) (d : Respond) (names : Scope) where
       Means c d names (AsPlace (Index (place_form b) (value_form i))) (Some v)
   index_place pt b i x y v mb mi h e =
       let q = pointer_typed c.environment.parts (PointerType pt) tt x h in
-      element q.0 (ap place_in q.1) (option_and_then (position_at c.environment.parts q.0) (integer_in y)) refl
+      element q.0 (ap place_in q.1) (option_and_then (element_place c.environment.parts q.0) (integer_in y)) refl
       (sym (ap (λ x. index_value_of c.environment.parts c.meaning x y) q.1) ∙ e)
     where
       element : (p : Place) → place_in x ≡ Some p → (o : Option Place) →
-          option_and_then (position_at c.environment.parts p) (integer_in y) ≡ o →
+          option_and_then (element_place c.environment.parts p) (integer_in y) ≡ o →
           option_map Pointer o ≡ Some v →
           Means c d names (AsPlace (Index (place_form b) (value_form i))) (Some v)
       element p q None s e = absurd (none-some v e)

@@ -32,7 +32,7 @@ use Rattle.shader_runs.proofs.Entries.{call_course, call_enters, IsOpening, call
 use Rattle.shader_runs.proofs.Settles.{settled_events, call_settles}
 use Rattle.shader_runs.proofs.Typing.{default_value}
 
--- an answer of the type that is wanted, if one is
+-- an answer of the type that is expected, if one is
 abbrev answer_of : Option ValueType → Value
 answer_of o = option_map_or default_value o (Truth false)
 
@@ -42,106 +42,107 @@ module _ (env : Environment) (m : Meaning) (functions : List Function) where
   abbrev call_to : ℕ → ℕ → List Value → Course
   call_to i g vs = call_course env m functions (suc i) g vs
 
-  -- the type that is wanted after i events
-  abbrev wanted : ℕ → List Event → Option ValueType
-  wanted i [] = None
-  wanted i (Entry g vs firsts ∷ t) = or_else (asked (call_to i g vs) t i) (wanted i t)
-  wanted i (e ∷ t) = wanted i t
+  -- the type that is expected after i events
+  abbrev expected : ℕ → List Event → Option ValueType
+  expected i [] = None
+  expected i (Entry g vs firsts ∷ t) = or_else (asked (call_to i g vs) t i) (expected i t)
+  expected i (e ∷ t) = expected i t
 
   abbrev one_world : World
-  one_world t r = answer_of (wanted (length t) t)
+  one_world t r = answer_of (expected (length t) t)
 
-  no_entry : (i : ℕ) (e : Event) (t : List Event) → IsNoEntry e → wanted i (e ∷ t) ≡ wanted i t
+  no_entry : (i : ℕ) (e : Event) (t : List Event) → IsNoEntry e → expected i (e ∷ t) ≡ expected i t
   no_entry i (Entry g vs firsts) t apart = absurd apart
   no_entry i _ t apart = refl
 
   -- calls that have ended want nothing more
-  abbrev LeavesWanted : ℕ → List Event → ReachedOrHalted Pause → Type 0
-  LeavesWanted i t (Gives x e) = length e ≤ i → wanted i e ≡ wanted i t
-  LeavesWanted i t (Halts x e) = Unit {0}
+  abbrev LeavesExpected : ℕ → List Event → ReachedOrHalted Pause → Type 0
+  LeavesExpected i t (Gives x e) = length e ≤ i → expected i e ≡ expected i t
+  LeavesExpected i t (Halts x e) = Unit {0}
 
   from_before : (i : ℕ) (t t1 : List Event) (q : ReachedOrHalted Pause) →
-      (events_made q ≤ i → wanted i t1 ≡ wanted i t) → LeavesWanted i t1 q → LeavesWanted i t q
+      (events_made q ≤ i → expected i t1 ≡ expected i t) → LeavesExpected i t1 q → LeavesExpected i t q
   from_before i t t1 (Gives x e) same h = λ le. h le ∙ same le
   from_before i t t1 (Halts x e) same h = tt
 
   event_leaves : (i : ℕ) (e : Event) (c : Course) (t : List Event) → BeginsCall (call_to i) e c t →
-      events_made (filled c (e ∷ t)) ≤ i → wanted i (e ∷ t) ≡ wanted i t
+      events_made (filled c (e ∷ t)) ≤ i → expected i (e ∷ t) ≡ expected i t
   event_leaves i (Entry g vs firsts) c t begins le =
       let call = call_to i g vs in
       let same : filled call t ≡ filled c (Entry g vs firsts ∷ t) = sym (opened_filled call t)
       ∙ ap (λ c. filled c t) begins in
-      ap (λ o. or_else o (wanted i t)) (none_asked call t i (omega (arith, le, ap (λ q. events_made q) same)))
+      ap (λ o. or_else o (expected i t)) (none_asked call t i (omega (arith, le, ap (λ q. events_made q) same)))
   event_leaves i _ c t begins le = refl
 
-  leaves_wanted : (i : ℕ) (c : Course) (t : List Event) → Entered (call_to i) c t → LeavesWanted i t (filled c t)
-  leaves_wanted i (comes_to x) t en = λ le. refl
-  leaves_wanted i (stops x sound) t en = tt
-  leaves_wanted i (makes e c) t (begins, en) =
-      from_before i t (e ∷ t) (filled c (e ∷ t)) (event_leaves i e c t begins) (leaves_wanted i c (e ∷ t) en)
-  leaves_wanted i (asks parts k r next) t (apart, en) =
+  leaves_expected : (i : ℕ) (c : Course) (t : List Event) → Entered (call_to i) c t → LeavesExpected i t (filled c t)
+  leaves_expected i (comes_to x) t en = λ le. refl
+  leaves_expected i (stops x sound) t en = tt
+  leaves_expected i (makes e c) t (begins, en) =
+      from_before i t (e ∷ t) (filled c (e ∷ t)) (event_leaves i e c t begins) (leaves_expected i c (e ∷ t) en)
+  leaves_expected i (asks parts k r next) t (apart, en) =
       let v = default_value k in
       from_before i t (r ∷ t) (filled (next v) (r ∷ t)) (λ le. no_entry i r t apart)
-      (leaves_wanted i (next v) (r ∷ t) (en v))
-  leaves_wanted i (counts next) t en = leaves_wanted i (next (entries t)) t en
-  leaves_wanted i (joins c next) t (en, rest) =
-      go (filled c t) (leaves_wanted i c t en) (λ x e. leaves_wanted i (next x) e (rest x e))
+      (leaves_expected i (next v) (r ∷ t) (en v))
+  leaves_expected i (counts next) t en = leaves_expected i (next (entries t)) t en
+  leaves_expected i (joins c next) t (en, rest) =
+      go (filled c t) (leaves_expected i c t en) (λ x e. leaves_expected i (next x) e (rest x e))
     where
-      go : (q : ReachedOrHalted Pause) → LeavesWanted i t q →
-          ((x : Pause) (e : List Event) → LeavesWanted i e (filled (next x) e)) →
-          LeavesWanted i t (resumed q (λ x e. filled (next x) e))
+      go : (q : ReachedOrHalted Pause) → LeavesExpected i t q →
+          ((x : Pause) (e : List Event) → LeavesExpected i e (filled (next x) e)) →
+          LeavesExpected i t (resumed q (λ x e. filled (next x) e))
       go (Gives x e) h later =
           from_before i t e (filled (next x) e) (λ le. h (omega (arith, le, filled_grows (next x) e))) (later x e)
       go (Halts x e) h later = tt
 
   -- at an entry the world turns to the call that begins there
-  entry_wanted : {u : List Event} {k : ValueType} (g : ℕ) (vs : List Value)
+  entry_expected : {u : List Event} {k : ValueType} (g : ℕ) (vs : List Value)
       (firsts : List (Option Value)) (c : Course) (t : List Event) →
       BeginsCall (call_to (length u)) (Entry g vs firsts) c t → AsksAt c (Entry g vs firsts ∷ t) u k →
-      wanted (length u) (Entry g vs firsts ∷ t) ≡ Some k
-  entry_wanted {u} {k} g vs firsts c t begins a =
+      expected (length u) (Entry g vs firsts ∷ t) ≡ Some k
+  entry_expected {u} {k} g vs firsts c t begins a =
       let call = call_to (length u) g vs in
-      ap (λ o. or_else o (wanted (length u) t))
+      ap (λ o. or_else o (expected (length u) t))
       (is_asked_at (opened_asks call (subst (λ c. AsksAt c t u k) (sym begins) (made_then a))))
 
-  event_wanted : {u : List Event} {k : ValueType} (e : Event) (c : Course) (t : List Event) →
-      BeginsCall (call_to (length u)) e c t → AsksAt c (e ∷ t) u k → wanted (length u) t ≡ Some k →
-      wanted (length u) (e ∷ t) ≡ Some k
-  event_wanted (Entry g vs firsts) c t begins a h = entry_wanted g vs firsts c t begins a
-  event_wanted _ c t begins a h = h
+  event_expected : {u : List Event} {k : ValueType} (e : Event) (c : Course) (t : List Event) →
+      BeginsCall (call_to (length u)) e c t → AsksAt c (e ∷ t) u k → expected (length u) t ≡ Some k →
+      expected (length u) (e ∷ t) ≡ Some k
+  event_expected (Entry g vs firsts) c t begins a h = entry_expected g vs firsts c t begins a
+  event_expected _ c t begins a h = h
 
-  -- what is wanted where the course asks is told by the history there, if it was so before
-  asks_wanted : {c : Course} {t u : List Event} {k : ValueType} → AsksAt c t u k →
-      Entered (call_to (length u)) c t → wanted (length u) t ≡ Some k → wanted (length u) u ≡ Some k
-  asks_wanted now en h = h
-  asks_wanted (answered_then {y = y} {r = r} {t = t} {u = u} a) (apart, en) h =
-      asks_wanted a (en (default_value y)) (no_entry (length u) r t apart ∙ h)
-  asks_wanted (made_then {e = e} {c = c} {t = t} a) (begins, en) h = asks_wanted a en (event_wanted e c t begins a h)
-  asks_wanted (counted_then a) en h = asks_wanted a en h
-  asks_wanted (inside a) (en, rest) h = asks_wanted a en h
-  asks_wanted (following {c = c} {t = t} {u = u} {e = e} {x = x} given a) (en, rest) h =
-      asks_wanted a (rest x e) (subst (LeavesWanted (length u) t) given (leaves_wanted (length u) c t en)
+  -- what is expected where the course asks is told by the history there, if it was so before
+  asks_expected : {c : Course} {t u : List Event} {k : ValueType} → AsksAt c t u k →
+      Entered (call_to (length u)) c t → expected (length u) t ≡ Some k → expected (length u) u ≡ Some k
+  asks_expected now en h = h
+  asks_expected (answered_then {y = y} {r = r} {t = t} {u = u} a) (apart, en) h =
+      asks_expected a (en (default_value y)) (no_entry (length u) r t apart ∙ h)
+  asks_expected (made_then {e = e} {c = c} {t = t} a) (begins, en) h =
+      asks_expected a en (event_expected e c t begins a h)
+  asks_expected (counted_then a) en h = asks_expected a en h
+  asks_expected (inside a) (en, rest) h = asks_expected a en h
+  asks_expected (following {c = c} {t = t} {u = u} {e = e} {x = x} given a) (en, rest) h =
+      asks_expected a (rest x e) (subst (LeavesExpected (length u) t) given (leaves_expected (length u) c t en)
       (asks_later a) ∙ h)
 
   -- nothing need be so before a call
-  opening_wanted : {c : Course} {t u : List Event} {k : ValueType} → AsksAt c t u k →
-      Entered (call_to (length u)) c t → IsOpening c → wanted (length u) u ≡ Some k
-  opening_wanted now en o = absurd o
-  opening_wanted (answered_then a) en o = absurd o
-  opening_wanted (made_then {e = Entry g vs firsts} {c = c} {t = t} a) (begins, en) o =
-      asks_wanted a en (entry_wanted g vs firsts c t begins a)
-  opening_wanted (made_then {e = Ask word vs} a) en o = absurd o
-  opening_wanted (made_then {e = Read place} a) en o = absurd o
-  opening_wanted (made_then {e = Write place v} a) en o = absurd o
-  opening_wanted (made_then {e = Discard} a) en o = absurd o
-  opening_wanted (counted_then {t = t} a) en o = opening_wanted a en (o (entries t))
-  opening_wanted (inside a) en o = absurd o
-  opening_wanted (following h a) en o = absurd o
+  opening_expected : {c : Course} {t u : List Event} {k : ValueType} → AsksAt c t u k →
+      Entered (call_to (length u)) c t → IsOpening c → expected (length u) u ≡ Some k
+  opening_expected now en o = absurd o
+  opening_expected (answered_then a) en o = absurd o
+  opening_expected (made_then {e = Entry g vs firsts} {c = c} {t = t} a) (begins, en) o =
+      asks_expected a en (entry_expected g vs firsts c t begins a)
+  opening_expected (made_then {e = Ask word vs} a) en o = absurd o
+  opening_expected (made_then {e = Read place} a) en o = absurd o
+  opening_expected (made_then {e = Write place v} a) en o = absurd o
+  opening_expected (made_then {e = Discard} a) en o = absurd o
+  opening_expected (counted_then {t = t} a) en o = opening_expected a en (o (entries t))
+  opening_expected (inside a) en o = absurd o
+  opening_expected (following h a) en o = absurd o
 
-  call_wanted : (g : ℕ) (vs : List Value) {t u : List Event} {k : ValueType} →
-      AsksAt (call_to (length u) g vs) t u k → wanted (length u) u ≡ Some k
-  call_wanted g vs {t} {u} a =
-      opening_wanted a (call_enters env m functions (suc (length u)) g vs t)
+  call_expected : (g : ℕ) (vs : List Value) {t u : List Event} {k : ValueType} →
+      AsksAt (call_to (length u) g vs) t u k → expected (length u) u ≡ Some k
+  call_expected g vs {t} {u} a =
+      opening_expected a (call_enters env m functions (suc (length u)) g vs t)
       (call_opens env m functions (suc (length u)) g vs)
 
 call_events : (q : ReachedOrHalted Pause) → events_made (call_outcome q) ≡ events_made q
@@ -232,7 +233,7 @@ module _ (p : Module) (n : ModuleNames) (fs : List Naming) (fits : ModuleFits p 
   world_keeps : (j : ℕ) → KeepsTypes (run_module p settings (one_world env m p.functions) m j g vs past)
   world_keeps j =
       run_keeps (one_world env m p.functions) j
-      (λ u k a r. ap answer_of (call_wanted env m p.functions g vs (asked_in_time j a)))
+      (λ u k a r. ap answer_of (call_expected env m p.functions g vs (asked_in_time j a)))
 
 pub has_typed_world : HasTypedWorld
 has_typed_world p n fs fits settings fit m typed = (

@@ -38,7 +38,7 @@ pub data Pause : Type 0 where
   BrokeWith : EmittedValues → Pause
   ReturnedWith : Option Value → Pause
 
--- gives a pause, is stuck, lacks a result or discards; tells an event; wants an answer of a type to
+-- gives a pause, is stuck, lacks a result or discards; tells an event; awaits an answer of a type to
 -- a request; looks at the number of entries so far; goes on from how another process ends; or
 -- repeats one from the state that the turn before left
 pub data Process : Type 0 where
@@ -47,7 +47,7 @@ pub data Process : Type 0 where
   unreturned : Process
   discards : Process
   tells : Event → Process → Process
-  wants : PartTypes → ValueType → Event → (Value → Process) → Process
+  awaits : PartTypes → ValueType → Event → (Value → Process) → Process
   looks : (ℕ → Process) → Process
   sequence : Process → (Pause → Process) → Process
   repeats : (EmittedValues → Process) → EmittedValues → Process
@@ -78,7 +78,7 @@ perform w n stuck t = Halts Stuck t
 perform w n unreturned t = Halts Unreturned t
 perform w n discards t = Halts Discarded (Discard ∷ t)
 perform w n (tells e p) t = perform w n p (e ∷ t)
-perform w n (wants parts k r next) t = answered (has_type parts k (w t r)) (r ∷ t) (perform w n (next (w t r)) (r ∷ t))
+perform w n (awaits parts k r next) t = answered (has_type parts k (w t r)) (r ∷ t) (perform w n (next (w t r)) (r ∷ t))
 perform w n (looks next) t = perform w n (next (entries t)) t
 perform w n (sequence p next) t = resumed (perform w n p t) (λ x e. perform w n (next x) e)
 perform w n (repeats once s) t = rounds n (λ s e. perform w n (once s) e) s t
@@ -121,7 +121,7 @@ abbrev pub on_truth : Value → (accept reject : Process) → Process
 on_truth v a b = on_there (truth_in v) (λ y. if_true y a b)
 
 abbrev pub keeping : PartTypes → ValueType → ℕ → Event → EmittedValues → Process
-keeping parts k h r kept = wants parts k r (λ v. gives (DoneWith (update kept h (Some v))))
+keeping parts k h r kept = awaits parts k r (λ v. gives (DoneWith (update kept h (Some v))))
 
 abbrev pub load_process : PartTypes → ValueType → ℕ → EmittedValues → Option Value → Process
 load_process parts k h kept None = gives (DoneWith (update kept h None))

@@ -189,7 +189,7 @@ module _ (k : Option ValueType) where
       (λ v. chosen_leads true (b || true) v t (Broke kept t) (Done kept t)
       (or_right b true refl) refl)
 
--- a call that wants a result gets one
+-- a call that awaits a result gets one
 result_leads : (parts : PartTypes) (k : Option ValueType) (f : Function) (callee : Option ValueType)
     (a : Action) (r : Option ℕ) (kept : EmittedValues) (q : ReachedOrHalted (Option Value)) →
     ((h : ℕ) → r ≡ Some h → (z : ValueType) × (callee ≡ Some z)) → IsComplete callee q →

@@ -6,7 +6,7 @@ use Rattle.std.proofs.Common.{ap, ◌∙◌, subst, arith, option_map}
 use Rattle.std.proofs.Math.Nat.{eq-or-lt_of_le}
 use Rattle.std.specs.Prelude.{option_and_then}
 use Rattle.shader_runs.specs.Value.{Bytes, same_bytes, PartTypes, Place, Selector, Value}
-use Rattle.shader_runs.specs.Value.{ShortCircuit, truth_in, integer_in, place_in, position_at}
+use Rattle.shader_runs.specs.Value.{ShortCircuit, truth_in, integer_in, place_in, element_place}
 use Rattle.shader_runs.specs.Value.{place_to, place_type, takes_several}
 use Rattle.shader_runs.specs.World.{Event, Entry, Read, Write, entries, World, Meaning, bind}
 use Rattle.shader_runs.specs.Outcome.{Stuck, OutOfTurns, Outcome, Done, Continued, Broke, Returned}
@@ -271,7 +271,7 @@ module _ (k : ℕ) where
       into_place : (p : Place) (q : ReachedOrHalted Value) →
           SettlesReached (reached_events q) (part_reached parts p q) (part_reached parts p q)
       into_place p (Gives v e) =
-          reach_settles (option_map IsPlace (option_and_then (position_at parts p) (integer_in v))) e
+          reach_settles (option_map IsPlace (option_and_then (element_place parts p) (integer_in v))) e
       into_place p (Halts x e) = same here
 
       into_value : (v : Value) (q : ReachedOrHalted Value) →

@@ -8,7 +8,7 @@ use Rattle.std.proofs.lemmas.Bool.{eqb-false}
 use Rattle.std.proofs.lemmas.Option.{slice_get_within, none-some, same_Some}
 use Rattle.shader_runs.specs.Value.{Bytes, PartTypes, Place, place_type, Step, Rooted, GlobalRoot}
 use Rattle.shader_runs.specs.Value.{Part, Selector, MemberNamed, ElementAt, step_to, step_at}
-use Rattle.shader_runs.specs.Value.{part_pointer, position_at, ValueType, BooleanType, IntegerType}
+use Rattle.shader_runs.specs.Value.{part_pointer, element_place, ValueType, BooleanType, IntegerType}
 use Rattle.shader_runs.specs.Value.{PointerType, OtherType, type_of, same_type, has_type, has_types}
 use Rattle.shader_runs.specs.Value.{same_bytes, Value, Truth, Whole, Pointer, Opaque, Word, Spelled}
 use Rattle.shader_runs.specs.Value.{PartWord, IndexWord, ShortCircuit, short_circuit_word, place_in}
@@ -499,7 +499,7 @@ module _ (p : Module) (consistent : IsConsistent p) where
         let v = part_has_type k q.0 (step_at (p.parts (place_type p.parts q.0)) z.0) fits in (
           v.0,
           ap (λ x. index_value_of p.parts m x y) q.1
-              ∙ ap (λ o. option_map Pointer (option_and_then (position_at p.parts q.0) o)) z.1
+              ∙ ap (λ o. option_map Pointer (option_and_then (element_place p.parts q.0) o)) z.1
               ∙ v.1,
           v.2,
         )

@@ -138,15 +138,15 @@ handle_types f [] = []
 handle_types f (x ∷ xs) = handle_type f x ∷ handle_types f xs
 
 -- a wanted result is one that the callee gives
-abbrev pub ResultWanted : Function → Option ValueType → Option ℕ → Type 0
-ResultWanted f k None = Unit {0}
-ResultWanted f k (Some h) = k ≡ Some (handle_type f h)
+abbrev pub UsedResultFits : Function → Option ValueType → Option ℕ → Type 0
+UsedResultFits f k None = Unit {0}
+UsedResultFits f k (Some h) = k ≡ Some (handle_type f h)
 
 -- the callee wants arguments of these types
 abbrev pub CallFits : Function → Option Function → List ℕ → Option ℕ → Type 0
 CallFits f None xs r = ⊥
 CallFits f (Some callee) xs r =
-    (handle_types f xs ≡ callee.argument_types) × ResultWanted f callee.result r
+    (handle_types f xs ≡ callee.argument_types) × UsedResultFits f callee.result r
 
 -- a callee stands before its caller, and no variable hides its name
 abbrev pub ActionFits : Module → List Function → Naming → Action → List ℕ → Option ℕ → Type 0

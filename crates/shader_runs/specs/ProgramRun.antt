@@ -9,7 +9,7 @@ use Rattle.std.specs.Prelude.{ℕ, zero, suc, ℤ, Bool, true, false, cond, nat_
 use Rattle.std.specs.Prelude.{option_map, option_and_then, length, Option, Some, None, ◌||◌}
 use Rattle.std.specs.Prelude.{slice_get, codes}
 use Rattle.shader_runs.specs.Value.{Bytes, same_integer, PartTypes, Place, Rooted, GlobalRoot}
-use Rattle.shader_runs.specs.Value.{truth_in, integer_in, place_in, position_at, place_to}
+use Rattle.shader_runs.specs.Value.{truth_in, integer_in, place_in, element_place, place_to}
 use Rattle.shader_runs.specs.Value.{LocalRoot}
 use Rattle.shader_runs.specs.Value.{ValueType, has_type, Selector, MemberNamed, Value, Truth}
 use Rattle.shader_runs.specs.Value.{Pointer, Word, Spelled, PartWord, IndexWord, ShortCircuit}
@@ -154,7 +154,7 @@ on_two f (x ∷ y ∷ z ∷ vs) = None
 -- has such parts; into another value it gives what the meaning says
 abbrev pub index_value_by : PartTypes → Meaning → Option Place → Value → Value → Option Value
 index_value_by parts m (Some p) v i =
-    option_map Pointer (option_and_then (position_at parts p) (integer_in i))
+    option_map Pointer (option_and_then (element_place parts p) (integer_in i))
 index_value_by parts m None v i = Some (m IndexWord (v ∷ i ∷ []))
 
 -- an index into a value

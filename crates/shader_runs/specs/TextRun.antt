@@ -11,7 +11,7 @@
 use Rattle.std.specs.Prelude.{ℕ, suc, Bool, true, false, cond, nat_eq, List, [], ◌∷◌, length}
 use Rattle.std.specs.Prelude.{option_map, option_and_then, Option, Some, None, ◌||◌}
 use Rattle.shader_runs.specs.Value.{Bytes, same_bytes, PartTypes, Place, Rooted, GlobalRoot}
-use Rattle.shader_runs.specs.Value.{LocalRoot, integer_in, place_in, position_at, place_to}
+use Rattle.shader_runs.specs.Value.{LocalRoot, integer_in, place_in, element_place, place_to}
 use Rattle.shader_runs.specs.Value.{place_type}
 use Rattle.shader_runs.specs.Value.{Selector, takes_several}
 use Rattle.shader_runs.specs.Value.{Value, Pointer}
@@ -102,7 +102,7 @@ address_reached (Gives (IsValue v) t) = Halts Stuck t
 abbrev pub part_reached : PartTypes → Place → ReachedOrHalted Value → ReachedOrHalted Denotation
 part_reached parts p (Halts x t) = Halts x t
 part_reached parts p (Gives v t) =
-    reach (option_map IsPlace (option_and_then (position_at parts p) (integer_in v))) t
+    reach (option_map IsPlace (option_and_then (element_place parts p) (integer_in v))) t
 
 -- an index into a value
 abbrev pub index_reached : Meaning → Value → ReachedOrHalted Value → ReachedOrHalted Denotation

@@ -131,8 +131,8 @@ place_type parts (Rooted root) = root_type root
 place_type parts (Part place step) = part_pointer (parts (place_type parts place)) step
 
 -- the part of a place to which a computed index leads, if it has such parts
-abbrev pub position_at : PartTypes → Place → ℤ → Option Place
-position_at parts place z = option_map (Part place) (step_at (parts (place_type parts place)) z)
+abbrev pub element_place : PartTypes → Place → ℤ → Option Place
+element_place parts place z = option_map (Part place) (step_at (parts (place_type parts place)) z)
 
 -- the part of a place that a selector names, if it has this one
 abbrev pub place_to : PartTypes → Place → Selector → Option Place

@@ -25,7 +25,7 @@ pub record LocationBinding : Type 0 where
 -- How a value passes in or out of a stage: by nothing, where these attributes say nothing of it; as
 -- a built-in value, by its word, if it has one; or at a location.
 pub data StageBinding : Type 0 where
-  NotBound : List Attribute → StageBinding
+  WithoutBinding : List Attribute → StageBinding
   BuiltinValue : (word : Option (List ℕ)) → (invariant : Bool) → StageBinding
   AtLocation : LocationBinding → StageBinding
 
@@ -52,7 +52,7 @@ abbrev pub after_interpolation_read : LocationBinding → List Attribute → Sta
 after_interpolation_read l [] = AtLocation l
 after_interpolation_read l (Plain PerPrimitive ∷ []) =
     AtLocation (record l { per_primitive = true })
-after_interpolation_read l others = NotBound others
+after_interpolation_read l others = WithoutBinding others
 
 abbrev pub after_source_read : LocationBinding → List Attribute → StageBinding
 after_source_read l (Worded Interpolate i ∷ more) =
@@ -71,7 +71,7 @@ abbrev pub stage_binding_read : List Attribute → StageBinding
 stage_binding_read (Worded Builtin w ∷ []) = BuiltinValue (Some w) false
 stage_binding_read (Worded Builtin w ∷ Plain Invariant ∷ []) = BuiltinValue (Some w) true
 stage_binding_read (Numbered Location n ∷ more) = after_location_read (plain_location n) more
-stage_binding_read others = NotBound others
+stage_binding_read others = WithoutBinding others
 
 -- ---- members
 -- the size that a member is given, and its alignment, if it is given one; they stand in front of

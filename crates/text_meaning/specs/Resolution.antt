@@ -29,13 +29,13 @@ pub data Item : Type 0 where
   ValueItem : Target → Item
 
 -- the place of a word among several
-abbrev pub place_among : List ℕ → List (List ℕ) → Option ℕ
-place_among w [] = None
-place_among w (x ∷ xs) = if bytes_eq w x then Some 0 else option_map (λ i. suc i) (place_among w xs)
+abbrev pub index_among : List ℕ → List (List ℕ) → Option ℕ
+index_among w [] = None
+index_among w (x ∷ xs) = if bytes_eq w x then Some 0 else option_map (λ i. suc i) (index_among w xs)
 
 -- the number of the struct with this name
 abbrev pub struct_named : List Struct → List ℕ → Option ℕ
-struct_named structs w = place_among w (map (λ s. s.name) structs)
+struct_named structs w = index_among w (map (λ s. s.name) structs)
 
 -- what each name stands for
 abbrev pub item_named : Program → List ℕ → Option Item
@@ -71,7 +71,7 @@ own_names f = f.parameters ++ (map (λ v. v.name) f.variables ++ lines_lets f.li
 -- a name that no type has: that of no struct and of no override
 abbrev pub is_in_no_type : Program → List ℕ → Bool
 is_in_no_type p w =
-    is_none (place_among w (map (λ s. s.name) p.structs ++ map (λ v. v.name) p.overrides))
+    is_none (index_among w (map (λ s. s.name) p.structs ++ map (λ v. v.name) p.overrides))
 
 -- a function gives no name that a type has
 abbrev pub hides_no_type : Program → TextFunction → Bool
@@ -110,5 +110,5 @@ stage_targets p =
 abbrev pub member_named : List Struct → (struct word : List ℕ) → Option ℕ
 member_named structs struct word =
     option_and_then
-    (λ s. place_among word (map (λ l. l.name) s.members))
+    (λ s. index_among word (map (λ l. l.name) s.members))
     (option_and_then (slice_get structs) (struct_named structs struct))

@@ -140,14 +140,14 @@ fn text_of(
         text.push_str(refusal.as_str())?;
     }
     if places {
-        push_place(alloc, known, flags, &mut text)?;
+        push_position(alloc, known, flags, &mut text)?;
     }
     Ok(text)
 }
 
 /// Tells where what the module is refused for stands, if there is such a thing, and why an operand
 /// there has no value.
-fn push_place(
+fn push_position(
     alloc: Global,
     known: &Known,
     flags: WriterFlags,

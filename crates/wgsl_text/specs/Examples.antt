@@ -17,7 +17,7 @@ use Rattle.wgsl_text.specs.WorkedTrees.{IsText, lines, named_type, template_of, 
 use Rattle.wgsl_text.specs.WorkedTrees.{name, names}
 use Rattle.wgsl_text.specs.WorkedTrees.{integer, unsigned, call, member_of, let_statement}
 use Rattle.wgsl_text.specs.WorkedTrees.{typed_let_statement}
-use Rattle.wgsl_text.specs.WorkedTrees.{statements, parameter, bound_parameter, gives, local}
+use Rattle.wgsl_text.specs.WorkedTrees.{statements, parameter, attributed_parameter, gives, local}
 use Rattle.wgsl_text.specs.WorkedTrees.{function, worded_attribute, member, struct, constant}
 use Rattle.wgsl_text.specs.WorkedTrees.{override, space}
 use Rattle.wgsl_text.specs.WorkedTrees.{space_and_access, global, entry_point, of_functions}
@@ -587,7 +587,7 @@ flat_input = record no_declarations {
   entry_points =
       entry_point (Plain Fragment ∷ [])
       (function "main"
-      (bound_parameter (Numbered Location 0 ∷ worded_attribute Interpolate "flat" ∷ []) "i"
+      (attributed_parameter (Numbered Location 0 ∷ worded_attribute Interpolate "flat" ∷ []) "i"
       (named_type "u32") ∷ []) NoResult [] []) ∷ [];
 }
 

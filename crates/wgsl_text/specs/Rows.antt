@@ -30,7 +30,7 @@ use Rattle.wgsl_text.specs.Reading.{type_layout, expression_layout}
 use Rattle.wgsl_text.specs.WorkedTrees.{lines, names, template_of, named_type, template}
 use Rattle.wgsl_text.specs.WorkedTrees.{sized_template}
 use Rattle.wgsl_text.specs.WorkedTrees.{member_of, let_statement, typed_let_statement}
-use Rattle.wgsl_text.specs.WorkedTrees.{bound_parameter, worded_attribute}
+use Rattle.wgsl_text.specs.WorkedTrees.{attributed_parameter, worded_attribute}
 use Rattle.wgsl_text.specs.WorkedTrees.{interpolated_attribute, member, struct, constant, override}
 use Rattle.wgsl_text.specs.WorkedTrees.{space}
 use Rattle.wgsl_text.specs.WorkedTrees.{global, entry_point, name, integer, unsigned, call}
@@ -399,14 +399,14 @@ every_declaration = record no_declarations {
       global [] (space "private") "counter" (named_type "i32") (Some (integer 1)) ∷ [];
   functions =
       function "f"
-      (bound_parameter (worded_attribute Builtin "vertex_index" ∷ []) "i"
+      (attributed_parameter (worded_attribute Builtin "vertex_index" ∷ []) "i"
       (named_type "u32") ∷ [])
       (ResultOf (Numbered Location 0 ∷ []) (named_type "f32")) [] (
       ReturnValue (integer 1) ∷ []) ∷
       function "g" [] NoResult [] [] ∷ [];
   entry_points =
       entry_point (Plain Vertex ∷ []) (function "vs" (parameter "v" (named_type "Input") ∷
-      bound_parameter (Numbered Location 0 ∷ worded_attribute Interpolate "linear" ∷ []) "x"
+      attributed_parameter (Numbered Location 0 ∷ worded_attribute Interpolate "linear" ∷ []) "x"
       (named_type "f32") ∷
       []) (ResultOf (worded_attribute Builtin "position" ∷ [])
       (template_of "vec4" ("f32" ∷ []))) [] (

@@ -82,8 +82,8 @@ statements (s ∷ more) = Then s (statements more)
 abbrev pub parameter : String → TypeSpecifier → Parameter
 parameter w t = record { attributes = []; name = codes w; type = t }
 
-abbrev pub bound_parameter : List Attribute → String → TypeSpecifier → Parameter
-bound_parameter attributes w t = record { attributes = attributes; name = codes w; type = t }
+abbrev pub attributed_parameter : List Attribute → String → TypeSpecifier → Parameter
+attributed_parameter attributes w t = record { attributes = attributes; name = codes w; type = t }
 
 abbrev pub gives : String → Result
 gives w = ResultOf [] (named_type w)

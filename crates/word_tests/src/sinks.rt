@@ -3,7 +3,7 @@ use naga_words::{IoSink, Limited, SinkError, TextSink};
 use std::io::Cursor;
 
 /// Pieces for a sink with room for three bytes, what it answers, and what it then holds.
-const PIECES: &[(&str, Result<(), SinkError>, &str)] = &[
+const CHUNKS: &[(&str, Result<(), SinkError>, &str)] = &[
     ("ab", Ok(()), "ab"),
     ("cd", Err(SinkError::Failed), "ab"),
     ("e", Ok(()), "abe"),
@@ -14,7 +14,7 @@ const PIECES: &[(&str, Result<(), SinkError>, &str)] = &[
 #[test]
 fn a_limited_text_refuses_once(rt: HostRuntime) {
     let mut sink = Limited::new(rt.alloc(), 3);
-    for (piece, want, text) in PIECES {
+    for (piece, want, text) in CHUNKS {
         assert_eq!(&rt; sink.write_str(*piece), *want, "for {piece:?}");
         assert_eq!(&rt; sink.text(), *text);
     }

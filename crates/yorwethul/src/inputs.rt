@@ -1,7 +1,7 @@
 //! What is read from files and from the standard input.
 
 use crate::failure::Failure;
-use crate::words::Request;
+use crate::words::Invocation;
 use module_answers::nests_too_deep;
 use naga_info::ModuleInfo;
 use naga_json::{Known, ReadError, read_info, read_known, read_module};
@@ -9,14 +9,14 @@ use naga_wgsl_out::ir::Module;
 use std::rt::Files;
 use std::{fs, io};
 
-/// The module that the request names, with what is known of it.
+/// The module that the invocation names, with what is known of it.
 pub fn known_of<'a, R: Files + Input + AllocGlobal>(
     rt: &R,
-    request: Request<'a>,
+    invocation: Invocation<'a>,
 ) -> Result<Known, Failure<'a>> {
-    match request.info {
-        Some(info) => known_in_two(rt, request.module, info),
-        None => known_in(rt, request.module),
+    match invocation.info {
+        Some(info) => known_in_two(rt, invocation.module, info),
+        None => known_in(rt, invocation.module),
     }
 }
 

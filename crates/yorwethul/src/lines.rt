@@ -68,7 +68,7 @@ fn line_answer(alloc: Global, line: &[u8], style: Style) -> Result<(String, Outc
     let mut members = Map::new(alloc);
     let mut scratch = Scratch::new(alloc);
     match parse_bytes(alloc, line, &mut scratch) {
-        Ok(request) => answer_request(alloc, &request, style, line, &mut members)?,
+        Ok(query) => answer_query(alloc, &query, style, line, &mut members)?,
         Err(error) => tell_unread(alloc, line, error, &mut members)?,
     }
     let outcome = outcome_in(&members);
@@ -90,18 +90,18 @@ fn outcome_in(members: &Members) -> Outcome {
 }
 
 /// Tells what becomes of the module that is asked for, under the id that came with it.
-fn answer_request(
+fn answer_query(
     alloc: Global,
-    request: &json::Value<'_>,
+    query: &json::Value<'_>,
     style: Style,
     line: &[u8],
     members: &mut Members,
 ) -> Result<(), AllocError> {
-    match style_in(request, style) {
-        Ok(style) => answer_module(alloc, request, style, members)?,
+    match style_in(query, style) {
+        Ok(style) => answer_module(alloc, query, style, members)?,
         Err(error) => tell(alloc, "error", error, members)?,
     }
-    if let Some(id) = request.get("id") {
+    if let Some(id) = query.get("id") {
         put(alloc, "id", owned_id(alloc, id, line)?, members)?;
     }
     Ok(())
@@ -120,8 +120,8 @@ fn owned_id(alloc: Global, id: &json::Value<'_>, line: &[u8]) -> Result<Value, A
 
 /// The id that comes in this line.
 fn id_in(alloc: Global, line: &[u8]) -> Result<Value, AllocError> {
-    let mut request = reread(Value::from_slice(alloc, line))?;
-    match request.get_mut("id") {
+    let mut query = reread(Value::from_slice(alloc, line))?;
+    match query.get_mut("id") {
         Some(id) => Ok(id.take()),
         None => Ok(Value::Null),
     }
@@ -135,16 +135,16 @@ fn reread(read: Result<Value, serde_json::Error>) -> Result<Value, AllocError> {
     }
 }
 
-/// The style that is asked for: what the request doesn't tell is as in this one. It is an error
+/// The style that is asked for: what the query doesn't tell is as in this one. It is an error
 /// where what tells it is no truth value, or of the limits no number of 32 bits.
-fn style_in(request: &json::Value<'_>, style: Style) -> Result<Style, &'static str> {
-    let Some(explicit_types) = truth_in(request, "explicit_types", style.explicit_types) else {
+fn style_in(query: &json::Value<'_>, style: Style) -> Result<Style, &'static str> {
+    let Some(explicit_types) = truth_in(query, "explicit_types", style.explicit_types) else {
         return Err("explicit_types: no truth value");
     };
-    let Some(plain) = truth_in(request, "plain", style.plain) else {
+    let Some(plain) = truth_in(query, "plain", style.plain) else {
         return Err("plain: no truth value");
     };
-    let limits = limits_in(request, style.limits)?;
+    let limits = limits_in(query, style.limits)?;
     Ok(Style {
         explicit_types,
         plain,
@@ -153,19 +153,19 @@ fn style_in(request: &json::Value<'_>, style: Style) -> Result<Style, &'static s
 }
 
 /// The limits that are asked for.
-fn limits_in(request: &json::Value<'_>, limits: Limits) -> Result<Limits, &'static str> {
-    let Some(nesting) = number_in(request, "nesting", limits.nesting) else {
+fn limits_in(query: &json::Value<'_>, limits: Limits) -> Result<Limits, &'static str> {
+    let Some(nesting) = number_in(query, "nesting", limits.nesting) else {
         return Err("nesting: no number of 32 bits");
     };
-    let Some(text) = number_in(request, "text", limits.text) else {
+    let Some(text) = number_in(query, "text", limits.text) else {
         return Err("text: no number of 32 bits");
     };
     Ok(Limits { nesting, text })
 }
 
 /// The number that a member has, or this one where there is no such member.
-fn number_in(request: &json::Value<'_>, name: &str, absent: usize) -> Option<usize> {
-    match request.get(name) {
+fn number_in(query: &json::Value<'_>, name: &str, absent: usize) -> Option<usize> {
+    match query.get(name) {
         Some(told) => match u32::try_from(told.as_u64()?) {
             Ok(number) => Some(number as usize),
             Err(_) => None,
@@ -175,8 +175,8 @@ fn number_in(request: &json::Value<'_>, name: &str, absent: usize) -> Option<usi
 }
 
 /// The truth value that a member has, or this one where there is no such member.
-fn truth_in(request: &json::Value<'_>, name: &str, absent: bool) -> Option<bool> {
-    match request.get(name) {
+fn truth_in(query: &json::Value<'_>, name: &str, absent: bool) -> Option<bool> {
+    match query.get(name) {
         Some(told) => told.as_bool(),
         None => Some(absent),
     }
@@ -184,11 +184,11 @@ fn truth_in(request: &json::Value<'_>, name: &str, absent: bool) -> Option<bool>
 
 fn answer_module(
     alloc: Global,
-    request: &json::Value<'_>,
+    query: &json::Value<'_>,
     style: Style,
     members: &mut Members,
 ) -> Result<(), AllocError> {
-    match known_of(alloc, request) {
+    match known_of(alloc, query) {
         Ok(mut known) => tell_known(alloc, &mut known, style, members),
         Err(error) => tell(alloc, "error", error, members),
     }
@@ -211,7 +211,7 @@ fn tell_known(
     }
 }
 
-/// Tells that the module is past a limit: at no place, and with no text in front of it.
+/// Tells that the module is past a limit: at no position, and with no text in front of it.
 fn tell_limited(
     alloc: Global,
     known: &Known,
@@ -253,7 +253,7 @@ fn tell_refused(
     tell(alloc, "refused", reason, members)?;
     if let Some(refusal) = refusal {
         let position = JsonRefusalPosition::of(JsonRoot::Member, module, refusal.position);
-        tell(alloc, "place", position, members)?;
+        tell(alloc, "position", position, members)?;
         if let Some(label) = label_at(module, refusal.position) {
             tell(alloc, "function", label, members)?;
         }
@@ -273,7 +273,7 @@ fn tell_unaccepted(
     let mut told = Map::new(alloc);
     tell(
         alloc,
-        "place",
+        "position",
         JsonPosition(JsonRoot::Member, unaccepted.item),
         &mut told,
     )?;
@@ -288,7 +288,7 @@ fn tell_unaccepted(
     put(alloc, "not_accepted", Value::Object(told), members)
 }
 
-/// Tells why the line holds no request.
+/// Tells why the line holds no query.
 fn tell_unread(
     alloc: Global,
     line: &[u8],

@@ -6,7 +6,7 @@ use crate::inputs::known_of;
 use crate::lines::answer_lines;
 use crate::progress::Progress;
 use crate::texts::write_in;
-use crate::words::{Request, Task, request_of};
+use crate::words::{Invocation, Task, invocation_of};
 use module_answers::{
     JsonRoot, NoOutcome, WriteOutcome, check_nesting, fault_line, layout_table, refusal_line,
 };
@@ -40,8 +40,8 @@ pub fn run<R: Files + Input + Clock + AllocGlobal, O: Write, E: Write>(
     err: &mut E,
     is_watched: bool,
 ) -> u8 {
-    match request_of(rt.alloc(), words) {
-        Ok(request) => serve(rt, request, out, err, is_watched),
+    match invocation_of(rt.alloc(), words) {
+        Ok(invocation) => serve(rt, invocation, out, err, is_watched),
         Err(error) => tell_words(error, out, err),
     }
 }
@@ -58,25 +58,25 @@ fn tell_words<O: Write, E: Write>(error: clap::Error, out: &mut O, err: &mut E) 
 
 fn serve<R: Files + Input + Clock + AllocGlobal, O: Write, E: Write>(
     rt: &R,
-    request: Request<'_>,
+    invocation: Invocation<'_>,
     out: &mut O,
     err: &mut E,
     is_watched: bool,
 ) -> u8 {
-    match request.task {
-        Task::Lines => serve_lines(rt, request, out, err, is_watched),
-        _ => serve_module(rt, request, out, err),
+    match invocation.task {
+        Task::Lines => serve_lines(rt, invocation, out, err, is_watched),
+        _ => serve_module(rt, invocation, out, err),
     }
 }
 
 fn serve_lines<R: Files + Input + Clock + AllocGlobal, O: Write, E: Write>(
     rt: &R,
-    request: Request<'_>,
+    invocation: Invocation<'_>,
     out: &mut O,
     err: &mut E,
     is_watched: bool,
 ) -> u8 {
-    let done = watch_lines(rt, request, out, err, is_watched);
+    let done = watch_lines(rt, invocation, out, err, is_watched);
     match done {
         Ok(()) => 0,
         Err(failure) => fail(failure, err),
@@ -85,12 +85,12 @@ fn serve_lines<R: Files + Input + Clock + AllocGlobal, O: Write, E: Write>(
 
 fn serve_module<R: Files + Input + AllocGlobal, O: Write, E: Write>(
     rt: &R,
-    request: Request<'_>,
+    invocation: Invocation<'_>,
     out: &mut O,
     err: &mut E,
 ) -> u8 {
-    match known_of(rt, request) {
-        Ok(mut known) => answer(rt.alloc(), request, &mut known, out, err),
+    match known_of(rt, invocation) {
+        Ok(mut known) => answer(rt.alloc(), invocation, &mut known, out, err),
         Err(failure) => fail(failure, err),
     }
 }
@@ -98,17 +98,17 @@ fn serve_module<R: Files + Input + AllocGlobal, O: Write, E: Write>(
 /// Answers the lines of the input, and tells how far it has come.
 fn watch_lines<'a, R: Files + Input + Clock + AllocGlobal, O: Write, E: Write>(
     rt: &R,
-    request: Request<'a>,
+    invocation: Invocation<'a>,
     out: &mut O,
     err: &mut E,
     is_watched: bool,
 ) -> Result<(), Failure<'a>> {
     let mut progress = Progress::new(rt, err, is_watched);
-    let done = if request.module == "-" {
-        read_lines(rt.alloc(), request, Ok(rt.reader()), out, &mut progress)
+    let done = if invocation.module == "-" {
+        read_lines(rt.alloc(), invocation, Ok(rt.reader()), out, &mut progress)
     } else {
-        let input = fs::open(rt, request.module);
-        read_lines(rt.alloc(), request, input, out, &mut progress)
+        let input = fs::open(rt, invocation.module);
+        read_lines(rt.alloc(), invocation, input, out, &mut progress)
     };
     progress.finish();
     done
@@ -117,14 +117,14 @@ fn watch_lines<'a, R: Files + Input + Clock + AllocGlobal, O: Write, E: Write>(
 /// Answers the lines of an input, where it could be opened.
 fn read_lines<'a, I: Read + Drop, O: Write, R: Clock, E: Write>(
     alloc: Global,
-    request: Request<'a>,
+    invocation: Invocation<'a>,
     input: io::Result<I>,
     out: &mut O,
     progress: &mut Progress<'_, R, E>,
 ) -> Result<(), Failure<'a>> {
-    let name = request.module;
+    let name = invocation.module;
     match buffered(alloc, input) {
-        Ok(input) => answer_lines(alloc, name, input, request.style, out, progress),
+        Ok(input) => answer_lines(alloc, name, input, invocation.style, out, progress),
         Err(error) => Err(Failure::Input(name, error)),
     }
 }
@@ -133,48 +133,48 @@ fn buffered<I: Read + Drop>(alloc: Global, input: io::Result<I>) -> io::Result<B
     BufReader::new(alloc, input?)
 }
 
-/// Prints what the request wants to know of a module.
+/// Prints what the invocation wants to know of a module.
 fn answer<O: Write, E: Write>(
     alloc: Global,
-    request: Request<'_>,
+    invocation: Invocation<'_>,
     known: &mut Known,
     out: &mut O,
     err: &mut E,
 ) -> u8 {
-    match request.task {
-        Task::Check => check(alloc, request, known, out, err),
-        Task::Layout => tell_layouts(alloc, request, known, out, err),
-        Task::Explain => explain(alloc, request, known, out, err),
-        Task::Write | Task::Lines => print_text(alloc, request, known, out, err),
+    match invocation.task {
+        Task::Check => check(alloc, invocation, known, out, err),
+        Task::Layout => tell_layouts(alloc, invocation, known, out, err),
+        Task::Explain => explain(alloc, invocation, known, out, err),
+        Task::Write | Task::Lines => print_text(alloc, invocation, known, out, err),
     }
 }
 
 /// Prints the module's text.
 fn print_text<O: Write, E: Write>(
     alloc: Global,
-    request: Request<'_>,
+    invocation: Invocation<'_>,
     known: &mut Known,
     out: &mut O,
     err: &mut E,
 ) -> u8 {
-    match write_in(alloc, request.style, known) {
-        Ok(written) => print_written(alloc, written, request.root(), &known.module, out, err),
-        Err(unwritten) => tell_unwritten(alloc, request, known, unwritten, err),
+    match write_in(alloc, invocation.style, known) {
+        Ok(written) => print_written(alloc, written, invocation.root(), &known.module, out, err),
+        Err(unwritten) => tell_unwritten(alloc, invocation, known, unwritten, err),
     }
 }
 
 fn check<O: Write, E: Write>(
     alloc: Global,
-    request: Request<'_>,
+    invocation: Invocation<'_>,
     known: &Known,
     out: &mut O,
     err: &mut E,
 ) -> u8 {
-    if let Err(unwritten) = check_nesting(alloc, &known.module, request.style.limits.nesting) {
-        return tell_unwritten(alloc, request, known, unwritten, err);
+    if let Err(unwritten) = check_nesting(alloc, &known.module, invocation.style.limits.nesting) {
+        return tell_unwritten(alloc, invocation, known, unwritten, err);
     }
     match unaccepted(&known.module, &known.info) {
-        Some(fault) => refuse_unaccepted(alloc, request, known, fault, err),
+        Some(fault) => refuse_unaccepted(alloc, invocation, known, fault, err),
         None => print("accepted\n", out, err),
     }
 }
@@ -182,12 +182,12 @@ fn check<O: Write, E: Write>(
 /// Prints why the module has no text.
 fn explain<O: Write, E: Write>(
     alloc: Global,
-    request: Request<'_>,
+    invocation: Invocation<'_>,
     known: &mut Known,
     out: &mut O,
     err: &mut E,
 ) -> u8 {
-    match explained(alloc, request.style, request.root(), known) {
+    match explained(alloc, invocation.style, invocation.root(), known) {
         Ok(Explanation { text, is_written }) => match print(text, out, err) {
             0 if !is_written => REFUSED,
             status => status,
@@ -199,16 +199,16 @@ fn explain<O: Write, E: Write>(
 /// Prints where the members of the module's structs stand.
 fn tell_layouts<O: Write, E: Write>(
     alloc: Global,
-    request: Request<'_>,
+    invocation: Invocation<'_>,
     known: &Known,
     out: &mut O,
     err: &mut E,
 ) -> u8 {
-    if let Err(unwritten) = check_nesting(alloc, &known.module, request.style.limits.nesting) {
-        return tell_unwritten(alloc, request, known, unwritten, err);
+    if let Err(unwritten) = check_nesting(alloc, &known.module, invocation.style.limits.nesting) {
+        return tell_unwritten(alloc, invocation, known, unwritten, err);
     }
     match unaccepted(&known.module, &known.info) {
-        Some(fault) => refuse_unaccepted(alloc, request, known, fault, err),
+        Some(fault) => refuse_unaccepted(alloc, invocation, known, fault, err),
         None => match layout_table(alloc, &known.module, &known.info) {
             Ok(table) => print(table, out, err),
             Err(error) => tell_error(error, err),
@@ -262,12 +262,12 @@ fn write_and_flush<O: Write>(text: impl Display + Drop, out: &mut O) -> io::Resu
 /// Tells where and why the module is not accepted, and what was expected there.
 fn refuse_unaccepted<E: Write>(
     alloc: Global,
-    request: Request<'_>,
+    invocation: Invocation<'_>,
     known: &Known,
     fault: Unaccepted,
     err: &mut E,
 ) -> u8 {
-    match fault_line(alloc, &known.module, &known.info, fault, request.root()) {
+    match fault_line(alloc, &known.module, &known.info, fault, invocation.root()) {
         Ok(line) => {
             let _ = writeln!(err, "not accepted: {line}");
             REFUSED
@@ -279,13 +279,13 @@ fn refuse_unaccepted<E: Write>(
 /// Tells why the writer was not asked for a module, or was stopped at it.
 fn tell_unwritten<E: Write>(
     alloc: Global,
-    request: Request<'_>,
+    invocation: Invocation<'_>,
     known: &Known,
     unwritten: NoOutcome,
     err: &mut E,
 ) -> u8 {
     match unwritten {
-        NoOutcome::NotAccepted(fault) => refuse_unaccepted(alloc, request, known, fault, err),
+        NoOutcome::NotAccepted(fault) => refuse_unaccepted(alloc, invocation, known, fault, err),
         NoOutcome::Memory(_) => fail(Failure::Memory, err),
         reason => refuse(reason, err),
     }

@@ -23,7 +23,7 @@ pub enum Task {
 
 /// What the words ask for.
 #[derive(Clone, Copy, Debug, PartialEq, Eq)]
-pub struct Request<'a> {
+pub struct Invocation<'a> {
     /// What is done.
     pub task: Task,
     /// How texts are written.
@@ -34,7 +34,7 @@ pub struct Request<'a> {
     pub info: Option<&'a str>,
 }
 
-impl Request<'_> {
+impl Invocation<'_> {
     /// What the file with the module holds, by which places are told.
     pub fn root(self) -> JsonRoot {
         match self.info {
@@ -46,13 +46,13 @@ impl Request<'_> {
 
 /// What the words after the program's name ask for. The error is also what tells the help and the
 /// version.
-pub fn request_of(alloc: Global, words: &[String]) -> Result<Request<'_>, Error> {
+pub fn invocation_of(alloc: Global, words: &[String]) -> Result<Invocation<'_>, Error> {
     let matches = command(alloc)?.try_get_matches_from(words)?;
-    Ok(request_in(&matches))
+    Ok(invocation_in(&matches))
 }
 
-fn request_in<'a>(matches: &ArgMatches<'a>) -> Request<'a> {
-    Request {
+fn invocation_in<'a>(matches: &ArgMatches<'a>) -> Invocation<'a> {
+    Invocation {
         task: task_in(matches),
         style: Style {
             explicit_types: matches.get_flag("explicit-types"),

@@ -28,8 +28,8 @@ class Planted:
     def wanted(self, explicit):
         """What an answer has beside the text, where `let`s tell types or not."""
         if self.f is None:
-            return {"refused": self.name, "place": "module" + self.part()}
-        told = {"refused": self.name, "place": self.place_of_function() + self.part()}
+            return {"refused": self.name, "position": "module" + self.part()}
+        told = {"refused": self.name, "position": self.place_of_function() + self.part()}
         if self.root is not None:
             told["root"] = self.root()
         return told if self.f.label is None else {**told, "function": self.f.label}

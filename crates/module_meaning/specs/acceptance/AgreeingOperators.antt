@@ -31,7 +31,7 @@ use Rattle.naga_info.specs.declared.info.ExpressionInfo.{ExpressionInfo}
 use Rattle.naga_info.specs.declared.info.ModuleInfo.{ModuleInfo}
 use Rattle.naga_info.specs.declared.info.TypeResolution.{TypeResolution}
 use Rattle.naga_info.specs.declared.info.TypeResolution.TheVariants.{Handle, Value}
-use Rattle.module_meaning.specs.AlikeTypes.{type_identity, is_spelled}
+use Rattle.module_meaning.specs.AlikeTypes.{type_identity, has_type_form}
 use Rattle.module_meaning.specs.acceptance.Operations.{Operation, all_agree}
 use Rattle.module_meaning.specs.Conversions.{conversion_target, keeps_bits}
 use Rattle.module_meaning.specs.ExpressionOperators.{own_operator}
@@ -60,7 +60,7 @@ called_key word = 2 ∷ word
 
 abbrev pub constructor_key : List Type_ → (ty : ℕ) → List ℕ
 constructor_key types ty =
-    if is_spelled types (Handle ty) then typed_key types false (Handle ty) else one_key 0 ty
+    if has_type_form types (Handle ty) then typed_key types false (Handle ty) else one_key 0 ty
 
 -- a width that may be left out
 abbrev pub width_number : Option ℕ → ℕ
@@ -75,7 +75,7 @@ unsupported_key kind convert = word_key 1 (kind_number kind) (width_number conve
 abbrev pub target_key :
     List Type_ → ScalarKind → (convert : Option ℕ) → (bits : Bool) → TypeInner → List ℕ
 target_key types kind convert bits target =
-    if is_spelled types (Value target)
+    if has_type_form types (Value target)
     then typed_key types bits (Value target)
     else unsupported_key kind convert
 

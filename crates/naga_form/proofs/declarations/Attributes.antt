@@ -358,15 +358,15 @@ passing_io (Some (Location location i s source per_primitive)) =
     (sampling_word own_s) per_primitive
 
 -- and of a member, with the size that it is given; a binding is neither a size nor an alignment
-bound_member : (list : List Attribute) → is_io_binding list ≡ true → (may_follow_size list ≡ true)
+io_may_follow_size : (list : List Attribute) → is_io_binding list ≡ true → (may_follow_size list ≡ true)
     × (is_member_binding list ≡ true)
-bound_member (Numbered Size n ∷ more) is = absurd cc
-bound_member (Numbered Align n ∷ more) is = absurd cc
-bound_member _ is = (is, is)
+io_may_follow_size (Numbered Size n ∷ more) is = absurd cc
+io_may_follow_size (Numbered Align n ∷ more) is = absurd cc
+io_may_follow_size _ is = (is, is)
 
 pub member_is : (size : Option ℕ) (b : Option Binding) → is_member_binding (member_attributes size b) ≡ true
-member_is None b = (bound_member (passing_attributes b) (passing_io b)).1
-member_is (Some n) b = (bound_member (passing_attributes b) (passing_io b)).0
+member_is None b = (io_may_follow_size (passing_attributes b) (passing_io b)).1
+member_is (Some n) b = (io_may_follow_size (passing_attributes b) (passing_io b)).0
 
 -- so what is written of a member says its size, no alignment and how it passes
 abbrev GivesNoRoom : List Attribute → Type 0

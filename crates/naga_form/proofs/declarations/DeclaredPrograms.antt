@@ -32,7 +32,7 @@ use Rattle.naga_names.specs.Reset.{members_of}
 use Rattle.naga_names.specs.declared.key.NameKey.TheVariants as key
 use Rattle.naga_words.specs.Contexts.{Names as TypeNames}
 use Rattle.module_meaning.specs.acceptance.Accepted.{is_accepted}
-use Rattle.module_meaning.specs.AlikeTypes.{is_spelled}
+use Rattle.module_meaning.specs.AlikeTypes.{has_type_form}
 use Rattle.module_meaning.specs.DeclarationForms.{stage_has_form, DeclarationsHaveForms}
 use Rattle.module_meaning.specs.DeclarationForms.{IsDeclaredType, IsInitialiser}
 use Rattle.module_meaning.specs.Layouts.{written_size}
@@ -48,7 +48,7 @@ use Rattle.module_meaning.specs.Undeclared.{is_declared}
 use Rattle.module_meaning.specs.ExpressionForms.{constant_has_form, global_has_form}
 use Rattle.module_meaning.specs.ExpressionForms.{literal_has_form}
 use Rattle.module_meaning.proofs.Lists.{list_all_at}
-use Rattle.module_meaning.proofs.ExpressionForms.{spelled_of_spellable}
+use Rattle.module_meaning.proofs.ExpressionForms.{type_form_of_spellable}
 use Rattle.wgsl_text.proofs.ValueWords.{value_words}
 use Rattle.wgsl_text.specs.Attributes.{IsAttributes, is_stage}
 use Rattle.wgsl_text.specs.Declarations.{IsGlobal, IsMember, IsNamedConstant, IsOverride, IsStruct}
@@ -65,7 +65,7 @@ use Rattle.naga_form.proofs.declarations.AcceptedGroups.{numbers_at, types_are_f
 use Rattle.naga_form.proofs.declarations.Attributes.{global_attributes_are, id_attributes_are}
 use Rattle.naga_form.proofs.declarations.Attributes.{id_is, global_is as global_binding_is}
 use Rattle.naga_form.proofs.declarations.Attributes.{member_attributes_are}
-use Rattle.naga_form.proofs.declarations.Attributes.{member_is as member_is_bound}
+use Rattle.naga_form.proofs.declarations.Attributes.{member_is as member_binding_is}
 use Rattle.naga_form.proofs.declarations.Attributes.{stage_attributes_are, stage_is, three_sizes}
 use Rattle.naga_form.proofs.operators.ConstantForms.{constant_is, global_is}
 use Rattle.naga_form.proofs.operators.Literals.{literal_is}
@@ -176,7 +176,7 @@ module _ (m : Module) (info : ModuleInfo) (accepted : IsTrue (is_accepted m info
   literal_there h value at is =
       literal_is value is (global_names_in_range m info accepted h (expression.Literal value) at)
 
-  formed_there : (ty : ℕ) → is_spelled m.types (Handle ty) ≡ true → HasFormAt (type_names m) ty
+  formed_there : (ty : ℕ) → has_type_form m.types (Handle ty) ≡ true → HasFormAt (type_names m) ty
   formed_there ty is = let t = tree_there (type_names m) (Handle ty) is in
       (t.0, t.1, tree_is m types (Handle ty) tt t.0 t.1)
 
@@ -221,7 +221,7 @@ module _ (m : Module) (info : ModuleInfo) (accepted : IsTrue (is_accepted m info
     -- a type that is told
     declared_type : (ty : ℕ) → IsDeclaredType m ty → IsType (type_form spelled ty)
     declared_type ty is =
-        is_type_at m types ty (spelled_of_spellable m (Handle ty) (declarations.types ty is))
+        is_type_at m types ty (type_form_of_spellable m (Handle ty) (declarations.types ty is))
 
     -- an initialiser, if there is one
     value_is : (o : Option ℕ) → ((handle : ℕ) → o ≡ Some handle → IsInitialiser m handle) →
@@ -247,7 +247,7 @@ module _ (m : Module) (info : ModuleInfo) (accepted : IsTrue (is_accepted m info
               let fits = (numbers_at m info accepted h t at).1 in
               member_attributes_are (written_size m h i) (written_size_fits m h t at fits i) s.binding
               (member_fits t.inner fits i s there);
-          binding = member_is_bound (written_size m h i) s.binding;
+          binding = member_binding_is (written_size m h i) s.binding;
           name = member_is_word m h t at i s there;
           type = declared_type s.ty (IsDeclaredType.OfMember h i t s at declared there);
         }

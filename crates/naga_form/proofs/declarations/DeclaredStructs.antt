@@ -22,11 +22,11 @@ use Rattle.module_meaning.specs.Names.{LabelNames, module_names, name_in, overri
 use Rattle.module_meaning.specs.Resolution.{MembersResolve, OwnMembersResolve, words_of_members}
 use Rattle.module_meaning.specs.Types.{type_names}
 use Rattle.module_meaning.specs.Undeclared.{is_declared, is_undeclared}
-use Rattle.text_meaning.specs.Resolution.{place_among, struct_named}
+use Rattle.text_meaning.specs.Resolution.{index_among, struct_named}
 use Rattle.wgsl_text.specs.Declarations.{Program, Struct}
 use Rattle.naga_form.proofs.names.DistinguishedItems.{items_are_distinguished}
-use Rattle.naga_form.proofs.ListPlaces.{formed_at, formed_from, made_at, made_from, numbered_at}
-use Rattle.naga_form.proofs.ListPlaces.{numbered_from, numbered_taken, place_found, place_none}
+use Rattle.naga_form.proofs.ListIndices.{formed_at, formed_from, made_at, made_from, numbered_at}
+use Rattle.naga_form.proofs.ListIndices.{numbered_from, numbered_taken, place_found, place_none}
 use Rattle.naga_form.specs.Declarations.{member_form, program_under}
 use Rattle.naga_back.specs.declared.flags.WriterFlags.{WriterFlags}
 
@@ -74,13 +74,13 @@ module _ (m : Module) (info : ModuleInfo) (flags : WriterFlags) (labels : LabelN
   pub struct_from : (j : ℕ) (s : Struct) → slice_get program.structs j ≡ Some s → IsOfType j s
   struct_from j s at =
       let f = formed_from declares form (enumerate_from 0 m.types) j s at in
-      let own = numbered_from m.types f.place f.item f.there in
+      let own = numbered_from m.types f.index f.item f.there in
       record {
-        handle = f.place;
+        handle = f.index;
         type = f.item.1;
         there = own.0;
         declared = ap (λ h. is_declared m.special_types h f.item.1.inner) (sym own.1) ∙ f.passes;
-        number = f.number ∙ numbered_so f.place;
+        number = f.number ∙ numbered_so f.index;
         name = ap (λ s. s.name) (sym f.is) ∙ ap struct_name own.1;
       }
 
@@ -133,9 +133,9 @@ module _ (m : Module) (info : ModuleInfo) (flags : WriterFlags) (labels : LabelN
       let members = enumerate_from 0 (members_of t.inner) in
       let make = member_form (module_names m) (type_names m) m h in
       let made = map make members in
-      ap (λ o. option_and_then (λ s. place_among word (map (λ l. l.name) s.members))
+      ap (λ o. option_and_then (λ s. index_among word (map (λ l. l.name) s.members))
       (option_and_then (slice_get program.structs) o)) (struct_found h t at is)
-      ∙ (ap (option_and_then (λ s. place_among word (map (λ l. l.name) s.members)))
+      ∙ (ap (option_and_then (λ s. index_among word (map (λ l. l.name) s.members)))
       (struct_at h t at is)
       ∙ place_found word (map (λ l. l.name) made) i
       (slice_get-map (λ l. l.name) made i

@@ -110,10 +110,10 @@ spelled_form t ty =
     by (Some tree) = refl
 
 -- a binding that there is has a form where each has
-bound_has_form : (o : Option Binding) → ((b : Binding) → o ≡ Some b → binding_has_form b ≡ true) →
+any_binding_has_form : (o : Option Binding) → ((b : Binding) → o ≡ Some b → binding_has_form b ≡ true) →
     option_map_or binding_has_form o true ≡ true
-bound_has_form None each = refl
-bound_has_form (Some b) each = each b refl
+any_binding_has_form None each = refl
+any_binding_has_form (Some b) each = each b refl
 
 -- ---- what is passed, and locals
 -- what a function takes and gives is bound by what has a form
@@ -167,7 +167,7 @@ module _ (m : Module) where
     members_declared h u at is k [] there = refl
     members_declared h u at is k (s ∷ ss) there =
         let has =
-        bound_has_form s.binding
+        any_binding_has_form s.binding
         (λ b bound.
         declarations.members b
         (IsMemberBinding.OfMember h (k + 0) u s b at is (there 0 s refl) bound)) in
@@ -336,11 +336,11 @@ module _ (m : Module) where
         let arguments =
         parameters_passed names m g 0 f.arguments.items
         (λ i a here.
-        bound_has_form a.binding (λ b is. bound b (IsPassed.OfArgument i a b here is))) in
+        any_binding_has_form a.binding (λ b is. bound b (IsPassed.OfArgument i a b here is))) in
         let result =
         results_passed t f.result
         (λ r here.
-        bound_has_form r.binding (λ b is. bound b (IsPassed.OfResult r b here is))) in
+        any_binding_has_form r.binding (λ b is. bound b (IsPassed.OfResult r b here is))) in
         λ i. record {
           name = function_name m names g;
           arguments = arguments i;

@@ -99,11 +99,11 @@ handles_count k (d ∷ cs) = by (handles_count (suc k) cs) (is_named d)
 -- what the list of handles has is the handle of a constant, where k is that of the first one, and in
 -- front of it so many have a name
 record IsHandleOf (k : ℕ) (cs : List Constant) (i h : ℕ) : Type 0 where
-  place : ℕ
+  index : ℕ
   constant : Constant
-  here : h ≡ k + place
-  there : slice_get cs place ≡ Some constant
-  counted : named_count (take place cs) ≡ i
+  here : h ≡ k + index
+  there : slice_get cs index ≡ Some constant
+  counted : named_count (take index cs) ≡ i
 
 handle_of : (k : ℕ) (cs : List Constant) (i h : ℕ) → slice_get (named_handles k cs) i ≡ Some h →
     IsHandleOf k cs i h
@@ -115,7 +115,7 @@ handle_of k (d ∷ cs) i h found = by (is_named d) refl i (handle_of (suc k) cs)
     further i n count s =
         let here = s.here in
         record {
-          place = suc s.place;
+          index = suc s.index;
           constant = s.constant;
           here = omega (arith, here);
           there = s.there;
@@ -132,7 +132,7 @@ handle_of k (d ∷ cs) i h found = by (is_named d) refl i (handle_of (suc k) cs)
     by true is zero rest found =
         let first = same_Some k h found in
         record {
-          place = 0;
+          index = 0;
           constant = d;
           here = omega (arith, first);
           there = refl;
@@ -160,8 +160,8 @@ which_constant m i lt = by (nat_lt i (named_count m.constants)) refl
         let found = element (named_handles 0 m.constants) i (omega (arith, before, count)) in
         let s = handle_of 0 m.constants i found.0 found.1 in
         let here = s.here in
-        let same : found.0 ≡ s.place = omega (arith, here) in
-        OfConstant s.place s.constant s.there s.counted
+        let same : found.0 ≡ s.index = omega (arith, here) in
+        OfConstant s.index s.constant s.there s.counted
         (ap (λ o. option_map_or key.Constant o (key.Override (i - named_count m.constants)))
         (found.1 ∙ ap Some same))
     by false is =
@@ -241,7 +241,7 @@ module _ (m : Module) (info : ModuleInfo) where
       let left = length-drop (constant_count (module_shape m info)) (types_of_constants ++ types_of_overrides) in
       omega (arith, own, named, all, left)
 
-  -- the type of a named constant, by its place
+  -- the type of a named constant, by its index
   pub place_typed : (i : ℕ) (c : Constant) → slice_get (named_constants m) i ≡ Some c →
       type_at (module_shape m info).constant_types i ≡ type_of_values m (Handle c.ty)
   place_typed i c here =

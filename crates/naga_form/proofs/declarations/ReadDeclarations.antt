@@ -47,7 +47,7 @@ use Rattle.module_meaning.specs.TypeIdentity.{identity, word_of_unspelled_type}
 use Rattle.module_meaning.specs.Types.{declared_type, type_names, word_of_values}
 use Rattle.module_meaning.specs.Undeclared.{is_spellable}
 use Rattle.module_meaning.specs.ExpressionForms.{global_has_form}
-use Rattle.module_meaning.proofs.ExpressionForms.{spelled_of_spellable}
+use Rattle.module_meaning.proofs.ExpressionForms.{type_form_of_spellable}
 use Rattle.naga_form.specs.ConstantForms.{global_form}
 use Rattle.naga_form.specs.Declarations.{constant_form, override_form, space_form}
 use Rattle.naga_form.specs.Declarations.{space_of_words, variable_form}
@@ -90,7 +90,7 @@ variable_read : (m : Module) (v : GlobalVariable) → is_spellable m (Handle v.t
 variable_read m v is = by v.space
   where
     form : (t : TypeSpecifier) × (type_tree (type_names m) v.ty ≡ Some t)
-    form = tree_there (type_names m) (Handle v.ty) (spelled_of_spellable m (Handle v.ty) is)
+    form = tree_there (type_names m) (Handle v.ty) (type_form_of_spellable m (Handle v.ty) is)
 
     by : (at : AddressSpace) →
         global_pointer_read (space_form at) (type_form (type_names m) v.ty) ≡

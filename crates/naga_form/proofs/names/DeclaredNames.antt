@@ -24,7 +24,7 @@ use Rattle.text_meaning.specs.Vocabulary.{vocabulary_of, vocabulary_read}
 use Rattle.wgsl_text.specs.Declarations.{Struct, StructMember}
 use Rattle.wgsl_text.specs.Words.{stands_in}
 use Rattle.naga_form.specs.Declarations.{member_form, program_under, struct_form}
-use Rattle.naga_form.proofs.ListPlaces.{formed_at, numbered_at}
+use Rattle.naga_form.proofs.ListIndices.{formed_at, numbered_at}
 use Rattle.naga_back.specs.declared.flags.WriterFlags.{WriterFlags}
 
 -- an element of a list stands in it

@@ -27,7 +27,7 @@ use Rattle.module_meaning.specs.Names.{numbered_name, wgsl_names}
 use Rattle.wgsl_text.specs.Words.{IsIdentifier, is_builtin}
 use Rattle.naga_form.proofs.names.Names.{identifier_is_another, is_identifier, name_is, unnumbered}
 
--- what stands at a place of a list
+-- what stands at a index of a list
 pub split_at : {X : Type 0} (xs : List X) (j : ℕ) (y : X) → slice_get xs j ≡ Some y →
     (rest : List X) × (xs ≡ take j xs ++ y ∷ rest)
 split_at [] j y e = absurd (none-some y e)
@@ -87,17 +87,17 @@ module _ (m : Module) (later labels : List (List ℕ)) where
   -- where the label of an item stands
   abbrev before_item : (item : LabelledItem) → Stands (labelled_items wgsl_names m) item →
       List (List ℕ)
-  before_item item s = labels_of (take s.place (labelled_items wgsl_names m))
+  before_item item s = labels_of (take s.index (labelled_items wgsl_names m))
 
   -- the labels of items are those in front of one, that one, and others
   split_item : (item : LabelledItem) (s : Stands (labelled_items wgsl_names m) item) →
       StandsAfter (item_labels m) (before_item item s) item.1
   split_item item s =
-      let parts = split_at (labelled_items wgsl_names m) s.place item s.there in
+      let parts = split_at (labelled_items wgsl_names m) s.index item s.there in
       record {
         rest = labels_of parts.0;
         all = ap labels_of parts.1
-            ∙ labels_of-around (take s.place (labelled_items wgsl_names m)) item parts.0 s.outside;
+            ∙ labels_of-around (take s.index (labelled_items wgsl_names m)) item parts.0 s.outside;
       }
 
   item_stands : (item : LabelledItem) (s : Stands (labelled_items wgsl_names m) item) →
@@ -196,9 +196,9 @@ module _ (m : Module) where
       record {
         identifiers = named_is_identifier m later labels;
         distinct = named_tell m later labels;
-        no_item = λ k lt place item there outside.
+        no_item = λ k lt index item there outside.
             named_no_item m later labels k lt item
-            (record { place = place; there = there; outside = outside });
+            (record { index = index; there = there; outside = outside });
         not_numbered = named_not_numbered m later labels;
       }
 
@@ -254,7 +254,7 @@ module _ (m : Module) where
     -- none is that of an item of the module
     pub label_no_item : (k : ℕ) → k < length (expression_labels f) → (item : LabelledItem) →
         Stands (labelled_items wgsl_names m) item → name_in (module_names m) item.0 ≢ named k
-    label_no_item k lt item s = are.no_item k lt s.place item s.there s.outside
+    label_no_item k lt item s = are.no_item k lt s.index item s.there s.outside
 
     -- nor what is no word, or one of WGSL's own
     pub label_no_word : (k : ℕ) → k < length (expression_labels f) → (w : List ℕ) →

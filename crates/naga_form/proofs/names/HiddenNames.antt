@@ -46,7 +46,7 @@ use Rattle.naga_form.proofs.Facts.{further}
 use Rattle.naga_form.proofs.Fits.{mapped_length, named_by_all_is}
 use Rattle.naga_form.proofs.names.GivenNames.{own_names_pass}
 use Rattle.naga_form.proofs.names.ItemKeys.{keys_tell}
-use Rattle.naga_form.proofs.ListPlaces.{made_from, place_none}
+use Rattle.naga_form.proofs.ListIndices.{made_from, place_none}
 use Rattle.naga_form.proofs.names.Names.{argument_there, item_not_numbered, local_there}
 use Rattle.naga_form.specs.Declarations.{override_form, program_under}
 use Rattle.naga_back.specs.declared.flags.WriterFlags.{WriterFlags}

@@ -224,34 +224,34 @@ module _ (m : Module) where
   -- an item's name is that of its label after those before it
   pub name_there : (item : LabelledItem) (s : Stands (labelled_items wgsl_names m) item) →
       module_names m item.0 ≡
-      Some (name_after wgsl_names (labels_of (take s.place (labelled_items wgsl_names m))) item.1)
+      Some (name_after wgsl_names (labels_of (take s.index (labelled_items wgsl_names m))) item.1)
   name_there item s = put_at wgsl_names (λ _. None) (module_names m) (labelled_items wgsl_names m) puts
-      (items_apart wgsl_names m) s.place item s.there s.outside
+      (items_apart wgsl_names m) s.index item s.there s.outside
 
   pub name_is : (item : LabelledItem) (s : Stands (labelled_items wgsl_names m) item) →
       name_in (module_names m) item.0 ≡ name_after wgsl_names
-      (labels_of (take s.place (labelled_items wgsl_names m))) item.1
+      (labels_of (take s.index (labelled_items wgsl_names m))) item.1
   name_is item s = ap (λ o. unwrap_or o []) (name_there item s)
 
   pub item_is_identifier : (item : LabelledItem) → Stands (labelled_items wgsl_names m) item →
       IsIdentifier (name_in (module_names m) item.0)
   item_is_identifier item s =
       subst IsIdentifier (sym (name_is item s))
-      (is_identifier (labels_of (take s.place (labelled_items wgsl_names m))) item.1)
+      (is_identifier (labels_of (take s.index (labelled_items wgsl_names m))) item.1)
 
   pub item_not_numbered : (item : LabelledItem) (h : ℕ) → Stands (labelled_items wgsl_names m) item →
       name_in (module_names m) item.0 ≢ numbered_name h
   item_not_numbered item h s e =
-      let earlier = labels_of (take s.place (labelled_items wgsl_names m)) in
+      let earlier = labels_of (take s.index (labelled_items wgsl_names m)) in
       unnumbered (name_after wgsl_names earlier item.1) h (name_after_is_word wgsl_names earlier item.1)
       (name_after_not_numbered wgsl_names earlier item.1 h) (sym (name_is item s) ∙ e)
 
   pub items_tell : (a b : LabelledItem) → Stands (labelled_items wgsl_names m) a →
       Stands (labelled_items wgsl_names m) b → name_in (module_names m) a.0 ≡ name_in (module_names m) b.0 → a ≡ b
   items_tell a b s t e =
-      let place = item_names_tell wgsl_names (labelled_items wgsl_names m) s.place t.place a b s.there t.there
+      let index = item_names_tell wgsl_names (labelled_items wgsl_names m) s.index t.index a b s.there t.there
       s.outside t.outside (sym (name_is a s) ∙ e ∙ name_is b t) in
-      ap (λ o. unwrap_or o a) (sym s.there ∙ ap (slice_get (labelled_items wgsl_names m)) place ∙ t.there)
+      ap (λ o. unwrap_or o a) (sym s.there ∙ ap (slice_get (labelled_items wgsl_names m)) index ∙ t.there)
 
   -- the label of a function, or of an entry point
   abbrev pub function_label : ir_function.Function → FunctionType → List ℕ

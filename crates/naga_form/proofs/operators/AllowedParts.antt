@@ -7,7 +7,7 @@ use Rattle.std.proofs.lemmas.Bool.{and_parts, ltb-true}
 use Rattle.std.proofs.lemmas.Option.{same_Some, slice_get-map}
 use Rattle.naga_ir.specs.declared.expression.SwizzleComponent.TheVariants as component
 use Rattle.naga_ir.specs.declared.types.Type_.{Type_}
-use Rattle.module_meaning.specs.AlikeTypes.{is_spelled}
+use Rattle.module_meaning.specs.AlikeTypes.{has_type_form}
 use Rattle.module_meaning.specs.ExpressionForms.{converts, expression_has_own_form, known_passes}
 use Rattle.module_meaning.specs.ExpressionForms.{loads_matrix}
 use Rattle.module_meaning.specs.acceptance.InfoSizes.{resolution_is_fit}
@@ -236,7 +236,7 @@ pub record Conversion (m : Module) (a : ExpressionContext) (operand : ℕ) (kind
   pub known : type_known a operand ≡ Some from
   pub to : TypeInner
   pub target : conversion_target from kind convert ≡ Some to
-  pub written : is_spelled m.types (Value to) ≡ true
+  pub written : has_type_form m.types (Value to) ≡ true
   pub tree : TypeSpecifier
   pub is : inner_tree (type_names m) to ≡ Some tree
 
@@ -245,7 +245,7 @@ pub record LoadedMatrix (m : Module) (a : ExpressionContext) (columns rows : Coo
     (role : CooperativeRole) (pointer : ℕ) : Type 0 where
   pub scalar : Scalar
   pub known : scalar_pointed a pointer ≡ Some scalar
-  pub written : is_spelled m.types (Value (inner.CooperativeMatrix columns rows scalar role)) ≡ true
+  pub written : has_type_form m.types (Value (inner.CooperativeMatrix columns rows scalar role)) ≡ true
   pub tree : TypeSpecifier
   pub is : inner_tree (type_names m) (inner.CooperativeMatrix columns rows scalar role) ≡ Some tree
 
@@ -279,7 +279,7 @@ module _ (m : Module) (info : ModuleInfo) (es : List ExpressionInfo) where
     where
       by : (it : TypeInner) → type_known d.context operand ≡ Some it → (o : Option TypeInner) →
           conversion_target it kind convert ≡ o →
-          option_map_or (λ new. is_spelled m.types (Value new)) o false ≡ true →
+          option_map_or (λ new. has_type_form m.types (Value new)) o false ≡ true →
           Conversion m d.context operand kind convert
       by it known (Some new) target written =
           let t = tree_there (type_names m) (Value new) written in
@@ -307,7 +307,7 @@ module _ (m : Module) (info : ModuleInfo) (es : List ExpressionInfo) where
     where
       by : (o : Option Scalar) → scalar_pointed d.context place.pointer ≡ o →
           option_map_or
-          (λ s. is_spelled m.types (Value (inner.CooperativeMatrix columns rows s role))) o false ≡
+          (λ s. has_type_form m.types (Value (inner.CooperativeMatrix columns rows s role))) o false ≡
           true →
           LoadedMatrix m d.context columns rows role place.pointer
       by (Some s) known written =

@@ -18,7 +18,7 @@ use Rattle.naga_form.proofs.declarations.ConstantInitialisers.{tree_fits, tree_s
 use Rattle.naga_form.proofs.operators.LeafTrees.{leaf_trees_fit}
 use Rattle.naga_form.proofs.types.PartsFit.{parts_fit}
 use Rattle.shader_runs.proofs.Typing.{has_typed_meaning}
-use Rattle.naga_form.proofs.ModulePlaces.{function_at}
+use Rattle.naga_form.proofs.ModuleIndices.{function_at}
 use Rattle.naga_form.proofs.operators.Signatures.{IsOfExpression, IsOfZero}
 use Rattle.naga_form.proofs.operators.SpelledSignatures.{of_spelled}
 

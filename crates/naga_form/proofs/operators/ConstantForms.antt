@@ -11,8 +11,8 @@ use Rattle.std.specs.List.{AllByRecursion, list_all}
 use Rattle.std.specs.Option.{is_some, option_and_then, option_map, option_map_or}
 use Rattle.std.proofs.lemmas.Bool.{and_parts}
 use Rattle.std.proofs.lemmas.Option.{slice_get_within}
-use Rattle.module_meaning.proofs.ExpressionForms.{declared_of_spellable, spelled_of_spellable}
-use Rattle.module_meaning.specs.AlikeTypes.{is_spelled}
+use Rattle.module_meaning.proofs.ExpressionForms.{declared_of_spellable, type_form_of_spellable}
+use Rattle.module_meaning.specs.AlikeTypes.{has_type_form}
 use Rattle.module_meaning.specs.Undeclared.{is_spellable, is_undeclared_struct}
 use Rattle.module_meaning.specs.ExpressionOperators.{ExpressionContext, constructor}
 use Rattle.module_meaning.specs.ExpressionShapes.{Declared, built, computed_over, tree_over}
@@ -447,7 +447,7 @@ module _ (m : Module) (t : TypeNames)
     (named : (c : ℕ) → c < length m.constants → IsIdentifier (constant_name (module_names m) c))
     (overrides : (h o : ℕ) → slice_get m.global_expressions h ≡ Some (expression.Override o) →
     IsIdentifier (t.override_name o))
-    (formed : (ty : ℕ) → is_spelled m.types (Handle ty) ≡ true → HasFormAt t ty) where
+    (formed : (ty : ℕ) → has_type_form m.types (Handle ty) ≡ true → HasFormAt t ty) where
   constant_is_by : (own : ℕ → Bool) (part : ℕ → Expression) →
       ((x : ℕ) → own x ≡ true → IsExpression (part x)) → (c : ℕ) →
       constant_has_form_over m own c ≡ true → IsExpression (constant_form_by m part c)
@@ -493,10 +493,10 @@ module _ (m : Module) (t : TypeNames)
       out_of each (expression.Constant handle) at is = constant_is_by own part each handle is
       out_of each (expression.Override handle) at is = overrides h handle at
       out_of each (expression.ZeroValue ty) at is =
-          formed ty (spelled_of_spellable m (Handle ty) is)
+          formed ty (type_form_of_spellable m (Handle ty) is)
       out_of each (expression.Compose ty parts) at is =
           let both = and_parts (is_spellable m (Handle ty)) (list_all own parts.items) is in
-          (formed ty (spelled_of_spellable m (Handle ty) both.0), all_are each parts.items both.1)
+          (formed ty (type_form_of_spellable m (Handle ty) both.0), all_are each parts.items both.1)
       out_of each (expression.Splat size value) at is = each value is
       out_of each _ at is = tt
 

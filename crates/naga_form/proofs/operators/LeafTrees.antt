@@ -33,7 +33,7 @@ use Rattle.shader_runs.specs.Program.{Result, expression_of, no_constant}
 use Rattle.shader_runs.specs.Typing.{LeafTreesFit, TreeFits, TreesFit}
 use Rattle.shader_runs.specs.Value.{Selector}
 use Rattle.naga_form.proofs.declarations.AcceptedGroups.{IsSoundGroup}
-use Rattle.naga_form.proofs.ModulePlaces.{expression_is}
+use Rattle.naga_form.proofs.ModuleIndices.{expression_is}
 use Rattle.naga_form.proofs.operators.Signatures.{declared_for}
 
 module _ (m : ir_module.Module) (info : ModuleInfo)

@@ -23,7 +23,7 @@ use Rattle.module_meaning.specs.acceptance.AgreeingOperators.{operator_key, own_
 use Rattle.module_meaning.specs.acceptance.AgreeingOperators.{typed_key, unsupported_key}
 use Rattle.module_meaning.specs.acceptance.AgreeingOperators.{constructor_key, conversion_key}
 use Rattle.module_meaning.specs.acceptance.AgreeingOperators.{target_key}
-use Rattle.module_meaning.specs.AlikeTypes.{type_key, is_spelled}
+use Rattle.module_meaning.specs.AlikeTypes.{type_key, has_type_form}
 use Rattle.module_meaning.specs.Conversions.{converted_scalar}
 use Rattle.module_meaning.specs.ExpressionOperators.{ExpressionContext, applied_operator}
 use Rattle.module_meaning.specs.ExpressionOperators.{constructor, cast, cast_to}
@@ -107,7 +107,7 @@ module _ (m : Module) (are : TypesAreCounted m) where
   known_of known h = slice_get known h
 
   -- a type has a form where it is spelled
-  pub form_spelled : (r : TypeResolution) → is_some (spelled_resolution (type_names m) r) ≡ is_spelled m.types r
+  pub form_spelled : (r : TypeResolution) → is_some (spelled_resolution (type_names m) r) ≡ has_type_form m.types r
   form_spelled r = ap is_some (spelling_of m are r ∙ ap (option_map type_layout) (tree_of m are r))
       ∙ by (type_key m.types r)
     where
@@ -132,7 +132,7 @@ module _ (m : Module) (are : TypesAreCounted m) where
       IsKeyed (option_map_or (cast_to bits) (spelled_resolution (type_names m) (Value it))
       (WithoutForm (Cast kind convert))) 1 (target_key m.types kind convert bits it)
   target_keyed it fit bits kind convert = by (spelled_resolution (type_names m) (Value it)) refl
-      (is_spelled m.types (Value it)) (form_spelled (Value it))
+      (has_type_form m.types (Value it)) (form_spelled (Value it))
     where
       typed : (b : Bool) (w : List ℕ) → spelled_resolution (type_names m) (Value it) ≡ Some w →
           IsKeyed (cast_to b w) 1 (typed_key m.types b (Value it))
@@ -181,7 +181,7 @@ module _ (m : Module) (are : TypesAreCounted m) where
           components (constructor_key m.types ty)
       by (Some w) at is =
           let spelled = (called_spelled m (Handle ty) w at).1 in
-          let has : is_spelled m.types (Handle ty) ≡ true =
+          let has : has_type_form m.types (Handle ty) ≡ true =
           sym (form_spelled (Handle ty)) ∙ ap is_some spelled in
           Keyed (record {
             typed = Handle ty;

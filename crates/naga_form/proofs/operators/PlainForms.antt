@@ -27,7 +27,7 @@ use Rattle.naga_ir.specs.declared.module.Module.{Module}
 use Rattle.naga_info.specs.declared.info.ExpressionInfo.{ExpressionInfo}
 use Rattle.naga_info.specs.declared.info.ModuleInfo.{ModuleInfo}
 use Rattle.module_meaning.proofs.Lists.{list_all_at}
-use Rattle.module_meaning.proofs.ExpressionForms.{spelled_of_spellable, has_form_parts}
+use Rattle.module_meaning.proofs.ExpressionForms.{type_form_of_spellable, has_form_parts}
 use Rattle.wgsl_text.specs.Words.{IsIdentifier}
 use Rattle.wgsl_text.specs.Expressions as tree_expressions
 use Rattle.wgsl_text.specs.Functions.{Each}
@@ -46,7 +46,7 @@ use Rattle.naga_form.proofs.operators.Operators.{HasFormAt, IsNotated, TypeIsFor
 use Rattle.naga_form.proofs.operators.Operators.{cast_callee, constructor_notated, conversion_is}
 use Rattle.naga_form.proofs.operators.Operators.{load_callee, matrix_is, load_notated, notated}
 use Rattle.module_meaning.specs.Conversions.{keeps_bits}
-use Rattle.module_meaning.specs.AlikeTypes.{is_spelled as type_has_form}
+use Rattle.module_meaning.specs.AlikeTypes.{has_type_form as type_has_form}
 use Rattle.naga_form.proofs.operators.ConstantForms.{form_out_is}
 use Rattle.naga_form.specs.ConstantForms.{written_constant_form}
 use Rattle.naga_form.proofs.operators.Images.{offset_alone, sampling_is, without_offset}
@@ -154,9 +154,9 @@ module _ (flags : WriterFlags) (m : Module) (info : ModuleInfo) (g : ℕ) (f : i
 
   type_formed : (e : ir.Expression) → expression_has_own_form m es e ≡ true →
       TypeIsFormed d.context (type_names m) e
-  type_formed (expression.ZeroValue ty) is = type_at ty (spelled_of_spellable m (Handle ty) is)
+  type_formed (expression.ZeroValue ty) is = type_at ty (type_form_of_spellable m (Handle ty) is)
   type_formed (expression.Compose ty components) is =
-      type_at ty (spelled_of_spellable m (Handle ty) is)
+      type_at ty (type_form_of_spellable m (Handle ty) is)
   type_formed (expression.As operand kind convert) is =
       let c = conversion m info es operand kind convert is in
       let fit = target_fit m c.from c.to kind convert c.target in (
@@ -222,12 +222,12 @@ module _ (flags : WriterFlags) (m : Module) (info : ModuleInfo) (g : ℕ) (f : i
           (λ h o at. override_is h o at)
           (λ h ty at w.
           type_at ty
-          (spelled_of_spellable m (Handle ty)
+          (type_form_of_spellable m (Handle ty)
           (has_form_parts m es f.expressions (expression.ZeroValue ty)
           (written h (expression.ZeroValue ty) at w)).0))
           (λ h ty parts at w.
           type_at ty
-          (spelled_of_spellable m (Handle ty)
+          (type_form_of_spellable m (Handle ty)
           (has_form_parts m es f.expressions (expression.Compose ty parts)
           (written h (expression.Compose ty parts) at w)).0))
           (suc x) x w
@@ -255,7 +255,7 @@ module _ (flags : WriterFlags) (m : Module) (info : ModuleInfo) (g : ℕ) (f : i
       (names_are_in_range m callees f ranges h (expression.LocalVariable v) at)) in
       (item_is_identifier m (local_item m g v l.0) (local_there m g f v l.0 found l.1), refl)
   own_is operand h (expression.ZeroValue ty) at is all =
-      let form = type_at ty (spelled_of_spellable m (Handle ty) is.0) in
+      let form = type_at ty (type_form_of_spellable m (Handle ty) is.0) in
       applied_is operand (notation (type_tree (type_names m) ty) (constructor d.context (Handle ty) 0)) [] tt
       (constructor_notated d.context (Handle ty) 0 [] (type_tree (type_names m) ty) form.0 form.1 form.2)
   own_is operand h (expression.Access base index) at is all =

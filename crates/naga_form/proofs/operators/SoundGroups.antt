@@ -17,15 +17,15 @@ use Rattle.naga_form.proofs.declarations.AcceptedGroups.{entry_points_are, decla
 use Rattle.naga_form.proofs.declarations.AcceptedGroups.{own_group}
 use Rattle.naga_form.proofs.operators.AgreeingUses.{IsIn}
 use Rattle.module_meaning.proofs.Lists.{in_row}
-use Rattle.naga_form.proofs.ModulePlaces.{in_image}
+use Rattle.naga_form.proofs.ModuleIndices.{in_image}
 
 -- where a group of functions comes from
 record IsOfFunctions (fs : List Function) (ess : List (List ExpressionInfo)) (g : Group) : Type 0 where
-  place : ℕ
+  index : ℕ
   function : Function
   known : List ExpressionInfo
-  here : slice_get fs place ≡ Some function
-  there : slice_get ess place ≡ Some known
+  here : slice_get fs index ≡ Some function
+  there : slice_get ess index ≡ Some known
   same : function_group function known ≡ g
 
 of_functions : (fs : List Function) (ess : List (List ExpressionInfo)) (i : ℕ) (g : Group) →
@@ -34,7 +34,7 @@ of_functions [] ess i g at = absurd cc
 of_functions (f ∷ fs) [] i g at = absurd cc
 of_functions (f ∷ fs) (es ∷ ess) zero g at =
     record {
-      place = 0;
+      index = 0;
       function = f;
       known = es;
       here = refl;
@@ -44,7 +44,7 @@ of_functions (f ∷ fs) (es ∷ ess) zero g at =
 of_functions (f ∷ fs) (es ∷ ess) (suc i) g at =
     let k = of_functions fs ess i g at in
     record {
-      place = suc k.place;
+      index = suc k.index;
       function = k.function;
       known = k.known;
       here = k.here;
@@ -54,8 +54,8 @@ of_functions (f ∷ fs) (es ∷ ess) (suc i) g at =
 
 module _ (m : Module) (info : ModuleInfo) (accepted : IsTrue (is_accepted m info)) where
   pub groups_are : (g : Group) → IsIn (groups_of m info) g → (f : Option Function) × IsSoundGroup m info f g
-  groups_are g place =
-      by (in_row (function_groups m.functions info.functions.items) (further_groups_of m info) place.0 g place.1)
+  groups_are g index =
+      by (in_row (function_groups m.functions info.functions.items) (further_groups_of m info) index.0 g index.1)
     where
       further : ((k : ℕ)
           × (slice_get (function_groups (map (λ p. p.function) m.entry_points.items) info.entry_points.items) k
@@ -64,10 +64,10 @@ module _ (m : Module) (info : ModuleInfo) (accepted : IsTrue (is_accepted m info
           × IsSoundGroup m info f g
       further (inl here) =
           let k = of_functions (map (λ p. p.function) m.entry_points.items) info.entry_points.items here.0 g here.1 in
-          let p = in_image (λ p. p.function) m.entry_points.items k.place k.function k.here in (
+          let p = in_image (λ p. p.function) m.entry_points.items k.index k.function k.here in (
             Some p.0.function,
             subst (IsSoundGroup m info (Some p.0.function)) (ap (λ f. function_group f k.known) p.2 ∙ k.same)
-                (entry_points_are m info accepted k.place p.0 k.known p.1 k.there),
+                (entry_points_are m info accepted k.index p.0 k.known p.1 k.there),
           )
       further (inr (zero, same)) =
           (None, subst (IsSoundGroup m info None) (same_Some _ g same) (declarations_are m info accepted))
@@ -80,7 +80,7 @@ module _ (m : Module) (info : ModuleInfo) (accepted : IsTrue (is_accepted m info
           let k = of_functions m.functions info.functions.items here.0 g here.1 in (
             Some k.function,
             subst (IsSoundGroup m info (Some k.function)) k.same
-                (functions_are m info accepted k.place k.function k.known k.here k.there),
+                (functions_are m info accepted k.index k.function k.known k.here k.there),
           )
       by (inr later) =
           further (in_row (function_groups (map (λ p. p.function) m.entry_points.items) info.entry_points.items)

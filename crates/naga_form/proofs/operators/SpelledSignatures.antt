@@ -50,8 +50,8 @@ use Rattle.shader_runs.specs.Value.{ValueType, Truth, Word, Spelled, PartWord, I
 use Rattle.shader_runs.specs.Value.{MemberNamed}
 use Rattle.shader_runs.proofs.Typing.{no_signature}
 use Rattle.naga_form.proofs.declarations.AcceptedGroups.{IsSoundGroup}
-use Rattle.naga_form.proofs.ModulePlaces.{function_at, expression_is, handle_type_is}
-use Rattle.naga_form.proofs.ModulePlaces.{handle_types_are}
+use Rattle.naga_form.proofs.ModuleIndices.{function_at, expression_is, handle_type_is}
+use Rattle.naga_form.proofs.ModuleIndices.{handle_types_are}
 
 -- an operator over operands spells one signature, whether or not it is a short circuit
 operator_spells : (p : Module) (f : Function) (k : ValueType) (o : TableOperator) (hs : List ℕ) →

@@ -10,7 +10,7 @@ use Rattle.naga_names.proofs.Refusal.{element}
 use Rattle.naga_info.specs.declared.info.TypeResolution.TheVariants.{Handle, Value}
 use Rattle.naga_form.proofs.operators.Operators.{spelled_as_trees, SpellsTypes, operands_read}
 use Rattle.naga_form.proofs.operators.Operators.{word_called}
-use Rattle.module_meaning.proofs.ExpressionForms.{spelled_of_spellable, has_form_parts}
+use Rattle.module_meaning.proofs.ExpressionForms.{type_form_of_spellable, has_form_parts}
 use Rattle.module_meaning.specs.Sampling.{offset_has_form}
 use Rattle.module_meaning.specs.WrittenOut.{is_written_out}
 use Rattle.naga_form.proofs.operators.ConstantForms.{IsReadAs, constants_read, names_are_read}
@@ -80,7 +80,7 @@ use Rattle.module_meaning.specs.Namings.{function_naming, outer_names}
 use Rattle.module_meaning.specs.Shapes.{case_value_shape}
 use Rattle.module_meaning.specs.StatementShapes.{simple_shape}
 use Rattle.wgsl_text.proofs.Types.{named_text}
-use Rattle.naga_form.proofs.ModulePlaces.{expression_is, shapes_length}
+use Rattle.naga_form.proofs.ModuleIndices.{expression_is, shapes_length}
 use Rattle.text_meaning.specs.Abstraction.{expression_read, case_value_read, case_values_read}
 use Rattle.text_meaning.specs.Abstraction.{called_word, arguments_read, statements_read}
 use Rattle.text_meaning.specs.Abstraction.{optional_read, cases_read, function_read, statement_read}
@@ -492,7 +492,7 @@ pub locals_have_forms : (told : Bool) (m : Module) (info : ModuleInfo)
     LocalsHaveForms (type_names m) f.local_variables
 locals_have_forms told m info f es have l v at =
     tree_there (type_names m) (Handle v.ty)
-    (spelled_of_spellable m (Handle v.ty) (have.types (Handle v.ty) (OfLocal l v at)))
+    (type_form_of_spellable m (Handle v.ty) (have.types (Handle v.ty) (OfLocal l v at)))
 
 -- whatever is written of a function is read as its shape is
 pub written_reads : (flags : WriterFlags) (named : ℕ → List ℕ) (m : Module) (info : ModuleInfo) (g : ℕ)

@@ -50,7 +50,7 @@ use Rattle.module_meaning.specs.acceptance.OperandDemands.{operand_is}
 use Rattle.module_meaning.specs.ExpressionContexts.{declared, types_known}
 use Rattle.module_meaning.specs.Types.{type_of_values}
 use Rattle.shader_runs.specs.Premises.{IsRegular, AreRegular, CasesAreRegular, FallsFrom}
-use Rattle.shader_runs.specs.Premises.{ReturnFits, ResultFits, ActionFits, CallFits, ResultWanted}
+use Rattle.shader_runs.specs.Premises.{ReturnFits, ResultFits, ActionFits, CallFits, UsedResultFits}
 use Rattle.shader_runs.specs.Premises.{IsResult, AsksBy, EachAsks, IsNoName, handle_types}
 use Rattle.shader_runs.specs.Program as shapes
 use Rattle.shader_runs.specs.Program.{Statement, Block, If, Switch, Loop, Barrier, Act, Asked}
@@ -172,7 +172,7 @@ module _ (m : Module) (info : ModuleInfo) (f : Function) (es : List ExpressionIn
   -- a callee's result has the type of the handle that it is given to
   answered : (callee : Function) (g : ℕ) → slice_get m.functions g ≡ Some callee → (r : Option ℕ) →
       is_answered callee g f r ≡ true →
-      ResultWanted shape (option_map (λ r. type_of_values m (Handle r.ty)) callee.result) r
+      UsedResultFits shape (option_map (λ r. type_of_values m (Handle r.ty)) callee.result) r
   answered callee g there None fits = tt
   answered callee g there (Some h) fits =
       let one = and_parts (is_some callee.result) (is_result (is_result_of g) f h) fits in
@@ -180,7 +180,7 @@ module _ (m : Module) (info : ModuleInfo) (f : Function) (es : List ExpressionIn
       by two.0 two.1 two.2
     where
       by : (e : ir.Expression) → slice_get f.expressions h ≡ Some e → is_result_of g e ≡ true →
-          ResultWanted shape (option_map (λ r. type_of_values m (Handle r.ty)) callee.result) (Some h)
+          UsedResultFits shape (option_map (λ r. type_of_values m (Handle r.ty)) callee.result) (Some h)
       by (expression.CallResult c) at is =
           let answers : result_type m c ≡ option_map (λ r. Handle r.ty) callee.result =
           ap (result_type m) (eqb-true c g is) ∙

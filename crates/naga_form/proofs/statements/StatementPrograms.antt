@@ -55,7 +55,7 @@ use Rattle.naga_form.proofs.operators.CalledWords.{AreCalled, barriers_called}
 use Rattle.naga_form.proofs.Fits.{named_by_all_is, named_by_is, named_is, named_one}
 use Rattle.naga_form.proofs.statements.FittingStatements.{AllFit, CasesFit, ResultIs, ShapeFits}
 use Rattle.naga_form.proofs.statements.FittingStatements.{StatementFits}
-use Rattle.naga_form.proofs.ModulePlaces.{expression_is}
+use Rattle.naga_form.proofs.ModuleIndices.{expression_is}
 use Rattle.naga_form.proofs.names.NumberedNames.{numbered_is}
 use Rattle.naga_form.proofs.operators.PlainForms.{IsPlainForm, NamesAre, reference_is_one}
 use Rattle.naga_form.proofs.operators.PlainForms.{value_is_one, values_are}

@@ -1,6 +1,6 @@
 -- The functions of every accepted module are well-formed: conditions are truth values, selectors
 -- integers, loads and stores go through pointers, and jumps lead somewhere.
-use Rattle.naga_form.proofs.ModulePlaces.{shapes_at}
+use Rattle.naga_form.proofs.ModuleIndices.{shapes_at}
 use Rattle.std.proofs.Common.{◌≡◌, ℕ, zero, suc, Bool, true, false, List, [], ◌∷◌, ◌+◌, ◌||◌, refl}
 use Rattle.std.proofs.Common.{sym, ap, ◌∙◌, Option, Some, None, slice_get, map, subst, arith, codes}
 use Rattle.std.proofs.Common.{if◌then◌else◌, ◌==◌}

@@ -38,7 +38,7 @@ use Rattle.module_meaning.specs.acceptance.Ranges.{parts_stand_before}
 use Rattle.module_meaning.specs.Types.{type_names}
 use Rattle.module_meaning.specs.Undeclared.{is_declared, is_undeclared}
 use Rattle.text_meaning.specs.Layout.{struct_layout_read, struct_named}
-use Rattle.text_meaning.specs.Resolution.{place_among}
+use Rattle.text_meaning.specs.Resolution.{index_among}
 use Rattle.wgsl_layout.proofs.Faults.{all_kept}
 use Rattle.wgsl_layout.proofs.Kept.{AllAligned, offsets_kept, span_kept, struct_kept}
 use Rattle.wgsl_layout.specs.Members.{are_kept, ended, greatest_placed, is_concerned}
@@ -54,7 +54,7 @@ use Rattle.naga_form.proofs.declarations.DeclaredStructs.{struct_at, struct_foun
 use Rattle.naga_form.proofs.names.ItemKeys.{type_has}
 use Rattle.naga_form.proofs.types.LayoutParts.{AreFound, concerned_parts, members_are_read}
 use Rattle.naga_form.proofs.types.LayoutParts.{struct_is_laid}
-use Rattle.naga_form.proofs.ListPlaces.{formed_if, numbered_at}
+use Rattle.naga_form.proofs.ListIndices.{formed_if, numbered_at}
 use Rattle.naga_form.proofs.names.Names.{item_is_identifier}
 use Rattle.naga_form.proofs.types.SameValues.{or_nothing}
 use Rattle.naga_form.specs.Declarations.{member_form, program_under}
@@ -114,14 +114,14 @@ module _ {X : Type 0} (test : X → Bool) where
 
 -- ---- structs that are found
 -- a struct stands where its name does
-stands_there : (w : List ℕ) (xs : List Struct) (i : ℕ) (s : Struct) → place_among w (map (λ s. s.name) xs) ≡ Some i →
+stands_there : (w : List ℕ) (xs : List Struct) (i : ℕ) (s : Struct) → index_among w (map (λ s. s.name) xs) ≡ Some i →
     slice_get xs i ≡ Some s → find (λ s. bytes_eq s.name w) xs ≡ Some s
 stands_there w [] i s place at = absurd cc
 stands_there w (x ∷ xs) i s place at = by (bytes_eq w x.name) refl place (λ i. stands_there w xs i s)
   where
     by : (b : Bool) → bytes_eq w x.name ≡ b →
-        (if b then Some 0 else option_map (λ i. suc i) (place_among w (map (λ s. s.name) xs))) ≡ Some i →
-        ((i : ℕ) → place_among w (map (λ s. s.name) xs) ≡ Some i → slice_get xs i ≡ Some s →
+        (if b then Some 0 else option_map (λ i. suc i) (index_among w (map (λ s. s.name) xs))) ≡ Some i →
+        ((i : ℕ) → index_among w (map (λ s. s.name) xs) ≡ Some i → slice_get xs i ≡ Some s →
         find (λ s. bytes_eq s.name w) xs ≡ Some s) →
         (if bytes_eq x.name w then Some x else find (λ s. bytes_eq s.name w) xs) ≡ Some s
     by true same place left =
@@ -129,7 +129,7 @@ stands_there w (x ∷ xs) i s place at = by (bytes_eq w x.name) refl place (λ i
         ((bytes_eq-Decides x.name w).1 (sym ((bytes_eq-Decides w x.name).0 same)))
         ∙ (ap (slice_get (x ∷ xs)) (same_Some 0 i place) ∙ at)
     by false other place left =
-        let k = map_some (λ (i : ℕ). suc i) (place_among w (map (λ s. s.name) xs)) i place in
+        let k = map_some (λ (i : ℕ). suc i) (index_among w (map (λ s. s.name) xs)) i place in
         ap (λ b. if b then Some x else find (λ s. bytes_eq s.name w) xs)
         (false_from_ne_true (bytes_eq x.name w)
         (λ e. false≢true (sym other ∙ (bytes_eq-Decides w x.name).1 (sym ((bytes_eq-Decides x.name w).0 e)))))

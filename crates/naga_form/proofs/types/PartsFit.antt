@@ -56,7 +56,7 @@ use Rattle.module_meaning.specs.TypeParts.{known_inner, has_computed_parts, is_p
 use Rattle.module_meaning.specs.TypeParts.{part_type}
 use Rattle.naga_form.proofs.declarations.AcceptedGroups.{IsSoundGroup, types_are_counted}
 use Rattle.naga_form.proofs.declarations.AcceptedGroups.{operands_known, own_known}
-use Rattle.naga_form.proofs.ModulePlaces.{expression_is, handle_type_is}
+use Rattle.naga_form.proofs.ModuleIndices.{expression_is, handle_type_is}
 use Rattle.naga_form.proofs.types.SameValues.{TypesAreCounted, IsFit}
 use Rattle.module_meaning.specs.ModuleShapes.{module_shape}
 use Rattle.module_meaning.specs.PlaceParts.{place_parts}
@@ -219,9 +219,9 @@ module _ (m : ir_module.Module) (info : ModuleInfo) (accepted : IsTrue (is_accep
           a : IsPointer m info accepted distinguished b.r whole
           a = pointer_is base b whole is
 
-          part_wanted : (p : TypeResolution) → part_type m.types a.it (Some index) ≡ Some p →
+          part_expected : (p : TypeResolution) → part_type m.types a.it (Some index) ≡ Some p →
               type_identity m.types (own named at).r ≡ type_identity m.types p
-          part_wanted p part =
+          part_expected p part =
               own_alike named at p
               (ap (λ o. if_any (option_and_then (λ it. part_type m.types it (Some index))
               (option_and_then (λ r. inner_of r m.types) o))) b.there
@@ -232,11 +232,11 @@ module _ (m : ir_module.Module) (info : ModuleInfo) (accepted : IsTrue (is_accep
               IsPart (parts whole) (step_to (parts whole) s) (type_of_values m (own named at).r)
           supported (ElementPart p there any step) =
               element_to m info accepted distinguished b.r whole a p any (own named at).r (own named at).fit
-              (part_wanted p there) s (pos index) step
+              (part_expected p there) s (pos index) step
           supported (MemberPart k) =
               member_to m info accepted distinguished b.r whole a index s (types_known es) k (own named at).r
               (own named at).fit
-              (part_wanted (Value (inner.Pointer k.member.ty k.at))
+              (part_expected (Value (inner.Pointer k.member.ty k.at))
               (member_is m info (types_known es) a.it index s k)) (record {
                 function = Some function;
                 group = g;

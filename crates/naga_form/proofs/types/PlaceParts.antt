@@ -28,7 +28,7 @@ use Rattle.shader_runs.proofs.Update.{same_type_true, same_type_self, same_bytes
 use Rattle.shader_runs.proofs.Update.{same_bytes_self}
 use Rattle.module_meaning.specs.acceptance.Accepted.{is_accepted}
 use Rattle.module_meaning.specs.acceptance.AgreeingOperators.{Group, groups_of}
-use Rattle.module_meaning.specs.AlikeTypes.{type_identity, type_key, handle_key, is_spelled}
+use Rattle.module_meaning.specs.AlikeTypes.{type_identity, type_key, handle_key, has_type_form}
 use Rattle.module_meaning.specs.AlikeTypes.{pointer_key}
 use Rattle.module_meaning.specs.acceptance.InfoSizes.{is_handle_space}
 use Rattle.module_meaning.specs.Names.{ItemsAreDistinguished}
@@ -45,13 +45,13 @@ use Rattle.module_meaning.proofs.Lists.{list_all_at, in_row}
 use Rattle.naga_form.proofs.declarations.AcceptedGroups.{IsSoundGroup, types_are_counted}
 use Rattle.naga_form.proofs.operators.AgreeingSignatures.{types_stand}
 use Rattle.naga_form.proofs.operators.AgreeingUses.{IsIn, in_flat_map}
-use Rattle.naga_form.proofs.ListPlaces.{made_at, made_from}
+use Rattle.naga_form.proofs.ListIndices.{made_at, made_from}
 use Rattle.naga_form.proofs.types.AlikeParts.{is_pointer, PartsStand, PartsAlike, IsFree, is_free}
 use Rattle.naga_form.proofs.types.AlikeParts.{part_fits, FitPart, PartKind, NoKind, ElementKind}
 use Rattle.naga_form.proofs.types.AlikeParts.{ComponentKind, MemberKind, kind_at, pointee_kind}
 use Rattle.naga_form.proofs.types.AlikeParts.{has_members, AlikePlaces, Same, OneKind, OneStruct}
 use Rattle.naga_form.proofs.types.AlikeParts.{alike_places}
-use Rattle.naga_form.proofs.ModulePlaces.{in_image}
+use Rattle.naga_form.proofs.ModuleIndices.{in_image}
 use Rattle.naga_form.proofs.types.PointerParts.{points_as, own_word, part_points, are_elements}
 use Rattle.naga_form.proofs.types.PointerParts.{parts_of_kind, HasElements, has_elements, IsMember}
 use Rattle.naga_form.proofs.types.SameValues.{TypesAreCounted, IsFit, numbers_by_values}
@@ -410,7 +410,7 @@ module _ (m : ir_module.Module) (info : ModuleInfo) (accepted : IsTrue (is_accep
         own_pointer = values_by_numbers m are own (by_type k.at) own_fit (pointer_fit k.member.ty k.at free_at) alike
 
         -- where it has none, the table goes by the first expression that takes the member
-        by_form : (b : Bool) → is_spelled m.types (by_type one_struct.to) ≡ b →
+        by_form : (b : Bool) → has_type_form m.types (by_type one_struct.to) ≡ b →
             type_of_values m own ≡ PointerType (word_of_values m (if b then by_type one_struct.to
             else unwrap_or (slice_get (flat_map (members_taken m info whole word) (groups_of m info)) 0)
             (by_type one_struct.to)))
@@ -424,7 +424,7 @@ module _ (m : ir_module.Module) (info : ModuleInfo) (accepted : IsTrue (is_accep
             (sym (own_word m other (word_of_values m (by_type k.at)) (sym one ∙ own_pointer)))
 
         member_values : type_of_values m own ≡ PointerType entry.1
-        member_values = by_form (is_spelled m.types (by_type one_struct.to)) refl
+        member_values = by_form (has_type_form m.types (by_type one_struct.to)) refl
 
         pub member_to : IsPart (place_parts m info whole) (step_to (place_parts m info whole) s) (type_of_values m own)
         member_to =

@@ -29,7 +29,7 @@ use Rattle.naga_names.specs.Keys.{NameMap}
 use Rattle.naga_words.specs.Contexts.{Names, names_of}
 use Rattle.naga_words.specs.Spelling.{is_struct, length_within, size_within}
 use Rattle.naga_words.specs.Words.{sampler_word}
-use Rattle.module_meaning.specs.AlikeTypes.{is_spelled, type_key as form_numbers}
+use Rattle.module_meaning.specs.AlikeTypes.{has_type_form, type_key as form_numbers}
 use Rattle.module_meaning.specs.acceptance.InfoSizes.{is_handle_pointer, is_handle_space}
 use Rattle.module_meaning.specs.acceptance.InfoSizes.{resolution_is_fit}
 use Rattle.module_meaning.specs.Undeclared.{names_undeclared}
@@ -58,7 +58,7 @@ use Rattle.naga_form.specs.Types.{annotated_type, type_form}
 
 -- ---- trees
 -- a type that has a form has a tree, under any names
-pub tree_there : (n : Names) (r : TypeResolution) → is_spelled n.types r ≡ true →
+pub tree_there : (n : Names) (r : TypeResolution) → has_type_form n.types r ≡ true →
     (t : TypeSpecifier) × (resolution_tree n r ≡ Some t)
 tree_there n r is = by (form_numbers n.types r) is (form_is_read n r)
   where
@@ -324,7 +324,7 @@ is_fit m (Value it) fit = fit.0
 
 module _ (m : Module) (types : TypesAreFit m) where
   -- a type of the module that has a form is one of the grammar
-  pub is_type_at : (ty : ℕ) → is_spelled m.types (Handle ty) ≡ true →
+  pub is_type_at : (ty : ℕ) → has_type_form m.types (Handle ty) ≡ true →
       IsType (type_form (type_names m) ty)
   is_type_at ty is =
       let t = tree_there (type_names m) (Handle ty) is in

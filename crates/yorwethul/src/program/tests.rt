@@ -1,6 +1,6 @@
 use super::{FAILED, REFUSED, answer, run};
 use crate::texts::Style;
-use crate::words::{Request, Task};
+use crate::words::{Invocation, Task};
 use naga_json::read_known;
 use naga_wgsl_out::wgsl::Limits;
 use std::alloc::{AllocError, Global};
@@ -653,14 +653,14 @@ fn status_of<O: Write, E: Write>(
     out: &mut O,
     err: &mut E,
 ) -> Option<u8> {
-    let request = Request {
+    let invocation = Invocation {
         task,
         style,
         module: "-",
         info,
     };
     match read_known(alloc, json) {
-        Ok(mut known) => Some(answer(alloc, request, &mut known, out, err)),
+        Ok(mut known) => Some(answer(alloc, invocation, &mut known, out, err)),
         Err(_) => None,
     }
 }

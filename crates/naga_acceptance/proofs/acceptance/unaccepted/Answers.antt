@@ -1,8 +1,8 @@
 use Rattle.std.proofs.Common.{sym, ◌∙◌}
 use Rattle.naga_acceptance.proofs.FaultOrder.{disagreement_fails, first_named, first_operator}
-use Rattle.naga_acceptance.proofs.FaultOrder.{first_wanted, told_first, typed_further, typed_named}
-use Rattle.naga_acceptance.proofs.FirstFaults.{accepted_named, accepted_operators, accepted_wanted}
-use Rattle.naga_acceptance.proofs.FirstFaults.{fails_named, fails_wanted}
+use Rattle.naga_acceptance.proofs.FaultOrder.{first_needed, told_first, typed_further, typed_named}
+use Rattle.naga_acceptance.proofs.FirstFaults.{accepted_named, accepted_operators, accepted_needed}
+use Rattle.naga_acceptance.proofs.FirstFaults.{fails_named, fails_needed}
 use Rattle.naga_acceptance.proofs.acceptance.unaccepted.Goals as goal
 
 pub returns-then-is_some-clause-accepted : goal.returns-then-is_some-clause-accepted
@@ -20,7 +20,7 @@ returns-then-is_some-clause-fault c =
 
 pub returns-then-is_some-2-clause-accepted : goal.returns-then-is_some-2-clause-accepted
 returns-then-is_some-2-clause-accepted c =
-    accepted_wanted c.args.module.now c.args.info.now c.ranges_fault-named.result c.sound_fault-unsound.result
+    accepted_needed c.args.module.now c.args.info.now c.ranges_fault-named.result c.sound_fault-unsound.result
     c.ranges_fault-named.ensures (sym c.is_some.ensures ∙ c.if-is_some.false)
     c.sound_fault-unsound.ensures (sym c.is_some-2.ensures ∙ c.if-is_some-2.true)
 
@@ -31,8 +31,8 @@ returns-then-is_some-2-clause-fault c =
     let named = c.ranges_fault-named.result in
     let wanted = c.sound_fault-unsound.result in
     let none = sym c.is_some.ensures ∙ c.if-is_some.false in
-    told_first m info wanted (fails_wanted m info wanted c.sound_fault-unsound.ensures)
-    (first_wanted m info named wanted c.ranges_fault-named.ensures none c.sound_fault-unsound.ensures)
+    told_first m info wanted (fails_needed m info wanted c.sound_fault-unsound.ensures)
+    (first_needed m info named wanted c.ranges_fault-named.ensures none c.sound_fault-unsound.ensures)
     (typed_further m info named wanted c.ranges_fault-named.ensures none)
 
 pub returns-clause-accepted : goal.returns-clause-accepted

@@ -13,4 +13,4 @@ returns-in-Location g c =
     c.in-Location.blend_src c.in-Location.per_primitive))
     (writes_then c.write_numbered.ensures
     (writes_then c.write_blend_source.ensures
-    (writes_then c.write_interpolation.ensures c.write_optional_piece.ensures)))
+    (writes_then c.write_interpolation.ensures c.write_optional_chunk.ensures)))

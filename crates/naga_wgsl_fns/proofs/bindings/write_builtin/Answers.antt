@@ -9,4 +9,4 @@ returns g c =
     writes_as (sym (builtin_row c.args.value c.in-Some.word.now (sym c.in-Some.ensures)))
     (writes_then c.write_worded.ensures
     (writes_as (ap (λ b. text_if b (codes "@invariant ")) c.is_invariant.ensures)
-    c.write_optional_piece.ensures))
+    c.write_optional_chunk.ensures))

@@ -1,7 +1,7 @@
 use Rattle.std.proofs.Common.{sym}
 use Rattle.naga_words.proofs.Writing.{writes_as, writes_then}
 use Rattle.naga_wgsl_out.proofs.ConstantRows.{override_is_formed, override_is_named}
-use Rattle.naga_wgsl_out.proofs.ConstantRows.{override_is_spelled, override_row}
+use Rattle.naga_wgsl_out.proofs.ConstantRows.{override_has_type_form, override_row}
 use Rattle.naga_wgsl_out.proofs.constants.write_override.Goals as goal
 
 pub write_typed-requires-clause-named : goal.write_typed-requires-clause-named
@@ -11,7 +11,7 @@ write_typed-requires-clause-named g c =
 
 pub write_typed-requires-clause-formed : goal.write_typed-requires-clause-formed
 write_typed-requires-clause-formed g c =
-    override_is_spelled c.args.text.now c.requires.can c.args.handle c.args.item.now
+    override_has_type_form c.args.text.now c.requires.can c.args.handle c.args.item.now
     c.requires.there
 
 pub write_value-requires-clause-written : goal.write_value-requires-clause-written

@@ -9,7 +9,7 @@ use Rattle.naga_wgsl_out.proofs.enables.of_arguments.Goals as goal
 pub loop-argument-preserved : goal.loop-argument-preserved
 loop-argument-preserved c =
     found_at (λ (x : Extension) (a : FunctionArgument). option_map_or x.for_binding a.binding false) _ _ _ _ _ _ _
-    c.loop-argument-test.true c.argument-item.is c.or-found.ensures c.of_bound.ensures
+    c.loop-argument-test.true c.argument-item.is c.or-found.ensures c.of_any_binding.ensures
     c.loop-argument.invariant
 
 pub returns : goal.returns

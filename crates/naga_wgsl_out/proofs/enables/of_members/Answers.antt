@@ -9,7 +9,7 @@ use Rattle.naga_wgsl_out.proofs.enables.of_members.Goals as goal
 pub loop-member-preserved : goal.loop-member-preserved
 loop-member-preserved c =
     found_at (λ (x : Extension) (m : StructMember). option_map_or x.for_binding m.binding false) _ _ _ _ _ _ _
-    c.loop-member-test.true c.member-item.is c.or-found.ensures c.of_bound.ensures
+    c.loop-member-test.true c.member-item.is c.or-found.ensures c.of_any_binding.ensures
     c.loop-member.invariant
 
 pub returns : goal.returns

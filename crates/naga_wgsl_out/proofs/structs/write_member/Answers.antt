@@ -1,7 +1,7 @@
 use Rattle.std.proofs.Common.{ap, sym}
 use Rattle.naga_words.proofs.Writing.{writes_as, writes_then}
 use Rattle.naga_wgsl_fns.specs.Attributes.{attributes_text}
-use Rattle.naga_wgsl_out.proofs.StructRows.{member_has_form, member_is_named, member_is_spelled}
+use Rattle.naga_wgsl_out.proofs.StructRows.{member_has_form, member_is_named, member_has_type_form}
 use Rattle.naga_wgsl_out.proofs.StructRows.{member_row}
 use Rattle.naga_wgsl_out.specs.Structs.{given_size_attributes}
 use Rattle.naga_wgsl_out.proofs.structs.write_member.Goals as goal
@@ -18,7 +18,7 @@ write_typed-requires-clause-named g c =
 
 pub write_typed-requires-clause-formed : goal.write_typed-requires-clause-formed
 write_typed-requires-clause-formed g c =
-    member_is_spelled c.args.text.now c.requires.can c.args.handle c.args.number
+    member_has_type_form c.args.text.now c.requires.can c.args.handle c.args.number
     c.args.member.now c.requires.there
 
 pub returns : goal.returns

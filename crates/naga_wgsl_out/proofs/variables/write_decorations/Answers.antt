@@ -8,6 +8,6 @@ pub returns : goal.returns
 returns g c =
     writes_as (sym (decorations_row c.args.decorations))
     (writes_then
-    (writes_as (ap (λ b. text_if b (codes "@coherent ")) (c.contains.ensures tt)) c.write_optional_piece.ensures)
+    (writes_as (ap (λ b. text_if b (codes "@coherent ")) (c.contains.ensures tt)) c.write_optional_chunk.ensures)
     (writes_as (ap (λ b. text_if b (codes "@volatile ")) (c.contains-2.ensures tt))
-    c.write_optional_piece-2.ensures))
+    c.write_optional_chunk-2.ensures))

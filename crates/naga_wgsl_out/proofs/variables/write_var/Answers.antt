@@ -1,7 +1,7 @@
 use Rattle.std.proofs.Common.{sym}
 use Rattle.naga_words.proofs.Writing.{writes_as, writes_then}
 use Rattle.naga_wgsl_out.proofs.VariableRows.{var_row, variable_is_formed, variable_is_named}
-use Rattle.naga_wgsl_out.proofs.VariableRows.{variable_is_spelled}
+use Rattle.naga_wgsl_out.proofs.VariableRows.{variable_has_type_form}
 use Rattle.naga_wgsl_out.proofs.variables.write_var.Goals as goal
 
 pub write_typed-requires-clause-named : goal.write_typed-requires-clause-named
@@ -11,7 +11,7 @@ write_typed-requires-clause-named g c =
 
 pub write_typed-requires-clause-formed : goal.write_typed-requires-clause-formed
 write_typed-requires-clause-formed g c =
-    variable_is_spelled c.args.text.now c.requires.can c.args.handle c.args.variable.now
+    variable_has_type_form c.args.text.now c.requires.can c.args.handle c.args.variable.now
     c.requires.there
 
 pub write_value-requires-clause-written : goal.write_value-requires-clause-written

@@ -13,9 +13,9 @@ returns c =
     let own = c.new-writer.result.flags in
     let content = c.new-writer.result.sink.text in
     let answer = c.write-answer.result in
-    answers_bounded c.args.flags own m info c.args.bound (unfailed answer) content _ _ c.within_bound.result
+    answers_bounded c.args.flags own m info c.args.bound (unfailed answer) content _ _ c.within_limit.result
     c.new-writer.ensures.flags (ap (λ s. s.text) begun) (ap (λ s. s.text) c.finish-sink.ensures)
     (faithful_unfailed own m info content _ _ _ answer wrote.faithful)
     (matches_unfailed own m info content _ answer wrote.matches)
     (appends_unfailed own m info content _ answer wrote.text)
-    (leaves_unfailed own m info content _ _ _ answer wrote.leaves) c.within_bound.ensures
+    (leaves_unfailed own m info content _ _ _ answer wrote.leaves) c.within_limit.ensures

@@ -1,6 +1,6 @@
 use Rattle.std.proofs.Common.{ℕ, subst}
 use Rattle.std.specs.Cow.{cow_slice_items}
-use Rattle.naga_keywords.specs.SortedWords.{IsPlaceOf, StandsAt, keys_of, comparison_key}
+use Rattle.naga_keywords.specs.SortedWords.{IsIndexOf, StandsAt, keys_of, comparison_key}
 use Rattle.naga_keywords.proofs.SortedSets.{contained_already, one_more, stays_sorted}
 use Rattle.naga_keywords.proofs.sorted.SortedWords.insert.Goals as goal
 
@@ -8,9 +8,9 @@ pub invariant_of-self : goal.invariant_of-self
 invariant_of-self c =
     let case = c.self.inside.case in
     let word = comparison_key case c.args.word.now in
-    let place = subst (λ ms. IsPlaceOf (keys_of case ms) word c.in-Some.index) c.as_slice.ensures.value
+    let found = subst (λ ms. IsIndexOf (keys_of case ms) word c.in-Some.index) c.as_slice.ensures.value
     c.in-Some.ensures in
-    stays_sorted case (cow_slice_items c.self.inside.members) _ c.args.word c.in-Some.index _ c.self.invariant place
+    stays_sorted case (cow_slice_items c.self.inside.members) _ c.args.word c.in-Some.index _ c.self.invariant found
     c.put_among.ensures
 
 pub returns-in_ok-put_among-clause-ok : goal.returns-in_ok-put_among-clause-ok

@@ -1,5 +1,5 @@
 use Rattle.std.proofs.Common.{ap, subst, sym, ◌∙◌}
-use Rattle.naga_scope.specs.Tables.{MarksNaming, MarksSpelled, Tables}
+use Rattle.naga_scope.specs.Tables.{MarksNaming, MarksTypeForms, Tables}
 use Rattle.naga_scope.proofs.tables.ModuleTables.is_spellable.Goals as goal
 
 pub is_spellable_by-requires : goal.is_spellable_by-requires
@@ -9,7 +9,7 @@ is_spellable_by-requires c = record {
       (sym (c.deref.ensures.value ∙ ap (λ (t : Tables). t.naming) c.self.view_is))
       c.requires.tables.naming;
   spelled =
-      subst (MarksSpelled c.args.module.now)
+      subst (MarksTypeForms c.args.module.now)
       (sym (c.deref-2.ensures.value ∙ ap (λ (t : Tables). t.spelled) c.self.view_is))
       c.requires.tables.spelled;
 }

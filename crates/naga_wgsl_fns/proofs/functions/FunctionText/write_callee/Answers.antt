@@ -1,6 +1,6 @@
 use Rattle.std.proofs.Common.{◌≡◌, true, sym, subst, ◌∙◌, length}
 use Rattle.std.proofs.lemmas.Option.{same_Some}
-use Rattle.module_meaning.specs.AlikeTypes.{is_spelled}
+use Rattle.module_meaning.specs.AlikeTypes.{has_type_form}
 use Rattle.naga_info.specs.declared.info.TypeResolution.TheVariants.{Value}
 use Rattle.naga_words.proofs.Writing.{writes_as}
 use Rattle.naga_wgsl_fns.proofs.ConversionRows.{callee_row, target_fits}
@@ -14,7 +14,7 @@ write_cast-requires-clause-formed g c =
     let to =
     converted_is self c.requires.can c.args.operand c.args.kind c.args.convert c.requires.formed
     c.type_of-inner.result.now c.type_of-inner.ensures in
-    subst (λ it. is_spelled self.shader.now.types (Value it) ≡ true)
+    subst (λ it. has_type_form self.shader.now.types (Value it) ≡ true)
     (same_Some to.0 _ (sym to.1.0 ∙ c.conversion_target.ensures)) to.1.1
 
 pub write_cast-requires-clause-fits : goal.write_cast-requires-clause-fits
@@ -33,7 +33,7 @@ returns g c =
     converted_is self c.requires.can c.args.operand c.args.kind c.args.convert c.requires.formed
     from known in
     let formed =
-    subst (λ it. is_spelled self.shader.now.types (Value it) ≡ true)
+    subst (λ it. has_type_form self.shader.now.types (Value it) ≡ true)
     (same_Some to.0 _ (sym to.1.0 ∙ target)) to.1.1 in
     writes_as
     (callee_row self c.args.operand c.args.kind c.args.convert from c.conversion_target.result known

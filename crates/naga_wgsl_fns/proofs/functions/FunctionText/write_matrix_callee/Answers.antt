@@ -1,6 +1,6 @@
 use Rattle.std.proofs.Common.{◌≡◌, ◌∙◌, refl, subst, sym, true}
 use Rattle.std.proofs.lemmas.Option.{same_Some}
-use Rattle.module_meaning.specs.AlikeTypes.{is_spelled}
+use Rattle.module_meaning.specs.AlikeTypes.{has_type_form}
 use Rattle.naga_info.specs.declared.info.TypeResolution.TheVariants.{Value}
 use Rattle.naga_ir.specs.declared.types.TypeInner.TheVariants.{CooperativeMatrix}
 use Rattle.naga_words.proofs.Writing.{writes_as}
@@ -15,7 +15,7 @@ write_taking-requires-clause-formed g c =
     matrix_loaded self c.requires.can c.args.columns c.args.rows c.args.role c.args.place
     c.requires.formed in
     subst
-    (λ s. is_spelled self.shader.now.types
+    (λ s. has_type_form self.shader.now.types
     (Value (CooperativeMatrix c.args.columns c.args.rows s c.args.role)) ≡
     true)
     (same_Some loaded.scalar _ (sym loaded.known ∙ c.pointed_scalar-scalar.ensures)) loaded.written
@@ -31,7 +31,7 @@ returns g c =
     c.requires.formed in
     let formed =
     subst
-    (λ s. is_spelled self.shader.now.types
+    (λ s. has_type_form self.shader.now.types
     (Value (CooperativeMatrix c.args.columns c.args.rows s c.args.role)) ≡
     true)
     (same_Some loaded.scalar _ (sym loaded.known ∙ c.pointed_scalar-scalar.ensures)) loaded.written in

@@ -1,5 +1,5 @@
 use Rattle.std.proofs.Common.{◌∙◌, ap}
-use Rattle.module_meaning.specs.AlikeTypes.{is_spelled}
+use Rattle.module_meaning.specs.AlikeTypes.{has_type_form}
 use Rattle.naga_info.specs.declared.info.TypeResolution.TheVariants.{Handle}
 use Rattle.naga_words.proofs.Writing.{writes_as}
 use Rattle.naga_wgsl_fns.proofs.ModuleTexts.{can_in}
@@ -14,7 +14,7 @@ write_type-requires-clause-can g c =
 
 pub write_type-requires-clause-formed : goal.write_type-requires-clause-formed
 write_type-requires-clause-formed g c =
-    ap (λ m. is_spelled m.types (Handle c.args.ty)) c.of_module.ensures.shader ∙ c.requires.formed
+    ap (λ m. has_type_form m.types (Handle c.args.ty)) c.of_module.ensures.shader ∙ c.requires.formed
 
 pub returns : goal.returns
 returns g c =

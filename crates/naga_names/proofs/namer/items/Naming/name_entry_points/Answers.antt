@@ -5,7 +5,7 @@ use Rattle.naga_names.specs.Naming.{label_or}
 use Rattle.naga_names.specs.Reset.{labelled_entry_point, labelled_entry_arguments}
 use Rattle.naga_names.specs.Reset.{labelled_entry_locals}
 use Rattle.naga_names.proofs.Reset.{not_below}
-use Rattle.naga_names.proofs.Progress.{gives_same, gives_then, gives_up_key, leaves_turn, at_place}
+use Rattle.naga_names.proofs.Progress.{gives_same, gives_then, gives_up_key, leaves_turn, at_index}
 use Rattle.naga_names.proofs.Progress.{one_each}
 use Rattle.naga_names.proofs.namer.items.Naming.name_entry_points.Goals as goal
 
@@ -14,7 +14,7 @@ returns-in_default c =
     c.loop-index.invariant.rest _
     (gives_same (sym
     (ap (flat_map (λ p. labelled_entry_point p.0 p.1))
-    (at_place c.args.entry_points.now c.loop-index.index c.index-entry_points-index.result
+    (at_index c.args.entry_points.now c.loop-index.index c.index-entry_points-index.result
     c.loop-index-test.true c.index-entry_points-index.is)))
     (gives_up_key _ _ _ _ refl c.refuse.ensures.refusal (not_below c.loop-index.index (2 ^ 16) c.in_default.ensures)))
 
@@ -24,7 +24,7 @@ loop-index-preserved c =
     let n = c.in-Ok.index in
     let locals = labelled_entry_locals n entry_point.function.local_variables in
     leaves_turn (λ p. labelled_entry_point p.0 p.1)
-    (at_place c.args.entry_points.now c.loop-index.index entry_point c.loop-index-test.true
+    (at_index c.args.entry_points.now c.loop-index.index entry_point c.loop-index-test.true
     c.index-entry_points-index.is) c.loop-index.invariant
     (gives_same
     ((λ i. (key.EntryPoint n, c.as_str.ensures.value i)

@@ -12,17 +12,17 @@ use Rattle.std.proofs.lemmas.Bool.{false_from_ne_true}
 use Rattle.std.proofs.lemmas.Option.{same_Some, slice_get-map}
 use Rattle.std.proofs.lemmas.Slice.Eq.{bytes_eq-Decides}
 use Rattle.naga_info.proofs.Options.{map_some}
-use Rattle.text_meaning.specs.Resolution.{place_among}
+use Rattle.text_meaning.specs.Resolution.{index_among}
 
 -- ---- words
 -- what is found after a word
 abbrev found_following : List ℕ → (is_first : Bool) → List (List ℕ) → Option ℕ
 found_following w is_first xs =
-    if is_first then Some 0 else option_map (λ i. suc i) (place_among w xs)
+    if is_first then Some 0 else option_map (λ i. suc i) (index_among w xs)
 
--- a word that stands at one place alone is found there
+-- a word that stands at one index alone is found there
 pub place_found : (w : List ℕ) (xs : List (List ℕ)) (i : ℕ) → slice_get xs i ≡ Some w →
-    ((j : ℕ) → slice_get xs j ≡ Some w → j ≡ i) → place_among w xs ≡ Some i
+    ((j : ℕ) → slice_get xs j ≡ Some w → j ≡ i) → index_among w xs ≡ Some i
 place_found w [] i at one = absurd cc
 place_found w (x ∷ xs) zero at one =
     ap (λ b. found_following w b xs) ((bytes_eq-Decides w x).1 (sym (same_Some x w at)))
@@ -39,7 +39,7 @@ place_found w (x ∷ xs) (suc i) at one =
 
 -- and one that stands nowhere is not
 pub place_none : (w : List ℕ) (xs : List (List ℕ)) →
-    ((j : ℕ) → slice_get xs j ≡ Some w → ⊥) → place_among w xs ≡ None
+    ((j : ℕ) → slice_get xs j ≡ Some w → ⊥) → index_among w xs ≡ None
 place_none w [] none = refl
 place_none w (x ∷ xs) none =
     ap (λ b. found_following w b xs)
@@ -68,7 +68,7 @@ module _ {X : Type 0} where
       let rest = counted_from (n + 1) xs i p at in
       (rest.0, rest.1 ∙ next)
 
-  -- each has its place for a number
+  -- each has its index for a number
   pub numbered_at : (xs : List X) (i : ℕ) (x : X) → slice_get xs i ≡ Some x →
       slice_get (enumerate_from 0 xs) i ≡ Some (i, x)
   numbered_at xs i x at =
@@ -128,13 +128,13 @@ module _ {X Y : Type 0} (test : X → Bool) (form : X → Y) where
       by true rest = rest
       by false rest = rest
 
-  -- the item that something was made of, and its place
+  -- the item that something was made of, and its index
   pub record IsFormed (xs : List X) (j : ℕ) (y : Y) : Type 0 where
     pub item : X
-    pub place : ℕ
-    pub there : slice_get xs place ≡ Some item
+    pub index : ℕ
+    pub there : slice_get xs index ≡ Some item
     pub passes : test item ≡ true
-    pub number : j ≡ length (filter test (take place xs))
+    pub number : j ≡ length (filter test (take index xs))
     pub is : form item ≡ y
 
   pub formed_from : (xs : List X) (j : ℕ) (y : Y) →
@@ -150,10 +150,10 @@ module _ {X Y : Type 0} (test : X → Bool) (form : X → Y) where
           IsFormed (x ∷ xs) j y
       further b is i rest number = record {
         item = rest.item;
-        place = suc rest.place;
+        index = suc rest.index;
         there = rest.there;
         passes = rest.passes;
-        number = number rest.place rest.number ∙ ap (λ b. before b rest.place) (sym is);
+        number = number rest.index rest.number ∙ ap (λ b. before b rest.index) (sym is);
         is = rest.is;
       }
 
@@ -163,17 +163,17 @@ module _ {X Y : Type 0} (test : X → Bool) (form : X → Y) where
           ≡ Some y →
           IsFormed (x ∷ xs) j y
       by false is rest at = further false is j (rest j y at) (λ k e. e)
-      by true is rest at = at_place j refl at
+      by true is rest at = at_index j refl at
         where
-          at_place : (i : ℕ) → j ≡ i → slice_get (form x ∷ filter_map formed_if xs) i ≡ Some y →
+          at_index : (i : ℕ) → j ≡ i → slice_get (form x ∷ filter_map formed_if xs) i ≡ Some y →
               IsFormed (x ∷ xs) j y
-          at_place zero here at = record {
+          at_index zero here at = record {
             item = x;
-            place = 0;
+            index = 0;
             there = refl;
             passes = is;
             number = here;
             is = same_Some (form x) y at;
           }
-          at_place (suc i) here at =
+          at_index (suc i) here at =
               further true is i (rest i y at) (λ k e. here ∙ ap (λ i. suc i) e)

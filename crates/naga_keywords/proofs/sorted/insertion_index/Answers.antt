@@ -1,7 +1,7 @@
 use Rattle.std.proofs.Common.{◌-◌, length, ap, sym, ◌∙◌, [], Less, arith}
 use Rattle.naga_keywords.specs.SortedWords.{comparison_key, word_cmp}
-use Rattle.naga_keywords.proofs.Halving.{equal_at, keys_length, order_at, place_after}
-use Rattle.naga_keywords.proofs.sorted.place.Goals as goal
+use Rattle.naga_keywords.proofs.Halving.{equal_at, keys_length, order_at, index_after}
+use Rattle.naga_keywords.proofs.sorted.insertion_index.Goals as goal
 
 pub returns-in-Less : goal.returns-in-Less
 returns-in-Less c =
@@ -11,7 +11,7 @@ returns-in-Less c =
     let told = c.in-Less.ensures.order
     ∙ ap (λ m. word_cmp (comparison_key c.new.result.case m.now) word)
     (last.1 (record { ref_ptr = (0, 0); now = [] })) in
-    place_after _ _ c.requires.sorted (length members) (sym (keys_length c.args.case members)) last.0
+    index_after _ _ c.requires.sorted (length members) (sym (keys_length c.args.case members)) last.0
     (order_at members (length members - 1) _ Less (omega (arith, last.0)) c.new.ensures.case c.new.ensures.wanted told)
 
 pub returns-in-Equal : goal.returns-in-Equal

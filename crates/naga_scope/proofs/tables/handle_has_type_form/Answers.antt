@@ -1,5 +1,5 @@
 use Rattle.std.proofs.Common.{◌∙◌}
-use Rattle.naga_scope.proofs.tables.handle_is_spelled.Goals as goal
+use Rattle.naga_scope.proofs.tables.handle_has_type_form.Goals as goal
 
 pub returns : goal.returns
 returns c = c.is_marked.ensures ∙ c.requires.spelled c.args.ty

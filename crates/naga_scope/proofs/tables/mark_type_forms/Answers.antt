@@ -1,14 +1,14 @@
 use Rattle.std.proofs.Common.{◌≡◌, ◌<◌, ℕ, Bool, ap, arith, length, sym, subst, ◌∙◌}
 use Rattle.std.specs.Prelude.{slice_get}
-use Rattle.module_meaning.specs.AlikeTypes.{is_spelled}
+use Rattle.module_meaning.specs.AlikeTypes.{has_type_form}
 use Rattle.naga_info.specs.declared.info.TypeResolution.TheVariants.{Handle}
 use Rattle.naga_ir.specs.declared.module.Module.{Module}
-use Rattle.naga_scope.proofs.FilledTables.{no_spelled_beyond, spelled_by}
+use Rattle.naga_scope.proofs.FilledTables.{no_type_form_beyond, spelled_by}
 use Rattle.naga_scope.proofs.WrittenConstants.{MarksBelow, all_below, none_below, one_below}
-use Rattle.naga_scope.proofs.tables.mark_spelled.Goals as goal
+use Rattle.naga_scope.proofs.tables.mark_type_forms.Goals as goal
 
 abbrev spelled_in : Module → (h : ℕ) → Bool
-spelled_in m h = is_spelled m.types (Handle h)
+spelled_in m h = has_type_form m.types (Handle h)
 
 pub loop-index-init : goal.loop-index-init
 loop-index-init c =
@@ -23,8 +23,8 @@ loop-index-preserved c =
     let within : c.loop-index.index < length m.types = omega (arith, end, test) in
     let at = ap (slice_get m.types) (sym c.from_index-handle.ensures) ∙ c.index.ensures in
     one_below (spelled_in m) (length m.types) c.loop-index.marks c.loop-index.index
-    c.item_is_spelled-spelled.result within
-    (c.item_is_spelled-spelled.ensures
+    c.item_has_type_form-spelled.result within
+    (c.item_has_type_form-spelled.ensures
     ∙ spelled_by m c.requires.ordered.types c.loop-index.index c.index.result.now at
     c.loop-index.marks c.loop-index.invariant)
     c.loop-index.invariant
@@ -36,6 +36,6 @@ returns c =
     let test = c.loop-index-test.false in
     let last = c.loop-index.auto.index-end in
     let all : c.loop-index.index ≡ length m.types = omega (arith, end, test, last) in
-    all_below (spelled_in m) (length m.types) (no_spelled_beyond m) c.loop-index.marks
+    all_below (spelled_in m) (length m.types) (no_type_form_beyond m) c.loop-index.marks
     (subst (MarksBelow (spelled_in m) (length m.types) c.loop-index.marks) all
     c.loop-index.invariant)

@@ -71,10 +71,10 @@ module _ (m : ir_module.Module) (info : ModuleInfo) (accepted : IsTrue (is_accep
   shape p = function_shape m info p.0 p.1
 
   -- each function of the program is the shape of one of the module's, or of an entry point's
-  pub function_at : (place : ℕ) (f : Function) → slice_get (module_shape m info).functions place ≡ Some f →
+  pub function_at : (index : ℕ) (f : Function) → slice_get (module_shape m info).functions index ≡ Some f →
       IsShapeOf m info f
-  function_at place f there =
-      let found = in_reversed (map shape (functions_known m info)) place f there in
+  function_at index f there =
+      let found = in_reversed (map shape (functions_known m info)) index f there in
       let image = in_image shape (functions_known m info) found.0 f found.1 in
       record {
         function = image.0.0;

@@ -1,0 +1,12 @@
+use Rattle.std.proofs.Common.{ap, ◌∙◌}
+use Rattle.naga_scope.proofs.FilledTables.{type_form_marked}
+use Rattle.naga_scope.specs.Tables.{Tables, type_has_form_by_marks}
+use Rattle.naga_scope.proofs.tables.ModuleTables.has_type_form.Goals as goal
+
+pub returns : goal.returns
+returns c =
+    let m = c.args.module.now in
+    c.type_has_form_by_marks.ensures
+    ∙ (ap (λ marks. type_has_form_by_marks marks c.args.ty.now)
+    (c.deref.ensures.value ∙ ap (λ (t : Tables). t.spelled) c.self.view_is)
+    ∙ type_form_marked m c.args.self.now.spelled c.requires.tables.spelled c.args.ty.now)
