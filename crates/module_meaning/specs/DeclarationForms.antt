@@ -62,11 +62,11 @@ pub data IsMemberBinding (m : Module) : Binding → Type 0 where
       s.binding ≡ Some b → IsMemberBinding m b
 
 -- an argument or the result of a function is
-pub data IsPassed (f : Function) : Binding → Type 0 where
+pub data IsIoBinding (f : Function) : Binding → Type 0 where
   OfArgument : (i : ℕ) (a : FunctionArgument) (b : Binding) →
-      slice_get f.arguments.items i ≡ Some a → a.binding ≡ Some b → IsPassed f b
+      slice_get f.arguments.items i ≡ Some a → a.binding ≡ Some b → IsIoBinding f b
   OfResult : (r : FunctionResult) (b : Binding) → f.result ≡ Some r → r.binding ≡ Some b →
-      IsPassed f b
+      IsIoBinding f b
 
 -- the entry point with this number, after the functions, if there is one
 abbrev pub entry_point_numbered : Module → (number : ℕ) → Option EntryPoint
@@ -93,7 +93,7 @@ stage_has_form p _ = true
 -- point.
 pub record HeadHasForm (m : Module) (number : ℕ) : Type 0 where
   pub bindings : (f : Function) → slice_get (all_functions m) number ≡ Some f → (b : Binding) →
-      IsPassed f b → IsTrue (binding_has_form b)
+      IsIoBinding f b → IsTrue (binding_has_form b)
   pub stage : (p : EntryPoint) → entry_point_numbered m number ≡ Some p →
       IsTrue (stage_has_form p p.stage)
 

@@ -36,7 +36,7 @@ use Rattle.text_meaning.specs.Attributes.{RayGenerationStage, ComputeStage, Mesh
 use Rattle.text_meaning.specs.Attributes.{AnyHitStage, ClosestHitStage, MissStage}
 use Rattle.text_meaning.specs.Interface.{ConstantInterface, EntryPointInterface, FunctionInterface}
 use Rattle.text_meaning.specs.Interface.{GlobalInterface, Interface, MemberInterface}
-use Rattle.text_meaning.specs.Interface.{OverrideInterface, PassedValue, StructInterface}
+use Rattle.text_meaning.specs.Interface.{OverrideInterface, IoValue, StructInterface}
 use Rattle.module_meaning.specs.ExpressionContexts.{global_tree}
 use Rattle.module_meaning.specs.Layouts.{written_size}
 use Rattle.module_meaning.specs.ModuleShapes.{module_shape}
@@ -118,19 +118,19 @@ global_interface names t value p =
     }
 
 -- ---- functions
-abbrev pub argument_passed : TypeNames → FunctionArgument → PassedValue
-argument_passed t a = record { binding = stage_binding a.binding; type = spelled_type t a.ty }
+abbrev pub argument_io : TypeNames → FunctionArgument → IoValue
+argument_io t a = record { binding = stage_binding a.binding; type = spelled_type t a.ty }
 
-abbrev pub result_passed : TypeNames → FunctionResult → PassedValue
-result_passed t r = record { binding = stage_binding r.binding; type = spelled_type t r.ty }
+abbrev pub result_io : TypeNames → FunctionResult → IoValue
+result_io t r = record { binding = stage_binding r.binding; type = spelled_type t r.ty }
 
 -- a function, or what an entry point starts, by this name
 abbrev pub body_interface : TypeNames → (name : List ℕ) → ir_function.Function → FunctionInterface
 body_interface t name f =
     record {
       name = name;
-      arguments = map (argument_passed t) f.arguments.items;
-      result = option_map (result_passed t) f.result;
+      arguments = map (argument_io t) f.arguments.items;
+      result = option_map (result_io t) f.result;
       locals = map (λ l. spelled_type t l.ty) f.local_variables;
       switches = block_switches f.body;
     }

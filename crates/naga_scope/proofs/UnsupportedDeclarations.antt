@@ -10,7 +10,7 @@ use Rattle.module_meaning.proofs.FunctionNumbers.{entry_point_among, function_am
 use Rattle.module_meaning.proofs.FunctionNumbers.{IsNumbered, OfEntryPoint, OfFunction}
 use Rattle.module_meaning.specs.DeclarationForms.{DeclarationsHaveForms, HeadHasForm}
 use Rattle.module_meaning.specs.DeclarationForms.{IsDeclaredType, IsInitialiser, IsMemberBinding}
-use Rattle.module_meaning.specs.DeclarationForms.{IsPassed, binding_has_form, entry_point_numbered}
+use Rattle.module_meaning.specs.DeclarationForms.{IsIoBinding, binding_has_form, entry_point_numbered}
 use Rattle.module_meaning.specs.DeclarationForms.{stage_has_form}
 use Rattle.module_meaning.specs.DeclarationForms.IsDeclaredType.{OfConstant as ConstantType}
 use Rattle.module_meaning.specs.DeclarationForms.IsDeclaredType.{OfMember as MemberType}
@@ -20,7 +20,7 @@ use Rattle.module_meaning.specs.DeclarationForms.IsInitialiser.{OfConstant as Co
 use Rattle.module_meaning.specs.DeclarationForms.IsInitialiser.{OfOverride as OverrideInitialiser}
 use Rattle.module_meaning.specs.DeclarationForms.IsInitialiser.{OfVariable as VariableInitialiser}
 use Rattle.module_meaning.specs.DeclarationForms.IsMemberBinding.{OfMember as MemberBinding}
-use Rattle.module_meaning.specs.DeclarationForms.IsPassed.{OfArgument, OfResult}
+use Rattle.module_meaning.specs.DeclarationForms.IsIoBinding.{OfArgument, OfResult}
 use Rattle.module_meaning.specs.Layouts.{HasOtherStride, IsMisplaced, concerned_members}
 use Rattle.module_meaning.specs.Layouts.{concerned_of, concerned_only, layout_in, module_rule}
 use Rattle.module_meaning.specs.Undeclared.{is_declared, is_spellable, is_undeclared}
@@ -56,8 +56,8 @@ use Rattle.naga_scope.specs.Declarations.{HaveFormsBefore, IsUnsupportedBinding}
 use Rattle.naga_scope.specs.Declarations.{IsUnsupportedConstant, IsUnsupportedDeclaration}
 use Rattle.naga_scope.specs.Declarations.{IsUnsupportedEntryPoint, IsUnsupportedHead}
 use Rattle.naga_scope.specs.Declarations.{IsUnsupportedFunction, IsUnsupportedIn}
-use Rattle.naga_scope.specs.Declarations.{IsUnsupportedPassed, IsUnsupportedType}
-use Rattle.naga_scope.specs.Declarations.{IsUnsupportedValue, OverridesHaveForms, PassedHasForm}
+use Rattle.naga_scope.specs.Declarations.{IsUnsupportedIo, IsUnsupportedType}
+use Rattle.naga_scope.specs.Declarations.{IsUnsupportedValue, OverridesHaveForms, IoHasForm}
 use Rattle.naga_scope.specs.Declarations.{TypeHasForm, TypesHaveForms, VariablesHaveForms}
 use Rattle.naga_scope.specs.Declarations.{FindsMember, FindsStride, IsUnsupportedStruct}
 use Rattle.naga_scope.specs.Declarations.{IsOtherStride, StructHasForm, ValueHasForm}
@@ -87,12 +87,12 @@ module _ (m : Module) where
       ∙ ap (slice_get m.entry_points.items) rest
 
   -- ---- heads
-  pub function_head : (h : ℕ) (f : Function) → slice_get m.functions h ≡ Some f → PassedHasForm f → HeadHasForm m h
+  pub function_head : (h : ℕ) (f : Function) → slice_get m.functions h ≡ Some f → IoHasForm f → HeadHasForm m h
   function_head h f there formed = record {
     bindings = λ g at.
         let same : Some f ≡ Some g = sym (function_among m h f there) ∙ at in
         let function : f ≡ g = cc in
-        subst PassedHasForm function formed;
+        subst IoHasForm function formed;
     stage = λ p at.
         let lt = slice_get_within m.functions h f there in
         let none : None ≡ Some p = sym (function_numbered h lt) ∙ at in
@@ -105,7 +105,7 @@ module _ (m : Module) where
     bindings = λ g at.
         let same : Some p.function ≡ Some g = sym (entry_point_among m j p there) ∙ at in
         let function : p.function ≡ g = cc in
-        subst PassedHasForm function formed.passed;
+        subst IoHasForm function formed.io;
     stage = λ q at.
         let same : Some p ≡ Some q = sym there ∙ sym (numbered j) ∙ at in
         let entry_point : p ≡ q = cc in
@@ -113,23 +113,23 @@ module _ (m : Module) where
   }
 
   -- what it takes or gives is bound to a value without a word
-  passed_lacks : (f : Function) (v : BuiltIn) → IsUnsupportedPassed f v →
-      IsPassed f (binding.BuiltIn v) × (binding_has_form (binding.BuiltIn v) ≡ false)
-  passed_lacks f v (inl (i, a, at, earlier, (bound, lacks))) = (OfArgument i a (binding.BuiltIn v) at bound, lacks)
-  passed_lacks f v (inr (formed, (r, is, (bound, lacks)))) = (OfResult r (binding.BuiltIn v) is bound, lacks)
+  io_lacks : (f : Function) (v : BuiltIn) → IsUnsupportedIo f v →
+      IsIoBinding f (binding.BuiltIn v) × (binding_has_form (binding.BuiltIn v) ≡ false)
+  io_lacks f v (inl (i, a, at, earlier, (bound, lacks))) = (OfArgument i a (binding.BuiltIn v) at bound, lacks)
+  io_lacks f v (inr (formed, (r, is, (bound, lacks)))) = (OfResult r (binding.BuiltIn v) is bound, lacks)
 
   pub function_lacks : (h : ℕ) (f : Function) → slice_get m.functions h ≡ Some f → (v : BuiltIn) →
-      IsUnsupportedPassed f v →
+      IsUnsupportedIo f v →
       IsUnsupportedHead m h (head.BuiltIn v)
   function_lacks h f there v lacks =
-      let passed = passed_lacks f v lacks in
+      let passed = io_lacks f v lacks in
       (f, function_among m h f there, passed.0, passed.1)
 
   pub entry_point_lacks : (j : ℕ) (p : EntryPoint) → slice_get m.entry_points.items j ≡ Some p →
       (it : UnsupportedHead) →
       IsUnsupportedEntryPoint p it → IsUnsupportedHead m (length m.functions + j) it
   entry_point_lacks j p there (head.BuiltIn v) lacks =
-      let passed = passed_lacks p.function v lacks in
+      let passed = io_lacks p.function v lacks in
       (p.function, entry_point_among m j p there, passed.0, passed.1)
   entry_point_lacks j p there head.Stage lacks = (p, numbered j ∙ there, lacks.1)
 
@@ -280,7 +280,7 @@ module _ (m : Module) where
 
         module _ (variables : VariablesHaveForms m) where
           pub of_functions : (found : DeclarationPosition × UnsupportedDeclaration) →
-              FindsFirst m.functions (λ i. PassedHasForm) (λ h. position.Function h)
+              FindsFirst m.functions (λ i. IoHasForm) (λ h. position.Function h)
               (λ i. IsUnsupportedFunction) (Some found) → IsFound found
           of_functions (at, it) (h, f, there, same, earlier, lacks) =
               at_one at (position.Function h) it same (functions_lack h f there it lacks) (f, there, lacks)
@@ -349,10 +349,10 @@ module _ (m : Module) where
         let kept = found.3.strides other.members found.2 other.number other.member there in
         false≢true (sym (ap (arrays_are_kept (module_rule m) m.types) other.is ∙ other.other) ∙ kept)
 
-    passed_formed : (number : ℕ) (f : Function) → IsNumbered m number f → PassedHasForm f
-    passed_formed number f (OfFunction there is) = in_functions number f there
-    passed_formed number f (OfEntryPoint j p at there same is) =
-        subst PassedHasForm same (in_entry_points j p there).passed
+    io_formed : (number : ℕ) (f : Function) → IsNumbered m number f → IoHasForm f
+    io_formed number f (OfFunction there is) = in_functions number f there
+    io_formed number f (OfEntryPoint j p at there same is) =
+        subst IoHasForm same (in_entry_points j p there).io
 
     stage_formed : (number : ℕ) (p : EntryPoint) → entry_point_numbered m number ≡ Some p →
         IsTrue (stage_has_form p p.stage)
@@ -369,7 +369,7 @@ module _ (m : Module) where
       initialisers = initialisers_formed;
       members = members_formed;
       heads = λ number. record {
-        bindings = λ f at. passed_formed number f (which_function m number f at);
+        bindings = λ f at. io_formed number f (which_function m number f at);
         stage = λ p at. stage_formed number p at;
       };
       offsets = offsets_formed;
@@ -380,7 +380,7 @@ module _ (m : Module) where
 module _ (f : Function) (arguments : List FunctionArgument) (are : arguments ≡ f.arguments.items) where
   pub argument_lacks : (v : BuiltIn) →
       Finds arguments (λ i a. BindingHasForm a.binding) (λ i a. IsUnsupportedBinding a.binding) (Some v) →
-      IsUnsupportedPassed f v
+      IsUnsupportedIo f v
   argument_lacks v finds =
       inl (subst (λ xs. Finds xs (λ i a. BindingHasForm a.binding) (λ i a. IsUnsupportedBinding a.binding)
       (Some v)) are finds)
@@ -389,10 +389,10 @@ module _ (f : Function) (arguments : List FunctionArgument) (are : arguments ≡
   pub by_result : Finds arguments (λ i a. BindingHasForm a.binding) (λ i a. IsUnsupportedBinding a.binding) None →
       (r : FunctionResult) → f.result ≡ Some r → (found : Option BuiltIn) →
       MatchOption found (BindingHasForm r.binding) (IsUnsupportedBinding r.binding) →
-      MatchOption found (PassedHasForm f) (IsUnsupportedPassed f)
+      MatchOption found (IoHasForm f) (IsUnsupportedIo f)
   by_result formed r is None has = passed
     where
-      passed : PassedHasForm f
+      passed : IoHasForm f
       passed b (OfArgument i a _ at bound) = formed i a (ap (λ xs. slice_get xs i) are ∙ at) b bound
       passed b (OfResult q _ found bound) =
           let both : Some r ≡ Some q = sym is ∙ found in

@@ -10,7 +10,7 @@ use Rattle.std.specs.Prelude.{◌≡◌, ◌<◌, ◌⊎◌, ℕ, zero, suc, Opt
 use Rattle.std.specs.Prelude.{List, slice_get}
 use Rattle.std.specs.Option.{is_some, option_and_then}
 use Rattle.module_meaning.specs.DeclarationForms.{IsDeclaredType, IsInitialiser, IsMemberBinding}
-use Rattle.module_meaning.specs.DeclarationForms.{IsPassed, binding_has_form, entry_point_numbered}
+use Rattle.module_meaning.specs.DeclarationForms.{IsIoBinding, binding_has_form, entry_point_numbered}
 use Rattle.module_meaning.specs.DeclarationForms.{stage_has_form}
 use Rattle.module_meaning.specs.FunctionNumbers.{all_functions}
 use Rattle.module_meaning.specs.Layouts.{HasOtherStride, IsMisplaced, concerned_only, layout_in}
@@ -47,7 +47,7 @@ use Rattle.wgsl_layout.specs.declared.members.Misplaced.{Misplaced}
 abbrev pub IsUnsupportedHead : Module → (number : ℕ) → UnsupportedHead → Type 0
 IsUnsupportedHead m number (head.BuiltIn v) =
     (f : Function) × (slice_get (all_functions m) number ≡ Some f)
-    × IsPassed f (binding.BuiltIn v) × IsFalse (binding_has_form (binding.BuiltIn v))
+    × IsIoBinding f (binding.BuiltIn v) × IsFalse (binding_has_form (binding.BuiltIn v))
 IsUnsupportedHead m number head.Stage =
     (p : EntryPoint) × (entry_point_numbered m number ≡ Some p) × IsFalse (stage_has_form p p.stage)
 
@@ -202,8 +202,8 @@ IsUnsupportedType m ty t it =
 
 -- ---- functions
 -- what a function takes and gives has a form
-abbrev pub PassedHasForm : Function → Type 0
-PassedHasForm f = (b : Binding) → IsPassed f b → IsTrue (binding_has_form b)
+abbrev pub IoHasForm : Function → Type 0
+IoHasForm f = (b : Binding) → IsIoBinding f b → IsTrue (binding_has_form b)
 
 -- each argument has a form, or the first that has none is bound to this value
 abbrev pub FindsArgument : Function → Option BuiltIn → Type 0
@@ -213,26 +213,26 @@ FindsArgument f =
 
 -- an argument is bound to this built-in value, which has none, and is the first that has none; or all
 -- have one, and the result is bound to it
-abbrev pub IsUnsupportedPassed : Function → BuiltIn → Type 0
-IsUnsupportedPassed f v =
+abbrev pub IsUnsupportedIo : Function → BuiltIn → Type 0
+IsUnsupportedIo f v =
     FindsArgument f (Some v)
     ⊎ (FindsArgument f None
     × ((r : FunctionResult) × (f.result ≡ Some r) × IsUnsupportedBinding r.binding v))
 
 -- so it is with an entry point and its stage
 pub record EntryPointHasForm (p : EntryPoint) : Type 0 where
-  pub passed : PassedHasForm p.function
+  pub io : IoHasForm p.function
   pub stage : IsTrue (stage_has_form p p.stage)
 
 -- what it takes or gives has none, or its stage where all that has one
 abbrev pub IsUnsupportedEntryPoint : EntryPoint → UnsupportedHead → Type 0
-IsUnsupportedEntryPoint p (head.BuiltIn v) = IsUnsupportedPassed p.function v
+IsUnsupportedEntryPoint p (head.BuiltIn v) = IsUnsupportedIo p.function v
 IsUnsupportedEntryPoint p head.Stage =
-    PassedHasForm p.function × IsFalse (stage_has_form p p.stage)
+    IoHasForm p.function × IsFalse (stage_has_form p p.stage)
 
 -- ---- where it stands
 abbrev pub IsUnsupportedFunction : Function → UnsupportedDeclaration → Type 0
-IsUnsupportedFunction f (declaration.Head (head.BuiltIn v)) = IsUnsupportedPassed f v
+IsUnsupportedFunction f (declaration.Head (head.BuiltIn v)) = IsUnsupportedIo f v
 IsUnsupportedFunction f it = ⊥
 
 abbrev pub IsUnsupportedHeadOf : EntryPoint → UnsupportedDeclaration → Type 0
@@ -270,7 +270,7 @@ abbrev pub VariablesHaveForms : Module → Type 0
 VariablesHaveForms m = Each m.global_variables (λ i g. ValueHasForm m g.ty g.init)
 
 abbrev pub FunctionsHaveForms : Module → Type 0
-FunctionsHaveForms m = Each m.functions (λ i. PassedHasForm)
+FunctionsHaveForms m = Each m.functions (λ i. IoHasForm)
 
 -- In the order of a text, which has structs, constants, overrides, variables, functions and entry
 -- points, each declaration in front of this one has a form.
@@ -286,7 +286,7 @@ HaveFormsBefore m (position.GlobalVariable h) =
     × EachBefore m.global_variables h (λ i g. ValueHasForm m g.ty g.init)
 HaveFormsBefore m (position.Function h) =
     TypesHaveForms m × ConstantsHaveForms m × OverridesHaveForms m × VariablesHaveForms m
-    × EachBefore m.functions h (λ i. PassedHasForm)
+    × EachBefore m.functions h (λ i. IoHasForm)
 HaveFormsBefore m (position.EntryPoint i) =
     TypesHaveForms m × ConstantsHaveForms m × OverridesHaveForms m × VariablesHaveForms m
     × FunctionsHaveForms m × EachBefore m.entry_points.items i (λ i. EntryPointHasForm)

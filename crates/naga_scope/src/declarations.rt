@@ -13,9 +13,9 @@ ghost use Rattle.naga_scope.specs.Declarations.{IsUnsupportedFunction, IsUnsuppo
 ghost use Rattle.naga_scope.specs.Declarations.{IsUnsupportedIn};
 ghost use Rattle.naga_scope.specs.Declarations.{IsUnsupportedMember};
 ghost use Rattle.naga_scope.specs.Declarations.{IsUnsupportedStruct};
-ghost use Rattle.naga_scope.specs.Declarations.{IsUnsupportedPassed, IsUnsupportedType};
+ghost use Rattle.naga_scope.specs.Declarations.{IsUnsupportedIo, IsUnsupportedType};
 ghost use Rattle.naga_scope.specs.Declarations.{IsUnsupportedValue};
-ghost use Rattle.naga_scope.specs.Declarations.{MemberHasForm, PassedHasForm};
+ghost use Rattle.naga_scope.specs.Declarations.{MemberHasForm, IoHasForm};
 ghost use Rattle.naga_scope.specs.Declarations.{StructHasForm, TypeHasForm, ValueHasForm};
 ghost use Rattle.naga_scope.specs.Tables.{AreTablesOf};
 
@@ -79,7 +79,7 @@ pub fn unsupported_head(module: &Module, ty: FunctionType) -> Option<Unsupported
     ensures some { IfSome result (IsUnsupportedHead «module».now (function_number «module».now ty)) }
 {
     match ty {
-        FunctionType::Function(handle) => match unsupported_passed(&module.functions[handle]) {
+        FunctionType::Function(handle) => match unsupported_io(&module.functions[handle]) {
             Some(value) => Some(UnsupportedHead::BuiltIn(value)),
             None => None,
         },
@@ -365,11 +365,11 @@ fn unsupported_value(
 fn unsupported_in_functions(
     module: &Module,
 ) -> Option<(DeclarationPosition, UnsupportedDeclaration)>
-    ensures { FindsFirst «module».now.functions (λ i. PassedHasForm)
+    ensures { FindsFirst «module».now.functions (λ i. IoHasForm)
         (λ h. DeclarationPosition.Function h) (λ i. IsUnsupportedFunction) result }
 {
     for (handle, function) in module.functions.iter() {
-        if let Some(value) = unsupported_passed(function) {
+        if let Some(value) = unsupported_io(function) {
             return Some((
                 DeclarationPosition::Function(handle),
                 UnsupportedDeclaration::Head(UnsupportedHead::BuiltIn(value)),
@@ -380,8 +380,8 @@ fn unsupported_in_functions(
 }
 
 /// The same of one function.
-fn unsupported_passed(function: &Function) -> Option<BuiltIn>
-    ensures { MatchOption result (PassedHasForm function.now) (IsUnsupportedPassed function.now) }
+fn unsupported_io(function: &Function) -> Option<BuiltIn>
+    ensures { MatchOption result (IoHasForm function.now) (IsUnsupportedIo function.now) }
 {
     if let Some(value) = unsupported_in_arguments(&function.arguments) {
         return Some(value);
@@ -423,7 +423,7 @@ fn unsupported_entry_point(entry_point: &EntryPoint) -> Option<UnsupportedHead>
     ensures { MatchOption result (EntryPointHasForm entry_point.now)
         (IsUnsupportedEntryPoint entry_point.now) }
 {
-    if let Some(value) = unsupported_passed(&entry_point.function) {
+    if let Some(value) = unsupported_io(&entry_point.function) {
         return Some(UnsupportedHead::BuiltIn(value));
     }
     if stage_has_form(entry_point) {

@@ -33,8 +33,8 @@ use Rattle.naga_wgsl_fns.specs.FunctionText.{context, naming, callees, number}
 use Rattle.module_meaning.specs.Names.{module_names, name_in, numbered_name}
 use Rattle.module_meaning.specs.AlikeTypes.{has_type_form}
 use Rattle.module_meaning.specs.DeclarationForms.{binding_has_form}
-use Rattle.module_meaning.specs.DeclarationForms.IsPassed.{OfArgument as PassedArgument}
-use Rattle.module_meaning.specs.DeclarationForms.IsPassed.{OfResult as PassedResult}
+use Rattle.module_meaning.specs.DeclarationForms.IsIoBinding.{OfArgument as IoArgument}
+use Rattle.module_meaning.specs.DeclarationForms.IsIoBinding.{OfResult as IoResult}
 use Rattle.naga_wgsl_fns.specs.Bindings.{passing_has_form}
 use Rattle.module_meaning.specs.ExpressionForms.{expression_has_own_form, known_passes}
 use Rattle.naga_form.proofs.declarations.AcceptedGroups.{fits_in_range, known_fits, known_is_fit}
@@ -212,11 +212,11 @@ module _ (t : FunctionText) (can : CanWrite t) where
       slice_get f.arguments.items n ≡ Some a → IsTrue (passing_has_form a.binding)
   argument_passes n a here =
       passes a.binding
-      (λ k is. can.head.bindings f can.function k (PassedArgument n a k here is))
+      (λ k is. can.head.bindings f can.function k (IoArgument n a k here is))
 
   pub answer_passes : (r : FunctionResult) → f.result ≡ Some r → IsTrue (passing_has_form r.binding)
   answer_passes r is =
-      passes r.binding (λ k bound. can.head.bindings f can.function k (PassedResult r k is bound))
+      passes r.binding (λ k bound. can.head.bindings f can.function k (IoResult r k is bound))
 
   pub local_is_formed : (l : ℕ) (v : LocalVariable) → slice_get f.local_variables l ≡ Some v →
       IsTrue (has_type_form m.types (resolution.Handle v.ty))

@@ -5,7 +5,7 @@
 -- fault is why members of a struct can't stay where they are.
 use Rattle.std.specs.Prelude.{◌≡◌, ℕ, Some, IsFalse, codes, slice_get}
 use Rattle.module_meaning.specs.DeclarationForms.{IsDeclaredType, IsInitialiser, IsMemberBinding}
-use Rattle.module_meaning.specs.DeclarationForms.{IsPassed, binding_has_form, entry_point_numbered}
+use Rattle.module_meaning.specs.DeclarationForms.{IsIoBinding, binding_has_form, entry_point_numbered}
 use Rattle.module_meaning.specs.DeclarationForms.{stage_has_form}
 use Rattle.module_meaning.specs.FunctionNumbers.{all_functions}
 use Rattle.module_meaning.specs.Layouts.{HasOtherStride, IsMisplaced}
@@ -70,7 +70,7 @@ IsToldOfDeclaration m lack error =
 -- What a function takes or gives, or its stage, has no form, and is named.
 pub data NamesHead (m : Module) (number : ℕ) (error : Error) : Type 0 where
   OfBinding : (f : Function) (b : Binding) → slice_get (all_functions m) number ≡ Some f →
-      IsPassed f b → IsFalse (binding_has_form b) → NamesBuiltin error → NamesHead m number error
+      IsIoBinding f b → IsFalse (binding_has_form b) → NamesBuiltin error → NamesHead m number error
   OfStage : (p : EntryPoint) → entry_point_numbered m number ≡ Some p →
       IsFalse (stage_has_form p p.stage) → NamesStage error → NamesHead m number error
 

@@ -14,7 +14,7 @@ use Rattle.module_meaning.specs.DeclarationForms.IsInitialiser.{OfConstant as Co
 use Rattle.module_meaning.specs.DeclarationForms.IsInitialiser.{OfOverride as OverrideInitialiser}
 use Rattle.module_meaning.specs.DeclarationForms.IsInitialiser.{OfVariable as VariableInitialiser}
 use Rattle.module_meaning.specs.DeclarationForms.IsMemberBinding.{OfMember as MemberBinding}
-use Rattle.module_meaning.specs.DeclarationForms.IsPassed.{OfArgument, OfResult}
+use Rattle.module_meaning.specs.DeclarationForms.IsIoBinding.{OfArgument, OfResult}
 use Rattle.module_meaning.specs.FunctionNumbers.{all_functions, all_infos}
 use Rattle.module_meaning.specs.Layouts.{concerned_members, concerned_of, module_rule}
 use Rattle.module_meaning.specs.ExpressionForms.{global_has_form}
@@ -38,8 +38,8 @@ use Rattle.naga_scope.proofs.UnsupportedDeclarations.{entry_point_lacks}
 use Rattle.naga_scope.specs.Declarations.{ConstantHasForm, EntryPointHasForm, HaveFormsBefore}
 use Rattle.naga_scope.specs.Declarations.{IsUnsupportedConstant, IsUnsupportedHead}
 use Rattle.naga_scope.specs.Declarations.{IsUnsupportedFunction, IsUnsupportedHeadOf}
-use Rattle.naga_scope.specs.Declarations.{IsUnsupportedIn, IsUnsupportedPassed, IsUnsupportedStruct}
-use Rattle.naga_scope.specs.Declarations.{IsUnsupportedType, IsUnsupportedValue, PassedHasForm}
+use Rattle.naga_scope.specs.Declarations.{IsUnsupportedIn, IsUnsupportedIo, IsUnsupportedStruct}
+use Rattle.naga_scope.specs.Declarations.{IsUnsupportedType, IsUnsupportedValue, IoHasForm}
 use Rattle.naga_scope.specs.Declarations.{StructHasForm, TypeHasForm, ValueHasForm, concerned_among}
 use Rattle.naga_scope.specs.Plans.{IsFirstToPlan}
 use Rattle.naga_scope.specs.declared.declarations.DeclarationPosition.{DeclarationPosition}
@@ -146,14 +146,14 @@ module _ (m : Module) where
       ConstantHasForm m c → ⊥
   constant_lacks c it lacks has = value_lacks c.ty (Some c.init) it lacks.1 (has lacks.0)
 
-  passed_lacks : (f : Function) (v : BuiltIn) → IsUnsupportedPassed f v → PassedHasForm f → ⊥
-  passed_lacks f v (inl (i, a, at, earlier, (bound, lacks))) has =
+  io_lacks : (f : Function) (v : BuiltIn) → IsUnsupportedIo f v → IoHasForm f → ⊥
+  io_lacks f v (inl (i, a, at, earlier, (bound, lacks))) has =
       false≢true (sym lacks ∙ has (binding.BuiltIn v) (OfArgument i a (binding.BuiltIn v) at bound))
-  passed_lacks f v (inr (formed, (r, is, (bound, lacks)))) has =
+  io_lacks f v (inr (formed, (r, is, (bound, lacks)))) has =
       false≢true (sym lacks ∙ has (binding.BuiltIn v) (OfResult r (binding.BuiltIn v) is bound))
 
-  function_lacks : (f : Function) (it : UnsupportedDeclaration) → IsUnsupportedFunction f it → PassedHasForm f → ⊥
-  function_lacks f (declaration.Head (head.BuiltIn v)) lacks has = passed_lacks f v lacks has
+  function_lacks : (f : Function) (it : UnsupportedDeclaration) → IsUnsupportedFunction f it → IoHasForm f → ⊥
+  function_lacks f (declaration.Head (head.BuiltIn v)) lacks has = io_lacks f v lacks has
   function_lacks f (declaration.Head head.Stage) lacks has = lacks
   function_lacks f (declaration.Type_ ty) lacks has = lacks
   function_lacks f (declaration.Initialiser h) lacks has = lacks
@@ -162,7 +162,7 @@ module _ (m : Module) where
   function_lacks f (declaration.Stride ty) lacks has = lacks
 
   point_lacks : (p : EntryPoint) (it : UnsupportedDeclaration) → IsUnsupportedHeadOf p it → EntryPointHasForm p → ⊥
-  point_lacks p (declaration.Head (head.BuiltIn v)) lacks has = passed_lacks p.function v lacks has.passed
+  point_lacks p (declaration.Head (head.BuiltIn v)) lacks has = io_lacks p.function v lacks has.io
   point_lacks p (declaration.Head head.Stage) lacks has = false≢true (sym lacks.1 ∙ has.stage)
   point_lacks p (declaration.Type_ ty) lacks has = lacks
   point_lacks p (declaration.Initialiser h) lacks has = lacks
@@ -227,7 +227,7 @@ module _ (m : Module) where
       initialiser = λ h same. has.initialisers h (VariableInitialiser i g h at same);
     }
 
-    function_formed : (h : ℕ) (f : Function) → slice_get m.functions h ≡ Some f → PassedHasForm f
+    function_formed : (h : ℕ) (f : Function) → slice_get m.functions h ≡ Some f → IoHasForm f
     function_formed h f at = λ b passed. (has.heads h).bindings f (function_among m h f at) b passed
 
     head_formed : (number : ℕ) (it : UnsupportedHead) → IsUnsupportedHead m number it → ⊥

@@ -63,7 +63,7 @@ pub record GlobalInterface : Type 0 where
   pub initialiser : Option (Option Value)
 
 -- what passes in or out of a function: how, and its type
-pub record PassedValue : Type 0 where
+pub record IoValue : Type 0 where
   pub binding : StageBinding
   pub type : List ℕ
 
@@ -73,8 +73,8 @@ pub record PassedValue : Type 0 where
 -- value only where it is taken.
 pub record FunctionInterface : Type 0 where
   pub name : List ℕ
-  pub arguments : List PassedValue
-  pub result : Option PassedValue
+  pub arguments : List IoValue
+  pub result : Option IoValue
   pub locals : List (List ℕ)
   pub switches : List (List CaseValueInterface)
 
@@ -146,11 +146,11 @@ global_interface_read value g =
       initialiser = option_map value g.value;
     }
 
-abbrev pub parameter_read : Parameter → PassedValue
+abbrev pub parameter_read : Parameter → IoValue
 parameter_read p =
     record { binding = stage_binding_read p.attributes; type = type_layout p.type }
 
-abbrev pub result_read : Result → Option PassedValue
+abbrev pub result_read : Result → Option IoValue
 result_read NoResult = None
 result_read (ResultOf attributes type) =
     Some (record { binding = stage_binding_read attributes; type = type_layout type })

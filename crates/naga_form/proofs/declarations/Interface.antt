@@ -50,16 +50,16 @@ use Rattle.text_meaning.specs.Interface.{override_interface_read, parameter_read
 use Rattle.text_meaning.specs.Interface.{space_read, struct_interface_read}
 use Rattle.module_meaning.specs.acceptance.Accepted.{is_accepted}
 use Rattle.module_meaning.specs.DeclarationForms.{DeclarationsHaveForms, IsInitialiser}
-use Rattle.module_meaning.specs.DeclarationForms.{IsMemberBinding, IsPassed, binding_has_form}
+use Rattle.module_meaning.specs.DeclarationForms.{IsMemberBinding, IsIoBinding, binding_has_form}
 use Rattle.module_meaning.specs.DeclarationForms.{stage_has_form}
 use Rattle.module_meaning.proofs.DeclarationForms.{items_have_forms}
 use Rattle.module_meaning.specs.Enables.{written_enables}
 use Rattle.module_meaning.specs.Faithful.{HasInterfaceOf, TellsInterfaceOf}
 use Rattle.module_meaning.specs.FunctionNumbers.{all_functions}
-use Rattle.module_meaning.specs.Interface.{argument_passed, body_interface, constant_interface}
+use Rattle.module_meaning.specs.Interface.{argument_io, body_interface, constant_interface}
 use Rattle.module_meaning.specs.Interface.{entry_point_interface, function_interfaces}
 use Rattle.module_meaning.specs.Interface.{global_expression_value, global_interface}
-use Rattle.module_meaning.specs.Interface.{member_interface, override_interface, result_passed}
+use Rattle.module_meaning.specs.Interface.{member_interface, override_interface, result_io}
 use Rattle.module_meaning.specs.Interface.{stage_of, struct_interface}
 use Rattle.module_meaning.specs.Layouts.{written_size}
 use Rattle.module_meaning.specs.ModuleShapes.{module_shape}
@@ -118,26 +118,26 @@ any_binding_has_form (Some b) each = each b refl
 -- ---- what is passed, and locals
 -- what a function takes and gives is bound by what has a form
 abbrev BindingsHaveForms : ir_function.Function → Type 0
-BindingsHaveForms f = (b : Binding) → IsPassed f b → binding_has_form b ≡ true
+BindingsHaveForms f = (b : Binding) → IsIoBinding f b → binding_has_form b ≡ true
 
-parameters_passed : (names : NameMap) (m : Module) (g n : ℕ) (args : List FunctionArgument) →
+parameters_io : (names : NameMap) (m : Module) (g n : ℕ) (args : List FunctionArgument) →
     ((i : ℕ) (a : FunctionArgument) → slice_get args i ≡ Some a →
     option_map_or binding_has_form a.binding true ≡ true) →
     map parameter_read (parameters_form names m g n args) ≡
-    map (argument_passed (names_of m.types names)) args
-parameters_passed names m g n [] bound = refl
-parameters_passed names m g n (a ∷ more) bound =
-    let rest = parameters_passed names m g (n + 1) more (λ i b at. bound (suc i) b at) in
+    map (argument_io (names_of m.types names)) args
+parameters_io names m g n [] bound = refl
+parameters_io names m g n (a ∷ more) bound =
+    let rest = parameters_io names m g (n + 1) more (λ i b at. bound (suc i) b at) in
     λ i. record {
       binding = passing_read a.binding (bound 0 a refl) i;
       type = spelled_form (names_of m.types names) a.ty i;
     } ∷ rest i
 
-results_passed : (t : TypeNames) (o : Option FunctionResult) →
+results_io : (t : TypeNames) (o : Option FunctionResult) →
     ((r : FunctionResult) → o ≡ Some r → option_map_or binding_has_form r.binding true ≡ true) →
-    result_read (result_form t o) ≡ option_map (result_passed t) o
-results_passed t None bound = refl
-results_passed t (Some r) bound =
+    result_read (result_form t o) ≡ option_map (result_io t) o
+results_io t None bound = refl
+results_io t (Some r) bound =
     λ i. Some (record {
       binding = passing_read r.binding (bound r refl) i;
       type = spelled_form t r.ty i;
@@ -334,13 +334,13 @@ module _ (m : Module) where
     body_declared named g f es at =
         let bound : BindingsHaveForms f = (declarations.heads g).bindings f at in
         let arguments =
-        parameters_passed names m g 0 f.arguments.items
+        parameters_io names m g 0 f.arguments.items
         (λ i a here.
-        any_binding_has_form a.binding (λ b is. bound b (IsPassed.OfArgument i a b here is))) in
+        any_binding_has_form a.binding (λ b is. bound b (IsIoBinding.OfArgument i a b here is))) in
         let result =
-        results_passed t f.result
+        results_io t f.result
         (λ r here.
-        any_binding_has_form r.binding (λ b is. bound b (IsPassed.OfResult r b here is))) in
+        any_binding_has_form r.binding (λ b is. bound b (IsIoBinding.OfResult r b here is))) in
         λ i. record {
           name = function_name m names g;
           arguments = arguments i;

@@ -10,13 +10,13 @@ use Rattle.naga_scope.proofs.InOrder.{tree_at}
 use Rattle.naga_scope.proofs.Searching.{all_passed, none_passed, one_passed}
 use Rattle.naga_scope.proofs.spelled.let_without_form.Goals as goal
 
-abbrev IsPassed : KnownFunction → (n : ℕ) → StatementTree → Type 0
-IsPassed k n st = own_annotated true k.shader.now k.info.now (bound_in k) st ≡ None
+abbrev IsGonePast : KnownFunction → (n : ℕ) → StatementTree → Type 0
+IsGonePast k n st = own_annotated true k.shader.now k.info.now (bound_in k) st ≡ None
 
 pub loop-statement-init : goal.loop-statement-init
 loop-statement-init c = record {
   count = refl;
-  passed = none_passed (IsPassed c.args.known.now)
+  passed = none_passed (IsGonePast c.args.known.now)
       (trees_of c.args.statements.now);
 }
 
@@ -41,7 +41,7 @@ loop-statement-preserved c =
     c.loop-statement-test.true c.statement-item.is in
     record {
       count = omega (arith, count);
-      passed = one_passed (IsPassed c.args.known.now) (trees_of ss) c.loop-statement.number
+      passed = one_passed (IsGonePast c.args.known.now) (trees_of ss) c.loop-statement.number
           (tree_of c.statement-item.result.now) at
           (sym c.let_in_statement.ensures ∙ c.in_default.is) c.loop-statement.invariant.passed;
     }
@@ -52,5 +52,5 @@ returns c =
     let count = c.loop-statement.invariant.count in
     let past = c.loop-statement-test.false in
     let same = length-map c.args.statements.now (λ s. tree_of s.now) in
-    all_passed (IsPassed c.args.known.now) sts c.loop-statement.number (omega (arith, count, past, same))
+    all_passed (IsGonePast c.args.known.now) sts c.loop-statement.number (omega (arith, count, past, same))
     c.loop-statement.invariant.passed

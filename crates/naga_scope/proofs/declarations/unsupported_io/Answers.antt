@@ -1,5 +1,5 @@
 use Rattle.naga_scope.proofs.UnsupportedDeclarations.{argument_lacks, by_result}
-use Rattle.naga_scope.proofs.declarations.unsupported_passed.Goals as goal
+use Rattle.naga_scope.proofs.declarations.unsupported_io.Goals as goal
 
 pub returns-in-Some : goal.returns-in-Some
 returns-in-Some c =
