@@ -25,7 +25,7 @@ use crate::parts::{InferredType, component_count};
 use crate::type_numbers::{
     Level, access_number, components_number, cooperative_number, dimension_number,
     image_access_number, is_same_level, kind_number, length_kind, length_number, level_of,
-    level_of_scalar, role_number, space_bits, space_number, truth_number,
+    level_of_scalar, level_of_truth, role_number, space_bits, space_number, truth_number,
 };
 use bitflags::Flags;
 use naga_info::TypeResolution;
@@ -435,15 +435,13 @@ fn own_level(inner: &TypeInner) -> Level
             columns,
             rows,
             scalar,
-        } => {
-            level_of_scalar(
-                2,
-                *scalar,
-                component_count(*columns),
-                component_count(*rows),
-                0,
-            )
-        }
+        } => level_of_scalar(
+            2,
+            *scalar,
+            component_count(*columns),
+            component_count(*rows),
+            0,
+        ),
         TypeInner::CooperativeMatrix {
             columns,
             rows,
@@ -457,16 +455,14 @@ fn own_level(inner: &TypeInner) -> Level
             role_number(*role),
         ),
         TypeInner::Atomic(scalar) => level_of_scalar(4, *scalar, 0, 0, 0),
-        TypeInner::Pointer { base, space } => {
-            level_of(
-                5,
-                base.index(),
-                space_number(*space),
-                space_bits(*space),
-                0,
-                0,
-            )
-        }
+        TypeInner::Pointer { base, space } => level_of(
+            5,
+            base.index(),
+            space_number(*space),
+            space_bits(*space),
+            0,
+            0,
+        ),
         TypeInner::ValuePointer {
             size,
             scalar,
@@ -486,28 +482,22 @@ fn own_level(inner: &TypeInner) -> Level
             length_number(size),
             0,
         ),
-        TypeInner::BindingArray { base, size } => {
-            level_of(
-                8,
-                base.index(),
-                length_kind(size),
-                length_number(size),
-                0,
-                0,
-            )
-        }
+        TypeInner::BindingArray { base, size } => level_of(
+            8,
+            base.index(),
+            length_kind(size),
+            length_number(size),
+            0,
+            0,
+        ),
         TypeInner::Image {
             dim,
             arrayed,
             class,
         } => own_image_level(*dim, *arrayed, *class),
-        TypeInner::Sampler { comparison } => level_of(10, truth_number(*comparison), 0, 0, 0, 0),
-        TypeInner::AccelerationStructure { vertex_return } => {
-            level_of(11, truth_number(*vertex_return), 0, 0, 0, 0)
-        }
-        TypeInner::RayQuery { vertex_return } => {
-            level_of(12, truth_number(*vertex_return), 0, 0, 0, 0)
-        }
+        TypeInner::Sampler { comparison } => level_of_truth(10, *comparison),
+        TypeInner::AccelerationStructure { vertex_return } => level_of_truth(11, *vertex_return),
+        TypeInner::RayQuery { vertex_return } => level_of_truth(12, *vertex_return),
         TypeInner::Struct { .. } => level_of(13, 0, 0, 0, 0, 0),
     }
 }

@@ -154,6 +154,13 @@ pub(crate) fn level_of(
     }
 }
 
+/// The numbers of a type that is made of one truth value.
+pub(crate) fn level_of_truth(tag: usize, flag: bool) -> Level
+    ensures { numbers result ≡ level tag (truth_number flag) 0 0 0 0 }
+{
+    level_of(tag, truth_number(flag), 0, 0, 0, 0)
+}
+
 pub(crate) fn level_of_scalar(
     tag: usize,
     scalar: Scalar,

@@ -59,6 +59,21 @@ abbrev pub cooperative_fields : CooperativeData → List Field
 cooperative_fields data_ =
     holds (codes "pointer") data_.pointer ∷ holds (codes "stride") data_.stride ∷ []
 
+-- those of an expression of an image
+abbrev pub image_fields : Expression → List Field
+image_fields
+    (expression.ImageSample
+    image sampler gather coordinate array_index offset level depth_ref clamp) =
+    holds (codes "image") image ∷ holds (codes "sampler") sampler
+    ∷ holds (codes "coordinate") coordinate ∷ (codes "array_index", array_index)
+    ∷ (codes "offset", offset) ∷ (codes "depth_ref", depth_ref) ∷ []
+image_fields (expression.ImageLoad image coordinate array_index sample level) =
+    holds (codes "image") image ∷ holds (codes "coordinate") coordinate
+    ∷ (codes "array_index", array_index) ∷ (codes "sample", sample) ∷ (codes "level", level) ∷ []
+image_fields (expression.ImageQuery image query) =
+    holds (codes "image") image ∷ (codes "level", query_level query) ∷ []
+image_fields _ = []
+
 abbrev pub expression_fields : Expression → List Field
 expression_fields (expression.Access base index) =
     holds (codes "base") base ∷ holds (codes "index") index ∷ []
@@ -66,17 +81,6 @@ expression_fields (expression.AccessIndex base index) = holds (codes "base") bas
 expression_fields (expression.Splat size value) = holds (codes "value") value ∷ []
 expression_fields (expression.Swizzle size vector pattern) = holds (codes "vector") vector ∷ []
 expression_fields (expression.Load pointer) = holds (codes "pointer") pointer ∷ []
-expression_fields
-    (expression.ImageSample
-    image sampler gather coordinate array_index offset level depth_ref clamp) =
-    holds (codes "image") image ∷ holds (codes "sampler") sampler
-    ∷ holds (codes "coordinate") coordinate ∷ (codes "array_index", array_index)
-    ∷ (codes "offset", offset) ∷ (codes "depth_ref", depth_ref) ∷ []
-expression_fields (expression.ImageLoad image coordinate array_index sample level) =
-    holds (codes "image") image ∷ holds (codes "coordinate") coordinate
-    ∷ (codes "array_index", array_index) ∷ (codes "sample", sample) ∷ (codes "level", level) ∷ []
-expression_fields (expression.ImageQuery image query) =
-    holds (codes "image") image ∷ (codes "level", query_level query) ∷ []
 expression_fields (expression.Unary op expr) = holds (codes "expr") expr ∷ []
 expression_fields (expression.Binary op left right) =
     holds (codes "left") left ∷ holds (codes "right") right ∷ []
@@ -96,12 +100,30 @@ expression_fields (expression.RayQueryVertexPositions query committed) =
 expression_fields (expression.CooperativeLoad columns rows role data_) = cooperative_fields data_
 expression_fields (expression.CooperativeMultiplyAdd a b c) =
     holds (codes "a") a ∷ holds (codes "b") b ∷ holds (codes "c") c ∷ []
-expression_fields _ = []
+expression_fields e = image_fields e
 
 abbrev pub ray_fields : RayPipelineFunction → List Field
 ray_fields (TraceRay structure descriptor payload) =
     holds (codes "acceleration_structure") structure ∷ holds (codes "descriptor") descriptor
     ∷ holds (codes "payload") payload ∷ []
+
+-- those of a statement that other invocations take part in: of an atomic one, or of a subgroup
+abbrev pub invocation_fields : SimpleStatement → List Field
+invocation_fields (atomic pointer fun value outcome) =
+    holds (codes "pointer") pointer ∷ (codes "compare", compared fun)
+    ∷ holds (codes "value") value ∷ (codes "result", outcome) ∷ []
+invocation_fields (image_atomic image coordinate array_index fun value) =
+    holds (codes "image") image ∷ holds (codes "coordinate") coordinate
+    ∷ (codes "array_index", array_index) ∷ (codes "compare", compared fun)
+    ∷ holds (codes "value") value ∷ []
+invocation_fields (subgroup_ballot outcome predicate) =
+    (codes "predicate", predicate) ∷ holds (codes "result") outcome ∷ []
+invocation_fields (subgroup_gather mode argument outcome) =
+    (codes "index", told_by mode) ∷ holds (codes "argument") argument
+    ∷ holds (codes "result") outcome ∷ []
+invocation_fields (subgroup_collective_operation op collective_op argument outcome) =
+    holds (codes "argument") argument ∷ holds (codes "result") outcome ∷ []
+invocation_fields _ = []
 
 abbrev pub simple_fields : SimpleStatement → List Field
 simple_fields (return value) = (codes "value", value) ∷ []
@@ -110,28 +132,19 @@ simple_fields (store pointer value) =
 simple_fields (image_store image coordinate array_index value) =
     holds (codes "image") image ∷ holds (codes "coordinate") coordinate
     ∷ (codes "array_index", array_index) ∷ holds (codes "value") value ∷ []
-simple_fields (atomic pointer fun value outcome) =
-    holds (codes "pointer") pointer ∷ (codes "compare", compared fun)
-    ∷ holds (codes "value") value ∷ (codes "result", outcome) ∷ []
-simple_fields (image_atomic image coordinate array_index fun value) =
-    holds (codes "image") image ∷ holds (codes "coordinate") coordinate
-    ∷ (codes "array_index", array_index) ∷ (codes "compare", compared fun)
-    ∷ holds (codes "value") value ∷ []
 simple_fields (work_group_uniform_load pointer outcome) =
     holds (codes "pointer") pointer ∷ holds (codes "result") outcome ∷ []
 simple_fields (call function arguments outcome) = (codes "result", outcome) ∷ []
 simple_fields (ray_query query) = holds (codes "query") query ∷ []
-simple_fields (subgroup_ballot outcome predicate) =
-    (codes "predicate", predicate) ∷ holds (codes "result") outcome ∷ []
-simple_fields (subgroup_gather mode argument outcome) =
-    (codes "index", told_by mode) ∷ holds (codes "argument") argument
-    ∷ holds (codes "result") outcome ∷ []
-simple_fields (subgroup_collective_operation op collective_op argument outcome) =
-    holds (codes "argument") argument ∷ holds (codes "result") outcome ∷ []
 simple_fields (cooperative_store target data_) =
     holds (codes "target") target ∷ cooperative_fields data_
 simple_fields (ray_pipeline_function fun) = ray_fields fun
-simple_fields _ = []
+simple_fields s = invocation_fields s
+
+-- those of a statement that other invocations take part in, blocks having none
+abbrev pub shared_fields : StatementTree → List Field
+shared_fields (simple s) = invocation_fields s
+shared_fields _ = []
 
 abbrev pub statement_fields : StatementTree → List Field
 statement_fields (simple s) = simple_fields s

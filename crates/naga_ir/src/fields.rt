@@ -2,7 +2,8 @@
 
 ghost use Rattle.std.specs.Prelude.{◌≡◌, map, slice_get};
 ghost use Rattle.std.specs.Option.{option_map};
-ghost use Rattle.naga_ir.specs.Fields.{expression_fields, ray_fields, seen, statement_fields};
+ghost use Rattle.naga_ir.specs.Fields.{expression_fields, image_fields, ray_fields, seen};
+ghost use Rattle.naga_ir.specs.Fields.{shared_fields, statement_fields};
 ghost use Rattle.naga_ir.specs.StatementViews.{tree_of};
 ghost use Rattle.naga_ir.specs.VariantNames.{expression_name, statement_name};
 
@@ -100,9 +101,9 @@ impl Expression {
             Expression::Splat { value, .. } => nth_field(&[("value", Some(*value))], number),
             Expression::Swizzle { vector, .. } => nth_field(&[("vector", Some(*vector))], number),
             Expression::Load { pointer } => nth_field(&[("pointer", Some(*pointer))], number),
-            Expression::Unary { expr, .. } => nth_field(&[("expr", Some(*expr))], number),
-            Expression::Derivative { expr, .. } => nth_field(&[("expr", Some(*expr))], number),
-            Expression::As { expr, .. } => nth_field(&[("expr", Some(*expr))], number),
+            Expression::Unary { expr, .. }
+            | Expression::Derivative { expr, .. }
+            | Expression::As { expr, .. } => nth_field(&[("expr", Some(*expr))], number),
             Expression::Binary { left, right, .. } => {
                 nth_field(&[("left", Some(*left)), ("right", Some(*right))], number)
             }
@@ -137,10 +138,8 @@ impl Expression {
                 number,
             ),
             Expression::ArrayLength(array) => nth_field(&[("array", Some(*array))], number),
-            Expression::RayQueryGetIntersection { query, .. } => {
-                nth_field(&[("query", Some(*query))], number)
-            }
-            Expression::RayQueryVertexPositions { query, .. } => {
+            Expression::RayQueryGetIntersection { query, .. }
+            | Expression::RayQueryVertexPositions { query, .. } => {
                 nth_field(&[("query", Some(*query))], number)
             }
             Expression::CooperativeLoad { data_, .. } => nth_field(
@@ -154,6 +153,15 @@ impl Expression {
                 &[("a", Some(*a)), ("b", Some(*b)), ("c", Some(*c))],
                 number,
             ),
+            _ => self.image_field(number),
+        }
+    }
+
+    /// The same field of an expression of an image; none of any other.
+    fn image_field(&self, number: usize) -> Option<Field>
+        ensures { option_map seen result ≡ slice_get (image_fields self.now) number }
+    {
+        match self {
             Expression::ImageSample {
                 image,
                 sampler,
@@ -284,6 +292,22 @@ impl Statement {
                 ],
                 number,
             ),
+            Statement::WorkGroupUniformLoad { pointer, result } => {
+                nth_field(
+                    &[("pointer", Some(*pointer)), ("result", Some(*result))],
+                    number,
+                )
+            }
+            _ => self.shared_field(number),
+        }
+    }
+
+    /// The same field of a statement that other invocations take part in: of an atomic one, or of a
+    /// subgroup; none of any other.
+    fn shared_field(&self, number: usize) -> Option<Field>
+        ensures { option_map seen result ≡ slice_get (shared_fields (tree_of self.now)) number }
+    {
+        match self {
             Statement::Atomic {
                 pointer,
                 fun,
@@ -314,12 +338,6 @@ impl Statement {
                 ],
                 number,
             ),
-            Statement::WorkGroupUniformLoad { pointer, result } => {
-                nth_field(
-                    &[("pointer", Some(*pointer)), ("result", Some(*result))],
-                    number,
-                )
-            }
             Statement::SubgroupBallot { result, predicate } => {
                 nth_field(
                     &[("predicate", *predicate), ("result", Some(*result))],

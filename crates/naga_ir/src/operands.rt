@@ -71,25 +71,19 @@ impl Expression {
         ensures below { IfSome result (λ _. number < usize.MAX) }
     {
         match self {
-            Expression::Literal(_)
-            | Expression::Constant(_)
-            | Expression::Override(_)
-            | Expression::ZeroValue(_)
-            | Expression::FunctionArgument(_)
-            | Expression::GlobalVariable(_)
-            | Expression::LocalVariable(_)
-            | Expression::CallResult(_)
-            | Expression::AtomicResult { .. }
-            | Expression::WorkGroupUniformLoadResult { .. }
-            | Expression::RayQueryProceedResult
-            | Expression::SubgroupBallotResult
-            | Expression::SubgroupOperationResult { .. } => None,
             Expression::Compose { components, .. } => nth(components, number),
             Expression::Access { base, index } => nth(&[*base, *index], number),
-            Expression::AccessIndex { base, .. } => nth(&[*base], number),
-            Expression::Splat { value, .. } => nth(&[*value], number),
-            Expression::Swizzle { vector, .. } => nth(&[*vector], number),
-            Expression::Load { pointer } => nth(&[*pointer], number),
+            Expression::AccessIndex { base: only, .. }
+            | Expression::Splat { value: only, .. }
+            | Expression::Swizzle { vector: only, .. }
+            | Expression::Load { pointer: only }
+            | Expression::Unary { expr: only, .. }
+            | Expression::Derivative { expr: only, .. }
+            | Expression::Relational { argument: only, .. }
+            | Expression::As { expr: only, .. }
+            | Expression::ArrayLength(only)
+            | Expression::RayQueryGetIntersection { query: only, .. }
+            | Expression::RayQueryVertexPositions { query: only, .. } => nth(&[*only], number),
             Expression::ImageSample {
                 image,
                 sampler,
@@ -134,16 +128,12 @@ impl Expression {
             Expression::ImageQuery { image, query } => {
                 nth_present(&[Some(*image), query_handle(*query)], number)
             }
-            Expression::Unary { expr, .. }
-            | Expression::Derivative { expr, .. }
-            | Expression::As { expr, .. } => nth(&[*expr], number),
             Expression::Binary { left, right, .. } => nth(&[*left, *right], number),
             Expression::Select {
                 condition,
                 accept,
                 reject,
             } => nth(&[*reject, *accept, *condition], number),
-            Expression::Relational { argument, .. } => nth(&[*argument], number),
             Expression::Math {
                 arg,
                 arg1,
@@ -151,13 +141,9 @@ impl Expression {
                 arg3,
                 ..
             } => nth_present(&[Some(*arg), *arg1, *arg2, *arg3], number),
-            Expression::ArrayLength(array) => nth(&[*array], number),
-            Expression::RayQueryGetIntersection { query, .. }
-            | Expression::RayQueryVertexPositions { query, .. } => nth(&[*query], number),
-            Expression::CooperativeLoad { data_, .. } => {
-                nth(&[data_.pointer, data_.stride], number)
-            }
+            Expression::CooperativeLoad { data_: at, .. } => nth(&[at.pointer, at.stride], number),
             Expression::CooperativeMultiplyAdd { a, b, c } => nth(&[*a, *b, *c], number),
+            _ => None,
         }
     }
 

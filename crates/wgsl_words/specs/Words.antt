@@ -121,6 +121,26 @@ format_word format.Rgb10a2Unorm = codes "rgb10a2unorm"
 format_word format.Rg11b10Ufloat = codes "rg11b10ufloat"
 format_word format.R64Uint = codes "r64uint"
 
+-- built-in functions that pack and unpack numbers
+abbrev pub packing_word : MathFunction → Option (List ℕ)
+packing_word math.Pack4x8snorm = Some (codes "pack4x8snorm")
+packing_word math.Pack4x8unorm = Some (codes "pack4x8unorm")
+packing_word math.Pack2x16snorm = Some (codes "pack2x16snorm")
+packing_word math.Pack2x16unorm = Some (codes "pack2x16unorm")
+packing_word math.Unpack4x8snorm = Some (codes "unpack4x8snorm")
+packing_word math.Unpack4x8unorm = Some (codes "unpack4x8unorm")
+packing_word math.Unpack2x16snorm = Some (codes "unpack2x16snorm")
+packing_word math.Unpack2x16unorm = Some (codes "unpack2x16unorm")
+packing_word math.Pack2x16float = Some (codes "pack2x16float")
+packing_word math.Unpack2x16float = Some (codes "unpack2x16float")
+packing_word math.Pack4xI8 = Some (codes "pack4xI8")
+packing_word math.Pack4xU8 = Some (codes "pack4xU8")
+packing_word math.Unpack4xI8 = Some (codes "unpack4xI8")
+packing_word math.Unpack4xU8 = Some (codes "unpack4xU8")
+packing_word math.Pack4xI8Clamp = Some (codes "pack4xI8Clamp")
+packing_word math.Pack4xU8Clamp = Some (codes "pack4xU8Clamp")
+packing_word _ = None
+
 -- built-in functions: the name with a small first letter, but `smoothstep`
 abbrev pub math_word : MathFunction → Option (List ℕ)
 math_word math.Abs = Some (codes "abs")
@@ -172,7 +192,6 @@ math_word math.Mix = Some (codes "mix")
 math_word math.Step = Some (codes "step")
 math_word math.SmoothStep = Some (codes "smoothstep")
 math_word math.Sqrt = Some (codes "sqrt")
-math_word math.InverseSqrt = Some (codes "inverseSqrt")
 math_word math.Transpose = Some (codes "transpose")
 math_word math.Determinant = Some (codes "determinant")
 math_word math.QuantizeToF16 = Some (codes "quantizeToF16")
@@ -184,24 +203,7 @@ math_word math.ExtractBits = Some (codes "extractBits")
 math_word math.InsertBits = Some (codes "insertBits")
 math_word math.FirstTrailingBit = Some (codes "firstTrailingBit")
 math_word math.FirstLeadingBit = Some (codes "firstLeadingBit")
-math_word math.Pack4x8snorm = Some (codes "pack4x8snorm")
-math_word math.Pack4x8unorm = Some (codes "pack4x8unorm")
-math_word math.Pack2x16snorm = Some (codes "pack2x16snorm")
-math_word math.Pack2x16unorm = Some (codes "pack2x16unorm")
-math_word math.Unpack4x8snorm = Some (codes "unpack4x8snorm")
-math_word math.Unpack4x8unorm = Some (codes "unpack4x8unorm")
-math_word math.Unpack2x16snorm = Some (codes "unpack2x16snorm")
-math_word math.Unpack2x16unorm = Some (codes "unpack2x16unorm")
-math_word math.Pack2x16float = Some (codes "pack2x16float")
-math_word math.Unpack2x16float = Some (codes "unpack2x16float")
-math_word math.Pack4xI8 = Some (codes "pack4xI8")
-math_word math.Pack4xU8 = Some (codes "pack4xU8")
-math_word math.Unpack4xI8 = Some (codes "unpack4xI8")
-math_word math.Unpack4xU8 = Some (codes "unpack4xU8")
-math_word math.Pack4xI8Clamp = Some (codes "pack4xI8Clamp")
-math_word math.Pack4xU8Clamp = Some (codes "pack4xU8Clamp")
-math_word math.Inverse = None
-math_word math.Outer = None
+math_word fun = packing_word fun
 
 -- built-in values
 abbrev pub builtin_word : BuiltIn → Option (List ℕ)

@@ -5,7 +5,7 @@ ghost use Rattle.std.specs.Option.{option_map};
 ghost use Rattle.wgsl_words.specs.Words.{interpolation_word, sampling_word, role_word};
 ghost use Rattle.wgsl_words.specs.Words.{dimension_word, format_word, math_word, builtin_word};
 ghost use Rattle.wgsl_words.specs.Words.{scalar_word, space_word, space_access_word};
-ghost use Rattle.wgsl_words.specs.Words.{buffer_access_word, image_access_word};
+ghost use Rattle.wgsl_words.specs.Words.{buffer_access_word, image_access_word, packing_word};
 ghost use Rattle.wgsl_words.specs.Diagnostics.{IsWordOrBraced, IsScalarDiagnostic, braced_text};
 
 use bitflags::Flags;
@@ -241,24 +241,33 @@ impl TryToWgsl for MathFunction {
             MathFunction::InsertBits => Some("insertBits"),
             MathFunction::FirstTrailingBit => Some("firstTrailingBit"),
             MathFunction::FirstLeadingBit => Some("firstLeadingBit"),
-            MathFunction::Pack4x8snorm => Some("pack4x8snorm"),
-            MathFunction::Pack4x8unorm => Some("pack4x8unorm"),
-            MathFunction::Pack2x16snorm => Some("pack2x16snorm"),
-            MathFunction::Pack2x16unorm => Some("pack2x16unorm"),
-            MathFunction::Unpack4x8snorm => Some("unpack4x8snorm"),
-            MathFunction::Unpack4x8unorm => Some("unpack4x8unorm"),
-            MathFunction::Unpack2x16snorm => Some("unpack2x16snorm"),
-            MathFunction::Unpack2x16unorm => Some("unpack2x16unorm"),
-            MathFunction::Pack2x16float => Some("pack2x16float"),
-            MathFunction::Unpack2x16float => Some("unpack2x16float"),
-            MathFunction::Pack4xI8 => Some("pack4xI8"),
-            MathFunction::Pack4xU8 => Some("pack4xU8"),
-            MathFunction::Unpack4xI8 => Some("unpack4xI8"),
-            MathFunction::Unpack4xU8 => Some("unpack4xU8"),
-            MathFunction::Pack4xI8Clamp => Some("pack4xI8Clamp"),
-            MathFunction::Pack4xU8Clamp => Some("pack4xU8Clamp"),
-            MathFunction::Inverse | MathFunction::Outer => None,
+            _ => packing_word(self),
         }
+    }
+}
+
+/// WGSL's word for a function that packs or unpacks numbers; none for any other.
+fn packing_word(fun: MathFunction) -> Option<&'static str>
+    ensures { option_map (λ s. s.now) result ≡ packing_word fun }
+{
+    match fun {
+        MathFunction::Pack4x8snorm => Some("pack4x8snorm"),
+        MathFunction::Pack4x8unorm => Some("pack4x8unorm"),
+        MathFunction::Pack2x16snorm => Some("pack2x16snorm"),
+        MathFunction::Pack2x16unorm => Some("pack2x16unorm"),
+        MathFunction::Unpack4x8snorm => Some("unpack4x8snorm"),
+        MathFunction::Unpack4x8unorm => Some("unpack4x8unorm"),
+        MathFunction::Unpack2x16snorm => Some("unpack2x16snorm"),
+        MathFunction::Unpack2x16unorm => Some("unpack2x16unorm"),
+        MathFunction::Pack2x16float => Some("pack2x16float"),
+        MathFunction::Unpack2x16float => Some("unpack2x16float"),
+        MathFunction::Pack4xI8 => Some("pack4xI8"),
+        MathFunction::Pack4xU8 => Some("pack4xU8"),
+        MathFunction::Unpack4xI8 => Some("unpack4xI8"),
+        MathFunction::Unpack4xU8 => Some("unpack4xU8"),
+        MathFunction::Pack4xI8Clamp => Some("pack4xI8Clamp"),
+        MathFunction::Pack4xU8Clamp => Some("pack4xU8Clamp"),
+        _ => None,
     }
 }
 
