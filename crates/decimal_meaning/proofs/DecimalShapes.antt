@@ -22,7 +22,7 @@ use Rattle.naga_info.specs.declared.info.TypeResolution.TheVariants.{Handle, Val
 use Rattle.module_meaning.specs.LetCounts.{are_bound_by_uses, is_bound_by_uses, uses_of}
 use Rattle.module_meaning.specs.ExpressionContexts.{declared, types_known}
 use Rattle.module_meaning.specs.ExpressionOperators.{applied_operator}
-use Rattle.module_meaning.specs.ExpressionShapes.{constant_tree, Declared, sample_shape, shape_of}
+use Rattle.module_meaning.specs.ExpressionShapes.{constant_tree, Declared, image_sample_shape, shape_of}
 use Rattle.module_meaning.specs.ExpressionShapes.{tree_over, tree_within}
 use Rattle.module_meaning.specs.acceptance.ExpressionTypes.{variable_type}
 use Rattle.module_meaning.specs.FunctionNumbers.{all_functions, all_infos}
@@ -68,7 +68,7 @@ module _ (d : Declared) (xs ys : List ir.Expression)
       image sampler gather coordinate array_index offset level depth_ref clamp) =
       let e = expression.ImageSample
       image sampler gather coordinate array_index offset level depth_ref clamp in
-      λ i. sample_shape e (option_and_then (trees_same i) offset) (applied_operator d.context e)
+      λ i. image_sample_shape e (option_and_then (trees_same i) offset) (applied_operator d.context e)
   beside_same h _ = refl
 
   shape_same : (h : ℕ) (x y : ir.Expression) → IsDecimalExpression x y →

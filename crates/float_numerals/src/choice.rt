@@ -119,8 +119,8 @@ fn is_near(number: f64) -> bool {
 fn decimal_of(text: &[u8]) -> Option<Decimal> {
     let negative = text.first() == Some(&b'-');
     let parts = Numeral::scan(if negative { &text[1..] } else { text });
-    let digits = appended(appended(0, parts.whole())?, parts.fraction())?;
-    let power = appended(0, parts.exponent())?;
+    let digits = joined_digits(joined_digits(0, parts.whole())?, parts.fraction())?;
+    let power = joined_digits(0, parts.exponent())?;
     let places = parts.fraction().len();
     if power > 400 || places > 20 {
         return None;
@@ -159,7 +159,7 @@ fn trimmed(negative: bool, digits: u64, exponent: i64) -> Decimal {
 }
 
 /// The number of these digits after others, below 10 ^ 17.
-fn appended(number: u64, digits: &[u8]) -> Option<u64>
+fn joined_digits(number: u64, digits: &[u8]) -> Option<u64>
     ensures { IfSome result (λ n. n < 10 ^ 17) }
 {
     let mut sum = number;

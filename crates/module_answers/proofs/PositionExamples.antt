@@ -2,7 +2,7 @@
 use Rattle.std.proofs.Common.{◌≡◌, codes, refl, None, Some}
 use Rattle.std.specs.Fmt.{digits}
 use Rattle.module_answers.specs.Positions.{json_position, json_refusal_position}
-use Rattle.module_answers.specs.declared.positions.JsonRoot.TheVariants as root
+use Rattle.module_answers.specs.declared.positions.JsonHolder.TheVariants as root
 use Rattle.naga_acceptance.specs.declared.faults.FunctionPosition.TheVariants as position
 use Rattle.naga_acceptance.specs.declared.faults.FaultPosition.TheVariants as item
 use Rattle.naga_scope.specs.declared.declarations.DeclarationPosition.TheVariants as declaration

@@ -15,16 +15,16 @@ use Rattle.fault_details.specs.Told.{TellsOf}
 use Rattle.fault_details.specs.declared.mismatch.Mismatch.{Mismatch}
 use Rattle.fault_details.specs.declared.mismatch.Mismatch.TheVariants as mismatch
 use Rattle.module_answers.specs.Labels.{label_of}
-use Rattle.module_answers.specs.declared.positions.JsonRoot.{JsonRoot}
+use Rattle.module_answers.specs.declared.positions.JsonHolder.{JsonHolder}
 use Rattle.module_answers.specs.Positions.{IsLabelled, json_position}
 
 -- an item by its position, with the label there
-abbrev pub TellsPosition : JsonRoot → Module → FaultPosition → (text : List ℕ) → Type 0
+abbrev pub TellsPosition : JsonHolder → Module → FaultPosition → (text : List ℕ) → Type 0
 TellsPosition from m at text = IsLabelled (label_of m at) (json_position from at) text
 
 -- What was expected, and what stands there; another use of an operator is told by its position in the
 -- JSON: `expected i32 as at module.functions[0].expressions[1], in "half", got f32`.
-abbrev pub TellsMismatch : JsonRoot → Module → Mismatch → (text : List ℕ) → Type 0
+abbrev pub TellsMismatch : JsonHolder → Module → Mismatch → (text : List ℕ) → Type 0
 TellsMismatch from m (mismatch.Use at ty got) text =
     (position : List ℕ) × TellsPosition from m at position
     × (text ≡ codes "expected " ++ (string_bytes ty ++ (codes " as at " ++ (position
@@ -32,7 +32,7 @@ TellsMismatch from m (mismatch.Use at ty got) text =
 TellsMismatch from m expected text = text ≡ mismatch_text expected
 
 -- that after the kind of fault, if more can be told than the kind
-abbrev pub TellsKind : JsonRoot → Module → Fault → Option Mismatch → (text : List ℕ) → Type 0
+abbrev pub TellsKind : JsonHolder → Module → Fault → Option Mismatch → (text : List ℕ) → Type 0
 TellsKind from m kind None text = text ≡ fault_text kind
 TellsKind from m kind (Some expected) text =
     (reason : List ℕ) × TellsMismatch from m expected reason
@@ -40,13 +40,13 @@ TellsKind from m kind (Some expected) text =
 
 -- the kind of fault and what was expected: `the initialiser is of another type: expected f32, got i32`
 abbrev pub TellsFault :
-    JsonRoot → Module → ModuleInfo → Unaccepted → (text : List ℕ) → Type 0
+    JsonHolder → Module → ModuleInfo → Unaccepted → (text : List ℕ) → Type 0
 TellsFault from m info u text =
     (expected : Option Mismatch) × TellsOf m (fault_reason m info u) expected
     × TellsKind from m u.fault expected text
 
 -- the same after its position
-abbrev pub TellsFaultAt : JsonRoot → Module → ModuleInfo → Unaccepted → (line : List ℕ) → Type 0
+abbrev pub TellsFaultAt : JsonHolder → Module → ModuleInfo → Unaccepted → (line : List ℕ) → Type 0
 TellsFaultAt from m info u line =
     (position text : List ℕ) × TellsPosition from m u.item position × TellsFault from m info u text
     × (line ≡ position ++ (codes ": " ++ text))

@@ -11,8 +11,8 @@
 use Rattle.std.specs.Prelude.{◌≡◌, ℕ, List, [], ◌++◌, codes, decimal, Option, None, Some}
 use Rattle.std.specs.Fmt.{◌++?◌, debug_str}
 use Rattle.module_answers.specs.Roles.{Role}
-use Rattle.module_answers.specs.declared.positions.JsonRoot.{JsonRoot}
-use Rattle.module_answers.specs.declared.positions.JsonRoot.TheVariants as root
+use Rattle.module_answers.specs.declared.positions.JsonHolder.{JsonHolder}
+use Rattle.module_answers.specs.declared.positions.JsonHolder.TheVariants as root
 use Rattle.naga_acceptance.specs.declared.faults.FunctionPosition.{FunctionPosition}
 use Rattle.naga_acceptance.specs.declared.faults.FunctionPosition.TheVariants as position
 use Rattle.naga_acceptance.specs.declared.faults.FaultPosition.{FaultPosition}
@@ -43,9 +43,9 @@ abbrev pub statement_text : (n : ℕ) → List ℕ
 statement_text n = codes ", statement " ++ decimal n
 
 -- what stands in front of a member of the module
-abbrev pub root_text : JsonRoot → List ℕ
-root_text root.Member = codes "module."
-root_text root.Module = []
+abbrev pub holder_text : JsonHolder → List ℕ
+holder_text root.Member = codes "module."
+holder_text root.Module = []
 
 -- functions and entry points, as members of the module
 abbrev pub function_text : (h : ℕ) → List ℕ
@@ -77,23 +77,23 @@ IsLabelled label position text =
 -- ---- where a module is not accepted
 
 -- a part of a function, after the function; nothing of the whole
-abbrev pub part_position : FunctionPosition → List ℕ
-part_position position.Whole = []
-part_position (position.Local h) = listed (codes ".local_variables") h
-part_position (position.Expression h) = expression_text h
-part_position (position.Statement n) = statement_text n
+abbrev pub position_in_function : FunctionPosition → List ℕ
+position_in_function position.Whole = []
+position_in_function (position.Local h) = listed (codes ".local_variables") h
+position_in_function (position.Expression h) = expression_text h
+position_in_function (position.Statement n) = statement_text n
 
 -- an item
-abbrev pub json_position : JsonRoot → FaultPosition → List ℕ
+abbrev pub json_position : JsonHolder → FaultPosition → List ℕ
 json_position from item.Module = codes "module"
-json_position from (item.Type h) = root_text from ++ listed (codes "types") h
-json_position from (item.Constant h) = root_text from ++ listed (codes "constants") h
-json_position from (item.Override h) = root_text from ++ listed (codes "overrides") h
-json_position from (item.GlobalVariable h) = root_text from ++ listed (codes "global_variables") h
-json_position from (item.GlobalExpression h) = root_text from ++ listed (codes "global_expressions") h
-json_position from (item.Function h at) = root_text from ++ (function_text h ++ part_position at)
+json_position from (item.Type h) = holder_text from ++ listed (codes "types") h
+json_position from (item.Constant h) = holder_text from ++ listed (codes "constants") h
+json_position from (item.Override h) = holder_text from ++ listed (codes "overrides") h
+json_position from (item.GlobalVariable h) = holder_text from ++ listed (codes "global_variables") h
+json_position from (item.GlobalExpression h) = holder_text from ++ listed (codes "global_expressions") h
+json_position from (item.Function h at) = holder_text from ++ (function_text h ++ position_in_function at)
 json_position from (item.EntryPoint h at) =
-    root_text from ++ (entry_function_text h ++ part_position at)
+    holder_text from ++ (entry_function_text h ++ position_in_function at)
 
 -- ---- where it is refused
 
@@ -141,13 +141,13 @@ declared_position declared.Result = codes ".result"
 declared_position (declared.Local h) = listed (codes ".local_variables") h
 
 -- a part of a function, after the function
-abbrev pub refused_part : (role : Option Role) → FunctionRefusalPosition → List ℕ
-refused_part role part.Labels = codes ".named_expressions"
-refused_part role (part.Scope fault) = scope_position role fault
-refused_part role (part.Statement n) = statement_text n
-refused_part role (part.Expression at h) = expression_text h ++ line_position at
-refused_part role (part.Type_ at ty) = declared_position at
-refused_part role (part.Let n h) =
+abbrev pub refused_function_position : (role : Option Role) → FunctionRefusalPosition → List ℕ
+refused_function_position role part.Labels = codes ".named_expressions"
+refused_function_position role (part.Scope fault) = scope_position role fault
+refused_function_position role (part.Statement n) = statement_text n
+refused_function_position role (part.Expression at h) = expression_text h ++ line_position at
+refused_function_position role (part.Type_ at ty) = declared_position at
+refused_function_position role (part.Let n h) =
     expression_text h ++ (codes ", the type of its let in statement " ++ decimal n)
 
 -- a declaration, as a member of the module
@@ -160,10 +160,10 @@ declaration_in_module (declaration.Function h) = function_text h
 declaration_in_module (declaration.EntryPoint h) = entry_point_text h
 
 -- what is refused; the module where it is the labels of items
-abbrev pub json_refusal_position : JsonRoot → (role : Option Role) → RefusalPosition → List ℕ
+abbrev pub json_refusal_position : JsonHolder → (role : Option Role) → RefusalPosition → List ℕ
 json_refusal_position from role refused.Labels = codes "module"
-json_refusal_position from role (refused.Declaration at) = root_text from ++ declaration_in_module at
+json_refusal_position from role (refused.Declaration at) = holder_text from ++ declaration_in_module at
 json_refusal_position from role (refused.Function h at) =
-    root_text from ++ (function_text h ++ refused_part role at)
+    holder_text from ++ (function_text h ++ refused_function_position role at)
 json_refusal_position from role (refused.EntryPoint h at) =
-    root_text from ++ (entry_function_text h ++ refused_part role at)
+    holder_text from ++ (entry_function_text h ++ refused_function_position role at)

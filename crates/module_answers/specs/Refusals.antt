@@ -10,12 +10,12 @@ use Rattle.module_answers.specs.Labels.{label_at}
 use Rattle.module_answers.specs.Positions.{IsKnownText, IsLabelled, json_refusal_position}
 use Rattle.module_answers.specs.Roles.{role_in}
 use Rattle.module_answers.specs.ScopeRoots.{root_after, root_in}
-use Rattle.module_answers.specs.declared.positions.JsonRoot.{JsonRoot}
+use Rattle.module_answers.specs.declared.positions.JsonHolder.{JsonHolder}
 
 -- The construct, and after a colon its position and the label there:
 -- `float literal: module.functions[0].expressions[3], in statement 1, in "half"`. Of a construct of
 -- whose words nothing is known there is some text.
-abbrev pub TellsConstructAt : JsonRoot → Module → Refusal → (text : List ℕ) → Type 0
+abbrev pub TellsConstructAt : JsonHolder → Module → Refusal → (text : List ℕ) → Type 0
 TellsConstructAt from m refusal text =
     (construct position : List ℕ) × IsKnownText (construct_text refusal.construct) construct
     × IsLabelled (label_at m refusal.position)
@@ -23,7 +23,7 @@ TellsConstructAt from m refusal text =
     × (text ≡ construct ++ (codes ": " ++ position))
 
 -- the same, and of an operand that is out of scope why it has no value
-abbrev pub TellsRefusalAt : JsonRoot → Module → Refusal → (line : List ℕ) → Type 0
+abbrev pub TellsRefusalAt : JsonHolder → Module → Refusal → (line : List ℕ) → Type 0
 TellsRefusalAt from m refusal line =
     (text : List ℕ) × TellsConstructAt from m refusal text
     × (line ≡ text ++ root_after (root_in m refusal.position))

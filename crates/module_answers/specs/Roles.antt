@@ -95,15 +95,15 @@ fault_role g (EmittedOperand statement expression operand) =
     option_and_then (expression_role operand) (slice_get g.expressions expression)
 fault_role g fault = None
 
-abbrev pub part_role : FunctionRefusalPosition → Function → Option Role
-part_role (Scope fault) g = fault_role g fault
-part_role part g = None
+abbrev pub role_in_function : FunctionRefusalPosition → Function → Option Role
+role_in_function (Scope fault) g = fault_role g fault
+role_in_function part g = None
 
 -- the role of the operand that is out of scope at this position
 abbrev pub role_in : Module → RefusalPosition → Option Role
-role_in m (refused.Function h part) = option_and_then (part_role part) (slice_get m.functions h)
+role_in m (refused.Function h part) = option_and_then (role_in_function part) (slice_get m.functions h)
 role_in m (refused.EntryPoint i part) =
-    option_and_then (λ e. part_role part e.function) (slice_get m.entry_points.items i)
+    option_and_then (λ e. role_in_function part e.function) (slice_get m.entry_points.items i)
 role_in m at = None
 
 -- ---- what is promised

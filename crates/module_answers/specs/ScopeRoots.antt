@@ -71,14 +71,14 @@ abbrev pub scope_root : Function → ScopeFault → Option ScopeRoot
 scope_root g f = option_and_then (asked_root g) (asked_by f)
 
 -- of what is refused in a function
-abbrev pub part_root : FunctionRefusalPosition → Function → Option ScopeRoot
-part_root (Scope f) g = scope_root g f
-part_root part g = None
+abbrev pub root_in_function : FunctionRefusalPosition → Function → Option ScopeRoot
+root_in_function (Scope f) g = scope_root g f
+root_in_function part g = None
 
 abbrev pub root_in : Module → RefusalPosition → Option ScopeRoot
-root_in m (refused.Function h part) = option_and_then (part_root part) (slice_get m.functions h)
+root_in m (refused.Function h part) = option_and_then (root_in_function part) (slice_get m.functions h)
 root_in m (refused.EntryPoint i part) =
-    option_and_then (λ e. part_root part e.function) (slice_get m.entry_points.items i)
+    option_and_then (λ e. root_in_function part e.function) (slice_get m.entry_points.items i)
 root_in m at = None
 
 -- ---- texts
@@ -90,8 +90,8 @@ giver_text (Skipped n) =
     codes "statement " ++ decimal n ++ codes " gives it, where a continue may skip it"
 giver_text (Later n) = codes "statement " ++ decimal n ++ codes " gives it, too late"
 
-abbrev pub root_text : ScopeRoot → List ℕ
-root_text root =
+abbrev pub holder_text : ScopeRoot → List ℕ
+holder_text root =
     if root.is_operand then giver_text root.giver
     else codes "expressions["
     ++ (decimal root.expression
@@ -101,4 +101,4 @@ root_text root =
 -- after all else that is told of a refusal
 abbrev pub root_after : Option ScopeRoot → List ℕ
 root_after None = []
-root_after (Some root) = codes ": " ++ root_text root
+root_after (Some root) = codes ": " ++ holder_text root

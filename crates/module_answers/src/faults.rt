@@ -6,7 +6,7 @@ ghost use Rattle.module_answers.specs.Faults.{TellsFault, TellsFaultAt, TellsKin
 ghost use Rattle.module_answers.specs.Faults.{TellsPosition};
 ghost use Rattle.module_answers.specs.Positions.{IsKnownText, in_function};
 
-use crate::positions::{InFunction, JsonPosition, JsonRoot, label_of};
+use crate::positions::{InFunction, JsonHolder, JsonPosition, label_of};
 use naga_info::ModuleInfo;
 use naga_wgsl_out::info::{Fault, FaultPosition, Mismatch, Unaccepted, explain};
 use naga_wgsl_out::ir::Module;
@@ -22,7 +22,7 @@ pub fn fault_line(
     module: &Module,
     info: &ModuleInfo,
     unaccepted: Unaccepted,
-    root: JsonRoot,
+    root: JsonHolder,
 ) -> Result<String, AllocError>
     ensures { IfOk result (λ line. TellsFaultAt root «module».now info.now unaccepted
         (string_bytes line)) }
@@ -38,7 +38,7 @@ pub fn labelled_position(
     alloc: Global,
     module: &Module,
     item: FaultPosition,
-    root: JsonRoot,
+    root: JsonHolder,
 ) -> Result<String, AllocError>
     ensures { IfOk result (λ text. TellsPosition root «module».now item (string_bytes text)) }
 {
@@ -62,7 +62,7 @@ pub fn fault_text(
     module: &Module,
     info: &ModuleInfo,
     unaccepted: Unaccepted,
-    root: JsonRoot,
+    root: JsonHolder,
 ) -> Result<String, AllocError>
     ensures { IfOk result (λ text. TellsFault root «module».now info.now unaccepted
         (string_bytes text)) }
@@ -78,7 +78,7 @@ fn kind_text(
     module: &Module,
     fault: Fault,
     expected: Option<Mismatch>,
-    root: JsonRoot,
+    root: JsonHolder,
 ) -> Result<String, AllocError>
     ensures { IfOk result (λ text. TellsKind root «module».now fault expected
         (string_bytes text)) }
@@ -98,7 +98,7 @@ pub fn mismatch_text(
     alloc: Global,
     module: &Module,
     mismatch: Mismatch,
-    root: JsonRoot,
+    root: JsonHolder,
 ) -> Result<String, AllocError>
     ensures { IfOk result (λ text. TellsMismatch root «module».now mismatch
         (string_bytes text)) }

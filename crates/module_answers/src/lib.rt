@@ -18,7 +18,7 @@ pub use faults::{fault_line, fault_text, labelled_position, mismatch_text};
 pub use json_nesting::{NESTS_TOO_DEEP, nests_too_deep};
 pub use layouts::layout_table;
 pub use listed_positions::{listed_position, refused_position};
-pub use positions::{JsonPosition, JsonRefusalPosition, JsonRoot, label_at, label_of};
+pub use positions::{JsonHolder, JsonPosition, JsonRefusalPosition, label_at, label_of};
 pub use refusals::refusal_line;
 pub use roles::{Role, operands_have_roles, role_at};
 pub use root_texts::{Giver, MarkedRoot, ScopeRoot, root_at, root_spots};

@@ -17,11 +17,11 @@ pub fn listed_position(item: FaultPosition) -> ListingPosition {
         FaultPosition::GlobalExpression(handle) => declared(Spot::GlobalExpression(handle)),
         FaultPosition::Function(handle, part) => ListingPosition::of(
             Listed::Function(handle),
-            part_spot(part),
+            function_spot(part),
         ),
         FaultPosition::EntryPoint(index, part) => ListingPosition::of(
             Listed::EntryPoint(index),
-            part_spot(part),
+            function_spot(part),
         ),
     }
 }
@@ -43,7 +43,7 @@ fn declared(spot: Spot) -> ListingPosition {
     ListingPosition::of(Listed::Declarations, spot)
 }
 
-fn part_spot(part: FunctionPosition) -> Spot {
+fn function_spot(part: FunctionPosition) -> Spot {
     match part {
         FunctionPosition::Whole => Spot::Whole,
         FunctionPosition::Local(handle) => Spot::Local(handle),

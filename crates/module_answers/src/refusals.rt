@@ -6,7 +6,7 @@ ghost use Rattle.module_answers.specs.Refusals.{TellsConstructAt, TellsRefusalAt
 ghost use Rattle.naga_wgsl_fns.specs.Constructs.{construct_text};
 
 use crate::faults::label_text;
-use crate::positions::{JsonRefusalPosition, JsonRoot, label_at};
+use crate::positions::{JsonHolder, JsonRefusalPosition, label_at};
 use crate::root_texts::{root_after, root_at};
 use naga_wgsl_out::ir::Module;
 use naga_wgsl_out::wgsl::{Construct, Refusal};
@@ -21,7 +21,7 @@ pub fn refusal_line(
     alloc: Global,
     module: &Module,
     refusal: Refusal,
-    root: JsonRoot,
+    root: JsonHolder,
 ) -> Result<String, AllocError>
     ensures { IfOk result (λ line. TellsRefusalAt root «module».now refusal
         (string_bytes line)) }
@@ -39,7 +39,7 @@ fn positioned_construct(
     alloc: Global,
     module: &Module,
     refusal: Refusal,
-    root: JsonRoot,
+    root: JsonHolder,
 ) -> Result<String, AllocError>
     ensures { IfOk result (λ text. TellsConstructAt root «module».now refusal
         (string_bytes text)) }

@@ -60,7 +60,7 @@ pub fn write_within(
     let empty = BoundedText::new(alloc, limits.text);
     check_nesting(alloc, module, limits.nesting)?;
     match write(alloc, module, info, flags, empty) {
-        Ok(written) => match kept(written, limits.text) {
+        Ok(written) => match within_its_limit(written, limits.text) {
             Some(whole) => Ok(whole),
             None => Err(NoOutcome::TooLong),
         },
@@ -92,7 +92,7 @@ pub fn write_decimal_within(
     let empty = BoundedText::new(alloc, limits.text);
     check_nesting(alloc, module, limits.nesting)?;
     match write_decimal(alloc, module, info, flags, empty) {
-        Ok(written) => match kept(written, limits.text) {
+        Ok(written) => match within_its_limit(written, limits.text) {
             Some(whole) => Ok(whole),
             None => Err(NoOutcome::TooLong),
         },
@@ -113,7 +113,10 @@ pub fn check_nesting(alloc: Global, module: &Module, levels: usize) -> Result<()
 }
 
 /// What was written, if its text has no more than so many bytes. Then its sink has not failed.
-fn kept(written: WriteOutcome<BoundedText>, bound: usize) -> Option<WriteOutcome<String>>
+fn within_its_limit(
+    written: WriteOutcome<BoundedText>,
+    bound: usize,
+) -> Option<WriteOutcome<String>>
     ensures answer { IfSome result (λ w. w.answer ≡ unfailed written.answer) }
     ensures refusal { IfSome result (λ w. w.refusal ≡ written.refusal) }
     ensures text { IfSome result (λ w. string_bytes w.sink ≡ written.sink.text) }

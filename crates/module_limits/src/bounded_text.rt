@@ -6,12 +6,12 @@ use naga_words::{SinkError, TextSink};
 use std::alloc::{AllocError, Global};
 use std::marker::Model;
 
-/// A text that takes chunks as long as it has no more bytes than its bound, and refuses all after
-/// the chunk that took it past. So one that refused a chunk has more bytes than its bound, of which
+/// A text that takes chunks as long as it has no more bytes than its size_limit, and refuses all after
+/// the chunk that took it past. So one that refused a chunk has more bytes than its size_limit, of which
 /// the caller can tell that the whole text has more; and one whose last chunk took it past has,
 /// too, though it refused none.
 ///
-/// Contracts see its text, its bound and the number of its failures.
+/// Contracts see its text, its size_limit and the number of its failures.
 ///
 /// ```text
 /// let mut sink = BoundedText::new(alloc, 3);
@@ -22,7 +22,7 @@ use std::marker::Model;
 #[derive(Drop)]
 pub struct BoundedText {
     text: String,
-    bound: usize,
+    size_limit: usize,
     failures: u64,
 }
 
@@ -33,20 +33,20 @@ impl Model for BoundedText {
     ghost Value = { Bounded };
 
     ghost view = { λ s.
-        record { text = string_bytes s.text; bound = s.bound; failures = s.failures } };
+        record { text = string_bytes s.text; size_limit = s.size_limit; failures = s.failures } };
 }
 
 impl BoundedText {
     ghost use Rattle.std.specs.Prelude.{nat_lt};
     ghost use Rattle.std.specs.Prelude.{string_bytes};
 
-    /// The empty text, with a bound in bytes. It takes no memory.
-    pub fn new(alloc: Global, bound: usize) -> Self
-        ensures { result ≡ record { text = []; bound = bound; failures = 0 } }
+    /// The empty text, with a size_limit in bytes. It takes no memory.
+    pub fn new(alloc: Global, size_limit: usize) -> Self
+        ensures { result ≡ record { text = []; size_limit = size_limit; failures = 0 } }
     {
         BoundedText {
             text: String::new(alloc),
-            bound,
+            size_limit,
             failures: 0,
         }
     }
@@ -58,11 +58,11 @@ impl BoundedText {
         self.text.as_str()
     }
 
-    /// Whether it has more bytes than its bound, so that it takes no more.
+    /// Whether it has more bytes than its size_limit, so that it takes no more.
     fn is_past(&self) -> bool
-        ensures { result ≡ nat_lt self.now.bound (length self.now.text) }
+        ensures { result ≡ nat_lt self.now.size_limit (length self.now.text) }
     {
-        self.text.len() > self.bound
+        self.text.len() > self.size_limit
     }
 
     /// What it has taken, as a string.
@@ -76,7 +76,7 @@ impl BoundedText {
     /// Counts a failure, and tells it.
     fn fail(&mut self) -> SinkError
         ensures text { self.new.text ≡ self.old.text }
-        ensures bound { self.new.bound ≡ self.old.bound }
+        ensures size_limit { self.new.size_limit ≡ self.old.size_limit }
         ensures failed { result ≡ SinkError.Failed → self.old.failures < self.new.failures }
     {
         match self.failures.checked_add(1) {
@@ -99,10 +99,10 @@ impl TextSink for BoundedText {
     fn write_str(&mut self, chunk: &str) -> Result<(), SinkError>
         ensures text_ok { OnOk result (self.new.text ≡ self.old.text ++ chunk.now) }
         ensures text_err { OnErr result (self.new.text ≡ self.old.text) }
-        ensures bound { self.new.bound ≡ self.old.bound }
-        ensures taken { OnOk result (length self.old.text ≤ self.old.bound) }
+        ensures size_limit { self.new.size_limit ≡ self.old.size_limit }
+        ensures taken { OnOk result (length self.old.text ≤ self.old.size_limit) }
         ensures refused { IsErrOf result SinkError.Failed →
-            self.old.bound < length self.old.text }
+            self.old.size_limit < length self.old.text }
         ensures failures_ok { OnOk result (self.new.failures ≡ self.old.failures) }
         ensures failed { IsErrOf result SinkError.Failed → self.old.failures < self.new.failures }
     {

@@ -5,7 +5,7 @@
 //!
 //! [`nested_past`] is asked of a module before it is known to be accepted. It goes through all of
 //! it in one pass over each of its lists, with a table of a number for each item and no deeper into
-//! blocks than the bound. A [`BoundedText`] takes a text up to its bound.
+//! blocks than the size_limit. A [`BoundedText`] takes a text up to its size_limit.
 #![tactic(auto)]
 
 mod blocks;

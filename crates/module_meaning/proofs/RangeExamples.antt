@@ -10,7 +10,7 @@ use Rattle.module_meaning.specs.ExpressionLabels.{labels_in, labels_of_each}
 use Rattle.module_meaning.specs.ExpressionOperators.{ExpressionContext}
 use Rattle.module_meaning.specs.acceptance.Ranges.{simple_in_range}
 use Rattle.module_meaning.specs.StatementShapes.{simple_shape}
-use Rattle.module_meaning.specs.Written.{simple_lets, simple_roots}
+use Rattle.module_meaning.specs.Written.{simple_lets, simple_handles}
 use Rattle.std.specs.List.{filter}
 use Rattle.shader_runs.specs.World.{Event}
 use Rattle.shader_runs.specs.Form.{form}
@@ -53,7 +53,7 @@ module _ (first end : ℕ) (le : end ≤ first) where
   no_handles : from first (end - first) ≡ []
   no_handles = ap (from first) none
 
-  writes_no_handle : (binds : ℕ → Bool) → simple_roots binds (emit first end) ≡ []
+  writes_no_handle : (binds : ℕ → Bool) → simple_handles binds (emit first end) ≡ []
   writes_no_handle binds = ap (filter binds) no_handles
 
   lets_none : (binds : ℕ → Bool) → simple_lets binds (emit first end) ≡ []

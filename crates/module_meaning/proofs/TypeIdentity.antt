@@ -35,7 +35,7 @@ use Rattle.naga_ir.specs.declared.types.TypeInner.TheVariants as inner
 use Rattle.naga_words.specs.Spelling.{is_struct}
 use Rattle.module_meaning.specs.TypeIdentity.{Identity, Nothing, StructAt, Itself, truth_number}
 use Rattle.module_meaning.specs.TypeIdentity.{kind_number, component_count, components_number}
-use Rattle.module_meaning.specs.TypeIdentity.{cooperative_number, role_number, space_number}
+use Rattle.module_meaning.specs.TypeIdentity.{cooperative_number, matrix_role_number, space_number}
 use Rattle.module_meaning.specs.TypeIdentity.{space_bits, dimension_number, length_kind}
 use Rattle.module_meaning.specs.TypeIdentity.{length_number, inner_code, identity, identity_at}
 use Rattle.module_meaning.specs.TypeIdentity.{identity_code, word_of_unspelled_type}
@@ -89,7 +89,7 @@ cooperative_distinguished _ = refl
 abbrev pub role_of : ℕ → CooperativeRole
 role_of n = get_or (role.A ∷ role.B ∷ role.C ∷ []) n role.A
 
-pub role_distinguished : (r : CooperativeRole) → role_of (role_number r) ≡ r
+pub role_distinguished : (r : CooperativeRole) → role_of (matrix_role_number r) ≡ r
 role_distinguished role.A = refl
 role_distinguished _ = refl
 

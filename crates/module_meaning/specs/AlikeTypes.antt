@@ -36,7 +36,7 @@ use Rattle.wgsl_words.specs.Words.{has, atomic_bit, load_bit, store_bit, scalar_
 use Rattle.module_meaning.specs.TypeIdentity.{level, length_kind, length_number}
 use Rattle.module_meaning.specs.TypeIdentity.{identity, word_of_unspelled_type, truth_number}
 use Rattle.module_meaning.specs.TypeIdentity.{kind_number}
-use Rattle.module_meaning.specs.TypeIdentity.{component_count, cooperative_number, role_number}
+use Rattle.module_meaning.specs.TypeIdentity.{component_count, cooperative_number, matrix_role_number}
 use Rattle.module_meaning.specs.TypeIdentity.{space_number, dimension_number}
 
 -- a type over a scalar, where WGSL has a word for this
@@ -109,7 +109,7 @@ inner_key_by f (inner.Vector n s) = vector_key n s
 inner_key_by f (inner.Matrix columns rows s) =
     over_scalar 2 s (component_count columns) (component_count rows) 0
 inner_key_by f (inner.CooperativeMatrix columns rows s role) =
-    over_scalar 3 s (cooperative_number columns) (cooperative_number rows) (role_number role)
+    over_scalar 3 s (cooperative_number columns) (cooperative_number rows) (matrix_role_number role)
 inner_key_by f (inner.Atomic s) = over_scalar 4 s 0 0 0
 inner_key_by f (inner.Pointer base space) = pointer_key space (f base)
 inner_key_by f (inner.ValuePointer n s space) = value_pointer_key space (value_key n s)

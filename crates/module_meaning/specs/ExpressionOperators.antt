@@ -150,11 +150,11 @@ abbrev pub is_depth_image : TypeInner → Bool
 is_depth_image (inner.Image dim arrayed class) = is_depth_class class
 is_depth_image _ = false
 
-abbrev pub sample_operator : (of_depths : Bool) → (gather : Option SwizzleComponent) → Level →
+abbrev pub image_sample_operator : (of_depths : Bool) → (gather : Option SwizzleComponent) → Level →
     (compares clamped arrayed offset : Bool) → Operator
-sample_operator of_depths None level compares clamped arrayed offset =
+image_sample_operator of_depths None level compares clamped arrayed offset =
     Sample level compares clamped arrayed offset
-sample_operator of_depths (Some component) level compares clamped arrayed offset =
+image_sample_operator of_depths (Some component) level compares clamped arrayed offset =
     Gather (if of_depths then None else Some component) level compares clamped arrayed offset
 
 -- by whether a sample and a level are given
@@ -207,7 +207,7 @@ applied_operator a
     (expression.ImageSample
     image sampler gather coordinate array_index offset level depth_ref clamp) =
     let of_depths = option_map_or is_depth_image (type_known a image) false in
-    Some (sample_operator of_depths gather (level_of level)
+    Some (image_sample_operator of_depths gather (level_of level)
     (is_some depth_ref) clamp (is_some array_index) (is_some offset))
 applied_operator a (expression.As expr kind convert) =
     Some (cast a kind convert (type_known a expr))

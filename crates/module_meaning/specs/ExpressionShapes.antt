@@ -257,9 +257,9 @@ written_zero level by_name =
 -- what its level tells; and the offset for `offset`. Level zero and an offset that is a constant,
 -- which has this tree, are written out, and stand after all that have handles. What a gather has
 -- for `component` is no operand: it belongs to the operator's word.
-abbrev pub sample_shape :
+abbrev pub image_sample_shape :
     ir.Expression → (offset_tree : Option ConstantTree) → Option TableOperator → Expression
-sample_shape
+image_sample_shape
     (expression.ImageSample
     image sampler gather coordinate array_index offset level depth_ref clamp) tree
     (Some operator) =
@@ -269,7 +269,7 @@ sample_shape
     (trees
     (written_zero level (is_zero_by_name (is_some gather) (is_some depth_ref) clamp) ++
     option_to_list tree))
-sample_shape e tree operator = Result
+image_sample_shape e tree operator = Result
 
 -- ---- expressions
 -- What the expression with this handle evaluates, in a function with these expressions. What is
@@ -295,5 +295,5 @@ shape_of d es h
     image sampler gather coordinate array_index offset level depth_ref clamp) =
     let e = expression.ImageSample
     image sampler gather coordinate array_index offset level depth_ref clamp in
-    sample_shape e (option_and_then (constant_tree d es) offset) (applied_operator d.context e)
+    image_sample_shape e (option_and_then (constant_tree d es) offset) (applied_operator d.context e)
 shape_of d es h e = applied_or Result (expression_operands e) (applied_operator d.context e)

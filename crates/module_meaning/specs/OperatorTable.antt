@@ -30,7 +30,7 @@ use Rattle.naga_ir.specs.declared.operators.CollectiveOperation.TheVariants as c
 use Rattle.naga_ir.specs.declared.operators.Direction.{Direction}
 use Rattle.naga_ir.specs.declared.operators.Direction.TheVariants as direction
 use Rattle.module_meaning.specs.TypeIdentity.{truth_number, kind_number, cooperative_number}
-use Rattle.module_meaning.specs.TypeIdentity.{role_number}
+use Rattle.module_meaning.specs.TypeIdentity.{matrix_role_number}
 use Rattle.wgsl_words.specs.Words.{math_word, operator_text, unary_text}
 use Rattle.naga_words.specs.Words.{vector_word}
 use Rattle.wgsl_text.specs.Types.{TypeSpecifier, IsType}
@@ -143,11 +143,11 @@ level_word Biased = codes "Bias"
 level_word Graded = codes "Grad"
 
 -- clamped, an image is sampled at level zero alone, and nothing is compared
-abbrev pub sample_word : Level → (compares clamped : Bool) → Option (List ℕ)
-sample_word level compares false =
+abbrev pub image_sample_word : Level → (compares clamped : Bool) → Option (List ℕ)
+image_sample_word level compares false =
     Some (codes "textureSample" ++ (if_word compares (codes "Compare") ++ level_word level))
-sample_word Zero false true = Some (codes "textureSampleBaseClampToEdge")
-sample_word level compares true = None
+image_sample_word Zero false true = Some (codes "textureSampleBaseClampToEdge")
+image_sample_word level compares true = None
 
 -- A component's number is no operand: it is written before them, and belongs to the word.
 abbrev pub component_word : Option SwizzleComponent → List ℕ
@@ -240,7 +240,7 @@ operator_word (Math fun) = math_word fun
 operator_word (Relational fun) = relational_word fun
 operator_word (Derivative axis control) = Some (axis_word axis ++ control_word control)
 operator_word ArrayLength = Some (codes "arrayLength")
-operator_word (Sample level compares clamped arrayed offset) = sample_word level compares clamped
+operator_word (Sample level compares clamped arrayed offset) = image_sample_word level compares clamped
 operator_word (Gather component level compares clamped arrayed offset) =
     gather_word component level compares clamped
 operator_word (Texel arrayed BothTexel) = None
@@ -313,7 +313,7 @@ unsupported_code (PartAt index) = 1 ∷ index ∷ []
 unsupported_code (ValueOf numbers components) = 2 ∷ numbers
 unsupported_code (MatrixLoad columns rows role row_major) =
     3 ∷ cooperative_number columns ∷ cooperative_number rows
-    ∷ role_number role ∷ truth_number row_major ∷ []
+    ∷ matrix_role_number role ∷ truth_number row_major ∷ []
 
 -- What asks for an event begins like what does so in a text.
 abbrev pub unsupported_head : Unsupported → List ℕ

@@ -9,7 +9,7 @@ use Rattle.naga_ir.specs.declared.expression.Expression.TheVariants as expressio
 use Rattle.naga_ir.specs.declared.expression.SampleLevel.{SampleLevel}
 use Rattle.naga_ir.specs.declared.expression.SwizzleComponent.{SwizzleComponent}
 use Rattle.module_meaning.specs.ExpressionOperators.{level_of}
-use Rattle.module_meaning.specs.OperatorTable.{gather_word, sample_word}
+use Rattle.module_meaning.specs.OperatorTable.{gather_word, image_sample_word}
 use Rattle.module_meaning.specs.WrittenOut.{is_written_out}
 
 -- A gather is at level zero, told or not, and is not clamped. What is clamped is at level zero, and
@@ -17,7 +17,7 @@ use Rattle.module_meaning.specs.WrittenOut.{is_written_out}
 abbrev pub sampling_has_form : (gather : Option SwizzleComponent) → SampleLevel →
     (compares clamped : Bool) → Bool
 sampling_has_form None level compares clamped =
-    is_some (sample_word (level_of level) compares clamped)
+    is_some (image_sample_word (level_of level) compares clamped)
 sampling_has_form (Some component) level compares clamped =
     is_some (gather_word None (level_of level) compares clamped)
 

@@ -71,10 +71,10 @@ abbrev pub cooperative_number : CooperativeSize → ℕ
 cooperative_number cooperative.Eight = 8
 cooperative_number cooperative.Sixteen = 16
 
-abbrev pub role_number : CooperativeRole → ℕ
-role_number role.A = 0
-role_number role.B = 1
-role_number role.C = 2
+abbrev pub matrix_role_number : CooperativeRole → ℕ
+matrix_role_number role.A = 0
+matrix_role_number role.B = 1
+matrix_role_number role.C = 2
 
 abbrev pub space_number : AddressSpace → ℕ
 space_number space.Function = 0
@@ -135,7 +135,7 @@ inner_code (inner.Matrix columns rows s) =
     level 2 (kind_number s.kind) s.width (component_count columns) (component_count rows) 0
 inner_code (inner.CooperativeMatrix columns rows s role) =
     level 3 (kind_number s.kind) s.width (cooperative_number columns) (cooperative_number rows)
-    (role_number role)
+    (matrix_role_number role)
 inner_code (inner.Atomic s) = level 4 (kind_number s.kind) s.width 0 0 0
 inner_code (inner.Pointer base space) = level 5 base (space_number space) (space_bits space) 0 0
 inner_code (inner.ValuePointer n s space) =

@@ -33,33 +33,33 @@ use Rattle.shader_runs.specs.Program.{binds, from}
 
 -- the handles that a statement without blocks writes by itself: of an `Emit` those that are bound,
 -- else its operands
-abbrev pub simple_roots : (binds : ℕ → Bool) → SimpleStatement → List ℕ
-simple_roots binds (emit first end) = filter binds (from first (end - first))
-simple_roots binds st = simple_operands st
+abbrev pub simple_handles : (binds : ℕ → Bool) → SimpleStatement → List ℕ
+simple_handles binds (emit first end) = filter binds (from first (end - first))
+simple_handles binds st = simple_operands st
 
 abbrev mutual
-  pub statement_roots : (binds : ℕ → Bool) → StatementTree → List ℕ
-  statement_roots binds (simple st) = simple_roots binds st
-  statement_roots binds (block b) = block_roots binds b
-  statement_roots binds (branch condition accept reject) =
-      condition ∷ (block_roots binds accept ++ block_roots binds reject)
-  statement_roots binds (switch selector cases) = selector ∷ cases_roots binds cases
-  statement_roots binds (loop body continuing break_if) =
-      block_roots binds body ++ (block_roots binds continuing ++ option_to_list break_if)
+  pub statement_handles : (binds : ℕ → Bool) → StatementTree → List ℕ
+  statement_handles binds (simple st) = simple_handles binds st
+  statement_handles binds (block b) = block_handles binds b
+  statement_handles binds (branch condition accept reject) =
+      condition ∷ (block_handles binds accept ++ block_handles binds reject)
+  statement_handles binds (switch selector cases) = selector ∷ cases_handles binds cases
+  statement_handles binds (loop body continuing break_if) =
+      block_handles binds body ++ (block_handles binds continuing ++ option_to_list break_if)
 
-  pub block_roots : (binds : ℕ → Bool) → BlockTree → List ℕ
-  block_roots binds no_statements = []
-  block_roots binds (statement st b) = statement_roots binds st ++ block_roots binds b
+  pub block_handles : (binds : ℕ → Bool) → BlockTree → List ℕ
+  block_handles binds no_statements = []
+  block_handles binds (statement st b) = statement_handles binds st ++ block_handles binds b
 
-  pub cases_roots : (binds : ℕ → Bool) → CaseTrees → List ℕ
-  cases_roots binds no_cases = []
-  cases_roots binds (case value body falls cases) =
-      block_roots binds body ++ cases_roots binds cases
+  pub cases_handles : (binds : ℕ → Bool) → CaseTrees → List ℕ
+  cases_handles binds no_cases = []
+  cases_handles binds (case value body falls cases) =
+      block_handles binds body ++ cases_handles binds cases
 
 -- those of a function, with the first values of its locals
-abbrev pub function_roots : (binds : ℕ → Bool) → Function → List ℕ
-function_roots binds f =
-    flat_map (λ l. option_to_list l.init) f.local_variables ++ block_roots binds f.body
+abbrev pub function_handles : (binds : ℕ → Bool) → Function → List ℕ
+function_handles binds f =
+    flat_map (λ l. option_to_list l.init) f.local_variables ++ block_handles binds f.body
 
 -- these, and the operands of what is written
 pub data IsWritten (es : List Expression) (roots : List ℕ) : ℕ → Type 0 where
@@ -70,7 +70,7 @@ pub data IsWritten (es : List Expression) (roots : List ℕ) : ℕ → Type 0 wh
 -- the handle is written in a function of a module
 abbrev pub IsWrittenIn : Module → ModuleInfo → Function → List ExpressionInfo → ℕ → Type 0
 IsWrittenIn m info f known h =
-    IsWritten f.expressions (function_roots (binds (function_shape m info f known)) f) h
+    IsWritten f.expressions (function_handles (binds (function_shape m info f known)) f) h
 
 -- ---- types
 -- the handles that the `let`s of a statement without blocks name: of an `Emit` those that are

@@ -79,8 +79,8 @@ fn statement_names_subgroups(statement: &Statement) -> bool
             continuing,
             ..
         } => either_names_subgroups(body, continuing),
-        Statement::ControlBarrier(barrier) => keeps_subgroups(*barrier),
-        Statement::MemoryBarrier(barrier) => keeps_subgroups(*barrier),
+        Statement::ControlBarrier(barrier) => apart_by_subgroups(*barrier),
+        Statement::MemoryBarrier(barrier) => apart_by_subgroups(*barrier),
         Statement::SubgroupBallot { .. } => true,
         Statement::SubgroupGather { .. } => true,
         Statement::SubgroupCollectiveOperation { .. } => true,
@@ -108,7 +108,7 @@ fn cases_name_subgroups(cases: &[SwitchCase]) -> bool
 }
 
 /// Whether a barrier keeps apart the accesses of a subgroup.
-fn keeps_subgroups(barrier: Barrier) -> bool
+fn apart_by_subgroups(barrier: Barrier) -> bool
     ensures { result ≡ (barrier_bits barrier).sub_group }
 {
     barrier.contains(Barrier::SUB_GROUP)

@@ -582,7 +582,7 @@ fn rows_are_read(rt: &impl Abort, alloc: Global, rows: &[(&str, &str, &str)]) {
 }
 
 #[test]
-fn a_refusal_tells_place_and_problem(rt: HostRuntime) {
+fn a_refusal_tells_position_and_problem(rt: HostRuntime) {
     rows_are_refused(&rt, rt.alloc(), REFUSALS);
 }
 

@@ -27,7 +27,7 @@ use Rattle.naga_ir.specs.declared.statement.SwitchValue.TheVariants as switch_va
 use Rattle.module_meaning.specs.acceptance.StatementsFit.{has_case_value, is_same_case_value}
 use Rattle.module_meaning.specs.acceptance.StatementsFit.{case_values_differ}
 use Rattle.naga_acceptance.specs.declared.case_value_numbers.TheConstants.{CELLS}
-use Rattle.naga_acceptance.specs.CaseValues.{number_of, numbers_of, times, shares, IsTwice}
+use Rattle.naga_acceptance.specs.CaseValues.{number_of, numbers_of, times, has_common, IsTwice}
 use Rattle.naga_acceptance.specs.CaseValues.{AreApart, AreMarked, AreOnce}
 
 -- ---- how often a number stands there
@@ -278,18 +278,18 @@ marked_more ns marks index cell here within before k less =
 
 -- there are no numbers of no cases
 pub shares_nothing : (ms : List ℕ) (cs : List SwitchCase) → (length cs == 0) ≡ true →
-    false ≡ shares ms (numbers_of (cases_of cs))
+    false ≡ has_common ms (numbers_of (cases_of cs))
 shares_nothing ms [] e = refl
 shares_nothing ms (c ∷ cs) e =
     let none = eqb-true (length (c ∷ cs)) 0 e in absurd (omega (arith, none))
 
-shares_one : (ms ns : List ℕ) → shares ms ns ≡ true →
+shares_one : (ms ns : List ℕ) → has_common ms ns ≡ true →
     (a : ℕ) × (0 < times a ms) × (0 < times a ns)
 shares_one ms [] e = absurd (cc)
 shares_one ms (n ∷ ns) e = by (or_cases _ _ e) (shares_one ms ns)
   where
-    by : (nat_lt 0 (times n ms) ≡ true) ⊎ (shares ms ns ≡ true) →
-        (shares ms ns ≡ true → (a : ℕ) × (0 < times a ms) × (0 < times a ns)) →
+    by : (nat_lt 0 (times n ms) ≡ true) ⊎ (has_common ms ns ≡ true) →
+        (has_common ms ns ≡ true → (a : ℕ) × (0 < times a ms) × (0 < times a ns)) →
         (a : ℕ) × (0 < times a ms) × (0 < times a (n ∷ ns))
     by (inl here) further =
         (n, ltb-true 0 (times n ms) here, omega (arith, times_itself n n ns refl))
@@ -297,7 +297,7 @@ shares_one ms (n ∷ ns) e = by (or_cases _ _ e) (shares_one ms ns)
         let rest = further later
         in (rest.0, rest.1, omega (arith, rest.2, times_more rest.0 n ns))
 
-shares_none : (ms ns : List ℕ) (a : ℕ) → shares ms ns ≡ false → 0 < times a ms → times a ns ≡ 0
+shares_none : (ms ns : List ℕ) (a : ℕ) → has_common ms ns ≡ false → 0 < times a ms → times a ns ≡ 0
 shares_none ms [] a e among = refl
 shares_none ms (n ∷ ns) a e among =
     by (cases_eq n a) (shares_none ms ns a (or_parts _ _ e).1 among)
@@ -310,7 +310,7 @@ shares_none ms (n ∷ ns) a e among =
     by (inr other) rest = times_other a n ns other ∙ rest
 
 sorted_once : (ms sorted ns : List ℕ) → IsPermutation ms sorted → IsNonDecreasing sorted →
-    AreApart sorted → shares sorted ns ≡ false → AreOnce ms ns
+    AreApart sorted → has_common sorted ns ≡ false → AreOnce ms ns
 sorted_once ms sorted ns moved rise apart none a among =
     let same = times_moved a ms sorted moved in
     let once = rise_once sorted a rise apart in
@@ -326,7 +326,7 @@ sorted_twice xs ys sorted moved twice =
 
 sorted_shared : (xs ys : List SwitchCase) (sorted : List ℕ) →
     IsPermutation (numbers_of (cases_of xs)) sorted →
-    shares sorted (numbers_of (cases_of ys)) ≡ true →
+    has_common sorted (numbers_of (cases_of ys)) ≡ true →
     case_values_differ (cases_of (xs ++ ys)) ≡ false
 sorted_shared xs ys sorted moved shared =
     let one = shares_one sorted (numbers_of (cases_of ys)) shared in
@@ -336,7 +336,7 @@ sorted_shared xs ys sorted moved shared =
 -- what is told where no number stands beside itself
 pub shares_decided : (xs ys : List SwitchCase) (sorted : List ℕ) (b : Bool) →
     IsPermutation (numbers_of (cases_of xs)) sorted → IsNonDecreasing sorted → AreApart sorted →
-    b ≡ shares sorted (numbers_of (cases_of ys)) →
+    b ≡ has_common sorted (numbers_of (cases_of ys)) →
     MatchBool (not b) (AreOnce (numbers_of (cases_of xs)) (numbers_of (cases_of ys)))
     (case_values_differ (cases_of (xs ++ ys)) ≡ false)
 shares_decided xs ys sorted true moved rise apart e = sorted_shared xs ys sorted moved (sym e)

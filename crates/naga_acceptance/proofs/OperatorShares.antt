@@ -354,7 +354,7 @@ module _ (types : List Type_) (gs : List Group) where
           (front_of_use b a fails_q.0 fails_p.0 fails_q.1 fails_p.1 (omega (arith, fails_q.2)) (following e))
           fails_p.3))
 
--- ---- shares of the operators
+-- ---- has_common of the operators
 
 -- uses of one operator are of one share
 pub same_share : (share : Share) (v w : Operation) → is_same_operator w v ≡ true → is_in share v ≡ true →

@@ -50,9 +50,9 @@ times a [] = 0
 times a (n ∷ ns) = if n == a then suc (times a ns) else times a ns
 
 -- one of the numbers ns is one of ms
-abbrev pub shares : (ms ns : List ℕ) → Bool
-shares ms [] = false
-shares ms (n ∷ ns) = nat_lt 0 (times n ms) || shares ms ns
+abbrev pub has_common : (ms ns : List ℕ) → Bool
+has_common ms [] = false
+has_common ms (n ∷ ns) = nat_lt 0 (times n ms) || has_common ms ns
 
 -- a number stands there twice
 abbrev pub IsTwice : List ℕ → Type 0

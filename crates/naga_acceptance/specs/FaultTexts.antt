@@ -32,11 +32,11 @@ fault_text fault.Unsatisfied = codes "the statement does not get what it needs"
 fault_text fault.Disagreement = codes "the operator does not agree with an earlier one"
 
 -- a part of a function, after the function, as `, expression 41`; nothing of the whole
-abbrev pub part_text : FunctionPosition → List ℕ
-part_text part.Whole = []
-part_text (part.Local h) = codes ", local " ++ decimal h
-part_text (part.Expression h) = codes ", expression " ++ decimal h
-part_text (part.Statement n) = codes ", statement " ++ decimal n
+abbrev pub function_position_text : FunctionPosition → List ℕ
+function_position_text part.Whole = []
+function_position_text (part.Local h) = codes ", local " ++ decimal h
+function_position_text (part.Expression h) = codes ", expression " ++ decimal h
+function_position_text (part.Statement n) = codes ", statement " ++ decimal n
 
 -- an item by its kind and its number, as `type 5`, with the part of a function
 abbrev pub item_text : FaultPosition → List ℕ
@@ -46,8 +46,8 @@ item_text (item.Constant h) = codes "constant " ++ decimal h
 item_text (item.Override h) = codes "override " ++ decimal h
 item_text (item.GlobalVariable h) = codes "global variable " ++ decimal h
 item_text (item.GlobalExpression h) = codes "global expression " ++ decimal h
-item_text (item.Function h position) = codes "function " ++ decimal h ++ part_text position
-item_text (item.EntryPoint h position) = codes "entry point " ++ decimal h ++ part_text position
+item_text (item.Function h position) = codes "function " ++ decimal h ++ function_position_text position
+item_text (item.EntryPoint h position) = codes "entry point " ++ decimal h ++ function_position_text position
 
 -- the position, and after a colon the fault
 abbrev pub unaccepted_text : Unaccepted → List ℕ

@@ -166,7 +166,7 @@ pub record Remembers (types : List Type_) (gs : List Group) (os : List Operation
   pub hashed : AreHashed types gs table
   pub found : (v : Operation) → IsAmong v os → IsFound types gs slots table v
 
--- ---- shares of the operators
+-- ---- has_common of the operators
 
 -- operators with this hash are of the share
 abbrev pub has_hash : Share → (h : ℕ) → Bool

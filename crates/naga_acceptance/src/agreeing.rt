@@ -458,7 +458,7 @@ fn disagreement_by(
     Ok(None)
 }
 
-/// The same by the table. It stays out of the frames of the callers, which go as deep as shares are
+/// The same by the table. It stays out of the frames of the callers, which go as deep as has_common are
 /// halved.
 #[inline(never)]
 fn large_disagreement(

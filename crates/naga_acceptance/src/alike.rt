@@ -25,7 +25,7 @@ use crate::parts::{InferredType, component_count};
 use crate::type_numbers::{
     Level, access_number, components_number, cooperative_number, dimension_number,
     image_access_number, is_same_level, kind_number, length_kind, length_number, level_of,
-    level_of_scalar, level_of_truth, role_number, space_bits, space_number, truth_number,
+    level_of_scalar, level_of_truth, matrix_role_number, space_bits, space_number, truth_number,
 };
 use bitflags::Flags;
 use naga_info::TypeResolution;
@@ -237,7 +237,7 @@ fn inner_top(inner: &TypeInner, within: Option<usize>) -> Option<Top>
             *scalar,
             cooperative_number(*columns),
             cooperative_number(*rows),
-            role_number(*role),
+            matrix_role_number(*role),
         ),
         TypeInner::Atomic(scalar) => over_scalar(4, *scalar, 0, 0, 0),
         TypeInner::Pointer { base, space } => {
@@ -452,7 +452,7 @@ fn own_level(inner: &TypeInner) -> Level
             *scalar,
             cooperative_number(*columns),
             cooperative_number(*rows),
-            role_number(*role),
+            matrix_role_number(*role),
         ),
         TypeInner::Atomic(scalar) => level_of_scalar(4, *scalar, 0, 0, 0),
         TypeInner::Pointer { base, space } => level_of(

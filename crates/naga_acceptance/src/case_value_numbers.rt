@@ -8,7 +8,7 @@ ghost use Rattle.naga_ir.specs.StatementViews.{cases_of};
 ghost use Rattle.module_meaning.specs.acceptance.StatementsFit.{case_values_differ};
 ghost use Rattle.naga_acceptance.specs.CaseValues.{AreApart, AreMarked, AreOnce, IsTwice};
 ghost use Rattle.naga_acceptance.specs.CaseValues.{number_of};
-ghost use Rattle.naga_acceptance.specs.CaseValues.{numbers_of, shares, times};
+ghost use Rattle.naga_acceptance.specs.CaseValues.{numbers_of, has_common, times};
 
 use naga_ir::{SwitchCase, SwitchValue};
 
@@ -95,7 +95,7 @@ fn any_among(numbers: &[u64], marks: &[bool], cases: &[SwitchCase]) -> bool
     requires rise { IsNonDecreasing numbers.now }
     requires marks { AreMarked numbers.now marks.now }
     requires size { length marks.now ≡ CELLS }
-    ensures { result ≡ shares numbers.now (numbers_of (cases_of cases.now)) }
+    ensures { result ≡ has_common numbers.now (numbers_of (cases_of cases.now)) }
 {
     for case in cases {
         if is_among(numbers, marks, number_of(case.value)) {
@@ -109,7 +109,7 @@ fn any_among(numbers: &[u64], marks: &[bool], cases: &[SwitchCase]) -> bool
 #[inline(never)]
 fn shares_by_marks(numbers: &[u64], cases: &[SwitchCase]) -> bool
     requires { IsNonDecreasing numbers.now }
-    ensures { result ≡ shares numbers.now (numbers_of (cases_of cases.now)) }
+    ensures { result ≡ has_common numbers.now (numbers_of (cases_of cases.now)) }
 {
     let marks = marks_of(numbers);
     any_among(numbers, &marks, cases)
@@ -117,9 +117,9 @@ fn shares_by_marks(numbers: &[u64], cases: &[SwitchCase]) -> bool
 
 /// Whether the number of a case value is one of these, which ascend. They are marked only where
 /// there are case values.
-fn shares(numbers: &[u64], cases: &[SwitchCase]) -> bool
+fn has_common(numbers: &[u64], cases: &[SwitchCase]) -> bool
     requires { IsNonDecreasing numbers.now }
-    ensures { result ≡ shares numbers.now (numbers_of (cases_of cases.now)) }
+    ensures { result ≡ has_common numbers.now (numbers_of (cases_of cases.now)) }
 {
     if cases.is_empty() {
         return false;
@@ -139,7 +139,7 @@ fn first_differ(first: &[SwitchCase], following: &[SwitchCase]) -> bool
     let mut table = numbers_of(first);
     let numbers = &mut table[..first.len()];
     numbers.sort_unstable();
-    !has_equal_neighbours(numbers) && !shares(numbers, following)
+    !has_equal_neighbours(numbers) && !has_common(numbers, following)
 }
 
 /// Whether no case value is repeated, in whatever order they stand.

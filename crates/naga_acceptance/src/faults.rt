@@ -1,7 +1,7 @@
 //! Where a module is not accepted, and which kind of fault is there.
 
 ghost use Rattle.std.specs.Prelude.{◌≡◌, Some};
-ghost use Rattle.naga_acceptance.specs.FaultTexts.{fault_text, item_text, part_text};
+ghost use Rattle.naga_acceptance.specs.FaultTexts.{fault_text, item_text, function_position_text};
 ghost use Rattle.naga_acceptance.specs.FaultTexts.{unaccepted_text};
 ghost use Rattle.naga_acceptance.specs.FirstFaults.{at, at_entry_point, at_expression, at_function};
 
@@ -153,7 +153,7 @@ impl fmt::Display for FaultPosition {
 }
 
 impl fmt::Display for FunctionPosition {
-    ghost output = { λ position. Some (part_text position) };
+    ghost output = { λ position. Some (function_position_text position) };
 
     fn fmt<W: fmt::Write>(&self, f: &mut fmt::Formatter<W>) -> fmt::Result {
         match self {

@@ -6,7 +6,7 @@ ghost use Rattle.module_meaning.specs.AlikeTypes.{access_number, buffer_access_n
 ghost use Rattle.module_meaning.specs.AlikeTypes.{image_access_number};
 ghost use Rattle.module_meaning.specs.TypeIdentity.{components_number, cooperative_number};
 ghost use Rattle.module_meaning.specs.TypeIdentity.{dimension_number, kind_number, length_kind};
-ghost use Rattle.module_meaning.specs.TypeIdentity.{length_number, level, role_number, space_bits};
+ghost use Rattle.module_meaning.specs.TypeIdentity.{length_number, level, matrix_role_number, space_bits};
 ghost use Rattle.module_meaning.specs.TypeIdentity.{space_number, truth_number};
 ghost use Rattle.naga_acceptance.specs.Views.{numbers};
 
@@ -51,8 +51,8 @@ pub(crate) fn cooperative_number(size: CooperativeSize) -> usize
     }
 }
 
-pub(crate) fn role_number(role: CooperativeRole) -> usize
-    ensures { result ≡ role_number role }
+pub(crate) fn matrix_role_number(role: CooperativeRole) -> usize
+    ensures { result ≡ matrix_role_number role }
 {
     match role {
         CooperativeRole::A => 0,

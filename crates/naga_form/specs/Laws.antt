@@ -313,8 +313,8 @@ WordsAreDistinguished =
     one_word a ≡ one_word b
 
 -- and these do share it
-abbrev pub WordsAreKept : Type 0
-WordsAreKept = (a : Operator) → run_word (one_word a) ≡ run_word a
+abbrev pub OneWordsStay : Type 0
+OneWordsStay = (a : Operator) → run_word (one_word a) ≡ run_word a
 
 -- the number of operands tells apart those that share a word, but for a few
 abbrev pub OperandsAreDistinguished : Type 0

@@ -23,7 +23,7 @@ use Rattle.naga_ir.specs.declared.image.ImageClass.{ImageClass}
 use Rattle.naga_ir.specs.declared.image.ImageClass.TheVariants as class
 use Rattle.naga_ir.specs.declared.image.ImageDimension.{ImageDimension}
 use Rattle.wgsl_words.specs.Words.{scalar_word, space_word, space_access_word, image_access_word}
-use Rattle.wgsl_words.specs.Words.{role_word, format_word}
+use Rattle.wgsl_words.specs.Words.{matrix_role_word, format_word}
 use Rattle.naga_words.specs.Words.{vector_word, matrix_word, cooperative_word, image_word}
 use Rattle.naga_words.specs.Words.{sampler_word}
 use Rattle.naga_words.specs.Contexts.{Names}
@@ -80,7 +80,7 @@ inner_tree_by n f (inner.Vector size scalar) = vector_tree size scalar
 inner_tree_by n f (inner.Matrix columns rows scalar) =
     option_map (of_one (matrix_word columns rows)) (scalar_tree scalar)
 inner_tree_by n f (inner.CooperativeMatrix columns rows scalar role) =
-    option_map (λ s. of_two (cooperative_word columns rows) s (Named (role_word role)))
+    option_map (λ s. of_two (cooperative_word columns rows) s (Named (matrix_role_word role)))
     (scalar_tree scalar)
 inner_tree_by n f (inner.Atomic scalar) = option_map (of_one (codes "atomic")) (scalar_tree scalar)
 inner_tree_by n f (inner.Pointer base space) =

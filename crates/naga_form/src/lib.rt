@@ -18,7 +18,7 @@ ghost use Rattle.naga_form.specs.Laws.{HasAMeaning, HasAWorld, NamesTell};
 ghost use Rattle.naga_form.specs.Laws.{IsNotStuck, EveryIsNotStuck};
 ghost use Rattle.naga_form.specs.Laws.{AlikeAreDistinguished};
 ghost use Rattle.naga_form.specs.Laws.{UnspelledAreDistinguished, LiteralsAreDistinguished};
-ghost use Rattle.naga_form.specs.Laws.{WordsAreDistinguished, WordsAreKept};
+ghost use Rattle.naga_form.specs.Laws.{WordsAreDistinguished, OneWordsStay};
 ghost use Rattle.naga_form.specs.Laws.{OperandsAreDistinguished, RequestsAreDistinguished};
 
 /// The names that front ends' labels have in the text of a whole module are identifiers, different
@@ -177,7 +177,7 @@ pub fn tells_literals_apart()
 /// of operands tells those apart that share a word.
 pub fn tells_operators_apart()
     ensures words { WordsAreDistinguished }
-    ensures kept { WordsAreKept }
+    ensures kept { OneWordsStay }
     ensures counts { OperandsAreDistinguished }
 {}
 

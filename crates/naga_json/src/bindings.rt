@@ -113,7 +113,7 @@ impl Variants for BuiltIn {
         BUILT_IN_NAMES
     }
 
-    fn from_content(
+    fn from_payload(
         alloc: Global,
         variant: BuiltInName,
         content: &Value,
@@ -195,7 +195,7 @@ impl Variants for Binding {
         BINDING_NAMES
     }
 
-    fn from_content(
+    fn from_payload(
         alloc: Global,
         variant: BindingName,
         content: &Value,

@@ -231,7 +231,7 @@ fn named_expression(alloc: Global, key: &str, label: &Value) -> Result<NamedExpr
 
 /// The index that a member's name is.
 fn index_in(alloc: Global, key: &str) -> Result<usize, ReadError> {
-    if !is_numeral(key) {
+    if !is_natural_number(key) {
         return Err(mistyped(alloc, JsonKind::WholeNumber));
     }
     match key.parse::<usize>() {
@@ -241,7 +241,7 @@ fn index_in(alloc: Global, key: &str) -> Result<usize, ReadError> {
 }
 
 /// Whether the text is a number in the one way that numbers are written: so no two keys are one.
-fn is_numeral(text: &str) -> bool {
+fn is_natural_number(text: &str) -> bool {
     let has_digits = !text.is_empty() && text.bytes().all(|byte| byte.is_ascii_digit());
     has_digits && (text == "0" || !text.starts_with('0'))
 }

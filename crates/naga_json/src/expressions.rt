@@ -58,7 +58,7 @@ impl Variants for SampleLevel {
         SAMPLE_LEVEL_NAMES
     }
 
-    fn from_content(
+    fn from_payload(
         alloc: Global,
         variant: SampleLevelName,
         content: &Value,
@@ -111,7 +111,7 @@ impl Variants for ImageQuery {
         IMAGE_QUERY_NAMES
     }
 
-    fn from_content(
+    fn from_payload(
         alloc: Global,
         variant: ImageQueryName,
         content: &Value,
@@ -251,7 +251,7 @@ impl Variants for Expression {
         EXPRESSION_NAMES
     }
 
-    fn from_content(
+    fn from_payload(
         alloc: Global,
         variant: ExpressionName,
         content: &Value,
@@ -618,7 +618,7 @@ impl Variants for Literal {
         LITERAL_NAMES
     }
 
-    fn from_content(
+    fn from_payload(
         alloc: Global,
         variant: LiteralName,
         content: &Value,

@@ -38,7 +38,7 @@ impl Variants for TypeResolution {
         TYPE_RESOLUTION_NAMES
     }
 
-    fn from_content(
+    fn from_payload(
         alloc: Global,
         variant: TypeResolutionName,
         content: &Value,

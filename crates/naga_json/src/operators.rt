@@ -262,7 +262,7 @@ impl Variants for AtomicFunction {
         ATOMIC_FUNCTION_NAMES
     }
 
-    fn from_content(
+    fn from_payload(
         alloc: Global,
         variant: AtomicFunctionName,
         content: &Value,
@@ -325,7 +325,7 @@ impl Variants for GatherMode {
         GATHER_MODE_NAMES
     }
 
-    fn from_content(
+    fn from_payload(
         alloc: Global,
         variant: GatherModeName,
         content: &Value,

@@ -26,7 +26,7 @@ pub(crate) trait Variants: Sized + Drop {
     fn names() -> &'static [(&'static str, Self::Name)];
 
     /// Reads the content of this variant. For a variant without content it is null.
-    fn from_content(alloc: Global, variant: Self::Name, content: &Value) -> Result<Self, ReadError>;
+    fn from_payload(alloc: Global, variant: Self::Name, content: &Value) -> Result<Self, ReadError>;
 }
 
 /// The error of a value that is something else than is wanted.
@@ -235,11 +235,11 @@ pub(crate) fn read_variant<T: Variants + 'static>(
     let Some(found) = named_variant(value, &null) else {
         return Err(mistyped(alloc, JsonKind::Variant));
     };
-    let which = meaning(alloc, found.name, T::names())?;
+    let which = entry_named(alloc, found.name, T::names())?;
     in_member(
         alloc,
         found.name,
-        T::from_content(alloc, which, found.content),
+        T::from_payload(alloc, which, found.content),
     )
 }
 
@@ -262,19 +262,19 @@ pub(crate) fn word<T: Copy + Drop>(
     let Some(found) = named_variant(value, &null) else {
         return Err(mistyped(alloc, JsonKind::Variant));
     };
-    let which = meaning(alloc, found.name, words)?;
+    let which = entry_named(alloc, found.name, words)?;
     in_member(alloc, found.name, unit(alloc, found.content, which))
 }
 
 /// What the name stands for in a table.
-pub(crate) fn meaning<T: Copy>(
+pub(crate) fn entry_named<T: Copy>(
     alloc: Global,
     name: &str,
     words: &[(&str, T)],
 ) -> Result<T, ReadError> {
-    for (word, meaning) in words {
+    for (word, entry_named) in words {
         if *word == name {
-            return Ok(*meaning);
+            return Ok(*entry_named);
         }
     }
     Err(unknown(alloc, name))

@@ -3,8 +3,8 @@
 use crate::error::{JsonKind, Problem, ReadError};
 use crate::let_be;
 use crate::shape::{
-    FromJson, Variants, expect_members, expect_members_beside, in_item, in_member, items_of,
-    meaning, member, missing, mistyped, named_variant, read_variant, unit,
+    FromJson, Variants, entry_named, expect_members, expect_members_beside, in_item, in_member,
+    items_of, member, missing, mistyped, named_variant, read_variant, unit,
 };
 use json::Value;
 use naga_ir::{Block, Range, RayPipelineFunction, Statement, SwitchCase, SwitchValue};
@@ -38,7 +38,7 @@ impl Variants for SwitchValue {
         SWITCH_VALUE_NAMES
     }
 
-    fn from_content(
+    fn from_payload(
         alloc: Global,
         variant: SwitchValueName,
         content: &Value,
@@ -76,7 +76,7 @@ impl Variants for RayPipelineFunction {
         RAY_PIPELINE_FUNCTION_NAMES
     }
 
-    fn from_content(
+    fn from_payload(
         alloc: Global,
         variant: RayPipelineFunctionName,
         content: &Value,
@@ -378,7 +378,7 @@ fn statement(alloc: Global, value: &Value, levels: u32) -> Result<Statement, Rea
     let Some(found) = named_variant(&*value, &null) else {
         return Err(mistyped(alloc, JsonKind::Variant));
     };
-    let name = meaning(alloc, found.name, STATEMENT_NAMES)?;
+    let name = entry_named(alloc, found.name, STATEMENT_NAMES)?;
     in_member(
         alloc,
         found.name,

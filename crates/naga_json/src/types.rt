@@ -122,7 +122,7 @@ impl Variants for AddressSpace {
         ADDRESS_SPACE_NAMES
     }
 
-    fn from_content(
+    fn from_payload(
         alloc: Global,
         variant: AddressSpaceName,
         content: &Value,
@@ -172,7 +172,7 @@ impl Variants for PredeclaredType {
         PREDECLARED_TYPE_NAMES
     }
 
-    fn from_content(
+    fn from_payload(
         alloc: Global,
         variant: PredeclaredTypeName,
         content: &Value,
@@ -270,7 +270,7 @@ impl Variants for TypeInner {
         TYPE_INNER_NAMES
     }
 
-    fn from_content(
+    fn from_payload(
         alloc: Global,
         variant: TypeInnerName,
         content: &Value,
@@ -447,7 +447,7 @@ impl Variants for ImageClass {
         IMAGE_CLASS_NAMES
     }
 
-    fn from_content(
+    fn from_payload(
         alloc: Global,
         variant: ImageClassName,
         content: &Value,
@@ -563,7 +563,7 @@ impl Variants for ArraySize {
         ARRAY_SIZE_NAMES
     }
 
-    fn from_content(
+    fn from_payload(
         alloc: Global,
         variant: ArraySizeName,
         content: &Value,

@@ -21,7 +21,7 @@ use Rattle.wgsl_layout.specs.declared.layouts.Layout.{Layout}
 use Rattle.wgsl_layout.specs.declared.layouts.Placed.{Placed}
 use Rattle.naga_layout.proofs.Widths.{atomic_width_is, vector_aligns, width_aligns, width_is}
 use Rattle.naga_layout.specs.Capped.{left_from}
-use Rattle.naga_layout.specs.Types.{Rule, component_number, has_atomic_size, has_row, has_size}
+use Rattle.naga_layout.specs.Types.{Rule, component_number, has_atomic_size, may_be_laid_out, has_size}
 use Rattle.naga_layout.specs.Types.{inner_layout_by, kept_members, kept_struct, laid_array}
 use Rattle.naga_layout.specs.Types.{layout_at, layout_within, named_layout_by, placed_member}
 use Rattle.naga_layout.specs.Types.{placed_members, told_length}
@@ -198,7 +198,7 @@ module _ (f : ℕ → Option Layout) (aligns : AlignsAll f) where
   inner_aligned strict _ = tt
 
   named_aligned : (rule : Rule) (h : ℕ) (it : TypeInner) → IsAlignedIf (named_layout_by rule f h it)
-  named_aligned rule h it = by (has_row rule.declared h it) (inner_layout_by rule.strict f it)
+  named_aligned rule h it = by (may_be_laid_out rule.declared h it) (inner_layout_by rule.strict f it)
       (inner_aligned rule.strict it)
     where
       by : (b : Bool) (o : Option Layout) → IsAlignedIf o → IsAlignedIf (if b then o else None)

@@ -13,7 +13,7 @@ use Rattle.naga_ir.specs.declared.types.Type_.{Type_}
 use Rattle.naga_ir.specs.declared.types.TypeInner.{TypeInner}
 use Rattle.naga_ir.specs.declared.types.TypeInner.TheVariants as inner
 use Rattle.wgsl_layout.specs.declared.layouts.Layout.{Layout}
-use Rattle.naga_layout.specs.Types.{Rule, StandInOrder, has_row, inner_layout_by, kept_members}
+use Rattle.naga_layout.specs.Types.{Rule, StandInOrder, may_be_laid_out, inner_layout_by, kept_members}
 use Rattle.naga_layout.specs.Types.{laid_array, layout_at, layout_within, named_layout_by}
 use Rattle.naga_layout.specs.Types.{parts_before, placed_member, placed_members, told_length}
 use Rattle.naga_layout.specs.Types.{user_rule}
@@ -45,7 +45,7 @@ module _ (f g : ℕ → Option Layout) (n : ℕ) (same : (h : ℕ) → h < n →
   pub same_named : (rule : Rule) (h : ℕ) (it : TypeInner) → IsTrue (parts_before n it) →
       named_layout_by rule f h it ≡ named_layout_by rule g h it
   same_named rule h it before =
-      ap (λ o. if has_row rule.declared h it then o else None) (same_inner rule.strict it before)
+      ap (λ o. if may_be_laid_out rule.declared h it then o else None) (same_inner rule.strict it before)
 
 module _ (rule : Rule) (types : List Type_) (order : StandInOrder types) where
   found : (n m h : ℕ) (o : Option Type_) → slice_get types h ≡ o →

@@ -15,7 +15,7 @@ use Rattle.naga_ir.specs.declared.types.TypeInner.TheVariants as inner
 use Rattle.wgsl_layout.specs.Rules.{array_layout, kept_array, stride_of}
 use Rattle.wgsl_layout.specs.declared.layouts.Layout.{Layout}
 use Rattle.wgsl_layout.specs.declared.layouts.Placed.{Placed}
-use Rattle.naga_layout.specs.Types.{Rule, has_row, inner_layout_by, kept_members, laid_array}
+use Rattle.naga_layout.specs.Types.{Rule, may_be_laid_out, inner_layout_by, kept_members, laid_array}
 use Rattle.naga_layout.specs.Types.{layout_at, layout_within, named_layout_by, placed_member}
 use Rattle.naga_layout.specs.Types.{placed_members, told_length, user_rule}
 use Rattle.naga_layout.proofs.Levels.{told_is}
@@ -102,7 +102,7 @@ module _ (f g : ℕ → Option Layout)
       named_layout_by rule g h it ≡ Some y → x ≡ y
   same_named rule h it x y is also =
       same_inner rule.strict it x y (sym (told_is f h it) ∙ is)
-      (there (has_row rule.declared h it) (inner_layout_by rule.strict g it) y also)
+      (there (may_be_laid_out rule.declared h it) (inner_layout_by rule.strict g it) y also)
 
 module _ (rule : Rule) (types : List Type_) where
   same_within : (n h : ℕ) (x y : Layout) → layout_within n user_rule types h ≡ Some x →

@@ -125,14 +125,14 @@ inner_layout_by strict f (inner.Struct members span) = kept_struct f members.ite
 inner_layout_by strict f _ = None
 
 -- a struct that is not declared is not laid out
-abbrev pub has_row : (declared : ℕ → Bool) → (h : ℕ) → TypeInner → Bool
-has_row declared h (inner.Struct members span) = declared h
-has_row declared h _ = true
+abbrev pub may_be_laid_out : (declared : ℕ → Bool) → (h : ℕ) → TypeInner → Bool
+may_be_laid_out declared h (inner.Struct members span) = declared h
+may_be_laid_out declared h _ = true
 
 -- the type at a handle, over the layouts of its parts
 abbrev pub named_layout_by : Rule → (f : ℕ → Option Layout) → (h : ℕ) → TypeInner → Option Layout
 named_layout_by rule f h it =
-    if has_row rule.declared h it then inner_layout_by rule.strict f it else None
+    if may_be_laid_out rule.declared h it then inner_layout_by rule.strict f it else None
 
 -- the same, where types are in one another at most so many levels deep
 abbrev pub layout_within : (levels : ℕ) → Rule → List Type_ → (h : ℕ) → Option Layout

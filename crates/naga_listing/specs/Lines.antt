@@ -140,12 +140,12 @@ declaration_lines m =
     ++ (section title.GlobalVariables (length m.global_variables)
     ++ section title.GlobalExpressions (length m.global_expressions))))
 
-abbrev pub part_lines : Module → Listed → List Line
-part_lines m listed.Declarations = declaration_lines m
-part_lines m (listed.Function handle) = option_map_or function_lines (slice_get m.functions handle) []
-part_lines m (listed.EntryPoint index) =
+abbrev pub listed_lines : Module → Listed → List Line
+listed_lines m listed.Declarations = declaration_lines m
+listed_lines m (listed.Function handle) = option_map_or function_lines (slice_get m.functions handle) []
+listed_lines m (listed.EntryPoint index) =
     option_map_or (λ e. function_lines e.function) (slice_get m.entry_points.items index) []
 
 -- all lines of what is listed: the first is about the whole
 abbrev pub all_lines : Module → Listed → List Line
-all_lines m l = line 0 (kind.Item spot.Whole) ∷ part_lines m l
+all_lines m l = line 0 (kind.Item spot.Whole) ∷ listed_lines m l

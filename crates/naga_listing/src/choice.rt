@@ -64,7 +64,7 @@ fn shown_lines(
     ensures { IfOk result (λ shown. shown.items ≡ shown_lines spot.now spots.now lines.now) }
 {
     let marked = marked_line(spot, lines);
-    let kept = kept_lines(alloc, marked, spots, lines)?;
+    let kept = chosen_lines(alloc, marked, spots, lines)?;
     let Shown { lines, .. } = kept;
     Ok(lines)
 }
@@ -80,7 +80,7 @@ fn marked_line(spot: &Spot, lines: &[Line]) -> usize
 }
 
 #[tactic(auto, using(crate::proofs::Choosing::kept_next))]
-fn kept_lines(
+fn chosen_lines(
     alloc: Global,
     marked: usize,
     spots: &[Spot],

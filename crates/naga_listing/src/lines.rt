@@ -6,7 +6,7 @@ ghost use Rattle.naga_listing.specs.Lines.{after_block, after_cases, after_insid
 ghost use Rattle.naga_listing.specs.Lines.{after_statement, all_lines, another_lines, block_lines};
 ghost use Rattle.naga_listing.specs.Lines.{body_lines, case_lines, declaration_lines};
 ghost use Rattle.naga_listing.specs.Lines.{function_lines, headed_lines, inside_lines};
-ghost use Rattle.naga_listing.specs.Lines.{items_below, part_lines, section, spot_in};
+ghost use Rattle.naga_listing.specs.Lines.{items_below, listed_lines, section, spot_in};
 ghost use Rattle.naga_listing.specs.Lines.{statement_lines};
 ghost use Rattle.naga_listing.specs.Lines.{two_lines};
 
@@ -32,7 +32,7 @@ pub(crate) fn all_lines(
 /// The lines after the first.
 fn add_parts(lines: &mut Vec<Line>, module: &Module, listed: &Listed) -> Result<(), AllocError>
     ensures { IfOk result (λ _. lines.new.items
-        ≡ lines.old.items ++ part_lines «module».now listed.now) }
+        ≡ lines.old.items ++ listed_lines «module».now listed.now) }
 {
     match listed {
         Listed::Declarations => add_declarations(lines, module),

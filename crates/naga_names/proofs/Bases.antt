@@ -13,13 +13,13 @@ use Rattle.std.proofs.Math.Bool.{and-false}
 use borrow.Author.Tests.{eqb-true}
 use Rattle.naga_keywords.specs.Plain.{is_identifier_char, is_word}
 use Rattle.naga_names.specs.Label.{is_numeric, after_numerics, is_mark, is_foreign, hexadecimal}
-use Rattle.naga_names.specs.Label.{by_number, character_spelling, begins_separated}
-use Rattle.naga_names.specs.Label.{without_repeated_underscores, begins_foreign, spelling}
+use Rattle.naga_names.specs.Label.{by_number, character_ascii, begins_separated}
+use Rattle.naga_names.specs.Label.{without_repeated_underscores, begins_foreign, ascii_of}
 use Rattle.naga_names.specs.Label.{ends_separated, kept_before, without_last_separators, or_unnamed}
-use Rattle.naga_names.specs.Label.{kept_off, base_of}
+use Rattle.naga_names.specs.Label.{set_apart, base_of}
 use Rattle.ucd_category.proofs.Computing.{ucd_category}
-use Rattle.naga_names.proofs.Label.{character_spelling-mark, character_spelling-plain}
-use Rattle.naga_names.proofs.Label.{character_spelling-foreign, spelling-body, hexadecimal_glyph}
+use Rattle.naga_names.proofs.Label.{character_ascii-mark, character_ascii-plain}
+use Rattle.naga_names.proofs.Label.{character_ascii-foreign, ascii_of-body, hexadecimal_glyph}
 use Rattle.naga_names.proofs.Label.{all_zeros, all_digits_onto, body}
 
 -- ---- characters of identifiers alone
@@ -38,7 +38,7 @@ only_hexadecimal c = only_append (replicate (4 - length (digits_onto 64 16 false
 only_by_number : (c : ℕ) → only (95 ∷ by_number c)
 only_by_number c = only_append (hexadecimal c) (codes "_") (only_hexadecimal c) refl
 
-only_spelled : (c : ℕ) → only (character_spelling c)
+only_spelled : (c : ℕ) → only (character_ascii c)
 only_spelled c = either (is_mark c) (is_identifier_char c) refl
   where
     either : (m p : Bool) → is_identifier_char c ≡ p →
@@ -47,9 +47,9 @@ only_spelled c = either (is_mark c) (is_identifier_char c) refl
     either false true e = ap (λ b. b && true) e
     either false false e = only_by_number c
 
-only_flat : (cs : List ℕ) → only (flat_map character_spelling cs)
+only_flat : (cs : List ℕ) → only (flat_map character_ascii cs)
 only_flat [] = refl
-only_flat (c ∷ cs) = only_append (character_spelling c) (flat_map character_spelling cs) (only_spelled c) (only_flat cs)
+only_flat (c ∷ cs) = only_append (character_ascii c) (flat_map character_ascii cs) (only_spelled c) (only_flat cs)
 
 only_drop : (text : List ℕ) → only text → only (drop 1 text)
 only_drop [] e = e
@@ -66,15 +66,15 @@ only_squeezed (c ∷ cs) e =
     either true one rest = rest
     either false one rest = and_from _ _ one rest
 
-only_spelling : (cs : List ℕ) → only (spelling cs)
-unfolding spelling
+only_spelling : (cs : List ℕ) → only (ascii_of cs)
+unfolding ascii_of
 only_spelling cs = either (begins_foreign cs)
   where
-    either : (b : Bool) → only (cond b (drop 1 (without_repeated_underscores (flat_map character_spelling cs)))
-        (without_repeated_underscores (flat_map character_spelling cs)))
-    either true = only_drop (without_repeated_underscores (flat_map character_spelling cs))
-        (only_squeezed (flat_map character_spelling cs) (only_flat cs))
-    either false = only_squeezed (flat_map character_spelling cs) (only_flat cs)
+    either : (b : Bool) → only (cond b (drop 1 (without_repeated_underscores (flat_map character_ascii cs)))
+        (without_repeated_underscores (flat_map character_ascii cs)))
+    either true = only_drop (without_repeated_underscores (flat_map character_ascii cs))
+        (only_squeezed (flat_map character_ascii cs) (only_flat cs))
+    either false = only_squeezed (flat_map character_ascii cs) (only_flat cs)
 
 only_kept : (c : ℕ) (rest : List ℕ) → is_identifier_char c ≡ true → only rest → only (kept_before c rest)
 only_kept c [] one all = either (c == 95)
@@ -175,16 +175,16 @@ body-first (c ∷ cs) e = either (is_foreign c) (is_mark c) (is_identifier_char 
   where
     either : (f m p : Bool) → is_foreign c ≡ f → is_mark c ≡ m → is_identifier_char c ≡ p →
         begins_by is_ascii_digit
-        (cond f (drop 1 (character_spelling c ++ flat_map character_spelling cs))
-        (character_spelling c ++ flat_map character_spelling cs)) ≡ false
+        (cond f (drop 1 (character_ascii c ++ flat_map character_ascii cs))
+        (character_ascii c ++ flat_map character_ascii cs)) ≡ false
     either true m p f_is m_is p_is =
-        ap (λ t. begins_by is_ascii_digit (drop 1 (t ++ flat_map character_spelling cs)))
-        (character_spelling-foreign c f_is)
+        ap (λ t. begins_by is_ascii_digit (drop 1 (t ++ flat_map character_ascii cs)))
+        (character_ascii-foreign c f_is)
     either false true p f_is m_is p_is =
-        ap (λ t. begins_by is_ascii_digit (t ++ flat_map character_spelling cs)) (character_spelling-mark c m_is)
+        ap (λ t. begins_by is_ascii_digit (t ++ flat_map character_ascii cs)) (character_ascii-mark c m_is)
     either false false true f_is m_is p_is =
-        ap (λ t. begins_by is_ascii_digit (t ++ flat_map character_spelling cs))
-        (character_spelling-plain c m_is p_is) ∙ digit_not_numeric c e
+        ap (λ t. begins_by is_ascii_digit (t ++ flat_map character_ascii cs))
+        (character_ascii-plain c m_is p_is) ∙ digit_not_numeric c e
     either false false false f_is m_is p_is =
         absurd (cc (ap (λ b. not b && not (is_identifier_char c)) m_is, ap not p_is, f_is))
 
@@ -198,7 +198,7 @@ unnamed_end : (text : List ℕ) → ends_separated text ≡ false → ends_separ
 unnamed_end [] e = refl
 unnamed_end (c ∷ cs) e = e
 
-kept_word : (prefixes : List (List ℕ)) (text : List ℕ) → is_word text ≡ true → is_word (kept_off prefixes text) ≡ true
+kept_word : (prefixes : List (List ℕ)) (text : List ℕ) → is_word text ≡ true → is_word (set_apart prefixes text) ≡ true
 kept_word prefixes [] e = absurd (cc)
 kept_word prefixes (c ∷ cs) e = either (list_any (starts_with nat_eq (c ∷ cs)) prefixes)
   where
@@ -207,7 +207,7 @@ kept_word prefixes (c ∷ cs) e = either (list_any (starts_with nat_eq (c ∷ cs
     either false = e
 
 kept_end : (prefixes : List (List ℕ)) (text : List ℕ) → is_word text ≡ true → ends_separated text ≡ false →
-    ends_separated (kept_off prefixes text) ≡ false
+    ends_separated (set_apart prefixes text) ≡ false
 kept_end prefixes [] some e = absurd (cc)
 kept_end prefixes (c ∷ cs) some e = either (list_any (starts_with nat_eq (c ∷ cs)) prefixes)
   where
@@ -229,27 +229,27 @@ without-end (c ∷ cs) = kept (without_last_separators cs) (without-end cs)
 
 -- the text before a prefix is kept off
 before_prefix : (characters : List ℕ) →
-    is_word (or_unnamed (without_last_separators (spelling (after_numerics characters)))) ≡ true
+    is_word (or_unnamed (without_last_separators (ascii_of (after_numerics characters)))) ≡ true
 before_prefix characters =
     let cs = after_numerics characters in
-    unnamed_word (without_last_separators (spelling cs)) (only_without (spelling cs) (only_spelling cs))
-    (without-first is_ascii_digit (spelling cs) (ap (begins_by is_ascii_digit) (spelling-body cs)
+    unnamed_word (without_last_separators (ascii_of cs)) (only_without (ascii_of cs) (only_spelling cs))
+    (without-first is_ascii_digit (ascii_of cs) (ap (begins_by is_ascii_digit) (ascii_of-body cs)
     ∙ without_repeated_underscores-first is_ascii_digit (body cs)
     ∙ body-first cs (after_numerics-first characters)))
 
 pub base_is_word : (prefixes : List (List ℕ)) (characters : List ℕ) → is_word (base_of prefixes characters) ≡ true
 unfolding base_of
 base_is_word prefixes characters =
-    kept_word prefixes (or_unnamed (without_last_separators (spelling (after_numerics characters))))
+    kept_word prefixes (or_unnamed (without_last_separators (ascii_of (after_numerics characters))))
     (before_prefix characters)
 
 pub base_ends : (prefixes : List (List ℕ)) (characters : List ℕ) → ends_separated (base_of prefixes characters) ≡ false
 unfolding base_of
 base_ends prefixes characters =
-    kept_end prefixes (or_unnamed (without_last_separators (spelling (after_numerics characters))))
+    kept_end prefixes (or_unnamed (without_last_separators (ascii_of (after_numerics characters))))
     (before_prefix characters)
-    (unnamed_end (without_last_separators (spelling (after_numerics characters)))
-    (without-end (spelling (after_numerics characters))))
+    (unnamed_end (without_last_separators (ascii_of (after_numerics characters)))
+    (without-end (ascii_of (after_numerics characters))))
 
 -- ---- the first two characters
 -- the text begins with `__`
@@ -307,7 +307,7 @@ unnamed-double [] e = refl
 unnamed-double (c ∷ cs) e = e
 
 kept-double : (prefixes : List (List ℕ)) (text : List ℕ) → begins_double text ≡ false →
-    begins_double (kept_off prefixes text) ≡ false
+    begins_double (set_apart prefixes text) ≡ false
 kept-double prefixes text e = either (list_any (starts_with nat_eq text) prefixes)
   where
     either : (b : Bool) → begins_double (cond b (codes "gen_" ++ text) text) ≡ false
@@ -319,7 +319,7 @@ pub base_not_double : (prefixes : List (List ℕ)) (characters : List ℕ) →
 unfolding base_of
 base_not_double prefixes characters =
     let cs = after_numerics characters in
-    kept-double prefixes (or_unnamed (without_last_separators (spelling cs)))
-    (unnamed-double (without_last_separators (spelling cs))
-    (without-double (spelling cs) (ap begins_double (spelling-body cs)
+    kept-double prefixes (or_unnamed (without_last_separators (ascii_of cs)))
+    (unnamed-double (without_last_separators (ascii_of cs))
+    (without-double (ascii_of cs) (ap begins_double (ascii_of-body cs)
     ∙ without_repeated_underscores-double (body cs))))

@@ -1,4 +1,4 @@
--- How a spelling grows at its end, one character after another, and what every base looks like: a
+-- How a ascii_of grows at its end, one character after another, and what every base looks like: a
 -- word that ends in no `_`.
 use Rattle.std.proofs.Common.{◌≡◌, ℕ, ◌<◌, suc, Bool, true, false, cond, not, ◌&&◌, List, []}
 use Rattle.std.proofs.Common.{◌∷◌, ◌++◌, length, take, drop, refl, sym, ap, subst, ◌∙◌}
@@ -26,12 +26,12 @@ use Rattle.std.proofs.Math.Bool.{and-false}
 use borrow.Author.Tests.{eqb-true}
 use Rattle.naga_keywords.specs.Plain.{is_identifier_char}
 use Rattle.naga_names.specs.Label.{is_numeric, after_numerics, is_mark, is_foreign, hexadecimal}
-use Rattle.naga_names.specs.Label.{by_number, character_spelling, begins_separated}
+use Rattle.naga_names.specs.Label.{by_number, character_ascii, begins_separated}
 use Rattle.naga_names.specs.Label.{without_repeated_underscores, begins_foreign}
-use Rattle.naga_names.specs.Label.{spelling, ends_separated, with_separator, kept_before}
-use Rattle.naga_names.specs.Label.{without_last_separators, or_unnamed, kept_off, base_of, IsPlain}
-use Rattle.naga_names.specs.Label.{IsSpelledAlike}
-use Rattle.naga_names.specs.Naming.{numeral}
+use Rattle.naga_names.specs.Label.{ascii_of, ends_separated, with_separator, kept_before}
+use Rattle.naga_names.specs.Label.{without_last_separators, or_unnamed, set_apart, base_of, IsPlain}
+use Rattle.naga_names.specs.Label.{IsLeftAsItIs}
+use Rattle.naga_names.specs.Naming.{digits_of}
 
 -- ---- numeric characters at the front
 pub after_numerics-drop : (cs : List ℕ) → after_numerics cs ≡ drop (prefix_len is_numeric cs) cs
@@ -178,21 +178,21 @@ unseparated-hexadecimal c =
     ∙ unseparated-digits 64 c [] refl
 
 -- ---- spellings
-pub spelling-nil : spelling [] ≡ []
-unfolding spelling
-spelling-nil = refl
+pub ascii_of-nil : ascii_of [] ≡ []
+unfolding ascii_of
+ascii_of-nil = refl
 
-pub character_spelling-mark : (c : ℕ) → is_mark c ≡ true → character_spelling c ≡ codes "_"
-character_spelling-mark c mark =
+pub character_ascii-mark : (c : ℕ) → is_mark c ≡ true → character_ascii c ≡ codes "_"
+character_ascii-mark c mark =
     ap (λ b. cond b (codes "_") (cond (is_identifier_char c) (c ∷ []) (codes "_" ++ by_number c))) mark
 
-pub character_spelling-plain : (c : ℕ) → is_mark c ≡ false → is_identifier_char c ≡ true → character_spelling c ≡ c ∷ []
-character_spelling-plain c mark plain =
+pub character_ascii-plain : (c : ℕ) → is_mark c ≡ false → is_identifier_char c ≡ true → character_ascii c ≡ c ∷ []
+character_ascii-plain c mark plain =
     ap (λ b. cond b (codes "_") (cond (is_identifier_char c) (c ∷ []) (codes "_" ++ by_number c))) mark
     ∙ ap (λ b. cond b (c ∷ []) (codes "_" ++ by_number c)) plain
 
-pub character_spelling-foreign : (c : ℕ) → is_foreign c ≡ true → character_spelling c ≡ 95 ∷ by_number c
-character_spelling-foreign c foreign =
+pub character_ascii-foreign : (c : ℕ) → is_foreign c ≡ true → character_ascii c ≡ 95 ∷ by_number c
+character_ascii-foreign c foreign =
     let parts = and_parts (not (is_mark c)) (not (is_identifier_char c)) foreign in
     ap (λ b. cond b (codes "_") (cond (is_identifier_char c) (c ∷ []) (codes "_" ++ by_number c)))
     (not-true (is_mark c) parts.0)
@@ -206,61 +206,61 @@ without_repeated_underscores-by_number c =
 
 -- the spelled characters, of a foreign first one without its `_`
 unfoldable pub body : List ℕ → List ℕ
-body cs = cond (begins_foreign cs) (drop 1 (flat_map character_spelling cs)) (flat_map character_spelling cs)
+body cs = cond (begins_foreign cs) (drop 1 (flat_map character_ascii cs)) (flat_map character_ascii cs)
 
-pub spelling-body : (cs : List ℕ) → spelling cs ≡ without_repeated_underscores (body cs)
-unfolding spelling body
-spelling-body [] = refl
-spelling-body (c ∷ cs) = either (is_foreign c) refl
+pub ascii_of-body : (cs : List ℕ) → ascii_of cs ≡ without_repeated_underscores (body cs)
+unfolding ascii_of body
+ascii_of-body [] = refl
+ascii_of-body (c ∷ cs) = either (is_foreign c) refl
   where
     either : (b : Bool) → is_foreign c ≡ b →
         cond b (drop 1
-        (without_repeated_underscores (character_spelling c ++ flat_map character_spelling cs)))
-        (without_repeated_underscores (character_spelling c ++ flat_map character_spelling cs)) ≡
+        (without_repeated_underscores (character_ascii c ++ flat_map character_ascii cs)))
+        (without_repeated_underscores (character_ascii c ++ flat_map character_ascii cs)) ≡
         without_repeated_underscores
-        (cond b (drop 1 (character_spelling c ++ flat_map character_spelling cs))
-        (character_spelling c ++ flat_map character_spelling cs))
+        (cond b (drop 1 (character_ascii c ++ flat_map character_ascii cs))
+        (character_ascii c ++ flat_map character_ascii cs))
     either true e =
-        ap (λ t. drop 1 (without_repeated_underscores (t ++ flat_map character_spelling cs)))
-        (character_spelling-foreign c e)
-        ∙ sym (ap (λ t. without_repeated_underscores (drop 1 (t ++ flat_map character_spelling cs)))
-        (character_spelling-foreign c e))
+        ap (λ t. drop 1 (without_repeated_underscores (t ++ flat_map character_ascii cs)))
+        (character_ascii-foreign c e)
+        ∙ sym (ap (λ t. without_repeated_underscores (drop 1 (t ++ flat_map character_ascii cs)))
+        (character_ascii-foreign c e))
     either false e = refl
 
-body-push : (c : ℕ) (cs : List ℕ) (d : ℕ) → body (c ∷ cs ++ d ∷ []) ≡ body (c ∷ cs) ++ character_spelling d
+body-push : (c : ℕ) (cs : List ℕ) (d : ℕ) → body (c ∷ cs ++ d ∷ []) ≡ body (c ∷ cs) ++ character_ascii d
 unfolding body
 body-push c cs d =
     ap (λ t. cond (is_foreign c) (drop 1 t) t)
-    (flat_map-append character_spelling (c ∷ cs) (d ∷ [])
-    ∙ ap (λ t. flat_map character_spelling (c ∷ cs) ++ t) (append-nil (character_spelling d)))
+    (flat_map-append character_ascii (c ∷ cs) (d ∷ [])
+    ∙ ap (λ t. flat_map character_ascii (c ∷ cs) ++ t) (append-nil (character_ascii d)))
     ∙ either (is_foreign c) refl
   where
     either : (b : Bool) → is_foreign c ≡ b →
-        cond b (drop 1 (character_spelling c ++ flat_map character_spelling cs ++
-        character_spelling d)) (character_spelling c ++ flat_map character_spelling cs ++
-        character_spelling d) ≡ cond b
-        (drop 1 (character_spelling c ++ flat_map character_spelling cs))
-        (character_spelling c ++ flat_map character_spelling cs) ++ character_spelling d
-    either true e = ap (λ t. drop 1 (t ++ flat_map character_spelling cs ++ character_spelling d))
-        (character_spelling-foreign c e)
-        ∙ sym (ap (λ t. drop 1 (t ++ flat_map character_spelling cs) ++ character_spelling d)
-        (character_spelling-foreign c e))
+        cond b (drop 1 (character_ascii c ++ flat_map character_ascii cs ++
+        character_ascii d)) (character_ascii c ++ flat_map character_ascii cs ++
+        character_ascii d) ≡ cond b
+        (drop 1 (character_ascii c ++ flat_map character_ascii cs))
+        (character_ascii c ++ flat_map character_ascii cs) ++ character_ascii d
+    either true e = ap (λ t. drop 1 (t ++ flat_map character_ascii cs ++ character_ascii d))
+        (character_ascii-foreign c e)
+        ∙ sym (ap (λ t. drop 1 (t ++ flat_map character_ascii cs) ++ character_ascii d)
+        (character_ascii-foreign c e))
     either false e = refl
 
 -- one more character
-spelling-push : (c : ℕ) (cs : List ℕ) (d : ℕ) (text : List ℕ) → character_spelling d ≡ text →
-    spelling (c ∷ cs ++ d ∷ []) ≡ without_repeated_underscores (body (c ∷ cs) ++ text)
-spelling-push c cs d text is = spelling-body (c ∷ cs ++ d ∷ []) ∙ ap without_repeated_underscores
+ascii_of-push : (c : ℕ) (cs : List ℕ) (d : ℕ) (text : List ℕ) → character_ascii d ≡ text →
+    ascii_of (c ∷ cs ++ d ∷ []) ≡ without_repeated_underscores (body (c ∷ cs) ++ text)
+ascii_of-push c cs d text is = ascii_of-body (c ∷ cs ++ d ∷ []) ∙ ap without_repeated_underscores
     (body-push c cs d ∙ ap (λ t. body (c ∷ cs) ++ t) is)
 
 -- the first character, where it is not foreign
-spelling-first : (d : ℕ) (text : List ℕ) → is_foreign d ≡ false → character_spelling d ≡ text →
-    spelling (d ∷ []) ≡ without_repeated_underscores text
-unfolding spelling
-spelling-first d text plain is =
-    ap (λ b. cond b (drop 1 (without_repeated_underscores (character_spelling d ++ [])))
-    (without_repeated_underscores (character_spelling d ++ []))) plain
-    ∙ ap without_repeated_underscores (append-nil (character_spelling d) ∙ is)
+ascii_of-first : (d : ℕ) (text : List ℕ) → is_foreign d ≡ false → character_ascii d ≡ text →
+    ascii_of (d ∷ []) ≡ without_repeated_underscores text
+unfolding ascii_of
+ascii_of-first d text plain is =
+    ap (λ b. cond b (drop 1 (without_repeated_underscores (character_ascii d ++ [])))
+    (without_repeated_underscores (character_ascii d ++ []))) plain
+    ∙ ap without_repeated_underscores (append-nil (character_ascii d) ∙ is)
 
 not_foreign-mark : (c : ℕ) → is_mark c ≡ true → is_foreign c ≡ false
 not_foreign-mark c mark = ap (λ b. not b && not (is_identifier_char c)) mark
@@ -268,33 +268,33 @@ not_foreign-mark c mark = ap (λ b. not b && not (is_identifier_char c)) mark
 not_foreign-plain : (c : ℕ) → is_identifier_char c ≡ true → is_foreign c ≡ false
 not_foreign-plain c plain = ap (λ b. not (is_mark c) && not b) plain ∙ and-false (not (is_mark c))
 
-pub spelling-separator : (cs : List ℕ) (c : ℕ) → is_mark c ≡ true → spelling (cs ++ c ∷ [])
-    ≡ with_separator (spelling cs)
-spelling-separator [] c mark = spelling-first c (codes "_") (not_foreign-mark c mark)
-    (character_spelling-mark c mark) ∙ sym (ap with_separator spelling-nil)
-spelling-separator (d ∷ cs) c mark =
-    spelling-push d cs c (codes "_") (character_spelling-mark c mark)
-    ∙ without_repeated_underscores-push_separator (body (d ∷ cs)) ∙ ap with_separator (sym (spelling-body (d ∷ cs)))
+pub ascii_of-separator : (cs : List ℕ) (c : ℕ) → is_mark c ≡ true → ascii_of (cs ++ c ∷ [])
+    ≡ with_separator (ascii_of cs)
+ascii_of-separator [] c mark = ascii_of-first c (codes "_") (not_foreign-mark c mark)
+    (character_ascii-mark c mark) ∙ sym (ap with_separator ascii_of-nil)
+ascii_of-separator (d ∷ cs) c mark =
+    ascii_of-push d cs c (codes "_") (character_ascii-mark c mark)
+    ∙ without_repeated_underscores-push_separator (body (d ∷ cs)) ∙ ap with_separator (sym (ascii_of-body (d ∷ cs)))
 
-pub spelling-underscore : (cs : List ℕ) → spelling (cs ++ 95 ∷ []) ≡ with_separator (spelling cs)
-spelling-underscore [] = spelling-first 95 (codes "_") refl refl ∙ sym (ap with_separator spelling-nil)
-spelling-underscore (d ∷ cs) =
-    spelling-push d cs 95 (codes "_") refl ∙ without_repeated_underscores-push_separator (body (d ∷ cs))
-    ∙ ap with_separator (sym (spelling-body (d ∷ cs)))
+pub ascii_of-underscore : (cs : List ℕ) → ascii_of (cs ++ 95 ∷ []) ≡ with_separator (ascii_of cs)
+ascii_of-underscore [] = ascii_of-first 95 (codes "_") refl refl ∙ sym (ap with_separator ascii_of-nil)
+ascii_of-underscore (d ∷ cs) =
+    ascii_of-push d cs 95 (codes "_") refl ∙ without_repeated_underscores-push_separator (body (d ∷ cs))
+    ∙ ap with_separator (sym (ascii_of-body (d ∷ cs)))
 
 without_repeated_underscores-one : (c : ℕ) → without_repeated_underscores (c ∷ []) ≡ c ∷ []
 without_repeated_underscores-one c = ap (λ b. cond b [] (c ∷ [])) (and-false (c == 95))
 
-pub spelling-plain : (cs : List ℕ) (c : ℕ) → is_mark c ≡ false → is_identifier_char c ≡ true →
-    (c == 95) ≡ false → spelling (cs ++ c ∷ []) ≡ spelling cs ++ c ∷ []
-spelling-plain [] c mark plain other = spelling-first c (c ∷ []) (not_foreign-plain c plain)
-    (character_spelling-plain c mark plain) ∙ without_repeated_underscores-one c
-    ∙ sym (ap (λ t. t ++ c ∷ []) spelling-nil)
-spelling-plain (d ∷ cs) c mark plain other =
-    spelling-push d cs c (c ∷ []) (character_spelling-plain c mark plain)
+pub ascii_of-plain : (cs : List ℕ) (c : ℕ) → is_mark c ≡ false → is_identifier_char c ≡ true →
+    (c == 95) ≡ false → ascii_of (cs ++ c ∷ []) ≡ ascii_of cs ++ c ∷ []
+ascii_of-plain [] c mark plain other = ascii_of-first c (c ∷ []) (not_foreign-plain c plain)
+    (character_ascii-plain c mark plain) ∙ without_repeated_underscores-one c
+    ∙ sym (ap (λ t. t ++ c ∷ []) ascii_of-nil)
+ascii_of-plain (d ∷ cs) c mark plain other =
+    ascii_of-push d cs c (c ∷ []) (character_ascii-plain c mark plain)
     ∙ without_repeated_underscores-append (body (d ∷ cs)) c [] other
     ∙ ap (λ t. without_repeated_underscores (body (d ∷ cs)) ++ t) (without_repeated_underscores-one c)
-    ∙ ap (λ t. t ++ c ∷ []) (sym (spelling-body (d ∷ cs)))
+    ∙ ap (λ t. t ++ c ∷ []) (sym (ascii_of-body (d ∷ cs)))
 
 body_cons : (c : ℕ) (cs : List ℕ) → (d : ℕ) × (ds : List ℕ) × (body (c ∷ cs) ≡ d ∷ ds)
 unfolding body
@@ -302,72 +302,72 @@ body_cons c cs = either (is_foreign c) (is_mark c) (is_identifier_char c) refl r
   where
     either : (f m p : Bool) → is_foreign c ≡ f → is_mark c ≡ m → is_identifier_char c ≡ p →
         (d : ℕ) × (ds : List ℕ) ×
-        (cond f (drop 1 (character_spelling c ++ flat_map character_spelling cs))
-        (character_spelling c ++ flat_map character_spelling cs) ≡ d ∷ ds)
+        (cond f (drop 1 (character_ascii c ++ flat_map character_ascii cs))
+        (character_ascii c ++ flat_map character_ascii cs) ≡ d ∷ ds)
     either true m p f_is m_is p_is = (
       117,
-      hexadecimal c ++ codes "_" ++ flat_map character_spelling cs,
-      ap (λ t. drop 1 (t ++ flat_map character_spelling cs)) (character_spelling-foreign c f_is),
+      hexadecimal c ++ codes "_" ++ flat_map character_ascii cs,
+      ap (λ t. drop 1 (t ++ flat_map character_ascii cs)) (character_ascii-foreign c f_is),
     )
     either false true p f_is m_is p_is = (
       95,
-      flat_map character_spelling cs,
-      ap (λ t. t ++ flat_map character_spelling cs)
-          (character_spelling-mark c m_is),
+      flat_map character_ascii cs,
+      ap (λ t. t ++ flat_map character_ascii cs)
+          (character_ascii-mark c m_is),
     )
     either false false true f_is m_is p_is = (
       c,
-      flat_map character_spelling cs,
-      ap (λ t. t ++ flat_map character_spelling cs)
-          (character_spelling-plain c m_is p_is),
+      flat_map character_ascii cs,
+      ap (λ t. t ++ flat_map character_ascii cs)
+          (character_ascii-plain c m_is p_is),
     )
     either false false false f_is m_is p_is =
         absurd (cc (ap (λ b. not b && not (is_identifier_char c)) m_is, ap not p_is, f_is))
 
-pub spelling_cons : (c : ℕ) (cs : List ℕ) → (d : ℕ) × (ds : List ℕ) × (spelling (c ∷ cs) ≡ d ∷ ds)
+pub spelling_cons : (c : ℕ) (cs : List ℕ) → (d : ℕ) × (ds : List ℕ) × (ascii_of (c ∷ cs) ≡ d ∷ ds)
 spelling_cons c cs =
     let some = body_cons c cs in
     let text = squeezed_cons some.0 some.1 in
-    (text.0, text.1, spelling-body (c ∷ cs) ∙ ap without_repeated_underscores some.2 ∙ text.2)
+    (text.0, text.1, ascii_of-body (c ∷ cs) ∙ ap without_repeated_underscores some.2 ∙ text.2)
 
 body-foreign : (c : ℕ) → is_foreign c ≡ true → body (c ∷ []) ≡ by_number c
 unfolding body
 body-foreign c foreign =
-    ap (λ b. cond b (drop 1 (character_spelling c ++ [])) (character_spelling c ++ [])) foreign
-    ∙ ap (λ t. drop 1 (t ++ [])) (character_spelling-foreign c foreign) ∙ append-nil (by_number c)
+    ap (λ b. cond b (drop 1 (character_ascii c ++ [])) (character_ascii c ++ [])) foreign
+    ∙ ap (λ t. drop 1 (t ++ [])) (character_ascii-foreign c foreign) ∙ append-nil (by_number c)
 
-pub spelling-first_foreign : (cs : List ℕ) (c : ℕ) → is_foreign c ≡ true → length (spelling cs) ≡ 0 →
-    spelling (cs ++ c ∷ []) ≡ by_number c
-spelling-first_foreign [] c foreign none = spelling-body (c ∷ []) ∙ ap without_repeated_underscores
+pub ascii_of-first_foreign : (cs : List ℕ) (c : ℕ) → is_foreign c ≡ true → length (ascii_of cs) ≡ 0 →
+    ascii_of (cs ++ c ∷ []) ≡ by_number c
+ascii_of-first_foreign [] c foreign none = ascii_of-body (c ∷ []) ∙ ap without_repeated_underscores
     (body-foreign c foreign) ∙ without_repeated_underscores-by_number c
-spelling-first_foreign (d ∷ cs) c foreign none = let some = spelling_cons d cs in let long = ap length some.2 in
+ascii_of-first_foreign (d ∷ cs) c foreign none = let some = spelling_cons d cs in let long = ap length some.2 in
     absurd (omega (arith, long))
 
-pub spelling-later_foreign : (cs : List ℕ) (c : ℕ) → is_foreign c ≡ true → (length (spelling cs) ≡ 0 → ⊥) →
-    spelling (cs ++ c ∷ []) ≡ with_separator (spelling cs) ++ by_number c
-spelling-later_foreign [] c foreign some = absurd (some (ap length spelling-nil))
-spelling-later_foreign (d ∷ cs) c foreign some =
-    spelling-push d cs c (95 ∷ by_number c) (character_spelling-foreign c foreign)
+pub ascii_of-later_foreign : (cs : List ℕ) (c : ℕ) → is_foreign c ≡ true → (length (ascii_of cs) ≡ 0 → ⊥) →
+    ascii_of (cs ++ c ∷ []) ≡ with_separator (ascii_of cs) ++ by_number c
+ascii_of-later_foreign [] c foreign some = absurd (some (ap length ascii_of-nil))
+ascii_of-later_foreign (d ∷ cs) c foreign some =
+    ascii_of-push d cs c (95 ∷ by_number c) (character_ascii-foreign c foreign)
     ∙ ap without_repeated_underscores (sym (append_assoc (body (d ∷ cs)) (95 ∷ []) (by_number c)))
     ∙ without_repeated_underscores-append (body (d ∷ cs) ++ 95 ∷ []) 117 (hexadecimal c ++ codes "_") refl
     ∙ ap (λ t. without_repeated_underscores (body (d ∷ cs) ++ 95 ∷ []) ++ t) (without_repeated_underscores-by_number c)
     ∙ ap (λ t. t ++ by_number c) (without_repeated_underscores-push_separator (body (d ∷ cs))
-    ∙ ap with_separator (sym (spelling-body (d ∷ cs))))
+    ∙ ap with_separator (sym (ascii_of-body (d ∷ cs))))
 
 -- ---- the same by the tests that the code makes
-pub spelling-separating : (cs : List ℕ) (c : ℕ) → (is_mark c || c == 95) ≡ true → spelling (cs ++ c ∷ [])
-    ≡ with_separator (spelling cs)
-spelling-separating cs c test = either (is_mark c) refl test
+pub ascii_of-separating : (cs : List ℕ) (c : ℕ) → (is_mark c || c == 95) ≡ true → ascii_of (cs ++ c ∷ [])
+    ≡ with_separator (ascii_of cs)
+ascii_of-separating cs c test = either (is_mark c) refl test
   where
-    either : (b : Bool) → is_mark c ≡ b → (b || c == 95) ≡ true → spelling (cs ++ c ∷ []) ≡ with_separator (spelling cs)
-    either true mark test = spelling-separator cs c mark
-    either false mark test = ap (λ d. spelling (cs ++ d ∷ [])) (eqb-true c 95 test) ∙ spelling-underscore cs
+    either : (b : Bool) → is_mark c ≡ b → (b || c == 95) ≡ true → ascii_of (cs ++ c ∷ []) ≡ with_separator (ascii_of cs)
+    either true mark test = ascii_of-separator cs c mark
+    either false mark test = ap (λ d. ascii_of (cs ++ d ∷ [])) (eqb-true c 95 test) ∙ ascii_of-underscore cs
 
-pub spelling-alphanumeric : (cs : List ℕ) (c : ℕ) → (is_mark c || c == 95) ≡ false → is_ascii_alphanumeric c
-    ≡ true → spelling (cs ++ c ∷ []) ≡ spelling cs ++ c ∷ []
-spelling-alphanumeric cs c test plain =
+pub ascii_of-alphanumeric : (cs : List ℕ) (c : ℕ) → (is_mark c || c == 95) ≡ false → is_ascii_alphanumeric c
+    ≡ true → ascii_of (cs ++ c ∷ []) ≡ ascii_of cs ++ c ∷ []
+ascii_of-alphanumeric cs c test plain =
     let parts = or_parts (is_mark c) (c == 95) test in
-    spelling-plain cs c parts.0 (ap (λ b. b || c == 95) plain) parts.1
+    ascii_of-plain cs c parts.0 (ap (λ b. b || c == 95) plain) parts.1
 
 -- what `{:04x}` writes
 pub padded-hexadecimal : (c : ℕ) → padded_integral (format_spec 32 0 4 4 (2 ^ 64 - 1)) false []
@@ -391,27 +391,27 @@ pub lowercase_is_alphanumeric : (c : ℕ) → is_ascii_lowercase c ≡ true
     → is_ascii_alphanumeric c ≡ true
 lowercase_is_alphanumeric c e = grind (arith, nat_tests)
 
-pub alike-nothing : IsSpelledAlike []
-alike-nothing = record { ascii = IsAscii-nil; alike = spelling-nil }
+pub alike-nothing : IsLeftAsItIs []
+alike-nothing = record { ascii = IsAscii-nil; alike = ascii_of-nil }
 
-pub alike-letter : (cs : List ℕ) (c : ℕ) → IsSpelledAlike cs → is_ascii_alphanumeric c ≡ true
-    → IsSpelledAlike (cs ++ c ∷ []) × (ends_separated (cs ++ c ∷ []) ≡ false)
+pub alike-letter : (cs : List ℕ) (c : ℕ) → IsLeftAsItIs cs → is_ascii_alphanumeric c ≡ true
+    → IsLeftAsItIs (cs ++ c ∷ []) × (ends_separated (cs ++ c ∷ []) ≡ false)
 alike-letter cs c so_far letter =
     let other : (c == 95) ≡ false = grind (arith, nat_tests) in
     let test : (is_mark c || c == 95) ≡ false = grind (arith, nat_tests) in (
       record {
         ascii = IsAscii-push cs c so_far.ascii (alphanumeric_is_ascii c letter);
-        alike = spelling-alphanumeric cs c test letter ∙ ap (λ text. text ++ c ∷ []) so_far.alike;
+        alike = ascii_of-alphanumeric cs c test letter ∙ ap (λ text. text ++ c ∷ []) so_far.alike;
       },
       ends_separated-push cs c ∙ other,
     )
 
-pub alike-separator : (cs : List ℕ) (c : ℕ) → c ≡ 95 → IsSpelledAlike cs → ends_separated cs ≡ false
-    → IsSpelledAlike (cs ++ c ∷ []) × (ends_separated (cs ++ c ∷ []) ≡ true)
+pub alike-separator : (cs : List ℕ) (c : ℕ) → c ≡ 95 → IsLeftAsItIs cs → ends_separated cs ≡ false
+    → IsLeftAsItIs (cs ++ c ∷ []) × (ends_separated (cs ++ c ∷ []) ≡ true)
 alike-separator cs c is so_far lone = (
   record {
     ascii = IsAscii-push cs c so_far.ascii (omega (arith, is));
-    alike = ap (λ d. spelling (cs ++ d ∷ [])) is ∙ spelling-underscore cs
+    alike = ap (λ d. ascii_of (cs ++ d ∷ [])) is ∙ ascii_of-underscore cs
         ∙ ap with_separator so_far.alike ∙ with_separator-not cs lone
         ∙ ap (λ d. cs ++ d ∷ []) (sym is);
   },
@@ -419,18 +419,18 @@ alike-separator cs c is so_far lone = (
 )
 
 base_of-front : (prefixes : List (List ℕ)) (c : ℕ) (cs rest : List ℕ) → is_numeric c ≡ false
-    → list_any (starts_with nat_eq (c ∷ cs)) prefixes ≡ false → IsSpelledAlike (c ∷ rest)
+    → list_any (starts_with nat_eq (c ∷ cs)) prefixes ≡ false → IsLeftAsItIs (c ∷ rest)
     → without_last_separators (c ∷ rest) ≡ c ∷ cs → base_of prefixes (chars (c ∷ rest)) ≡ c ∷ cs
 unfolding base_of
 base_of-front prefixes c cs rest first free alike done =
     ap (λ text.
-    kept_off prefixes (or_unnamed (without_last_separators (spelling (after_numerics text)))))
+    set_apart prefixes (or_unnamed (without_last_separators (ascii_of (after_numerics text)))))
     (chars-IsAscii (c ∷ rest) alike.ascii)
     ∙ ap (λ b.
-    kept_off prefixes
-    (or_unnamed (without_last_separators (spelling (cond b (after_numerics rest) (c ∷ rest))))))
+    set_apart prefixes
+    (or_unnamed (without_last_separators (ascii_of (cond b (after_numerics rest) (c ∷ rest))))))
     first
-    ∙ ap (λ text. kept_off prefixes (or_unnamed text))
+    ∙ ap (λ text. set_apart prefixes (or_unnamed text))
     (ap without_last_separators alike.alike ∙ done)
     ∙ ap (λ b. cond b (codes "gen_" ++ c ∷ cs) (c ∷ cs)) free
 
@@ -575,8 +575,8 @@ pub is_text-decimal : (n : ℕ) → is_text (decimal n) ≡ true
 unfolding digits
 is_text-decimal n = is_text-digits_of_some 63 n
 
-pub is_text-numeral : (n : ℕ) → is_text (numeral n) ≡ true
-is_text-numeral n = is_text-digits_of_some n n
+pub is_text-digits_of : (n : ℕ) → is_text (digits_of n) ≡ true
+is_text-digits_of n = is_text-digits_of_some n n
 
 decimal_glyph : (n : ℕ) → is_ascii_digit (digit_glyph false (n % 10)) ≡ true
 decimal_glyph n = let lt : n % 10 < 10 = omega arith in grind (arith, nat_tests)
@@ -588,8 +588,8 @@ pub all_digits-decimal : (n : ℕ) → list_all is_ascii_digit (decimal n) ≡ t
 unfolding digits
 all_digits-decimal n = all_digits_onto is_ascii_digit 10 decimal_glyph 64 n [] refl
 
-pub all_digits-numeral : (n : ℕ) → list_all is_ascii_digit (numeral n) ≡ true
-all_digits-numeral n = all_digits_onto is_ascii_digit 10 decimal_glyph (suc n) n [] refl
+pub all_digits-digits_of : (n : ℕ) → list_all is_ascii_digit (digits_of n) ≡ true
+all_digits-digits_of n = all_digits_onto is_ascii_digit 10 decimal_glyph (suc n) n [] refl
 
 pub all_zeros : (n : ℕ) → list_all is_identifier_char (replicate n 48) ≡ true
 all_zeros zero = refl

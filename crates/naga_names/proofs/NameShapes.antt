@@ -19,16 +19,16 @@ use Rattle.std.proofs.lemmas.Map.Text.{is_eq-slice_cmp}
 use Rattle.std.proofs.lemmas.Bool.{and_parts, and_from, true≢false, or_parts}
 use Rattle.std.proofs.Math.Bool.{and-false}
 use Rattle.naga_names.proofs.Label.{get_or-last, ends_separated-push, is_text, is_text-decimal}
-use Rattle.naga_names.proofs.Label.{is_text-numeral, all_digits-numeral, all_digits-decimal}
+use Rattle.naga_names.proofs.Label.{is_text-digits_of, all_digits-digits_of, all_digits-decimal}
 use Rattle.naga_names.proofs.Bases.{base_is_word, base_ends, begins_double, base_not_double}
 use Rattle.naga_names.proofs.Numerals.{numeral_injective}
-use Rattle.naga_names.specs.Label.{ends_separated, after_numerics, spelling}
-use Rattle.naga_names.specs.Label.{without_last_separators, or_unnamed, kept_off, base_of}
+use Rattle.naga_names.specs.Label.{ends_separated, after_numerics, ascii_of}
+use Rattle.naga_names.specs.Label.{without_last_separators, or_unnamed, set_apart, base_of}
 use Rattle.naga_keywords.specs.Plain.{is_identifier_char, is_word, is_identifier}
 use Rattle.naga_keywords.specs.Plain.{is_empty_or_separated, HasPlainEnds, IsPlain}
 use Rattle.naga_keywords.specs.Words.{in_lower_case}
 use Rattle.naga_names.specs.Naming.{Names, label_base, is_taken, ends_in_digit, first_name}
-use Rattle.naga_names.specs.Naming.{later_name, name_of_base, labels_with_base, name_after, numeral}
+use Rattle.naga_names.specs.Naming.{later_name, name_of_base, labels_with_base, name_after, digits_of}
 
 -- ---- the last character
 -- the text ends in a character that passes
@@ -80,8 +80,8 @@ digits_have_none (d ∷ ds) e =
     one : (d : ℕ) → is_ascii_digit d ≡ true → not (d == 95) ≡ true
     one d e = grind (arith, nat_tests)
 
-number_has_none : (n : ℕ) → has_none (numeral n) ≡ true
-number_has_none n = digits_have_none (numeral n) (all_digits-numeral n)
+number_has_none : (n : ℕ) → has_none (digits_of n) ≡ true
+number_has_none n = digits_have_none (digits_of n) (all_digits-digits_of n)
 
 -- ---- a name by its base and the uses before it
 module _ (names : Names) (base : List ℕ) where
@@ -96,11 +96,11 @@ module _ (names : Names) (base : List ℕ) where
       either true e = inl refl
       either false e = let parts = or_parts (ends_in_digit base) (is_taken names base) e in inr (refl, parts.0, parts.1)
 
-  later_is : (n : ℕ) → later_name base n ≡ base ++ 95 ∷ numeral n
-  later_is n = append_assoc base (95 ∷ []) (numeral n)
+  later_is : (n : ℕ) → later_name base n ≡ base ++ 95 ∷ digits_of n
+  later_is n = append_assoc base (95 ∷ []) (digits_of n)
 
   name_cases : (n : ℕ) → ((n ≡ 0) × (name_of_base names base n ≡ first_name names base))
-      ⊎ (name_of_base names base n ≡ base ++ 95 ∷ numeral n)
+      ⊎ (name_of_base names base n ≡ base ++ 95 ∷ digits_of n)
   name_cases n = either (n == 0) refl
     where
       none : (n == 0) ≡ true → n ≡ 0
@@ -108,7 +108,7 @@ module _ (names : Names) (base : List ℕ) where
 
       either : (b : Bool) → (n == 0) ≡ b →
           ((n ≡ 0) × (cond b (first_name names base) (later_name base n) ≡ first_name names base)) ⊎
-          (cond b (first_name names base) (later_name base n) ≡ base ++ 95 ∷ numeral n)
+          (cond b (first_name names base) (later_name base n) ≡ base ++ 95 ∷ digits_of n)
       either true e = inl (none e, refl)
       either false e = inr (later_is n)
 
@@ -122,10 +122,10 @@ module _ (names : Names) (base : List ℕ) where
       either (inl is) = ap (ends_by is_ascii_digit) is ∙ ends_by-append is_ascii_digit base 95 []
       either (inr is) = ap (ends_by is_ascii_digit) is.0 ∙ sym (ends_by-last base) ∙ is.1
 
-  later_ends : (n : ℕ) → ends_by is_ascii_digit (base ++ 95 ∷ numeral n) ≡ true
+  later_ends : (n : ℕ) → ends_by is_ascii_digit (base ++ 95 ∷ digits_of n) ≡ true
   unfolding is_text
-  later_ends n = ap (ends_by is_ascii_digit) (sym (append_assoc base (95 ∷ []) (numeral n)))
-      ∙ ended (numeral n) (is_text-numeral n) (all_digits-numeral n)
+  later_ends n = ap (ends_by is_ascii_digit) (sym (append_assoc base (95 ∷ []) (digits_of n)))
+      ∙ ended (digits_of n) (is_text-digits_of n) (all_digits-digits_of n)
     where
       ended : (ds : List ℕ) → is_text ds ≡ true → list_all is_ascii_digit ds ≡ true →
           ends_by is_ascii_digit ((base ++ 95 ∷ []) ++ ds) ≡ true
@@ -163,10 +163,10 @@ module _ (names : Names) (base : List ℕ) where
       first (inr is) = ap is_word is.0 ∙ word
 
       either : ((n ≡ 0) × (name_of_base names base n ≡ first_name names base))
-          ⊎ (name_of_base names base n ≡ base ++ 95 ∷ numeral n) → is_word (name_of_base names base n) ≡ true
+          ⊎ (name_of_base names base n ≡ base ++ 95 ∷ digits_of n) → is_word (name_of_base names base n) ≡ true
       either (inl is) = ap is_word is.1 ∙ first first_cases
-      either (inr is) = ap is_word is ∙ only_more (95 ∷ numeral n) word
-          (digits_are_only (numeral n) (all_digits-numeral n))
+      either (inr is) = ap is_word is ∙ only_more (95 ∷ digits_of n) word
+          (digits_are_only (digits_of n) (all_digits-digits_of n))
 
   -- ---- a name is none of these words
   module _ (taken : List ℕ → Bool) (plain : (front digits : List ℕ) →
@@ -182,9 +182,9 @@ module _ (names : Names) (base : List ℕ) where
         first (inr is) = ap taken is.0 ∙ kept is.2
 
         either : ((n ≡ 0) × (name_of_base names base n ≡ first_name names base))
-            ⊎ (name_of_base names base n ≡ base ++ 95 ∷ numeral n) → taken (name_of_base names base n) ≡ false
+            ⊎ (name_of_base names base n ≡ base ++ 95 ∷ digits_of n) → taken (name_of_base names base n) ≡ false
         either (inl is) = ap taken is.1 ∙ first first_cases
-        either (inr is) = ap taken is ∙ plain base (numeral n) (all_digits-numeral n)
+        either (inr is) = ap taken is ∙ plain base (digits_of n) (all_digits-digits_of n)
 
   -- ---- no name is `_e` and a number
   numbered_of_base : is_word base ≡ true → (n h : ℕ) → name_of_base names base n ≡ codes "_e" ++ decimal h → ⊥
@@ -195,7 +195,7 @@ module _ (names : Names) (base : List ℕ) where
       nothing e = true≢false (sym word ∙ ap is_word e)
 
       either : ((n ≡ 0) × (name_of_base names base n ≡ first_name names base))
-          ⊎ (name_of_base names base n ≡ base ++ 95 ∷ numeral n) → ⊥
+          ⊎ (name_of_base names base n ≡ base ++ 95 ∷ digits_of n) → ⊥
       either (inl first) = true≢false (sym numbered_ends ∙ ap (ends_by is_ascii_digit) (sym is ∙ first.1) ∙ first_ends)
         where
           numbered_ends : ends_by is_ascii_digit (codes "_e" ++ decimal h) ≡ true
@@ -206,7 +206,7 @@ module _ (names : Names) (base : List ℕ) where
               ended [] some all = absurd (cc)
               ended (d ∷ ds) some all = ends_by-append is_ascii_digit (codes "_e") d ds
                   ∙ ends_by-all is_ascii_digit (d ∷ ds) refl all
-      either (inr later) = nothing (split_last base (numeral n) [] (101 ∷ decimal h) (number_has_none n)
+      either (inr later) = nothing (split_last base (digits_of n) [] (101 ∷ decimal h) (number_has_none n)
           (digits_have_none (decimal h) (all_digits-decimal h)) (sym later ∙ is)).0
 
 -- ---- a name tells its base and its number
@@ -218,7 +218,7 @@ module _ (names : Names) (b c : List ℕ) (m n : ℕ) (b_ends : ends_separated b
 
   abbrev NameCases : List ℕ → ℕ → Type 0
   NameCases d k = ((k ≡ 0) × (name_of_base names d k ≡ first_name names d))
-      ⊎ (name_of_base names d k ≡ d ++ 95 ∷ numeral k)
+      ⊎ (name_of_base names d k ≡ d ++ 95 ∷ digits_of k)
 
   both_first : FirstCases b → FirstCases c → first_name names b ≡ first_name names c → b ≡ c
   both_first (inl x) (inl y) e = (split_last b [] c [] refl refl (sym x ∙ e ∙ y)).0
@@ -239,7 +239,7 @@ module _ (names : Names) (b c : List ℕ) (m n : ℕ) (b_ends : ends_separated b
       absurd (true≢false (sym (later_ends names b m) ∙ ap (ends_by is_ascii_digit) (sym x ∙ e ∙ y.1)
       ∙ first_ends names c))
   both (inr x) (inr y) e =
-      let parts = split_last b (numeral m) c (numeral n) (number_has_none m) (number_has_none n) (sym x ∙ e ∙ y) in
+      let parts = split_last b (digits_of m) c (digits_of n) (number_has_none m) (number_has_none n) (sym x ∙ e ∙ y) in
       (parts.0, numeral_injective m n parts.1)
 
   pub same_base_and_number : name_of_base names b m ≡ name_of_base names c n → (b ≡ c) × (m ≡ n)
@@ -287,11 +287,11 @@ identifier_of_base names base n some ends single = either (name_cases names base
     first (inr is) word = ap is_identifier is.0 ∙ plain some
 
     either : ((n ≡ 0) × (name_of_base names base n ≡ first_name names base)) ⊎
-        (name_of_base names base n ≡ base ++ 95 ∷ numeral n) →
+        (name_of_base names base n ≡ base ++ 95 ∷ digits_of n) →
         is_word (name_of_base names base n) ≡ true →
         is_identifier (name_of_base names base n) ≡ true
     either (inl is) word = ap is_identifier is.1 ∙ first (first_cases names base) (ap is_word (sym is.1) ∙ word)
-    either (inr is) word = ap is_identifier is ∙ identifier_more base (95 ∷ numeral n) some ends single
+    either (inr is) word = ap is_identifier is ∙ identifier_more base (95 ∷ digits_of n) some ends single
         (ap is_word (sym is) ∙ word)
 
 -- a name is an identifier: a word that does not begin with `__`, and is not `_`
@@ -320,10 +320,10 @@ base_no_naga : (prefixes : List (List ℕ)) (characters : List ℕ) → prefixes
     naga (base_of prefixes characters) ≡ false
 unfolding base_of
 base_no_naga prefixes characters is =
-    ap (λ ps. naga (kept_off ps text)) is ∙ either (starts_with nat_eq text (codes "__") || (naga text || false)) refl
+    ap (λ ps. naga (set_apart ps text)) is ∙ either (starts_with nat_eq text (codes "__") || (naga text || false)) refl
   where
     text : List ℕ
-    text = or_unnamed (without_last_separators (spelling (after_numerics characters)))
+    text = or_unnamed (without_last_separators (ascii_of (after_numerics characters)))
 
     either : (b : Bool) → (starts_with nat_eq text (codes "__") || (naga text || false)) ≡ b →
         naga (cond b (codes "gen_" ++ text) text) ≡ false
@@ -342,9 +342,9 @@ naga_of_base names base n some off = either (name_cases names base n)
     first (inr is) = ap naga is.0 ∙ off
 
     either : ((n ≡ 0) × (name_of_base names base n ≡ first_name names base))
-        ⊎ (name_of_base names base n ≡ base ++ 95 ∷ numeral n) → naga (name_of_base names base n) ≡ false
+        ⊎ (name_of_base names base n ≡ base ++ 95 ∷ digits_of n) → naga (name_of_base names base n) ≡ false
     either (inl is) = ap naga is.1 ∙ first (first_cases names base)
-    either (inr is) = ap naga is ∙ naga_parted base (numeral n) some ∙ off
+    either (inr is) = ap naga is ∙ naga_parted base (digits_of n) some ∙ off
 
 -- under the prefixes `__` and `_naga` no name begins with `_naga`
 pub name_after_no_naga : (start : Names) (earlier : List (List ℕ)) (label : List ℕ) →

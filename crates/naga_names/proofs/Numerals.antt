@@ -8,7 +8,7 @@ use Rattle.std.proofs.Common.{refl, Bool, true, false, cond, List, [], ◌∷◌
 use Rattle.std.specs.Fmt.{decimal, digits, digits_onto, digit_glyph}
 use Rattle.std.proofs.lemmas.Bool.Decides.{nat_tests}
 use native.Mathlib.Nat.{pow-zero, pow-suc}
-use Rattle.naga_names.specs.Naming.{numeral}
+use Rattle.naga_names.specs.Naming.{digits_of}
 
 -- the number that digits say after those that said m
 abbrev read_on : ℕ → List ℕ → ℕ
@@ -47,8 +47,8 @@ reads_back (suc k) n following small =
     by false e r =
         r ∙ ap (λ m. read_on m following) {x = n / 10 * 10 + (digit - 48)} {y = n} (omega (arith, last_digit n))
 
--- a numeral tells its number
-pub numeral_injective : (m n : ℕ) → numeral m ≡ numeral n → m ≡ n
+-- a digits_of tells its number
+pub numeral_injective : (m n : ℕ) → digits_of m ≡ digits_of n → m ≡ n
 numeral_injective m n e =
     sym (reads_back (suc m) m [] (fits m)) ∙ ap (read_on 0) e ∙ reads_back (suc n) n [] (fits n)
 
@@ -88,7 +88,7 @@ one_numeral (suc k) (suc j) n following some_k some_j small_k small_j =
     by true e rest = refl
     by false e rest = rest e
 
-pub numeral_is_decimal : (n : ℕ) → n < 2 ^ 64 → numeral n ≡ decimal n
+pub numeral_is_decimal : (n : ℕ) → n < 2 ^ 64 → digits_of n ≡ decimal n
 unfolding digits
 numeral_is_decimal n small =
     one_numeral (suc n) 64 n [] (omega arith) (omega arith) (fits n) (omega (arith, small))

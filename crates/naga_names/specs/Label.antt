@@ -38,8 +38,8 @@ abbrev pub by_number : ℕ → List ℕ
 by_number c = codes "u" ++ hexadecimal c ++ codes "_"
 
 -- a mark is spelled `_`, a foreign character `_uXXXX_` by its number, and any other one as it is
-abbrev pub character_spelling : ℕ → List ℕ
-character_spelling c =
+abbrev pub character_ascii : ℕ → List ℕ
+character_ascii c =
     if is_mark c then codes "_"
     else (if is_identifier_char c then c ∷ [] else codes "_" ++ by_number c)
 
@@ -61,9 +61,9 @@ begins_foreign (c ∷ cs) = is_foreign c
 
 -- the characters spelled one after another and squeezed,
 -- without the `_` of a foreign first character
-unfoldable pub spelling : List ℕ → List ℕ
-spelling characters =
-    let text = without_repeated_underscores (flat_map character_spelling characters) in
+unfoldable pub ascii_of : List ℕ → List ℕ
+ascii_of characters =
+    let text = without_repeated_underscores (flat_map character_ascii characters) in
     if begins_foreign characters then drop 1 text else text
 
 -- the text ends in a `_`
@@ -92,24 +92,24 @@ or_unnamed [] = codes "unnamed"
 or_unnamed (c ∷ cs) = c ∷ cs
 
 -- a text that begins with one of the prefixes has `gen_` before it
-abbrev pub kept_off : List (List ℕ) → List ℕ → List ℕ
-kept_off prefixes text =
+abbrev pub set_apart : List (List ℕ) → List ℕ → List ℕ
+set_apart prefixes text =
     if list_any (starts_with nat_eq text) prefixes then codes "gen_" ++ text else text
 
 -- an ASCII text that is spelled as it stands
-pub record IsSpelledAlike (text : List ℕ) : Type 0 where
+pub record IsLeftAsItIs (text : List ℕ) : Type 0 where
   pub ascii : IsAscii text
-  pub alike : spelling text ≡ text
+  pub alike : ascii_of text ≡ text
 
 -- an ASCII text that a label keeps: spelled as it stands,
 -- with no number first and no `_` at its end
 pub record IsPlain (text : List ℕ) : Type 0 where
   pub some : 0 < length text
   pub first : is_numeric (slice_index text 0) ≡ false
-  pub alike : IsSpelledAlike text
+  pub alike : IsLeftAsItIs text
   pub last : ends_separated text ≡ false
 
 -- the base of a label, of which these are the characters, where identifiers keep off these prefixes
 unfoldable pub base_of : List (List ℕ) → List ℕ → List ℕ
 base_of prefixes characters =
-    kept_off prefixes (or_unnamed (without_last_separators (spelling (after_numerics characters))))
+    set_apart prefixes (or_unnamed (without_last_separators (ascii_of (after_numerics characters))))

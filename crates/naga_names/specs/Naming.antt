@@ -104,12 +104,12 @@ first_name names base =
     if ends_in_digit base || is_taken names base then base ++ codes "_" else base
 
 -- a number in decimal, however great it is: it has no more digits than it counts, and one
-abbrev pub numeral : ℕ → List ℕ
-numeral n = digits_onto (suc n) 10 false n []
+abbrev pub digits_of : ℕ → List ℕ
+digits_of n = digits_onto (suc n) 10 false n []
 
 -- a later one has `_` and the number of earlier uses after it
 abbrev pub later_name : List ℕ → ℕ → List ℕ
-later_name base uses = base ++ codes "_" ++ numeral uses
+later_name base uses = base ++ codes "_" ++ digits_of uses
 
 -- the name of a base that was used so often before
 abbrev pub name_of_base : Names → List ℕ → ℕ → List ℕ

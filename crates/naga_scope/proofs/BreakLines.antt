@@ -13,7 +13,7 @@ use Rattle.module_meaning.proofs.FunctionNumbers.{in_append}
 use Rattle.naga_scope.proofs.LineWrites.{In, in_either, in_left, in_right, of_line, on_line}
 use Rattle.naga_scope.specs.FirstLines.{block_breaks, case_breaks, statement_breaks, writes_at}
 use Rattle.naga_ir.specs.InOrder.{case_trees, trees_in, trees_inside}
-use Rattle.naga_scope.specs.InOrder.{break_root}
+use Rattle.naga_scope.specs.InOrder.{break_handle}
 use Rattle.naga_scope.specs.Marks.{is_one_of}
 use Rattle.naga_scope.specs.declared.lines.Line.{Line}
 use Rattle.naga_scope.specs.declared.lines.Line.TheVariants.{BreakIf}
@@ -21,7 +21,7 @@ use Rattle.naga_scope.specs.declared.lines.Line.TheVariants.{BreakIf}
 module _ (h : ℕ) (line : Line) where
   -- the `break if` of the statement with this number writes it,
   abbrev pub Breaks : (j : ℕ) → StatementTree → Type 0
-  Breaks j st = (line ≡ BreakIf j (suc j + length (trees_inside st))) × (is_one_of (break_root st) h ≡ true)
+  Breaks j st = (line ≡ BreakIf j (suc j + length (trees_inside st))) × (is_one_of (break_handle st) h ≡ true)
 
   -- and one of these does
   abbrev pub Held : (n : ℕ) → List StatementTree → Type 0

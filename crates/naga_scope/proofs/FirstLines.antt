@@ -17,7 +17,7 @@ use Rattle.naga_scope.proofs.LineOrder.{first_up_to}
 use Rattle.naga_scope.proofs.Marking.{just_marked, marks_none, marks_then}
 use Rattle.naga_scope.specs.FirstLines.{WritesAlso, WritesJust, first_line, handles_to, has_line_to}
 use Rattle.naga_scope.specs.FirstLines.{marks_to, writes_at}
-use Rattle.naga_scope.specs.InOrder.{line_roots}
+use Rattle.naga_scope.specs.InOrder.{line_own_handles}
 use Rattle.naga_scope.specs.Lines.{is_up_to}
 use Rattle.naga_scope.specs.Marks.{MarksAlso, is_marked, is_one_of, marked_with}
 use Rattle.naga_scope.specs.declared.lines.Line.{Line}
@@ -197,4 +197,4 @@ size_kept {old} {new} also =
 
 -- what statements write, of which the first has this number
 abbrev pub written_from : (binds : ℕ → Bool) → (n : ℕ) → List StatementTree → List (Line × ℕ)
-written_from binds n sts = flat_map (λ p. writes_at (Statement p.0) (line_roots binds p.1)) (enumerate_from n sts)
+written_from binds n sts = flat_map (λ p. writes_at (Statement p.0) (line_own_handles binds p.1)) (enumerate_from n sts)

@@ -6,7 +6,7 @@ use Rattle.std.specs.Result.{result_and}
 use Rattle.std.specs.Option.{option_to_list}
 use Rattle.module_meaning.specs.ExpressionOperators.{ExpressionContext, is_atomic_pointer}
 use Rattle.module_meaning.specs.StatementShapes.{simple_shape, store_shape}
-use Rattle.module_meaning.specs.Written.{simple_roots}
+use Rattle.module_meaning.specs.Written.{simple_handles}
 use Rattle.naga_ir.specs.Operands.{simple_operands, simple_result}
 use Rattle.naga_ir.specs.StatementTree.{SimpleStatement, emit, return, simple, store}
 use Rattle.naga_ir.specs.StatementViews.{tree_of}
@@ -97,10 +97,10 @@ pub act_changes : (st : SimpleStatement) → is_emit st ≡ false → simple_cha
 act_changes (emit first end) other = absurd cc
 act_changes _ other = refl
 
-pub act_roots : (bound : ℕ → Bool) (st : SimpleStatement) → is_emit st ≡ false → simple_roots bound st
+pub act_handles : (bound : ℕ → Bool) (st : SimpleStatement) → is_emit st ≡ false → simple_handles bound st
     ≡ simple_operands st
-act_roots bound (emit first end) other = absurd cc
-act_roots bound _ other = refl
+act_handles bound (emit first end) other = absurd cc
+act_handles bound _ other = refl
 
 -- a statement that is none with blocks and no `Emit` is such a one
 pub record IsAct (st : Statement) : Type 0 where

@@ -13,8 +13,8 @@ use Rattle.std.specs.Option.{option_to_list}
 use Rattle.std.specs.Prelude.{nat_eq, sum_by}
 use Rattle.naga_ir.proofs.Listed.{drop_first}
 use Rattle.module_meaning.specs.ExpressionLabels.{block_labels, cases_labels, labels_in}
-use Rattle.module_meaning.specs.Written.{block_lets, block_roots, cases_lets, cases_roots}
-use Rattle.module_meaning.specs.Written.{function_roots, statement_lets, statement_roots}
+use Rattle.module_meaning.specs.Written.{block_lets, block_handles, cases_lets, cases_handles}
+use Rattle.module_meaning.specs.Written.{function_handles, statement_lets, statement_handles}
 use Rattle.naga_ir.specs.StatementTree.{SimpleStatement, emit, StatementTree, simple, block, branch}
 use Rattle.naga_ir.specs.StatementTree.{switch, loop, BlockTree, no_statements, statement}
 use Rattle.naga_ir.specs.StatementTree.{CaseTrees, no_cases, case}
@@ -24,7 +24,7 @@ use Rattle.naga_ir.specs.declared.statement.Statement.{Statement}
 use Rattle.naga_ir.specs.declared.statement.SwitchValue.{SwitchValue}
 use Rattle.naga_scope.specs.Changes.{block_changes, cases_changes, statement_changes}
 use Rattle.naga_ir.specs.InOrder.{case_trees, trees_in, trees_inside, trees_of}
-use Rattle.naga_scope.specs.InOrder.{own_changes, own_labels, own_lets, own_roots, roots_with}
+use Rattle.naga_scope.specs.InOrder.{own_changes, own_labels, own_lets, own_handles, handles_with}
 use Rattle.naga_scope.specs.Marks.{is_one_of}
 
 -- ---- for all that is told alike
@@ -161,38 +161,38 @@ module _ (binds : ℕ → Bool) (h : ℕ) where
   either : (xs ys : List ℕ) → is_one_of (xs ++ ys) h ≡ (is_one_of xs h || is_one_of ys h)
   either = list_any-append (nat_eq h)
 
-  roots_in_order : (b : BlockTree) → is_one_of (flat_map (own_roots binds) (trees_in b)) h
-      ≡ is_one_of (block_roots binds b) h
-  roots_in_order = gathered some_of (λ sts. is_one_of (flat_map (own_roots binds) sts) h)
-      (λ st. is_one_of (own_roots binds st) h) (λ st. is_one_of (statement_roots binds st) h)
-      (λ b. is_one_of (block_roots binds b) h) (λ cs. is_one_of (cases_roots binds cs) h) (record {
+  handles_in_order : (b : BlockTree) → is_one_of (flat_map (own_handles binds) (trees_in b)) h
+      ≡ is_one_of (block_handles binds b) h
+  handles_in_order = gathered some_of (λ sts. is_one_of (flat_map (own_handles binds) sts) h)
+      (λ st. is_one_of (own_handles binds st) h) (λ st. is_one_of (statement_handles binds st) h)
+      (λ b. is_one_of (block_handles binds b) h) (λ cs. is_one_of (cases_handles binds cs) h) (record {
         none = refl;
-        next = λ st sts. either (own_roots binds st) (flat_map (own_roots binds) sts);
+        next = λ st sts. either (own_handles binds st) (flat_map (own_handles binds) sts);
         simple_is = λ st. refl;
         block_is = λ b. refl;
-        branch_is = λ c x y. either (c ∷ []) (block_roots binds x ++ block_roots binds y)
-            ∙ ap (λ a. is_one_of (c ∷ []) h || a) (either (block_roots binds x) (block_roots binds y));
-        switch_is = λ s cs. either (s ∷ []) (cases_roots binds cs);
-        loop_is = λ x y e. either (block_roots binds x) (block_roots binds y ++ option_to_list e)
-            ∙ ap (λ a. is_one_of (block_roots binds x) h || a) (either (block_roots binds y) (option_to_list e))
-            ∙ sym (or_assoc (is_one_of (block_roots binds x) h) (is_one_of (block_roots binds y) h)
+        branch_is = λ c x y. either (c ∷ []) (block_handles binds x ++ block_handles binds y)
+            ∙ ap (λ a. is_one_of (c ∷ []) h || a) (either (block_handles binds x) (block_handles binds y));
+        switch_is = λ s cs. either (s ∷ []) (cases_handles binds cs);
+        loop_is = λ x y e. either (block_handles binds x) (block_handles binds y ++ option_to_list e)
+            ∙ ap (λ a. is_one_of (block_handles binds x) h || a) (either (block_handles binds y) (option_to_list e))
+            ∙ sym (or_assoc (is_one_of (block_handles binds x) h) (is_one_of (block_handles binds y) h)
             (is_one_of (option_to_list e) h))
-            ∙ or_comm (is_one_of (block_roots binds x) h || is_one_of (block_roots binds y) h)
+            ∙ or_comm (is_one_of (block_handles binds x) h || is_one_of (block_handles binds y) h)
             (is_one_of (option_to_list e) h);
         no_statements_is = refl;
-        statement_is = λ st b. either (statement_roots binds st) (block_roots binds b);
+        statement_is = λ st b. either (statement_handles binds st) (block_handles binds b);
         no_cases_is = refl;
-        case_is = λ v b falls cs. either (block_roots binds b) (cases_roots binds cs);
+        case_is = λ v b falls cs. either (block_handles binds b) (cases_handles binds cs);
       })
 
   -- the handles that a function writes by itself
-  pub same_roots : (f : Function) → is_one_of (roots_with binds f (trees_in f.body)) h
-      ≡ is_one_of (function_roots binds f) h
-  same_roots f =
+  pub same_handles : (f : Function) → is_one_of (handles_with binds f (trees_in f.body)) h
+      ≡ is_one_of (function_handles binds f) h
+  same_handles f =
       let firsts = flat_map (λ l. option_to_list l.init) f.local_variables in
-      either firsts (flat_map (own_roots binds) (trees_in f.body))
-      ∙ ap (λ a. is_one_of firsts h || a) (roots_in_order f.body)
-      ∙ sym (either firsts (block_roots binds f.body))
+      either firsts (flat_map (own_handles binds) (trees_in f.body))
+      ∙ ap (λ a. is_one_of firsts h || a) (handles_in_order f.body)
+      ∙ sym (either firsts (block_handles binds f.body))
 
 -- ---- loops along borrowed statements
 -- those from one of them on

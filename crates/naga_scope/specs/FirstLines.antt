@@ -14,7 +14,7 @@ use Rattle.naga_ir.specs.StatementTree.{no_statements, statement, CaseTrees, no_
 use Rattle.naga_ir.specs.declared.expression.Expression.{Expression}
 use Rattle.naga_ir.specs.declared.module.Function.{Function}
 use Rattle.naga_ir.specs.InOrder.{trees_in, trees_inside}
-use Rattle.naga_scope.specs.InOrder.{line_roots}
+use Rattle.naga_scope.specs.InOrder.{line_own_handles}
 use Rattle.naga_scope.specs.Lines.{is_before, is_up_to}
 use Rattle.naga_scope.specs.Marks.{MarksAlso, MarksJust}
 use Rattle.naga_scope.specs.declared.lines.Line.{Line}
@@ -37,7 +37,7 @@ local_writes f =
 
 abbrev pub statement_writes : (binds : ℕ → Bool) → List StatementTree → List (Line × ℕ)
 statement_writes binds sts =
-    flat_map (λ p. writes_at (Statement p.0) (line_roots binds p.1)) (enumerate_from 0 sts)
+    flat_map (λ p. writes_at (Statement p.0) (line_own_handles binds p.1)) (enumerate_from 0 sts)
 
 -- what the `break if`s of the loops in a statement with this number write, itself among them, of those
 -- of a block and of those of cases, the first of which have this number

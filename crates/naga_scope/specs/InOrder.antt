@@ -6,7 +6,7 @@ use Rattle.std.specs.Prelude.{ℕ, ◌-◌, Bool, List, [], ◌++◌}
 use Rattle.std.specs.List.{flat_map}
 use Rattle.std.specs.Option.{option_to_list}
 use Rattle.module_meaning.specs.ExpressionLabels.{labels_of_each}
-use Rattle.module_meaning.specs.Written.{simple_lets, simple_roots}
+use Rattle.module_meaning.specs.Written.{simple_lets, simple_handles}
 use Rattle.naga_ir.specs.Operands.{own_operands}
 use Rattle.naga_ir.specs.StatementTree.{emit, loop, StatementTree, simple}
 use Rattle.naga_ir.specs.declared.module.Function.{Function}
@@ -24,19 +24,19 @@ own_lets binds (simple st) = simple_lets binds st
 own_lets binds st = []
 
 -- the handles that it writes: of an `Emit` those that are bound, else its operands
-abbrev pub own_roots : (binds : ℕ → Bool) → StatementTree → List ℕ
-own_roots binds (simple st) = simple_roots binds st
-own_roots binds st = own_operands st
+abbrev pub own_handles : (binds : ℕ → Bool) → StatementTree → List ℕ
+own_handles binds (simple st) = simple_handles binds st
+own_handles binds st = own_operands st
 
 -- what its `break if` writes,
-abbrev pub break_root : StatementTree → List ℕ
-break_root (loop body continuing break_if) = option_to_list break_if
-break_root st = []
+abbrev pub break_handle : StatementTree → List ℕ
+break_handle (loop body continuing break_if) = option_to_list break_if
+break_handle st = []
 
 -- and what it writes without it
-abbrev pub line_roots : (binds : ℕ → Bool) → StatementTree → List ℕ
-line_roots binds (loop body continuing break_if) = []
-line_roots binds st = own_roots binds st
+abbrev pub line_own_handles : (binds : ℕ → Bool) → StatementTree → List ℕ
+line_own_handles binds (loop body continuing break_if) = []
+line_own_handles binds st = own_handles binds st
 
 -- how many changes of scope it makes
 abbrev pub own_changes : StatementTree → ℕ
@@ -44,6 +44,6 @@ own_changes (simple st) = simple_changes st
 own_changes st = 0
 
 -- the handles that it writes, with the first values of its locals
-abbrev pub roots_with : (binds : ℕ → Bool) → Function → List StatementTree → List ℕ
-roots_with binds f sts =
-    flat_map (λ l. option_to_list l.init) f.local_variables ++ flat_map (own_roots binds) sts
+abbrev pub handles_with : (binds : ℕ → Bool) → Function → List StatementTree → List ℕ
+handles_with binds f sts =
+    flat_map (λ l. option_to_list l.init) f.local_variables ++ flat_map (own_handles binds) sts

@@ -15,7 +15,7 @@ use Rattle.naga_ir.specs.declared.module.Function.{Function}
 use Rattle.naga_ir.specs.declared.module.Module.{Module}
 use Rattle.naga_ir.specs.StatementTree.{StatementTree}
 use Rattle.naga_ir.specs.InOrder.{trees_in, trees_inside}
-use Rattle.naga_scope.specs.InOrder.{break_root, line_roots, own_lets}
+use Rattle.naga_scope.specs.InOrder.{break_handle, line_own_handles, own_lets}
 use Rattle.naga_scope.specs.declared.lines.Declared.{Declared}
 use Rattle.naga_scope.specs.declared.lines.Declared.TheVariants as declared
 use Rattle.naga_scope.specs.declared.lines.Line.{Line}
@@ -49,17 +49,17 @@ number_after n st = suc n + length (trees_inside st)
 
 -- what the `break if` of the statement with this number writes, if it stands there
 abbrev pub break_at : (n end : ℕ) → StatementTree → List ℕ
-break_at n end st = if nat_eq (number_after n st) end then break_root st else []
+break_at n end st = if nat_eq (number_after n st) end then break_handle st else []
 
 -- The handles that are written on a line by the line itself: a local's first value, and what a
 -- statement writes, its `break if` and those in its blocks left out, or its `break if`.
-abbrev pub roots_at : (bound : ℕ → Bool) → Function → Line → List ℕ
-roots_at bound f Signature = []
-roots_at bound f (Local i) =
+abbrev pub line_handles_at : (bound : ℕ → Bool) → Function → Line → List ℕ
+line_handles_at bound f Signature = []
+line_handles_at bound f (Local i) =
     option_to_list (option_and_then (λ l. l.init) (slice_get f.local_variables i))
-roots_at bound f (Statement n) =
-    option_map_or (line_roots bound) (slice_get (trees_in f.body) n) []
-roots_at bound f (BreakIf n end) = option_map_or (break_at n end) (slice_get (trees_in f.body) n) []
+line_handles_at bound f (Statement n) =
+    option_map_or (line_own_handles bound) (slice_get (trees_in f.body) n) []
+line_handles_at bound f (BreakIf n end) = option_map_or (break_at n end) (slice_get (trees_in f.body) n) []
 
 -- the handles that the `let`s of this statement name, those in its blocks left out
 abbrev pub lets_at : (bound : ℕ → Bool) → Function → (n : ℕ) → List ℕ
@@ -69,7 +69,7 @@ lets_at bound f n = option_map_or (own_lets bound) (slice_get (trees_in f.body) 
 abbrev pub IsWrittenAt : Module → ModuleInfo → Function → List ExpressionInfo → Line → (h : ℕ) →
     Type 0
 IsWrittenAt m info f known line h =
-    IsWritten f.expressions (roots_at (binds (function_shape m info f known)) f line) h
+    IsWritten f.expressions (line_handles_at (binds (function_shape m info f known)) f line) h
 
 -- the type that is declared there, if something is
 abbrev pub declared_type : Function → Declared → Option ℕ

@@ -18,7 +18,7 @@ ghost use Rattle.naga_scope.specs.FirstLines.{FindsEarliest, WritesAlso, WritesJ
 ghost use Rattle.naga_scope.specs.FirstLines.{first_line, found_with, function_writes};
 ghost use Rattle.naga_scope.specs.FirstLines.{local_writes, statement_writes, writes_at};
 ghost use Rattle.naga_ir.specs.InOrder.{trees_in, trees_of};
-ghost use Rattle.naga_scope.specs.InOrder.{line_roots};
+ghost use Rattle.naga_scope.specs.InOrder.{line_own_handles};
 ghost use Rattle.naga_scope.specs.KnownFunctions.{bound_in, expressions_of, has_form_in};
 ghost use Rattle.naga_scope.specs.Marks.{MarksAlso, MarksConstants};
 ghost use Rattle.naga_scope.specs.Marks.{is_marked};
@@ -238,7 +238,7 @@ fn note_statement(
     line: &Line,
 )
     ensures { WritesAlso lines.old
-        (writes_at line.now (line_roots (bound_in known.now) (tree_of statement.now))) lines.new }
+        (writes_at line.now (line_own_handles (bound_in known.now) (tree_of statement.now))) lines.new }
 {
     match statement {
         Statement::Emit(range) => note_emitted(lines, known, *range, line),

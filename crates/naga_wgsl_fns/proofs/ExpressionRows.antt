@@ -8,7 +8,7 @@ use Rattle.std.proofs.Common.{get_or, map}
 use Rattle.std.specs.Prelude.{IsTrue, slice_get, if◌then◌else◌, unwrap_or, ◌||◌}
 use Rattle.std.specs.Option.{is_some, option_and_then, option_map, option_map_or, option_to_list}
 use Rattle.std.specs.List.{AllByRecursion}
-use Rattle.module_meaning.specs.ExpressionOperators.{is_depth_image, level_of, sample_operator}
+use Rattle.module_meaning.specs.ExpressionOperators.{is_depth_image, level_of, image_sample_operator}
 use Rattle.module_meaning.specs.ExpressionOperators.{type_known, applied_operator, called_word}
 use Rattle.module_meaning.specs.ExpressionOperators.{constructor, load_operator, own_operator}
 use Rattle.module_meaning.specs.ExpressionOperators.{query_operator, is_atomic_pointer}
@@ -131,7 +131,7 @@ module _ (n : Naming) (code : Source) (before : OperandsStandBefore code.express
       image sampler gather coordinate array_index offset level depth_ref clamp in
       let of_depths = option_map_or is_depth_image (type_known code.declared.context image) false in
       let op =
-      sample_operator of_depths gather (level_of level) (is_some depth_ref) clamp
+      image_sample_operator of_depths gather (level_of level) (is_some depth_ref) clamp
       (is_some array_index) (is_some offset) in
       let unwritten = is_some gather || (is_some depth_ref || clamp) in
       ap

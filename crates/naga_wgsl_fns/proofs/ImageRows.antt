@@ -7,7 +7,7 @@ use Rattle.std.specs.List.{list_all}
 use Rattle.std.specs.Option.{is_some, option_map_or, option_to_list}
 use Rattle.std.proofs.lemmas.Bool.{and_parts}
 use Rattle.std.proofs.lemmas.List.{append-nil}
-use Rattle.module_meaning.specs.ExpressionOperators.{level_of, sample_operator}
+use Rattle.module_meaning.specs.ExpressionOperators.{level_of, image_sample_operator}
 use Rattle.module_meaning.specs.OperatorTable.{Sample, Splat, if_word, run_word, zero_is_written}
 use Rattle.module_meaning.specs.WrittenOut.{is_written_out, written_out_over, written_out_within}
 use Rattle.naga_form.specs.ConstantForms.{constant_form_over, constant_form_within}
@@ -217,10 +217,10 @@ module _ (e : Expression) (args : Arguments) where
   head_of : (of_depths : Bool) (gather : Option SwizzleComponent) (l : SampleLevel)
       (compares clamped arrayed with_offset : Bool) →
       let op =
-      sample_operator of_depths gather (level_of l) compares clamped arrayed with_offset in
+      image_sample_operator of_depths gather (level_of l) compares clamped arrayed with_offset in
       expression_layout
       (Call (Named (sampling_word op)) (component_then (gathered_component op) (Argument e args))) ≡
-      (sampling_word (sample_operator of_depths gather (level_of l) compares clamped false false)
+      (sampling_word (image_sample_operator of_depths gather (level_of l) compares clamped false false)
       ++ (codes "(" ++ component_text of_depths gather))
       ++ first
   head_of true None l compares clamped arrayed with_offset =
@@ -239,7 +239,7 @@ module _ (e : Expression) (args : Arguments) where
 head_then : (f : FunctionText) (image : ℕ) (gather : Option SwizzleComponent) (l : SampleLevel)
     (compares clamped arrayed with_offset : Bool) (e : Expression) (args : Arguments) →
     let op =
-    sample_operator (depths_at f image) gather (level_of l) compares clamped arrayed with_offset in
+    image_sample_operator (depths_at f image) gather (level_of l) compares clamped arrayed with_offset in
     expression_layout
     (Call (Named (sampling_word op)) (component_then (gathered_component op) (Argument e args))) ≡
     joined_texts (head_text f image gather l compares clamped)
@@ -252,7 +252,7 @@ pub head_row : (f : FunctionText) (image : ℕ) (gather : Option SwizzleComponen
     (compares clamped : Bool) →
     head_text f image gather l compares clamped ≡
     joined_texts
-    (sampling_word (sample_operator (depths_at f image) gather (level_of l) compares clamped false false))
+    (sampling_word (image_sample_operator (depths_at f image) gather (level_of l) compares clamped false false))
     (joined_texts (codes "(") (component_text (depths_at f image) gather))
 unfolding head_text joined_texts
 head_row f image gather l compares clamped = refl
@@ -293,7 +293,7 @@ sampling_row f table handle image sampler gather coordinate array_index offset l
     let following = a ++ (d ++ (level_operands l ++ [])) in
     let word = is_some depth_ref in
     let op =
-    sample_operator (depths_at f image) gather (level_of l) word clamp (is_some array_index)
+    image_sample_operator (depths_at f image) gather (level_of l) word clamp (is_some array_index)
     (is_some offset) in
     ap (λ o. expression_layout (as_value (own_if (naming f) (source f) form o))) at
     ∙ (ap

@@ -30,7 +30,7 @@ use Rattle.naga_words.specs.Spelling.{length_segments, pointer_segments, segment
 use Rattle.naga_words.specs.Spelling.{type_segments}
 use Rattle.naga_words.specs.Values.{access_segments, image_segments, pointer_in, scalar_segments_of}
 use Rattle.naga_words.specs.Values.{template_segments, value_pointer_segments, value_segments}
-use Rattle.naga_words.specs.Words.{cooperative_word, image_word, matrix_word, role_tail}
+use Rattle.naga_words.specs.Words.{cooperative_word, image_word, matrix_word, matrix_role_tail}
 use Rattle.naga_words.specs.Words.{vector_word}
 use Rattle.wgsl_text.proofs.Text.{text-append}
 use Rattle.wgsl_text.specs.Reading.{type_layout}
@@ -120,7 +120,7 @@ module _ (n : Names) (knows : ℕ → Bool) where
   inner_shows f none (inner.Matrix columns rows s) =
       of_scalar (matrix_word columns rows) s (codes ">")
   inner_shows f none (inner.CooperativeMatrix columns rows s role) =
-      of_scalar (cooperative_word columns rows) s (role_tail role)
+      of_scalar (cooperative_word columns rows) s (matrix_role_tail role)
   inner_shows f none (inner.Atomic s) = of_scalar (codes "atomic") s (codes ">")
   inner_shows f none (inner.Pointer base space) =
       placed_shows (space_word space) (space_access_word space) (f base) (none base)

@@ -18,8 +18,8 @@ use Rattle.module_meaning.specs.acceptance.Ranges.{block_in_range, cases_in_rang
 use Rattle.module_meaning.specs.acceptance.Ranges.{statement_in_range}
 use Rattle.module_meaning.specs.StatementForms.{block_has_forms, cases_have_forms}
 use Rattle.module_meaning.specs.StatementForms.{statement_has_form}
-use Rattle.module_meaning.specs.Written.{block_lets, block_roots, cases_lets, cases_roots}
-use Rattle.module_meaning.specs.Written.{statement_lets, statement_roots}
+use Rattle.module_meaning.specs.Written.{block_lets, block_handles, cases_lets, cases_handles}
+use Rattle.module_meaning.specs.Written.{statement_lets, statement_handles}
 use Rattle.naga_form.proofs.statements.WrittenHandles.{all_front, all_rest}
 use Rattle.naga_ir.specs.declared.statement.SwitchValue.{SwitchValue}
 use Rattle.naga_wgsl_fns.specs.FunctionText.{AreInText, CanWriteBlock, CanWriteCases}
@@ -37,7 +37,7 @@ first_inside f st b w =
       in_range = (and_parts (statement_in_range (callees f) (count f) st)
           (block_in_range (callees f) (count f) b) w.in_range).0;
       formed = (and_parts (statement_has_form st) (block_has_forms b) w.formed).0;
-      roots = all_front (IsInText f) (statement_roots (bound f) st) (block_roots (bound f) b) w.roots;
+      roots = all_front (IsInText f) (statement_handles (bound f) st) (block_handles (bound f) b) w.roots;
       lets = all_front (IsLet f) (statement_lets (bound f) st) (block_lets (bound f) b) w.lets;
     }
 
@@ -48,7 +48,7 @@ rest_inside f st b w =
       in_range = (and_parts (statement_in_range (callees f) (count f) st)
           (block_in_range (callees f) (count f) b) w.in_range).1;
       formed = (and_parts (statement_has_form st) (block_has_forms b) w.formed).1;
-      roots = all_rest (IsInText f) (statement_roots (bound f) st) (block_roots (bound f) b) w.roots;
+      roots = all_rest (IsInText f) (statement_handles (bound f) st) (block_handles (bound f) b) w.roots;
       lets = all_rest (IsLet f) (statement_lets (bound f) st) (block_lets (bound f) b) w.lets;
     }
 
@@ -83,7 +83,7 @@ accept_inside f c a r w =
       in_range = (and_parts (block_in_range (callees f) (count f) a)
           (block_in_range (callees f) (count f) r) ranges.1).0;
       formed = (and_parts (block_has_forms a) (block_has_forms r) w.formed).0;
-      roots = all_front (IsInText f) (block_roots (bound f) a) (block_roots (bound f) r) w.roots.1;
+      roots = all_front (IsInText f) (block_handles (bound f) a) (block_handles (bound f) r) w.roots.1;
       lets = all_front (IsLet f) (block_lets (bound f) a) (block_lets (bound f) r) w.lets;
     }
 
@@ -96,7 +96,7 @@ reject_inside f c a r w =
       in_range = (and_parts (block_in_range (callees f) (count f) a)
           (block_in_range (callees f) (count f) r) ranges.1).1;
       formed = (and_parts (block_has_forms a) (block_has_forms r) w.formed).1;
-      roots = all_rest (IsInText f) (block_roots (bound f) a) (block_roots (bound f) r) w.roots.1;
+      roots = all_rest (IsInText f) (block_handles (bound f) a) (block_handles (bound f) r) w.roots.1;
       lets = all_rest (IsLet f) (block_lets (bound f) a) (block_lets (bound f) r) w.lets;
     }
 
@@ -108,7 +108,8 @@ body_inside f b c e w =
       in_range = (and_parts (block_in_range (callees f) (count f) b)
           (block_in_range (callees f) (count f) c && is_below (count f) e) w.in_range).0;
       formed = (and_parts (block_has_forms b) (block_has_forms c) w.formed).0;
-      roots = all_front (IsInText f) (block_roots (bound f) b) (block_roots (bound f) c ++ option_to_list e) w.roots;
+      roots = all_front (IsInText f) (block_handles (bound f) b)
+          (block_handles (bound f) c ++ option_to_list e) w.roots;
       lets = all_front (IsLet f) (block_lets (bound f) b) (block_lets (bound f) c) w.lets;
     }
 
@@ -120,16 +121,16 @@ continuing_inside f b c e w =
     record {
       in_range = (and_parts (block_in_range (callees f) (count f) c) (is_below (count f) e) ranges.1).0;
       formed = (and_parts (block_has_forms b) (block_has_forms c) w.formed).1;
-      roots = all_front (IsInText f) (block_roots (bound f) c) (option_to_list e)
-          (all_rest (IsInText f) (block_roots (bound f) b) (block_roots (bound f) c ++ option_to_list e) w.roots);
+      roots = all_front (IsInText f) (block_handles (bound f) c) (option_to_list e)
+          (all_rest (IsInText f) (block_handles (bound f) b) (block_handles (bound f) c ++ option_to_list e) w.roots);
       lets = all_rest (IsLet f) (block_lets (bound f) b) (block_lets (bound f) c) w.lets;
     }
 
 pub break_if_inside : (f : FunctionText) (b c : BlockTree) (e : Option ℕ) → CanWriteStatement f (loop b c e) →
     AreInText f (option_to_list e)
 break_if_inside f b c e w =
-    all_rest (IsInText f) (block_roots (bound f) c) (option_to_list e)
-    (all_rest (IsInText f) (block_roots (bound f) b) (block_roots (bound f) c ++ option_to_list e) w.roots)
+    all_rest (IsInText f) (block_handles (bound f) c) (option_to_list e)
+    (all_rest (IsInText f) (block_handles (bound f) b) (block_handles (bound f) c ++ option_to_list e) w.roots)
 
 -- ---- switches
 pub selector_inside : (f : FunctionText) (h : ℕ) (cs : CaseTrees) → CanWriteStatement f (switch h cs) → IsInText f h
@@ -159,7 +160,7 @@ module _ (f : FunctionText) (v : SwitchValue) (b : BlockTree) (falls : Bool) (cs
   case_inside = record {
     in_range = ranges.0;
     formed = (and_parts (block_has_forms b) (cases_have_forms cs) forms.1).0;
-    roots = all_front (IsInText f) (block_roots (bound f) b) (cases_roots (bound f) cs) w.roots;
+    roots = all_front (IsInText f) (block_handles (bound f) b) (cases_handles (bound f) cs) w.roots;
     lets = all_front (IsLet f) (block_lets (bound f) b) (cases_lets (bound f) cs) w.lets;
   }
 
@@ -167,7 +168,7 @@ module _ (f : FunctionText) (v : SwitchValue) (b : BlockTree) (falls : Bool) (cs
   others_inside = record {
     in_range = ranges.1;
     formed = (and_parts (block_has_forms b) (cases_have_forms cs) forms.1).1;
-    roots = all_rest (IsInText f) (block_roots (bound f) b) (cases_roots (bound f) cs) w.roots;
+    roots = all_rest (IsInText f) (block_handles (bound f) b) (cases_handles (bound f) cs) w.roots;
     lets = all_rest (IsLet f) (block_lets (bound f) b) (cases_lets (bound f) cs) w.lets;
   }
 
@@ -203,7 +204,7 @@ together f st b one other = record {
   in_range = and_both (statement_in_range (callees f) (count f) st) (block_in_range (callees f) (count f) b)
       one.in_range other.in_range;
   formed = and_both (statement_has_form st) (block_has_forms b) one.formed other.formed;
-  roots = both_all (IsInText f) (statement_roots (bound f) st) (block_roots (bound f) b) one.roots other.roots;
+  roots = both_all (IsInText f) (statement_handles (bound f) st) (block_handles (bound f) b) one.roots other.roots;
   lets = both_all (IsLet f) (statement_lets (bound f) st) (block_lets (bound f) b) one.lets other.lets;
 }
 

@@ -1,5 +1,5 @@
 -- The texts of statements, from what is written of them in turn.
-use Rattle.module_meaning.specs.Written.{statement_roots}
+use Rattle.module_meaning.specs.Written.{statement_handles}
 use Rattle.naga_scope.specs.Changes.{statement_changes}
 use Rattle.naga_ir.specs.StatementTree.{call, SimpleStatement, BlockTree, StatementTree, emit}
 use Rattle.naga_ir.specs.StatementTree.{return, simple, statement, store, block, branch, switch}
@@ -233,11 +233,11 @@ act_changes (simple _) act = refl
 act_changes _ act = absurd cc
 
 -- and writes its operands
-pub act_roots : (binds : ℕ → Bool) (st : StatementTree) → IsTrue (is_act st) → statement_roots binds st
+pub act_handles : (binds : ℕ → Bool) (st : StatementTree) → IsTrue (is_act st) → statement_handles binds st
     ≡ own_operands st
-act_roots binds (simple (emit first last)) act = absurd cc
-act_roots binds (simple _) act = refl
-act_roots binds _ act = absurd cc
+act_handles binds (simple (emit first last)) act = absurd cc
+act_handles binds (simple _) act = refl
+act_handles binds _ act = absurd cc
 
 -- ---- stores
 pub store_to_atomic : (f : FunctionText) (k : ℕ) (s : Handles) (i pointer value : ℕ) →

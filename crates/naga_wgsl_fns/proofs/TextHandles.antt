@@ -1,7 +1,7 @@
 -- The handles that a function's statements and locals write by themselves are in its text.
 use Rattle.naga_form.proofs.statements.WrittenHandles.{all_among, written_are_closed}
-use Rattle.module_meaning.specs.Written.{block_lets, simple_lets, IsWrittenIn, block_roots}
-use Rattle.module_meaning.specs.Written.{cases_roots, simple_roots, statement_roots}
+use Rattle.module_meaning.specs.Written.{block_lets, simple_lets, IsWrittenIn, block_handles}
+use Rattle.module_meaning.specs.Written.{cases_handles, simple_handles, statement_handles}
 use Rattle.naga_wgsl_fns.specs.FunctionText.{CanWriteBlock, CanWriteStatement, AreLets, IsLet}
 use Rattle.naga_wgsl_fns.specs.FunctionText.{AreInText, CanWrite, bound, callees}
 use Rattle.std.proofs.Common.{subst, ap, sym, ◌∙◌, ◌≡◌, ℕ, suc, zero, ◌<◌, ◌≤◌, ◌+◌, ◌-◌, Bool}
@@ -81,7 +81,7 @@ module _ (binds : ℕ → Bool) (callees count : ℕ) where
   emitted_within first end (suc n) e le = ranged count first (suc n) (omega (arith, e, le))
 
   line_within : (st : SimpleStatement) → IsTrue (statement_in_range callees count (simple st)) →
-      AllWithin count (simple_roots binds st)
+      AllWithin count (simple_handles binds st)
   line_within (emit first end) range =
       let le = emit_within callees count first end range in
       filtered count binds (from first (end - first)) (emitted_within first end (end - first) refl le)
@@ -98,14 +98,14 @@ module _ (binds : ℕ → Bool) (callees count : ℕ) where
 
   mutual
     statement_within : (st : StatementTree) → IsTrue (statement_in_range callees count st) →
-        AllWithin count (statement_roots binds st)
+        AllWithin count (statement_handles binds st)
     statement_within (simple st) range = line_within st range
     statement_within (block b) range = block_within b range
     statement_within (branch c a r) range =
         let one = and_parts (nat_lt c count) (block_in_range callees count a && block_in_range callees count r) range in
         let two = and_parts (block_in_range callees count a) (block_in_range callees count r) one.1 in (
           ltb-true c count one.0,
-          both_within count (block_roots binds a) (block_roots binds r)
+          both_within count (block_handles binds a) (block_handles binds r)
               (block_within a two.0) (block_within r two.1),
         )
     statement_within (switch h cs) range =
@@ -115,23 +115,26 @@ module _ (binds : ℕ → Bool) (callees count : ℕ) where
         let one = and_parts (block_in_range callees count b)
         (block_in_range callees count c && is_below count e) range in
         let two = and_parts (block_in_range callees count c) (is_below count e) one.1 in
-        both_within count (block_roots binds b) (block_roots binds c ++ option_to_list e) (block_within b one.0)
-        (both_within count (block_roots binds c) (option_to_list e) (block_within c two.0) (some_within count e two.1))
+        both_within count (block_handles binds b) (block_handles binds c ++ option_to_list e) (block_within b one.0)
+        (both_within count (block_handles binds c) (option_to_list e) (block_within c two.0)
+        (some_within count e two.1))
 
-    block_within : (b : BlockTree) → IsTrue (block_in_range callees count b) → AllWithin count (block_roots binds b)
+    block_within : (b : BlockTree) → IsTrue (block_in_range callees count b) → AllWithin count (block_handles binds b)
     block_within no_statements range = tt
     block_within (statement st b) range =
         let ranges = and_parts (statement_in_range callees count st) (block_in_range callees count b) range in
-        both_within count (statement_roots binds st) (block_roots binds b) (statement_within st ranges.0)
+        both_within count (statement_handles binds st) (block_handles binds b) (statement_within st ranges.0)
         (block_within b ranges.1)
 
-    cases_within : (cs : CaseTrees) → IsTrue (cases_in_range callees count cs) → AllWithin count (cases_roots binds cs)
+    cases_within : (cs : CaseTrees) → IsTrue (cases_in_range callees count cs) →
+        AllWithin count (cases_handles binds cs)
     cases_within no_cases range = tt
     cases_within (case v b falls cs) range =
         let one = and_parts (case_value_fits_32_bits v)
         (block_in_range callees count b && cases_in_range callees count cs) range in
         let two = and_parts (block_in_range callees count b) (cases_in_range callees count cs) one.1 in
-        both_within count (block_roots binds b) (cases_roots binds cs) (block_within b two.0) (cases_within cs two.1)
+        both_within count (block_handles binds b) (cases_handles binds cs) (block_within b two.0)
+        (cases_within cs two.1)
 
 -- ---- what is in the text
 module _ (t : FunctionText) (can : CanWrite t) where
@@ -142,11 +145,11 @@ module _ (t : FunctionText) (can : CanWrite t) where
   in_text (h ∷ hs) there written =
       (record { there = there.0; written = written.0 }, in_text hs there.1 written.1)
 
-  pub body_in_text : AreInText t (block_roots (bound t) t.function.now.body)
+  pub body_in_text : AreInText t (block_handles (bound t) t.function.now.body)
   body_in_text =
       let f = t.function.now in
       let closed = written_are_closed t.shader.now t.module_info.now f t.info.now in
-      in_text (block_roots (bound t) f.body)
+      in_text (block_handles (bound t) f.body)
       (block_within (bound t) (callees t) (length f.expressions) f.body
       (ranges_are t.shader.now (callees t) f can.ranges).1)
       closed.body

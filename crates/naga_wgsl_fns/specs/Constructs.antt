@@ -23,7 +23,7 @@ construct_words construct.RayQuery = codes "ray query"
 construct_words construct.SubgroupOperation = codes "subgroup operation"
 construct_words construct.FallThrough = codes "fall-through switch case block"
 construct_words construct.ImageCompareExchange = codes "image compare exchange"
-construct_words construct.SamplingForm = codes "sampling form"
+construct_words construct.SamplingMethod = codes "sampling form"
 construct_words construct.ConstantOperator = codes "operator in a constant"
 construct_words construct.ImageLoad = codes "image load with sample and level"
 construct_words construct.Index = codes "cannot index"
@@ -62,8 +62,8 @@ IsToldAs construct.SubgroupOperation error =
 IsToldAs construct.FallThrough error = IsUnimplemented (construct_words construct.FallThrough) error
 IsToldAs construct.ImageCompareExchange error =
     IsUnimplemented (construct_words construct.ImageCompareExchange) error
-IsToldAs construct.SamplingForm error =
-    IsUnimplemented (construct_words construct.SamplingForm) error
+IsToldAs construct.SamplingMethod error =
+    IsUnimplemented (construct_words construct.SamplingMethod) error
 IsToldAs it error = IsCustom (construct_words it) error
 
 -- each error that tells of the construct is such a one

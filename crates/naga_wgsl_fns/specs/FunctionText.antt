@@ -4,8 +4,8 @@ use Rattle.module_meaning.specs.FunctionNumbers.{callee_count, function_number}
 use Rattle.module_meaning.specs.FunctionShapes.{function_shape}
 use Rattle.module_meaning.specs.StatementForms.{block_has_forms, cases_have_forms}
 use Rattle.module_meaning.specs.StatementForms.{statement_has_form}
-use Rattle.module_meaning.specs.Written.{IsWrittenIn, WrittenHaveForms, block_lets, block_roots}
-use Rattle.module_meaning.specs.Written.{cases_lets, cases_roots, statement_lets, statement_roots}
+use Rattle.module_meaning.specs.Written.{IsWrittenIn, WrittenHaveForms, block_lets, block_handles}
+use Rattle.module_meaning.specs.Written.{cases_lets, cases_handles, statement_lets, statement_handles}
 use Rattle.shader_runs.specs.Program.{binds}
 use Rattle.std.specs.List.{AllByRecursion, IsAmong}
 use Rattle.std.specs.Prelude.{◌≡◌, ℕ, ◌<◌, Bool, List, Option, Some, IsTrue, slice_get}
@@ -107,19 +107,19 @@ AreLets f handles = AllByRecursion (IsLet f) handles
 pub record CanWriteStatement (f : FunctionText) (st : StatementTree) : Type 0 where
   pub in_range : IsTrue (statement_in_range (callees f) (length f.function.now.expressions) st)
   pub formed : IsTrue (statement_has_form st)
-  pub roots : AreInText f (statement_roots (bound f) st)
+  pub roots : AreInText f (statement_handles (bound f) st)
   pub lets : AreLets f (statement_lets (bound f) st)
 
 pub record CanWriteBlock (f : FunctionText) (b : BlockTree) : Type 0 where
   pub in_range : IsTrue (block_in_range (callees f) (length f.function.now.expressions) b)
   pub formed : IsTrue (block_has_forms b)
-  pub roots : AreInText f (block_roots (bound f) b)
+  pub roots : AreInText f (block_handles (bound f) b)
   pub lets : AreLets f (block_lets (bound f) b)
 
 pub record CanWriteCases (f : FunctionText) (cases : CaseTrees) : Type 0 where
   pub in_range : IsTrue (cases_in_range (callees f) (length f.function.now.expressions) cases)
   pub formed : IsTrue (cases_have_forms cases)
-  pub roots : AreInText f (cases_roots (bound f) cases)
+  pub roots : AreInText f (cases_handles (bound f) cases)
   pub lets : AreLets f (cases_lets (bound f) cases)
 
 -- It is a function of its module, or that of an entry point, and the module is accepted and has its

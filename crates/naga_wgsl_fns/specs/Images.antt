@@ -2,7 +2,7 @@
 use Rattle.std.specs.Prelude.{ℕ, Bool, true, false, List, [], ◌∷◌, ◌++◌, codes}
 use Rattle.std.specs.Prelude.{Option, Some, None}
 use Rattle.std.specs.Option.{option_map_or}
-use Rattle.module_meaning.specs.ExpressionOperators.{is_depth_image, level_of, sample_operator}
+use Rattle.module_meaning.specs.ExpressionOperators.{is_depth_image, level_of, image_sample_operator}
 use Rattle.module_meaning.specs.ExpressionOperators.{type_known}
 use Rattle.module_meaning.specs.OperatorTable.{zero_is_written}
 use Rattle.naga_form.specs.Expressions.{constant_form, zero_is_whole}
@@ -44,7 +44,7 @@ unfoldable pub head_text : FunctionText → (image : ℕ) → (gather : Option S
     SampleLevel → (compares clamped : Bool) → List ℕ
 head_text f image gather level compares clamped =
     let of_depths = depths_at f image in
-    sampling_word (sample_operator of_depths gather (level_of level) compares clamped false false)
+    sampling_word (image_sample_operator of_depths gather (level_of level) compares clamped false false)
     ++ (codes "(" ++ component_text of_depths gather)
 
 -- operands after others

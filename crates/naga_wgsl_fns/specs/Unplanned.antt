@@ -21,14 +21,14 @@ use Rattle.naga_wgsl_fns.specs.declared.plans.Unplanned.{Unplanned}
 use Rattle.naga_wgsl_fns.specs.declared.plans.Unplanned.TheVariants as unplanned
 
 -- the part of a function that an error of a plan tells of
-abbrev pub part_of : PlanError → FunctionRefusalPosition
-part_of (plan_error.OutOfScope fault) = part.Scope fault
-part_of (plan_error.StatementWithoutForm number statement) = part.Statement number
-part_of (plan_error.WithoutForm line handle) = part.Expression line handle
-part_of (plan_error.TypeWithoutForm at ty) = part.Type_ at ty
-part_of (plan_error.LetWithoutForm number handle) = part.Let number handle
-part_of (plan_error.Unnamed error) = part.Labels
-part_of (plan_error.Memory error) = part.Labels
+abbrev pub function_position : PlanError → FunctionRefusalPosition
+function_position (plan_error.OutOfScope fault) = part.Scope fault
+function_position (plan_error.StatementWithoutForm number statement) = part.Statement number
+function_position (plan_error.WithoutForm line handle) = part.Expression line handle
+function_position (plan_error.TypeWithoutForm at ty) = part.Type_ at ty
+function_position (plan_error.LetWithoutForm number handle) = part.Let number handle
+function_position (plan_error.Unnamed error) = part.Labels
+function_position (plan_error.Memory error) = part.Labels
 
 -- memory ran out
 abbrev pub is_names_want : NamerError → Bool
@@ -49,7 +49,7 @@ pub record IsRefusedFor (explicit : Bool) (m : Module) (info : ModuleInfo) (numb
   pub first : IsFirstToPlanOf explicit m info number namer error
   pub told : OfFunctionAt m info number (λ f known. Tells it (TellsPlanError m f known error))
   pub carries : OfFunctionAt m info number (λ f known. CarriesOfPlan m f known error it)
-  pub part : at ≡ part_of error
+  pub part : at ≡ function_position error
   pub other : IsFalse (is_want error)
 
 -- so it is, or memory ran out

@@ -3,7 +3,7 @@
 ghost use Rattle.std.specs.Prelude.{◌≡◌, ◌<◌, ◌||◌, Bool, IsTrue, false, length, slice_get, true};
 ghost use Rattle.std.specs.Option.{is_some, option_to_list};
 ghost use Rattle.module_meaning.specs.ExpressionOperators.{level_of};
-ghost use Rattle.module_meaning.specs.ExpressionOperators.{sample_operator};
+ghost use Rattle.module_meaning.specs.ExpressionOperators.{image_sample_operator};
 ghost use Rattle.module_meaning.specs.OperatorTable.{Sample, run_word, zero_is_written};
 ghost use Rattle.module_meaning.specs.Sampling.{offset_has_form, sampling_has_form};
 ghost use Rattle.naga_form.specs.Expressions.{zero_is_whole};
@@ -171,7 +171,7 @@ fn sampling_str(
 ) -> &'static str
     requires { IsTrue (sampling_has_form gather level compares clamped) }
     ensures { (of_depths : Bool) → result.now ≡ sampling_word
-        (sample_operator of_depths gather (level_of level) compares clamped false false) }
+        (image_sample_operator of_depths gather (level_of level) compares clamped false false) }
 {
     match gather {
         Some(_) => {

@@ -21,7 +21,7 @@ ghost use Rattle.naga_wgsl_fns.specs.Constructs.{Tells};
 ghost use Rattle.naga_wgsl_fns.specs.Refusals.{IsErrorOfNames, TellsPlanError};
 ghost use Rattle.naga_wgsl_fns.specs.Unplanned.{IsToldOfUnplanned, IsUnplanned, TellsUnplanned};
 ghost use Rattle.naga_wgsl_fns.specs.Unplanned.{is_names_want};
-ghost use Rattle.naga_wgsl_fns.specs.Unplanned.{is_want, part_of};
+ghost use Rattle.naga_wgsl_fns.specs.Unplanned.{is_want, function_position};
 ghost use Rattle.naga_wgsl_fns.specs.declared.refusals.error.Error.TheVariants.{Memory};
 ghost use Rattle.naga_names.specs.declared.error.NamerError.TheVariants as namer_error;
 
@@ -160,7 +160,7 @@ pub fn plan_or_refusal<'a>(
     ) {
         Ok(plan) => Ok(plan),
         Err(error) => {
-            let part = part_of(&error);
+            let part = function_position(&error);
             let (function, function_info) = function_of(module, info, *ty);
             match construct_of_plan(module, tables, function, function_info, error) {
                 Ok(construct) => Err(Unplanned::Refused(construct, part)),
@@ -171,8 +171,8 @@ pub fn plan_or_refusal<'a>(
 }
 
 /// Where a function has what keeps it from having a plan. Of want of memory nothing is told.
-fn part_of(error: &PlanError) -> FunctionRefusalPosition
-    ensures { result ≡ part_of error.now }
+fn function_position(error: &PlanError) -> FunctionRefusalPosition
+    ensures { result ≡ function_position error.now }
 {
     match error {
         PlanError::OutOfScope(fault) => FunctionRefusalPosition::Scope(*fault),

@@ -37,7 +37,7 @@ use Rattle.naga_scope.specs.declared.statements.UnsupportedStatement.{Unsupporte
 use Rattle.naga_wgsl_fns.specs.Carried.{CarriesOfExpression}
 use Rattle.naga_wgsl_fns.specs.Constructs.{Tells}
 use Rattle.naga_wgsl_fns.specs.Refusals.{NamesExpression}
-use Rattle.naga_wgsl_fns.specs.Unplanned.{part_of}
+use Rattle.naga_wgsl_fns.specs.Unplanned.{function_position}
 use Rattle.naga_wgsl_fns.specs.declared.plans.FunctionRefusalPosition.{FunctionRefusalPosition}
 use Rattle.naga_wgsl_fns.specs.declared.plans.FunctionRefusalPosition.TheVariants as part
 use Rattle.naga_wgsl_fns.specs.declared.refusals.construct.Construct.{Construct}
@@ -143,8 +143,8 @@ module _ (explicit : Bool) (m : Module) (info : ModuleInfo) (number : ℕ) (f : 
 
   -- it can't be that nothing of its kind is refused on its line
   something_at : (error : PlanError) (it : Construct) →
-      StandsAtPart explicit m info number f known (part_of error) it →
-      IsFirstOfKind explicit m info f known error → (part_of error ≡ part.Labels → ⊥) →
+      StandsAtPart explicit m info number f known (function_position error) it →
+      IsFirstOfKind explicit m info f known error → (function_position error ≡ part.Labels → ⊥) →
       NothingAt explicit m info f known (kind_of error) (line_of error) → ⊥
   something_at (reason.OutOfScope fault) it stands first other nothing = nothing fault stands.0 refl
   something_at (reason.StatementWithoutForm n statement) it (found, is, at, told) first other nothing =
@@ -168,15 +168,15 @@ module _ (explicit : Bool) (m : Module) (info : ModuleInfo) (number : ℕ) (f : 
   -- ---- of two that are the first neither comes before the other
   -- an error that is not of labels tells of the text
   abbrev pub IsOfText : PlanError → Type 0
-  IsOfText error = part_of error ≡ part.Labels → ⊥
+  IsOfText error = function_position error ≡ part.Labels → ⊥
 
   abbrev pub Stands : PlanError → Construct → Type 0
-  Stands error it = StandsAtPart explicit m info number f known (part_of error) it
+  Stands error it = StandsAtPart explicit m info number f known (function_position error) it
 
   abbrev pub IsFirstHere : PlanError → Type 0
   IsFirstHere error = IsFirstToPlan (LabelsGetNamesIn m number) explicit m info f known error
 
-  of_labels : (error : PlanError) → (part_of error ≡ part.Labels) ⊎ IsOfText error
+  of_labels : (error : PlanError) → (function_position error ≡ part.Labels) ⊎ IsOfText error
   of_labels (reason.OutOfScope fault) = inr (λ (same : part.Scope fault ≡ part.Labels). absurd cc)
   of_labels (reason.StatementWithoutForm n it) = inr (λ (same : part.Statement n ≡ part.Labels). absurd cc)
   of_labels (reason.WithoutForm line h) = inr (λ (same : part.Expression line h ≡ part.Labels). absurd cc)
@@ -227,7 +227,7 @@ module _ (explicit : Bool) (m : Module) (info : ModuleInfo) (number : ℕ) (f : 
   same_part : (one other : PlanError) (it that : Construct) → Stands one it → Stands other that →
       IsFirstOfKind explicit m info f known one → IsFirstOfKind explicit m info f known other →
       line_of one ≡ line_of other → IsOfText one → IsOfText other → NotBelow one other → NotBelow other one →
-      part_of one ≡ part_of other
+      function_position one ≡ function_position other
   same_part (reason.OutOfScope fault) (reason.OutOfScope broken) it that s t first second line o p less more =
       ap part.Scope (same_error fault broken (checked_scope m info f known) first second)
   same_part (reason.OutOfScope fault) (reason.StatementWithoutForm k b) it that s t first second line o p less more =
@@ -301,10 +301,10 @@ module _ (explicit : Bool) (m : Module) (info : ModuleInfo) (number : ℕ) (f : 
 
   -- ---- so there is one part
   pub one_part : (one other : PlanError) (it that : Construct) → Stands one it → Stands other that →
-      IsFirstHere one → IsFirstHere other → part_of one ≡ part_of other
+      IsFirstHere one → IsFirstHere other → function_position one ≡ function_position other
   one_part one other it that stands stood first second = by (of_labels one) (of_labels other)
     where
-      labels : (error : PlanError) (it : Construct) → Stands error it → part_of error ≡ part.Labels →
+      labels : (error : PlanError) (it : Construct) → Stands error it → function_position error ≡ part.Labels →
           LabelsGetNamesIn m number → ⊥
       labels error it stands is labelled =
           labelled (subst (λ at. StandsAtPart explicit m info number f known at it) is stands).0
@@ -312,7 +312,7 @@ module _ (explicit : Bool) (m : Module) (info : ModuleInfo) (number : ℕ) (f : 
       by_line : IsOfText one → IsOfText other →
           (is_before (line_of one) (line_of other) ≡ true)
           ⊎ ((line_of one ≡ line_of other) ⊎ (is_before (line_of other) (line_of one) ≡ true)) →
-          part_of one ≡ part_of other
+          function_position one ≡ function_position other
       by_line of_one of_other (inl before) =
           absurd (never_before one other it stands first second of_one of_other (inl before))
       by_line of_one of_other (inr (inr before)) =
@@ -323,8 +323,9 @@ module _ (explicit : Bool) (m : Module) (info : ModuleInfo) (number : ℕ) (f : 
           (λ less. never_before one other it stands first second of_one of_other (inr (line, less)))
           (λ less. never_before other one that stood second first of_other of_one (inr (sym line, less)))
 
-      by : (part_of one ≡ part.Labels) ⊎ IsOfText one → (part_of other ≡ part.Labels) ⊎ IsOfText other →
-          part_of one ≡ part_of other
+      by : (function_position one ≡ part.Labels) ⊎ IsOfText one → (function_position other ≡ part.Labels)
+          ⊎ IsOfText other →
+          function_position one ≡ function_position other
       by (inl is) (inl also) = is ∙ sym also
       by (inl is) (inr of) = absurd (labels one it stands is (in_text other second of).0)
       by (inr of) (inl is) = absurd (labels other that stood is (in_text one first of).0)

@@ -34,7 +34,7 @@ use Rattle.naga_wgsl_fns.specs.Constructs.{Tells}
 use Rattle.naga_wgsl_fns.specs.Refusals.{IsErrorOfNames, NamesExpression, NamesType, TellsOfModule}
 use Rattle.naga_wgsl_fns.specs.Refusals.{TellsPlanError}
 use Rattle.naga_wgsl_fns.specs.Unplanned.{IsRefusedFor, IsToldOfUnplanned, IsUnplanned}
-use Rattle.naga_wgsl_fns.specs.Unplanned.{is_names_want, is_want, part_of}
+use Rattle.naga_wgsl_fns.specs.Unplanned.{is_names_want, is_want, function_position}
 use Rattle.naga_wgsl_fns.specs.declared.refusals.error.Error.{Error}
 use Rattle.naga_wgsl_fns.specs.declared.refusals.error.Error.TheVariants.{Custom, Memory}
 use Rattle.naga_wgsl_fns.specs.declared.plans.Unplanned.{Unplanned}
@@ -68,7 +68,7 @@ module _ (explicit : Bool) (m : Module) (info : ModuleInfo) (accepted : IsTrue (
   -- what stands there by an error of a plan
   by_error : (error : PlanError) (it : Construct) → IsRefusalToPlan explicit m info f known namer error →
       Tells it (TellsPlanError m f known error) → CarriesOfPlan m f known error it → is_want error ≡ false →
-      StandsAtPart explicit m info number f known (part_of error) it
+      StandsAtPart explicit m info number f known (function_position error) it
   by_error (plan_error.OutOfScope fault) it refused told carries other = (refused, told)
   by_error (plan_error.StatementWithoutForm n statement) it refused told carries other =
       (statement, refused.0, refused.1, told)

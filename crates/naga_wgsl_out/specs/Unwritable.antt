@@ -38,7 +38,7 @@ use Rattle.naga_wgsl_fns.specs.DeclarationRefusals.{NamesUnsupportedDeclaration}
 use Rattle.naga_wgsl_fns.specs.Errors.{IsCustom}
 use Rattle.naga_wgsl_fns.specs.Refusals.{ExpressionNamesAreFullIn, NamesExpression, NamesStatement}
 use Rattle.naga_wgsl_fns.specs.Refusals.{NamesType}
-use Rattle.naga_wgsl_fns.specs.Unplanned.{part_of}
+use Rattle.naga_wgsl_fns.specs.Unplanned.{function_position}
 use Rattle.naga_wgsl_fns.specs.declared.refusals.construct.Construct.{Construct}
 use Rattle.naga_wgsl_fns.specs.declared.refusals.error.Error.{Error}
 use Rattle.naga_wgsl_fns.specs.declared.plans.FunctionRefusalPosition.{FunctionRefusalPosition}
@@ -103,7 +103,7 @@ pub record StandsInFunction (explicit : Bool) (m : Module) (info : ModuleInfo) (
   pub stands : slice_get (all_functions m) number ≡ Some function
   pub is_known : slice_get (all_infos info) number ≡ Some known
   pub at : StandsAtPart explicit m info number function known found.1 found.0
-  pub first : (error : PlanError) × (found.1 ≡ part_of error)
+  pub first : (error : PlanError) × (found.1 ≡ function_position error)
       × IsFirstToPlan (LabelsGetNamesIn m number) explicit m info function known error
 
 -- ---- declarations

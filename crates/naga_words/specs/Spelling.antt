@@ -16,7 +16,7 @@ use Rattle.naga_info.specs.declared.info.TypeResolution.TheVariants.{Handle, Val
 use Rattle.std.specs.Option.{is_none}
 use Rattle.wgsl_words.specs.Words.{space_word, space_access_word}
 use Rattle.naga_words.specs.Segments.{Segment, Word, Missing}
-use Rattle.naga_words.specs.Words.{cooperative_word, matrix_word, role_tail, sampler_word}
+use Rattle.naga_words.specs.Words.{cooperative_word, matrix_word, matrix_role_tail, sampler_word}
 use Rattle.naga_words.specs.Words.{acceleration_structure_text, ray_query_text}
 use Rattle.naga_words.specs.Values.{image_segments, length_of_number, scalar_segments}
 use Rattle.naga_words.specs.Values.{template_segments}
@@ -65,7 +65,7 @@ inner_segments_by c f (inner.Matrix columns rows scalar) =
     template_segments (matrix_word columns rows) (scalar_segments c.refuses scalar) (codes ">")
 inner_segments_by c f (inner.CooperativeMatrix columns rows scalar role) =
     template_segments (cooperative_word columns rows) (scalar_segments c.refuses scalar)
-    (role_tail role)
+    (matrix_role_tail role)
 inner_segments_by c f (inner.Atomic scalar) =
     template_segments (codes "atomic") (scalar_segments c.refuses scalar) (codes ">")
 inner_segments_by c f (inner.Pointer base space) =

@@ -6,7 +6,7 @@ use Rattle.naga_ir.specs.declared.types.CooperativeSize.{CooperativeSize}
 use Rattle.naga_ir.specs.declared.types.CooperativeSize.TheVariants.{Eight, Sixteen}
 use Rattle.naga_ir.specs.declared.types.CooperativeRole.{CooperativeRole}
 use Rattle.naga_ir.specs.declared.image.ImageDimension.{ImageDimension}
-use Rattle.wgsl_words.specs.Words.{role_word, dimension_word}
+use Rattle.wgsl_words.specs.Words.{matrix_role_word, dimension_word}
 
 -- the number in a vector's or a matrix's word
 abbrev pub size_text : VectorSize → List ℕ
@@ -45,8 +45,8 @@ image_word prefix multi dim arrayed =
     prefix ++ (multisampled_prefix multi ++ (dimension_word dim ++ array_suffix arrayed))
 
 -- the end of a cooperative matrix; no blank stands after the comma
-abbrev pub role_tail : CooperativeRole → List ℕ
-role_tail role = codes "," ++ (role_word role ++ codes ">")
+abbrev pub matrix_role_tail : CooperativeRole → List ℕ
+matrix_role_tail role = codes "," ++ (matrix_role_word role ++ codes ">")
 
 abbrev pub sampler_word : Bool → List ℕ
 sampler_word true = codes "sampler_comparison"

@@ -2,7 +2,7 @@
 
 ghost use Rattle.std.specs.Prelude.{◌≡◌, codes, false};
 ghost use Rattle.naga_words.specs.Words.{acceleration_structure_text, cooperative_word};
-ghost use Rattle.naga_words.specs.Words.{image_word, matrix_word, ray_query_text, role_tail};
+ghost use Rattle.naga_words.specs.Words.{image_word, matrix_word, ray_query_text, matrix_role_tail};
 ghost use Rattle.naga_words.specs.Words.{sampler_word, vector_word};
 
 use naga_ir::{CooperativeRole, CooperativeSize, ImageDimension, VectorSize};
@@ -49,7 +49,7 @@ pub fn cooperative_str(columns: CooperativeSize, rows: CooperativeSize) -> &'sta
 
 /// The end of a cooperative matrix, as `,A>`.
 pub fn role_tail_str(role: CooperativeRole) -> &'static str
-    ensures { result.now ≡ role_tail role }
+    ensures { result.now ≡ matrix_role_tail role }
 {
     match role {
         CooperativeRole::A => ",A>",

@@ -133,7 +133,7 @@ pub fn build_idle(alloc: Global, shader: &mut ModuleBuilder) -> Result<(), Alloc
 }
 
 /// Samples an image at level zero.
-pub fn build_sample(alloc: Global, shader: &mut ModuleBuilder) -> Result<(), AllocError> {
+pub fn build_image_sample(alloc: Global, shader: &mut ModuleBuilder) -> Result<(), AllocError> {
     let image_type = shader.type_of(TypeInner::Image {
         dim: ImageDimension::D2,
         arrayed: false,

@@ -5,8 +5,8 @@ use crate::declaration_rows::{
     build_override, build_struct, build_vertex,
 };
 use crate::expression_rows::{
-    build_double, build_float, build_idle, build_modf, build_negate, build_numeral, build_pointer,
-    build_sample, build_select,
+    build_double, build_float, build_idle, build_image_sample, build_modf, build_negate,
+    build_numeral, build_pointer, build_select,
 };
 use crate::layout_rows::{
     build_gap, build_misplaced, build_natural, build_stretched, build_stride,
@@ -200,7 +200,7 @@ impl SampleName {
             SampleName::Numeral => build_numeral(alloc, shader),
             SampleName::Float => build_float(alloc, shader),
             SampleName::Idle => build_idle(alloc, shader),
-            SampleName::Sampled => build_sample(alloc, shader),
+            SampleName::Sampled => build_image_sample(alloc, shader),
             SampleName::Modf => build_modf(alloc, shader),
             SampleName::F16 => build_f16(shader),
             SampleName::Switch => build_switch(alloc, shader),

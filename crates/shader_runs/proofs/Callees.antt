@@ -20,7 +20,7 @@ use Rattle.shader_runs.specs.Program.{expression_of, from, handle_type, is_count
 use Rattle.shader_runs.specs.Program.{then, Jumps}
 use Rattle.shader_runs.specs.ProgramRun.{Call, EmittedValues, action_answer, after_load}
 use Rattle.shader_runs.specs.ProgramRun.{after_request, also, computed_value, constant_values}
-use Rattle.shader_runs.specs.ProgramRun.{constants_kept, emit, emit_as, first_used, first_used_all}
+use Rattle.shader_runs.specs.ProgramRun.{constants_at_start, emit, emit_as, first_used, first_used_all}
 use Rattle.shader_runs.specs.ProgramRun.{gathered_value, has_case_value, if_counted, joined_values}
 use Rattle.shader_runs.specs.ProgramRun.{case_value_if, leave, return_outcome, run, run_all}
 use Rattle.shader_runs.specs.ProgramRun.{run_body, run_cases, run_from_entry, run_on}
@@ -173,8 +173,8 @@ module _ (c : Call) (told : List Function) (body : Statements) where
         ap (λ value. constant_as c.environment c.meaning value (expression_of c.function h))
         (λ j k. below i k j)
 
-    kept_alike : constants_kept c.function c.environment c.meaning
-        ≡ constants_kept retold.function c.environment c.meaning
+    kept_alike : constants_at_start c.function c.environment c.meaning
+        ≡ constants_at_start retold.function c.environment c.meaning
     kept_alike = λ j h. below (length c.function.expressions) h j
 
     -- where the bodies do the same, so do the calls

@@ -17,7 +17,7 @@ use Rattle.shader_runs.specs.Program.{argument_count, local_count, function_numb
 use Rattle.shader_runs.specs.Program.{handle_type, operands_of, from, Statement, Emit, Block, If}
 use Rattle.shader_runs.specs.Program.{Switch, Loop, Statements, end, then, Cases, no_case, case}
 use Rattle.shader_runs.specs.Program.{Module, any_continue}
-use Rattle.shader_runs.specs.ProgramRun.{Call, EmittedValues, constants_kept, run_if_arguments_fit}
+use Rattle.shader_runs.specs.ProgramRun.{Call, EmittedValues, constants_at_start, run_if_arguments_fit}
 use Rattle.shader_runs.specs.ProgramRun.{used_value, with_first, first_used, first_used_all}
 use Rattle.shader_runs.specs.ProgramRun.{run_from_entry, run_all, run_body, run_call}
 use Rattle.shader_runs.specs.TextRun.{Scope, Words, WordUse, AsksForEvent, Operates, value_of}
@@ -482,7 +482,7 @@ module _ (p : Module) (n : ModuleNames) (uses : Bytes → WordUse) (uses_fit : U
         (map held env.globals) no_names
 
     starts_own : length vs ≡ argument_count f.function →
-        Related c f.names (at_start f.function) (first_names f.names.outer f vs t) (constants_kept f.function env m)
+        Related c f.names (at_start f.function) (first_names f.names.outer f vs t) (constants_at_start f.function env m)
     starts_own e =
         record {
           availability = start_stands p c environment fit.ordered fit.leaves typed (first_names f.names.outer f vs t);
@@ -491,10 +491,10 @@ module _ (p : Module) (n : ModuleNames) (uses : Bytes → WordUse) (uses_fit : U
         }
 
     pub starts : length vs ≡ argument_count f.function →
-        Related c f.names (at_start f.function) (first_names n f vs t) (constants_kept f.function env m)
+        Related c f.names (at_start f.function) (first_names n f vs t) (constants_at_start f.function env m)
     starts e =
         subst (λ n'. Related c f.names (at_start f.function) (first_names n' f vs t)
-        (constants_kept f.function env m)) fit.outer (starts_own e)
+        (constants_at_start f.function env m)) fit.outer (starts_own e)
 
     pub facts : IsTrue (has_types env.parts f.function.argument_types vs) → Facts p c f.names d
     facts k =
@@ -514,10 +514,10 @@ module _ (p : Module) (n : ModuleNames) (uses : Bytes → WordUse) (uses_fit : U
         (h : ℕ) → IsTrue (usable f.function (at_start f.function) h) →
         (t1 : List Event) → value_of (words c d)
         (value_at f (at_start f.function) h) (first_names n f vs t) t1 ≡ reach
-        (used_value c (constants_kept f.function env m) h) t1
+        (used_value c (constants_at_start f.function env m) h) t1
     first_value_here k e h u t1 =
         value_here p c f.names d (facts k) (at_start f.function) (first_names n f vs t)
-        (constants_kept f.function env m) (starts e) h u t1
+        (constants_at_start f.function env m) (starts e) h u t1
 
   module _ (callees : List Function) (calls : ByNumber) (d : Respond) (alike : AreAlike callees calls d)
       (f : Naming) (start : Starting p n f) (regular : AreRegular p callees f f.function.body)
@@ -549,7 +549,7 @@ module _ (p : Module) (n : ModuleNames) (uses : Bytes → WordUse) (uses_fit : U
     spelled = words own d
 
     abbrev kept : EmittedValues
-    kept = constants_kept f.function env m
+    kept = constants_at_start f.function env m
 
     -- one first value, and those of the variables after it
     first_reached : IsTrue (has_types env.parts f.function.argument_types vs) →
@@ -606,17 +606,17 @@ module _ (p : Module) (n : ModuleNames) (uses : Bytes → WordUse) (uses_fit : U
     list_alike : length vs ≡ argument_count f.function →
         IsTrue (has_types env.parts f.function.argument_types vs) →
         (t1 : List Event) → SameBody own (at_start f.function)
-        (constants_kept f.function env m) (any_continue f.function.body)
-        (run_all own bound f.function.body (constants_kept f.function env m) t1)
+        (constants_at_start f.function env m) (any_continue f.function.body)
+        (run_all own bound f.function.body (constants_at_start f.function env m) t1)
         (follow_all (words own d) bound
         (form_all f 0 f.function.body (at_start f.function)) (first_names n f vs t) t1)
     list_alike e k t1 =
         let facts = facts callees calls d alike f start typed vs t k in
         let lines = form_all f 0 f.function.body (at_start f.function) in
         same_body p own f.names d facts bound (at_start f.function) _
-        (constants_kept f.function env m) (any_continue f.function.body) _ lines (first_names n f vs t) t1
+        (constants_at_start f.function env m) (any_continue f.function.body) _ lines (first_names n f vs t) t1
         (same_all p own f.names d facts bound f.function.body 0
-        (at_start f.function) (first_names n f vs t) (constants_kept f.function env m) t1
+        (at_start f.function) (first_names n f vs t) (constants_at_start f.function env m) t1
         (starts callees calls d alike f start typed vs t e) body_fits)
 
     body_alike : (place place' : ℕ) → place' ≡ place → length vs ≡ argument_count f.function →
@@ -625,7 +625,7 @@ module _ (p : Module) (n : ModuleNames) (uses : Bytes → WordUse) (uses_fit : U
         (follow_body (words own d) bound place' (form_function f) vs
         (parameter_names n f vs) t)
     body_alike place place' pe e k =
-        let kept = constants_kept f.function env m in
+        let kept = constants_at_start f.function env m in
         let os = f.function.first_values in
         let firsts_fit = first_values_fit f.function 0 os in
         let body_fits = fits_all f 0 f.function.body (at_start f.function) in

@@ -14,7 +14,7 @@ use Rattle.shader_runs.specs.Program.{binds_as, Module, is_pure, is_emittable}
 use Rattle.shader_runs.specs.ProgramRun.{Call, EmittedValues, used_value_as, constant_values}
 use Rattle.shader_runs.specs.ProgramRun.{used_value, used_values, joined_values, combined_value}
 use Rattle.shader_runs.specs.ProgramRun.{computed_value, after_load, after_request, if_counted}
-use Rattle.shader_runs.specs.ProgramRun.{emit_as, emit, keep_typed}
+use Rattle.shader_runs.specs.ProgramRun.{emit_as, emit, store_typed}
 use Rattle.shader_runs.specs.Text.{Apply, Lines}
 use Rattle.shader_runs.specs.TextRun.{Denotation, IsValue, Scope, read_value, as_value, word_answer}
 use Rattle.shader_runs.specs.TextRun.{evaluate_all, value_of, with_value, follow_in_loop, IsPlace}
@@ -220,7 +220,7 @@ module _ (p : Module) (c : Call) (n : Names) (d : Respond) (facts : Facts p c n 
         GoesOn c n R P Q B s kept (update s h (Bound x)) f (follow_in_loop (words c d) bound tail) →
         (o : Option Place) →
         Alike R P Q B
-        (and_then (or_stuck o t (λ p. keep_typed c.environment.parts (handle_type c.function h) h
+        (and_then (or_stuck o t (λ p. store_typed c.environment.parts (handle_type c.function h) h
         (c.world t (Read p)) kept (Read p ∷ t))) f)
         (bound_next (read_value c.world (reach (option_map IsPlace o) t)) x names
         (follow_in_loop (words c d) bound tail))

@@ -18,7 +18,7 @@ use Rattle.shader_runs.specs.Passes.{module_turn, FallsTo, this_case, next_case,
 use Rattle.shader_runs.specs.Passes.{own_case, other_case, Comes, into_block, into_accept}
 use Rattle.shader_runs.specs.Passes.{into_reject, into_case, into_loop, Passes, is_here, goes_after}
 use Rattle.shader_runs.specs.Passes.{goes_inside}
-use Rattle.shader_runs.specs.Ends.{end_of, is_simple, stops_early, is_early, EndsAt, EndsArePassed}
+use Rattle.shader_runs.specs.Ends.{end_of, is_simple, stops_early, is_early, EndsAt, EndsAreReached}
 use Rattle.shader_runs.proofs.Passes.{same_state, same_events, then_parts, one_more_turn}
 
 not_early : {A : Type 0} → IsTrue false → A
@@ -301,14 +301,14 @@ module _ (c : Call) (n : ℕ) where
         let on = on_ends l b falls cs (all_ends b) rest.0 in
         (on, for_ends l b falls cs on rest.1)
 
-  end_passed : (ss : Statements) (kept kept1 : EmittedValues) (t t1 : List Event) → run_all c n ss kept t
+  end_reached : (ss : Statements) (kept kept1 : EmittedValues) (t t1 : List Event) → run_all c n ss kept t
       ≡ Done kept1 t1 → Passes c n ss (end_of ss) kept t kept1 t1
-  end_passed end kept kept1 t t1 e =
+  end_reached end kept kept1 t t1 e =
       subst (λ k. Passes c n end here kept t k t1) (same_state kept kept1 t t1 e)
       (subst (λ x. Passes c n end here kept t kept x) (same_events kept kept1 t t1 e) is_here)
-  end_passed (then st ss) kept kept1 t t1 e =
+  end_reached (then st ss) kept kept1 t t1 e =
       let parts = then_parts (run c n st kept t) (run_all c n ss) kept1 t1 e in
-      goes_after parts.2 (end_passed ss parts.0 kept1 parts.1 t1 parts.3)
+      goes_after parts.2 (end_reached ss parts.0 kept1 parts.1 t1 parts.3)
 
-pub ends_are_passed : EndsArePassed
-ends_are_passed c n ss kept t = (λ kept1 t1 e. end_passed c n ss kept kept1 t t1 e, all_ends c n ss kept t)
+pub ends_are_reached : EndsAreReached
+ends_are_reached c n ss kept t = (λ kept1 t1 e. end_reached c n ss kept kept1 t t1 e, all_ends c n ss kept t)

@@ -12,7 +12,7 @@ use Rattle.shader_runs.specs.Program.{Cases, no_case, case, Function, argument_c
 use Rattle.shader_runs.specs.Program.{handle_type, is_counted, from, Jumps}
 use Rattle.shader_runs.specs.ProgramRun.{Call, EmittedValues, constant_values, used_value}
 use Rattle.shader_runs.specs.ProgramRun.{used_values, joined_values, barrier_words, same_case_value}
-use Rattle.shader_runs.specs.ProgramRun.{has_case_value, case_value_if, constants_kept}
+use Rattle.shader_runs.specs.ProgramRun.{has_case_value, case_value_if, constants_at_start}
 use Rattle.shader_runs.specs.ProgramRun.{first_used_all}
 use Rattle.shader_runs.proofs.Process.{Pause, DoneWith, ContinuedWith, BrokeWith, ReturnedWith}
 use Rattle.shader_runs.proofs.Process.{Process, gives, stuck, looks, sequence, then_on, continue_on}
@@ -270,7 +270,7 @@ module _ (env : Environment) (m : Meaning) (functions : List Function) (n : ℕ)
 
       lines : List Event → Process
       lines t =
-          sequence (list_process (call t) (call_process env m fs) f.body (constants_kept f env m)) answers_call
+          sequence (list_process (call t) (call_process env m fs) f.body (constants_at_start f env m)) answers_call
 
       begins : (t : List Event) →
           opened (call_course (length fs) vs) t ≡
@@ -283,7 +283,7 @@ module _ (env : Environment) (m : Meaning) (functions : List Function) (n : ℕ)
           stuck)) (call_process env m fs (length fs) vs))) t) (eq-eqb (length fs) (length fs) refl)
 
       entry : (t : List Event) (o : Option (List (Option Value))) →
-          first_used_all (call t) (constants_kept f env m) f.first_values ≡ o →
+          first_used_all (call t) (constants_at_start f env m) f.first_values ≡ o →
           opened (call_course (length fs) vs) t ≡ course n (body t) →
           ((g : ℕ) (vs : List Value) (t : List Event) →
           Entered call_course (course n (call_process env m fs g vs)) t) →
@@ -292,7 +292,7 @@ module _ (env : Environment) (m : Meaning) (functions : List Function) (n : ℕ)
       entry t (Some firsts) h at rest = (
         at ∙ ap (λ o. course n (entry_process (length fs) vs o (lines t))) h,
         (
-          list_enters call_course n (call t) (call_process env m fs) rest f.body (constants_kept f env m)
+          list_enters call_course n (call t) (call_process env m fs) rest f.body (constants_at_start f env m)
               (Entry (length fs) vs firsts ∷ t),
           answers_enter call_course n,
         ),
@@ -303,7 +303,7 @@ module _ (env : Environment) (m : Meaning) (functions : List Function) (n : ℕ)
           Entered call_course (course n (call_process env m fs g vs)) t) →
           Entered call_course (course n (if_true b (body t) stuck)) t
       own t true e rest =
-          entry t (first_used_all (call t) (constants_kept f env m) f.first_values) refl
+          entry t (first_used_all (call t) (constants_at_start f env m) f.first_values) refl
           (begins t ∙ ap (λ b. course n (if_true b (body t) stuck)) e) rest
       own t false e rest = tt
 
@@ -332,7 +332,7 @@ call_opens env m (f ∷ fs) n g vs = go (nat_eq g (length fs)) (call_opens env m
         (if_true b (body_process (call_alone f fs env m vs frame) (call_process env m fs) (length fs) vs) stuck))
     own true frame =
         let c = call_alone f fs env m vs frame in
-        let kept = constants_kept f env m in
+        let kept = constants_at_start f env m in
         entry (first_used_all c kept f.first_values)
         (sequence (list_process c (call_process env m fs) f.body kept) answers_call)
     own false frame = tt

@@ -18,12 +18,12 @@ use Rattle.shader_runs.specs.Program.{Function, argument_count, expression_of, h
 use Rattle.shader_runs.specs.Program.{operands_of, is_counted, from, Jumps}
 use Rattle.shader_runs.specs.ProgramRun.{Call, EmittedValues, constant_values, used_value}
 use Rattle.shader_runs.specs.ProgramRun.{used_value_as, also, used_values, gathered_value}
-use Rattle.shader_runs.specs.ProgramRun.{computed_value, joined_values, if_typed, keep_typed}
+use Rattle.shader_runs.specs.ProgramRun.{computed_value, joined_values, if_typed, store_typed}
 use Rattle.shader_runs.specs.ProgramRun.{after_load, after_request, if_counted, emit_as, emit}
 use Rattle.shader_runs.specs.ProgramRun.{leave, return_outcome, action_answer, with_result}
 use Rattle.shader_runs.specs.ProgramRun.{barrier_words, ask_each, same_case_value, has_case_value}
 use Rattle.shader_runs.specs.ProgramRun.{case_value_if, run, run_all, run_cases, run_on}
-use Rattle.shader_runs.specs.ProgramRun.{constants_kept, with_first, first_used, first_used_all}
+use Rattle.shader_runs.specs.ProgramRun.{constants_at_start, with_first, first_used, first_used_all}
 use Rattle.shader_runs.specs.ProgramRun.{run_from_entry, run_body, run_if_arguments_fit, run_call}
 use Rattle.shader_runs.proofs.Process.{Pause, DoneWith, ContinuedWith, BrokeWith, ReturnedWith}
 use Rattle.shader_runs.proofs.Process.{Process, gives, stuck, tells, looks, sequence, answered}
@@ -144,7 +144,7 @@ module _ (w : World) (n : ℕ) where
       there_performed (truth_in v) (truth_in v) t _ (λ y. if_true y p q) refl (λ y. if_performed y t a b p q h k)
 
   keeping_performed : (parts : PartTypes) (k : ValueType) (h : ℕ) (r : Event) (kept : EmittedValues)
-      (t : List Event) → keep_typed parts k h (w t r) kept (r ∷ t) ≡ outcome
+      (t : List Event) → store_typed parts k h (w t r) kept (r ∷ t) ≡ outcome
       (perform w n (keeping parts k h r kept) t)
   keeping_performed parts k h r kept t = go (has_type parts k (w t r))
     where
@@ -392,9 +392,9 @@ module _ (w : World) (n : ℕ) where
         ≡ call_outcome (perform w n (body_process alone callees g vs) t)
     body_performed g t =
         ap (λ o. run_from_entry g vs o t
-        (λ t1. answer (run_all c n f.body (constants_kept f env m) t1)))
-        (firsts_alone (constants_kept f env m) f.first_values)
-        ∙ go (first_used_all alone (constants_kept f env m) f.first_values)
+        (λ t1. answer (run_all c n f.body (constants_at_start f env m) t1)))
+        (firsts_alone (constants_at_start f env m) f.first_values)
+        ∙ go (first_used_all alone (constants_at_start f env m) f.first_values)
       where
         answers : (q : ReachedOrHalted Pause) → answer (outcome q)
             ≡ call_outcome (resumed q (λ x e. perform w n (answers_call x) e))
@@ -405,15 +405,15 @@ module _ (w : World) (n : ℕ) where
         answers (Halts x e) = refl
 
         go : (o : Option (List (Option Value))) →
-            run_from_entry g vs o t (λ t1. answer (run_all c n f.body (constants_kept f env m) t1))
+            run_from_entry g vs o t (λ t1. answer (run_all c n f.body (constants_at_start f env m) t1))
             ≡ call_outcome
             (perform w n
             (entry_process g vs o
-            (sequence (list_process alone callees f.body (constants_kept f env m)) answers_call)) t)
+            (sequence (list_process alone callees f.body (constants_at_start f env m)) answers_call)) t)
         go None = refl
         go (Some firsts) =
-            ap answer (list_performed f.body (constants_kept f env m) (Entry g vs firsts ∷ t))
-            ∙ answers (perform w n (list_process alone callees f.body (constants_kept f env m))
+            ap answer (list_performed f.body (constants_at_start f env m) (Entry g vs firsts ∷ t))
+            ∙ answers (perform w n (list_process alone callees f.body (constants_at_start f env m))
             (Entry g vs firsts ∷ t))
 
   picked_performed : (b : Bool) (t : List Event) (q q' : ReachedOrHalted (Option Value))

@@ -18,7 +18,7 @@ use Rattle.shader_runs.specs.Program.{handle_type, is_counted, from, Jump, Jumps
 use Rattle.shader_runs.specs.ProgramRun.{Call, EmittedValues, constant_values, used_value}
 use Rattle.shader_runs.specs.ProgramRun.{used_values, computed_value, joined_values, barrier_words}
 use Rattle.shader_runs.specs.ProgramRun.{same_case_value, has_case_value, case_value_if}
-use Rattle.shader_runs.specs.ProgramRun.{constants_kept, first_used_all}
+use Rattle.shader_runs.specs.ProgramRun.{constants_at_start, first_used_all}
 
 abbrev pub events_of : {S : Type 0} → Outcome S → List Event
 events_of (Done s t) = t
@@ -237,7 +237,7 @@ module _ (c : Call) (calls : ℕ → List Value → Process) where
 
   abbrev pub body_process : ℕ → List Value → Process
   body_process g vs =
-      let kept = constants_kept c.function c.environment c.meaning in
+      let kept = constants_at_start c.function c.environment c.meaning in
       entry_process g vs (first_used_all c kept c.function.first_values)
       (sequence (list_process c.function.body kept) answers_call)
 

@@ -25,7 +25,7 @@ use Rattle.shader_runs.specs.ProgramRun.{after_load, after_request, if_counted, 
 use Rattle.shader_runs.specs.ProgramRun.{leave, return_outcome, action_answer, with_result}
 use Rattle.shader_runs.specs.ProgramRun.{barrier_words, ask_each, same_case_value, has_case_value}
 use Rattle.shader_runs.specs.ProgramRun.{case_value_if, run, run_all, run_cases, run_on}
-use Rattle.shader_runs.specs.ProgramRun.{constants_kept, with_first, first_used_all, run_from_entry}
+use Rattle.shader_runs.specs.ProgramRun.{constants_at_start, with_first, first_used_all, run_from_entry}
 use Rattle.shader_runs.specs.ProgramRun.{run_body, run_if_arguments_fit, run_call}
 use Rattle.shader_runs.specs.TextRun.{Scope, no_names}
 use Rattle.shader_runs.specs.Scope.{Availability, Absent, Barred, Everywhere, Inline, Bound}
@@ -581,7 +581,7 @@ module _ (p : Module) (n : ModuleNames) (env : Environment) (environment : Envir
     start = at_start f.function
 
     abbrev kept : EmittedValues
-    kept = constants_kept f.function env m
+    kept = constants_at_start f.function env m
 
     sound : Sound p c
     sound =

@@ -21,7 +21,7 @@ use Rattle.shader_runs.specs.ProgramRun.{used_values, joined_values, if_typed, a
 use Rattle.shader_runs.specs.ProgramRun.{after_request, if_counted, emit_as, emit, leave}
 use Rattle.shader_runs.specs.ProgramRun.{action_answer, with_result, barrier_words, ask_each}
 use Rattle.shader_runs.specs.ProgramRun.{same_case_value, has_case_value, case_value_if, run}
-use Rattle.shader_runs.specs.ProgramRun.{run_all, run_cases, run_on, constants_kept, first_used_all}
+use Rattle.shader_runs.specs.ProgramRun.{run_all, run_cases, run_on, constants_at_start, first_used_all}
 use Rattle.shader_runs.specs.ProgramRun.{run_from_entry, run_body, run_if_arguments_fit, run_call}
 use Rattle.shader_runs.specs.Scope.{Naming}
 use Rattle.shader_runs.specs.Form.{functions_of}
@@ -427,7 +427,7 @@ module _ (p : Module) (env : Environment) (w : World) (m : Meaning) (bound : ℕ
       c = call_of env w m bound f fs vs t
 
       kept : EmittedValues
-      kept = constants_kept f.function env m
+      kept = constants_at_start f.function env m
 
       go : (o : Option (List (Option Value))) →
           IsComplete f.function.result (run_from_entry g vs o t

@@ -11,7 +11,7 @@ use Rattle.shader_runs.specs.Program.{Constant, Function, expression_of, handle_
 use Rattle.shader_runs.specs.Program.{Module, is_pure}
 use Rattle.shader_runs.specs.ProgramRun.{Call, used_value_as, used_value, also, used_values}
 use Rattle.shader_runs.specs.ProgramRun.{gathered_value, all_of, or_constant, constant_as}
-use Rattle.shader_runs.specs.ProgramRun.{constant_below, constants_kept}
+use Rattle.shader_runs.specs.ProgramRun.{constant_below, constants_at_start}
 use Rattle.shader_runs.specs.TextRun.{Scope}
 use Rattle.shader_runs.specs.Scope.{all_constant, is_constant_leaf, constant_test}
 use Rattle.shader_runs.specs.Scope.{is_constant_below, start_availability, at_start, is_present}
@@ -191,7 +191,7 @@ module _ (p : Module) (c : Call) (fits : EnvironmentFits p c.environment) (below
   Top = length c.function.expressions
 
   abbrev values : ℕ → Option Value
-  values = constants_kept c.function c.environment c.meaning
+  values = constants_at_start c.function c.environment c.meaning
 
   within : (x : ℕ) → IsTrue (is_constant_below c.function Top x) → x < Top
   within x t = constant_within p c.environment fits c.function c.meaning below leaves typed Top x t

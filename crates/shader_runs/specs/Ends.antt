@@ -54,8 +54,8 @@ pub record EndsAt (c : Call) (n : ℕ) (ss : Statements) (kept : EmittedValues) 
 
 -- a list that is done passes the point after it, and one that ends early passes the point in front
 -- of the statement where it does
-abbrev pub EndsArePassed : Type 0
-EndsArePassed =
+abbrev pub EndsAreReached : Type 0
+EndsAreReached =
     (c : Call) (n : ℕ) (ss : Statements) (kept : EmittedValues) (t : List Event) →
     ((kept1 : EmittedValues) (t1 : List Event) →
     run_all c n ss kept t ≡ Done kept1 t1 → Passes c n ss (end_of ss) kept t kept1 t1)

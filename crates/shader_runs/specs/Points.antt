@@ -11,7 +11,7 @@ use Rattle.shader_runs.specs.World.{Event, entries, World, Meaning, Environment,
 use Rattle.shader_runs.specs.Outcome.{Gives}
 use Rattle.shader_runs.specs.Program.{Statement, Emit, If, Switch, Loop, Statements, end, then}
 use Rattle.shader_runs.specs.Program.{Cases, no_case, case, Function, from, Module}
-use Rattle.shader_runs.specs.ProgramRun.{Call, EmittedValues, used_value, constants_kept, run_call}
+use Rattle.shader_runs.specs.ProgramRun.{Call, EmittedValues, used_value, constants_at_start, run_call}
 use Rattle.shader_runs.specs.TextRun.{IsValue, Scope, Words, value_of, with_parameters}
 use Rattle.shader_runs.specs.TextRun.{with_variables, word_use, is_operation, follow_call}
 use Rattle.shader_runs.specs.Scope.{Bound, Handles, ModuleNames, Naming, usable, named_by}
@@ -145,7 +145,7 @@ PointsAgreeIn p n later f fs =
     let start = at_start f.function in
     (q : Point) (kept : EmittedValues) (t1 : List Event) →
     let in_text = point_in_text f.function body q in
-    Passes c turns body q (constants_kept f.function env m) t kept t1 →
+    Passes c turns body q (constants_at_start f.function env m) t kept t1 →
     (names : Scope)
     × TextPasses l turns (form_all f 0 body start) in_text first_names t names t1
     × LinesAreTheForm f body q

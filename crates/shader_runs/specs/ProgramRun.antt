@@ -8,9 +8,9 @@
 use Rattle.std.specs.Prelude.{ℕ, zero, suc, ℤ, Bool, true, false, cond, nat_eq, List, [], ◌∷◌, ◌++◌}
 use Rattle.std.specs.Prelude.{option_map, option_and_then, length, Option, Some, None, ◌||◌}
 use Rattle.std.specs.Prelude.{slice_get, codes}
-use Rattle.shader_runs.specs.Value.{Bytes, same_integer, PartTypes, Place, Rooted, GlobalRoot}
+use Rattle.shader_runs.specs.Value.{Bytes, same_integer, PartTypes, Place, Rooted, GlobalOrigin}
 use Rattle.shader_runs.specs.Value.{truth_in, integer_in, place_in, element_place, place_to}
-use Rattle.shader_runs.specs.Value.{LocalRoot}
+use Rattle.shader_runs.specs.Value.{LocalOrigin}
 use Rattle.shader_runs.specs.Value.{ValueType, has_type, Selector, MemberNamed, Value, Truth}
 use Rattle.shader_runs.specs.Value.{Pointer, Word, Spelled, PartWord, IndexWord, ShortCircuit}
 use Rattle.shader_runs.specs.Value.{short_circuit_word, is_decided}
@@ -115,7 +115,7 @@ constant_values env m es = tree_values (slice_get env.constants) m es
 -- what a module-level variable's name gives: a pointer to it, or the value itself
 abbrev pub global_value : ℕ → Option GlobalValue → Option Value
 global_value i None = None
-global_value i (Some (Stored pointer)) = Some (Pointer (Rooted (GlobalRoot pointer i)))
+global_value i (Some (Stored pointer)) = Some (Pointer (Rooted (GlobalOrigin pointer i)))
 global_value i (Some (InHandleSpace o)) = o
 
 -- what a use of a handle takes
@@ -123,7 +123,7 @@ abbrev pub used_value_as : Call → Option Expression → Option Value → Optio
 used_value_as c (Some (Constant e)) kept = constant_value c.environment c.meaning e
 used_value_as c (Some (Argument i)) kept = slice_get c.arguments i
 used_value_as c (Some (Local i)) kept =
-    Some (Pointer (Rooted (LocalRoot (local_pointer c.function i) c.frame i)))
+    Some (Pointer (Rooted (LocalOrigin (local_pointer c.function i) c.frame i)))
 used_value_as c (Some (Global held i)) kept = global_value i (slice_get c.environment.globals i)
 used_value_as c None kept = None
 used_value_as c _ kept = kept
@@ -204,14 +204,14 @@ if_typed true t o = o
 if_typed false t o = Stopped Mistyped t
 
 -- an answer is kept, if it has its type
-abbrev pub keep_typed : PartTypes → ValueType → ℕ → Value → Next EmittedValues
-keep_typed parts k h v kept t = if_typed (has_type parts k v) t (Done (update kept h (Some v)) t)
+abbrev pub store_typed : PartTypes → ValueType → ℕ → Value → Next EmittedValues
+store_typed parts k h v kept t = if_typed (has_type parts k v) t (Done (update kept h (Some v)) t)
 
 -- a handle without its pointer's value gets none
 abbrev pub after_load : PartTypes → ValueType → World → ℕ → Option Value → Next EmittedValues
 after_load parts k w h None kept t = Done (update kept h None) t
 after_load parts k w h (Some v) kept t =
-    or_stuck (place_in v) t (λ p. keep_typed parts k h (w t (Read p)) kept (Read p ∷ t))
+    or_stuck (place_in v) t (λ p. store_typed parts k h (w t (Read p)) kept (Read p ∷ t))
 
 -- the operands' values, and those of the constants after them
 abbrev pub joined_values : Option (List Value) → Option (List Value) → Option (List Value)
@@ -224,7 +224,7 @@ abbrev pub after_request :
     PartTypes → ValueType → World → ℕ → Bytes → Option (List Value) → Next EmittedValues
 after_request parts k w h word None kept t = Done (update kept h None) t
 after_request parts k w h word (Some vs) kept t =
-    keep_typed parts k h (w t (Ask word vs)) kept (Ask word vs ∷ t)
+    store_typed parts k h (w t (Ask word vs)) kept (Ask word vs ∷ t)
 
 -- what isn't written is no event
 abbrev pub if_counted : Bool → Next EmittedValues → Next EmittedValues
@@ -288,7 +288,7 @@ with_result parts f a None kept (Gives v t) = Done kept t
 with_result parts f a None kept (Halts x t) = Stopped x t
 with_result parts f a (Some h) kept (Gives None t) = Stopped Unreturned t
 with_result parts f (Asked w) (Some h) kept (Gives (Some v) t) =
-    keep_typed parts (handle_type f h) h v kept t
+    store_typed parts (handle_type f h) h v kept t
 with_result parts f (Called g) (Some h) kept (Gives (Some v) t) = Done (update kept h (Some v)) t
 with_result parts f a (Some h) kept (Halts x t) = Stopped x t
 
@@ -390,8 +390,8 @@ constant_below f env m zero h = None
 constant_below f env m (suc n) h = constant_as env m (constant_below f env m n) (expression_of f h)
 
 -- the values of constant trees are there from the start
-abbrev pub constants_kept : Function → Environment → Meaning → EmittedValues
-constants_kept f env m = constant_below f env m (length f.expressions)
+abbrev pub constants_at_start : Function → Environment → Meaning → EmittedValues
+constants_at_start f env m = constant_below f env m (length f.expressions)
 
 -- one more first value
 abbrev pub with_first :
@@ -419,7 +419,7 @@ run_from_entry g vs (Some firsts) t body = body (Entry g vs firsts ∷ t)
 -- a body, from the first values of its locals on
 abbrev pub run_body : Call → ℕ → ℕ → List Value → List Event → ReachedOrHalted (Option Value)
 run_body c n g vs t =
-    let kept = constants_kept c.function c.environment c.meaning in
+    let kept = constants_at_start c.function c.environment c.meaning in
     run_from_entry g vs (first_used_all c kept c.function.first_values) t
     (λ t1. answer (run_all c n c.function.body kept t1))
 

@@ -1,7 +1,7 @@
 -- Worked functions that ask for events: atomics, images, derivatives, collectives, barriers and ray
 -- traces. Each with its text, and what both runs of it do.
 use Rattle.std.specs.Prelude.{true, false, List, [], ◌∷◌, Some, None, codes}
-use Rattle.shader_runs.specs.Value.{Bytes, Place, Rooted, GlobalRoot, ValueType, PointerType}
+use Rattle.shader_runs.specs.Value.{Bytes, Place, Rooted, GlobalOrigin, ValueType, PointerType}
 use Rattle.shader_runs.specs.Value.{OtherType, Value, Pointer, Opaque}
 use Rattle.shader_runs.specs.World.{Event, Ask, Write}
 use Rattle.shader_runs.specs.Outcome.{Gives}
@@ -25,7 +25,7 @@ counter_type = codes "ptr<workgroup, atomic<i32>>"
 
 -- its place
 abbrev pub counter_place : Place
-counter_place = Rooted (GlobalRoot counter_type 0)
+counter_place = Rooted (GlobalOrigin counter_type 0)
 
 -- it is stored to, added to and loaded; what the addition found and what is loaded are added up
 abbrev pub count_function : Function
@@ -98,8 +98,8 @@ abbrev pub level_zero : Value
 level_zero = Opaque (codes "f32") 0
 
 -- an image with layers is sampled at level zero, with an offset that is a named constant
-abbrev pub sample_function : Function
-sample_function =
+abbrev pub sampling_function : Function
+sampling_function =
     let constants = constant (Fixed level_zero) (constant (NamedConstant 0) no_constant) in
     let sample = Request (codes "textureSampleLevel") (0 ∷ 1 ∷ 2 ∷ 3 ∷ []) constants in
     function_with (coordinate_type ∷ i32 ∷ []) (Some texel_type) [] (
@@ -112,33 +112,33 @@ sample_function =
     ∷ Jumps (Return (Some 4)) ∷ [])
 
 -- its arguments' names
-abbrev pub sample_arguments : List Bytes
-sample_arguments = codes "uv" ∷ codes "layer" ∷ []
+abbrev pub sampling_arguments : List Bytes
+sampling_arguments = codes "uv" ∷ codes "layer" ∷ []
 
 -- its module
-abbrev pub sample_example : Example
-sample_example =
+abbrev pub sampling_example : Example
+sampling_example =
     let image = resource (codes "image") layers_type 400 in
     let filtering = resource (codes "filtering") sampler_type 2 in
     record {
       constants = record { name = codes "OFFSET"; type = pair_type; value = pair 30 } ∷ [];
       variables = image ∷ filtering ∷ [];
-      functions = named_function (codes "shade") sample_arguments [] sample_function ∷ [];
+      functions = named_function (codes "shade") sampling_arguments [] sampling_function ∷ [];
     }
 
 -- its text, with these operands after the layer
-abbrev pub sample_text : List Tree → List TextFunction
-sample_text following =
+abbrev pub sampling_text : List Tree → List TextFunction
+sampling_text following =
     let image = Name (codes "image") in
     let filtering = Name (codes "filtering") in
     let operands = image ∷ filtering ∷ Name (codes "uv") ∷ Name (codes "layer") ∷ following in
-    text_of (codes "shade") sample_arguments [] (lines (
+    text_of (codes "shade") sampling_arguments [] (lines (
     let_own 4 (call_of (codes "textureSampleLevel") operands)
     ∷ return_of (named_by 4) ∷ [])) ∷ []
 
 -- its arguments
-abbrev pub sample_values : List Value
-sample_values = coordinate ∷ number 1 ∷ []
+abbrev pub sampling_values : List Value
+sampling_values = coordinate ∷ number 1 ∷ []
 
 -- its events, with these operands after the layer
 abbrev pub sampling_events : List Value → List Event
@@ -146,14 +146,14 @@ sampling_events following =
     let image = Opaque layers_type 400 in
     let filtering = Opaque sampler_type 2 in
     let operands = image ∷ filtering ∷ coordinate ∷ number 1 ∷ following in
-    Ask (codes "textureSampleLevel") operands ∷ start_events 0 sample_values []
+    Ask (codes "textureSampleLevel") operands ∷ start_events 0 sampling_values []
 
 -- the world's answer is 400 and 1 and 0 and 30
-abbrev pub SampleRow : Type 0
-SampleRow =
-    let text = sample_text (LiteralOf level_zero ∷ Name (codes "OFFSET") ∷ []) in
+abbrev pub SamplingRow : Type 0
+SamplingRow =
+    let text = sampling_text (LiteralOf level_zero ∷ Name (codes "OFFSET") ∷ []) in
     let events = sampling_events (level_zero ∷ pair 30 ∷ []) in
-    IsWorked sample_example text 0 3 sample_values (Gives (Some (texel 431)) events)
+    IsWorked sampling_example text 0 3 sampling_values (Gives (Some (texel 431)) events)
 
 -- a texel of one of many images, whose index is a sum
 abbrev pub images_type : Bytes
@@ -368,8 +368,8 @@ together_text =
 -- each barrier is an event, and what is read after them is what was stored
 abbrev pub TogetherRow : Type 0
 TogetherRow =
-    let cell = Rooted (GlobalRoot cell_type 0) in
-    let payload = Rooted (GlobalRoot payload_type 2) in
+    let cell = Rooted (GlobalOrigin cell_type 0) in
+    let payload = Rooted (GlobalOrigin payload_type 2) in
     let ray = Opaque ray_type 3 in
     let vs : List Value = number 8 ∷ ray ∷ [] in
     IsWorked together_example together_text 0 3 vs (Gives (Some ballot) (

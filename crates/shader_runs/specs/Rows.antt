@@ -4,7 +4,7 @@
 -- Throughout, t are the events so far, vs are arguments, and f and e a function and an expression.
 use Rattle.std.specs.Prelude.{◌≡◌, ℕ, pos, Bool, true, false, List, [], ◌∷◌, ◌++◌, Option, Some}
 use Rattle.std.specs.Prelude.{None, codes}
-use Rattle.shader_runs.specs.Value.{Bytes, Rooted, LocalRoot, Place, ValueType, BooleanType, Value}
+use Rattle.shader_runs.specs.Value.{Bytes, Rooted, LocalOrigin, Place, ValueType, BooleanType, Value}
 use Rattle.shader_runs.specs.Value.{Truth, Pointer}
 use Rattle.shader_runs.specs.World.{Event, Entry, Ask, Read, Write}
 use Rattle.shader_runs.specs.Outcome.{ReachedOrHalted, Gives, Halts, Stuck, Unreturned, OutOfTurns}
@@ -46,7 +46,7 @@ a_first = number_variable a_name 1
 
 -- the first local of the first call
 abbrev pub a_place : Place
-a_place = Rooted (LocalRoot local_i32 0 0)
+a_place = Rooted (LocalOrigin local_i32 0 0)
 
 -- the entry of a start
 abbrev pub entered_with : List Value → List (Option Value) → List Event
@@ -612,7 +612,7 @@ abbrev pub check_of : Function → Bool
 check_of f = fits_function (only (codes "n") (c_name ∷ x_name ∷ []) (a_name ∷ []) f)
 
 -- what the check of scope refuses, and beside it what it lets pass
-pub record AreRefused : Type 0 where
+pub record ChecksOfScope : Type 0 where
   pub continue_ : check_of continue_function ≡ false
   pub break_ : check_of break_function ≡ true
   pub after_loop : check_of after_loop_function ≡ false
@@ -763,7 +763,7 @@ pub record RowsHold : Type 0 where
   pub loop : LoopRow
   pub barrier : BarrierRow
   pub select : SelectRow
-  pub refused : AreRefused
+  pub refused : ChecksOfScope
   pub stuck : AreStuck
   pub ends : EndsAreDistinguished
   pub distinguished : AreDistinguished

@@ -5,7 +5,7 @@
 -- vs are arguments, e is a tree.
 use Rattle.std.specs.Prelude.{◌≡◌, ◌≢◌, ℕ, pos, Bool, true, false, cond, List, [], ◌∷◌, ◌++◌, Some}
 use Rattle.std.specs.Prelude.{None, ◌&&◌, ◌||◌, codes}
-use Rattle.shader_runs.specs.Value.{Bytes, Place, Rooted, LocalRoot, BooleanType, PointerType}
+use Rattle.shader_runs.specs.Value.{Bytes, Place, Rooted, LocalOrigin, BooleanType, PointerType}
 use Rattle.shader_runs.specs.Value.{Value, Truth, Pointer, MemberNamed, ShortCircuit}
 use Rattle.shader_runs.specs.Value.{ShortCircuitAnd, ShortCircuitOr, is_decided}
 use Rattle.shader_runs.specs.World.{Event, Entry, Read, Write, Discard}
@@ -24,8 +24,8 @@ use Rattle.shader_runs.specs.WorkedModules.{functions_alone, module_of, outer_of
 use Rattle.shader_runs.specs.WorkedModules.{follow_example, run_example, IsWritten, IsWorked}
 use Rattle.shader_runs.specs.WorkedModules.{start_events, CallEnd}
 use Rattle.shader_runs.specs.RequestRows.{counter_place, atomic_example, atomic_text, atomic_events}
-use Rattle.shader_runs.specs.RequestRows.{AtomicRow, level_zero, sample_example, sample_text}
-use Rattle.shader_runs.specs.RequestRows.{sample_values, sampling_events, SampleRow, TexelRow}
+use Rattle.shader_runs.specs.RequestRows.{AtomicRow, level_zero, sampling_example, sampling_text}
+use Rattle.shader_runs.specs.RequestRows.{sampling_values, sampling_events, SamplingRow, TexelRow}
 use Rattle.shader_runs.specs.RequestRows.{UnusedRequestsRow, EdgeRow, TogetherRow}
 use Rattle.shader_runs.specs.WorkedFunctions.{i32, local_i32, i32_pointer, number, literal}
 use Rattle.shader_runs.specs.WorkedFunctions.{ValuedBody, named_by, sum_of, product_of, text_of}
@@ -41,7 +41,7 @@ abbrev pub local_bool : Bytes
 local_bool = codes "ptr<function, bool>"
 
 abbrev pub flag_place : Place
-flag_place = Rooted (LocalRoot local_bool 0 0)
+flag_place = Rooted (LocalOrigin local_bool 0 0)
 
 -- an argument and a local that starts with this value
 abbrev pub logical_function : ShortCircuit → Bool → Function
@@ -102,10 +102,10 @@ ReadOnTheRight =
 
 -- the function's locals
 abbrev pub a_place : Place
-a_place = Rooted (LocalRoot local_i32 0 0)
+a_place = Rooted (LocalOrigin local_i32 0 0)
 
 abbrev pub n_place : Place
-n_place = Rooted (LocalRoot local_i32 0 1)
+n_place = Rooted (LocalOrigin local_i32 0 1)
 
 -- a loop over a switch whose default stands in the middle: one case continues the loop, one leaves
 -- the switch, and one returns
@@ -288,7 +288,7 @@ calls_text pointer passed =
 
 -- a local of the second call, with this spelling of a pointer to it
 abbrev pub second_local : Bytes → Place
-second_local pointer = Rooted (LocalRoot pointer 1 0)
+second_local pointer = Rooted (LocalOrigin pointer 1 0)
 
 -- the entries of the first three calls
 abbrev pub entered_to_forward : Place → List Event
@@ -475,7 +475,7 @@ pub record StatementsAreDistinguished : Type 0 where
       ≡ Gives (Some (number 15)) (Read counter_place ∷ atomic_events)
   -- a sampling without its offset
   pub no_offset :
-      follow_example sample_example (sample_text (LiteralOf level_zero ∷ [])) 0 3 sample_values
+      follow_example sampling_example (sampling_text (LiteralOf level_zero ∷ [])) 0 3 sampling_values
       ≡ Gives (Some (texel 400)) (sampling_events (level_zero ∷ []))
   pub read_on_the_right : ReadOnTheRight
   -- a name of a block is used after it
@@ -497,7 +497,7 @@ pub record StatementsAreDistinguished : Type 0 where
 -- all rows
 pub record StatementRowsHold : Type 0 where
   pub atomic : AtomicRow
-  pub sample : SampleRow
+  pub sample : SamplingRow
   pub texel : TexelRow
   pub unused_requests : UnusedRequestsRow
   pub edge : EdgeRow

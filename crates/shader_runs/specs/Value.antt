@@ -38,13 +38,13 @@ pub data Step : Type 0 where
 
 -- a variable, with the spelling of a pointer to it: a module's by its index, or a local by the
 -- number of function entries before its own function's and its index
-pub data Root : Type 0 where
-  GlobalRoot : (pointer : Bytes) → (index : ℕ) → Root
-  LocalRoot : (pointer : Bytes) → (entries index : ℕ) → Root
+pub data Origin : Type 0 where
+  GlobalOrigin : (pointer : Bytes) → (index : ℕ) → Origin
+  LocalOrigin : (pointer : Bytes) → (entries index : ℕ) → Origin
 
 -- a root and a path of steps
 pub data Place : Type 0 where
-  Rooted : Root → Place
+  Rooted : Origin → Place
   Part : Place → Step → Place
 
 -- what a place is made of, with the spelling of a pointer to each part: of nothing that a step
@@ -121,13 +121,13 @@ step_at (Components count pointer) z = Some (At z)
 step_at _ z = None
 
 -- the spelling of a pointer to a variable
-abbrev pub root_type : Root → Bytes
-root_type (GlobalRoot pointer index) = pointer
-root_type (LocalRoot pointer entries index) = pointer
+abbrev pub origin_type : Origin → Bytes
+origin_type (GlobalOrigin pointer index) = pointer
+origin_type (LocalOrigin pointer entries index) = pointer
 
 -- the spelling of a pointer to a place: a place knows its type, by its variable and its steps
 abbrev pub place_type : PartTypes → Place → Bytes
-place_type parts (Rooted root) = root_type root
+place_type parts (Rooted root) = origin_type root
 place_type parts (Part place step) = part_pointer (parts (place_type parts place)) step
 
 -- the part of a place to which a computed index leads, if it has such parts

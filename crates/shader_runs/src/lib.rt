@@ -6,7 +6,7 @@ ghost use Rattle.shader_runs.specs.Correct.{HasTypedMeaning, HasTypedWorld};
 ghost use Rattle.shader_runs.specs.Correct.{ConstantsAreComputed, InitialisersAreAlike};
 ghost use Rattle.shader_runs.specs.Identifiers.{BindsAsMeant, FunctionBindsAsMeant};
 ghost use Rattle.shader_runs.specs.Identifiers.{FunctionResolvesAsMeant, ResolvesAsMeant};
-ghost use Rattle.shader_runs.specs.Ends.{EndsArePassed};
+ghost use Rattle.shader_runs.specs.Ends.{EndsAreReached};
 ghost use Rattle.shader_runs.specs.Points.{PointsAgree};
 ghost use Rattle.shader_runs.specs.Progress.{RunsAreNotStuck};
 ghost use Rattle.shader_runs.specs.Results.{ResultsAreReturned};
@@ -71,8 +71,8 @@ pub fn binds_as_meant()
 
 /// No end is missed by these points: a list that is done passes its end, and a return, discard,
 /// break or continue has its point in front of it.
-pub fn ends_are_passed()
-    ensures { EndsArePassed }
+pub fn ends_are_reached()
+    ensures { EndsAreReached }
 {}
 
 /// What a module computes for its named constants are the values of their initialisers.

@@ -5,7 +5,7 @@ ghost use Rattle.module_meaning.specs.acceptance.Accepted.{is_accepted};
 
 use bitflags::Flags;
 use json::{Scratch, Value};
-use module_answers::{JsonRefusalPosition, JsonRoot, labelled_position, role_at, root_at};
+use module_answers::{JsonHolder, JsonRefusalPosition, labelled_position, role_at, root_at};
 use naga_json::{Known, known_of, parse};
 use naga_wgsl_out::info::{Unaccepted, count, explain, unaccepted};
 use naga_wgsl_out::wgsl::{Writer, WriterFlags, unwritable};
@@ -90,7 +90,7 @@ fn print_fault<W: Write>(
     if let Some(expected) = explain(alloc, &known.module, &known.info, fault)? {
         write!(out, ": {expected}")?;
     }
-    let position = labelled_position(alloc, &known.module, fault.item, JsonRoot::Member)?;
+    let position = labelled_position(alloc, &known.module, fault.item, JsonHolder::Member)?;
     writeln!(out, "\nat: {position}")
 }
 
@@ -158,7 +158,7 @@ fn push_position(
     if let Some(refusal) = unwritable(alloc, &known.module, &known.info, flags)? {
         let role = role_at(&known.module, &refusal.position);
         let position = JsonRefusalPosition {
-            root: JsonRoot::Member,
+            root: JsonHolder::Member,
             position: refusal.position,
             role,
         };

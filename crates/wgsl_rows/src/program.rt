@@ -19,7 +19,7 @@ mod tests;
 /// accepted, counts its uses, makes the text, and only then prints it. A failure of `err` changes
 /// nothing.
 pub fn run<O: Write, E: Write>(alloc: Global, words: &[String], out: &mut O, err: &mut E) -> u8 {
-    let Some((row, flags)) = request(words) else {
+    let Some((row, flags)) = asked_row(words) else {
         return unknown_row(err);
     };
     let mut shader = ModuleBuilder::new(alloc);
@@ -44,7 +44,7 @@ fn build_and_answer<O: Write, E: Write>(
 }
 
 /// The row and the flags that the words name.
-fn request(words: &[String]) -> Option<(SampleName, WriterFlags)> {
+fn asked_row(words: &[String]) -> Option<(SampleName, WriterFlags)> {
     match words {
         [row] => Some((SampleName::from_name(row.as_str())?, WriterFlags::empty())),
         [row, second] => {

@@ -15,7 +15,7 @@ use Rattle.wgsl_text.specs.Declarations.{StructMember, Program}
 use Rattle.wgsl_text.specs.Functions.{Parameter}
 use Rattle.wgsl_text.specs.Token.{At, Fixed}
 use Rattle.wgsl_text.specs.Words.{is_builtin, IsWord, is_reserved}
-use Rattle.wgsl_text.proofs.Machine.{Stack, State, Expect, step, InProgram, InParameters, InResult}
+use Rattle.wgsl_text.proofs.Machine.{Stack, ReadState, Expect, step, InProgram, InParameters, InResult}
 use Rattle.wgsl_text.proofs.Machine.{InMembers, ExpectParameter, ExpectResult, AttributeName}
 use Rattle.wgsl_text.proofs.Machine.{ExpectMemberName, PlainKind, NumberedKind, WordedKind, kind_of}
 use Rattle.wgsl_text.proofs.Machine.{attribute_named, turned, add_attribute}
@@ -61,7 +61,7 @@ worded_kind Payload = refl
 worded_kind IncomingPayload = refl
 
 -- an attribute, from a state where `@` may stand
-pub attribute_runs : (a : Attribute) {at : State} {s : Stack} → step is_builtin at (Fixed At)
+pub attribute_runs : (a : Attribute) {at : ReadState} {s : Stack} → step is_builtin at (Fixed At)
     ≡ AttributeName s → Runs (attribute_pieces a) at (add_attribute a s)
 attribute_runs (Plain a) {s = s} e = reads $ as_state e $ reads $
     as_state (ap (λ k. attribute_named k s) (plain_kind a)) $ over_gap at_end

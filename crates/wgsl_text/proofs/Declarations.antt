@@ -19,7 +19,7 @@ use Rattle.wgsl_text.specs.Functions.{entry_points_pieces, IsValue, Each}
 use Rattle.wgsl_text.specs.Token.{KeywordVar, Piece, Blank, mark, word}
 use Rattle.wgsl_text.specs.Types.{TypeSpecifier}
 use Rattle.wgsl_text.specs.Words.{stands_in, is_reserved}
-use Rattle.wgsl_text.proofs.Machine.{Stack, State, Expect, GotType, InProgram, InMembers}
+use Rattle.wgsl_text.proofs.Machine.{Stack, ReadState, Expect, GotType, InProgram, InMembers}
 use Rattle.wgsl_text.proofs.Machine.{InOverrideType, InGlobalType, ExpectMemberName, AfterVar}
 use Rattle.wgsl_text.proofs.Machine.{AfterGlobalName, turned, add_global, add_override}
 use Rattle.wgsl_text.proofs.Chain.{◌$◌}
@@ -42,7 +42,7 @@ use Rattle.wgsl_text.specs.Tables.{address_space_words, access_words, enable_wor
 use Rattle.wgsl_text.specs.Text.{text}
 use Rattle.wgsl_text.specs.Reading.{type_layout, expression_layout, layout}
 
-after_runs : (a : Attribute) (s : State) → Runs (after_attribute a) s s
+after_runs : (a : Attribute) (s : ReadState) → Runs (after_attribute a) s s
 after_runs (Numbered Binding n) s = at_end
 after_runs (Numbered Location n) s = at_end
 after_runs _ s = at_end
@@ -113,7 +113,7 @@ overrides_run (d ∷ more) is p =
     (turned_back d.attributes [])) onward
     overrides_run more is.1 (record p { overrides = d ∷ p.overrides })
 
-space_runs : (space : Space) (w : List ℕ) {s : Stack} {qs : List Piece} {s' : State} →
+space_runs : (space : Space) (w : List ℕ) {s : Stack} {qs : List Piece} {s' : ReadState} →
     Runs qs (AfterGlobalName space w s) s' → Runs (space_pieces space ++ (Blank ∷ word w ∷ qs)) (AfterVar s) s'
 space_runs NoSpace w b = over_gap $ reads b
 space_runs (SpaceAlone a) w b = reads $ reads $ reads $ over_gap $ reads b

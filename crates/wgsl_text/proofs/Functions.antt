@@ -17,7 +17,7 @@ use Rattle.wgsl_text.specs.Functions.{Each, IsFunction, IsEntryPoint}
 use Rattle.wgsl_text.specs.Statements.{NoStatements, statements_pieces}
 use Rattle.wgsl_text.specs.Token.{OpenBrace, Colon, Piece, Blank, LineEnd, mark, word}
 use Rattle.wgsl_text.specs.Types.{TypeSpecifier, Named, Template, type_pieces, IsType}
-use Rattle.wgsl_text.proofs.Machine.{Stack, State, Expect, ExpectType, GotType, InStatements}
+use Rattle.wgsl_text.proofs.Machine.{Stack, ReadState, Expect, ExpectType, GotType, InStatements}
 use Rattle.wgsl_text.proofs.Machine.{InProgram, InParameters, InParameterType, InLocals}
 use Rattle.wgsl_text.proofs.Machine.{InLocalType, ExpectParameter, AfterParameters, ExpectResult}
 use Rattle.wgsl_text.proofs.Machine.{turned, add_local, function_added, close_parameters}
@@ -69,14 +69,14 @@ parameters_run [] is f s = at_end
 parameters_run (p ∷ more) is f s = parameter_runs p is.0 f [] s onward more_parameters_run more is.1 p f [] s
 
 -- a type after the attributes of a result
-result_type : (t : TypeSpecifier) {s : Stack} {s' : State} → Runs (type_pieces t) (ExpectType s) s' →
+result_type : (t : TypeSpecifier) {s : Stack} {s' : ReadState} → Runs (type_pieces t) (ExpectType s) s' →
     Runs (type_pieces t) (ExpectResult s) s'
 result_type (Named w) a = record { to = a.to }
 result_type (Template w parts) a = record { to = a.to }
 
 -- what stands between the parameters and the body
 result_runs : (r : Result) → IsResult r →
-    (f : List ℕ) (ps : List Parameter) (s : Stack) {qs : List Piece} {s' : State} →
+    (f : List ℕ) (ps : List Parameter) (s : Stack) {qs : List Piece} {s' : ReadState} →
     Runs qs (Expect (InStatements NoStatements (InLocals f ps r [] s))) s' →
     Runs (result_pieces r ++ (Blank ∷ mark OpenBrace ∷ qs)) (AfterParameters f ps s) s'
 result_runs NoResult is f ps s b = over_gap $ reads b
@@ -102,7 +102,7 @@ locals_run (l ∷ more) is f ps r done s =
     type_runs l.type is.0.type.part _ onward value_runs l.value is.0.value l.name l.type _ onward locals_run
     more is.1 f ps r (l ∷ done) s
 
-pub group_end_runs : {A : Type 0} (list : List A) (s : State) → Runs (group_end list) s s
+pub group_end_runs : {A : Type 0} (list : List A) (s : ReadState) → Runs (group_end list) s s
 group_end_runs [] s = at_end
 group_end_runs (x ∷ more) s = at_end
 

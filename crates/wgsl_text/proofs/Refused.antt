@@ -19,20 +19,20 @@ use Rattle.wgsl_text.specs.Words.{is_reserved, is_builtin}
 use Rattle.wgsl_text.specs.WorkedTrees.{named_type, name, call, parameter, function, of_functions}
 use Rattle.wgsl_text.specs.WorkedTrees.{member, struct}
 use Rattle.wgsl_text.specs.Reading.{ReadsType, ReadsExpression, Reads}
-use Rattle.wgsl_text.specs.Refused.{RefusedTexts, IsNoExpression}
-use Rattle.wgsl_text.proofs.Machine.{State, Expect, ExpectType, Got, GotType, Bottom, InProgram}
+use Rattle.wgsl_text.specs.Refused.{TextsNotInGrammar, IsNoExpression}
+use Rattle.wgsl_text.proofs.Machine.{ReadState, Expect, ExpectType, Got, GotType, Bottom, InProgram}
 use Rattle.wgsl_text.proofs.Reading.{read, type_read, expression_read, program_read, same_type}
 use Rattle.wgsl_text.proofs.Reading.{same_expression, same_program}
 
-abbrev is_type : State → Bool
+abbrev is_type : ReadState → Bool
 is_type (GotType t Bottom) = true
 is_type _ = false
 
-abbrev is_expression : State → Bool
+abbrev is_expression : ReadState → Bool
 is_expression (Got e Bottom) = true
 is_expression _ = false
 
-abbrev is_program : State → Bool
+abbrev is_program : ReadState → Bool
 is_program (Expect (InProgram [] p)) = true
 is_program _ = false
 
@@ -159,7 +159,7 @@ stage_without_size_tree = record no_declarations {
   entry_points = record { stage = Plain Compute ∷ []; function = function "main" [] NoResult [] [] } ∷ [];
 }
 
-pub refused : RefusedTexts
+pub refused : TextsNotInGrammar
 unfolding is_reserved is_builtin
 refused = record {
   member_of_unary = member_of_unary;

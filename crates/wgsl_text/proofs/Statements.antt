@@ -14,7 +14,7 @@ use Rattle.wgsl_text.specs.Statements.{OptionalBlock, NoBlock, SomeBlock, IsOpti
 use Rattle.wgsl_text.specs.Token.{CloseBrace, KeywordContinuing, NoSuffix, Number, Piece, LineEnd}
 use Rattle.wgsl_text.specs.Token.{mark}
 use Rattle.wgsl_text.specs.Types.{TypeSpecifier}
-use Rattle.wgsl_text.proofs.Machine.{Stack, State, Expect, InStatements, InLoop, InContinuing}
+use Rattle.wgsl_text.proofs.Machine.{Stack, ReadState, Expect, InStatements, InLoop, InContinuing}
 use Rattle.wgsl_text.proofs.Machine.{InCase, CloseTwice, ExpectBrace, CloseOnce, AtCase}
 use Rattle.wgsl_text.proofs.Machine.{ExpectCaseValue, AfterCaseValue, unwind_statements}
 use Rattle.wgsl_text.proofs.Machine.{unwind_cases, unwind_case_values, add_statement, close_block}
@@ -52,7 +52,7 @@ unwind_rewind_cases NoCases done = refl
 unwind_rewind_cases (Case labels body more) done = unwind_rewind_cases more (Case labels body done)
 
 -- the brace after statements
-pub closes : (ss : Statements) {s : Stack} {qs : List Piece} {s' : State} → Runs qs (close_block ss s) s' →
+pub closes : (ss : Statements) {s : Stack} {qs : List Piece} {s' : ReadState} → Runs qs (close_block ss s) s' →
     Runs (mark CloseBrace ∷ qs) (Expect (InStatements (rewind_statements ss NoStatements) s)) s'
 closes ss {s} b = reads $ as_state (ap (λ body. close_block body s) (unwind_rewind ss NoStatements)) b
 
@@ -78,7 +78,7 @@ case_runs (LastCaseValue (UnsignedCase n)) e done s = reads $ over_gap $
 case_runs (MoreCaseValues l more) e done s = reads $ over_gap $ case_values_run (MoreCaseValues l more) e done [] s
 
 -- a loop, up to the brace that closes it
-abbrev loop_state : Statements → OptionalBlock → Stack → State
+abbrev loop_state : Statements → OptionalBlock → Stack → ReadState
 loop_state body NoBlock s = Expect (InStatements (rewind_statements body NoStatements) (InLoop s))
 loop_state body (SomeBlock rest) s = CloseOnce (Loop body (SomeBlock rest)) s
 
@@ -88,7 +88,7 @@ loop_closes : (body : Statements) (rest : OptionalBlock) (done : Statements) (s 
 loop_closes body NoBlock done s = closes body at_end
 loop_closes body (SomeBlock rest) done s = at_end
 
-continues : (body : Statements) {s : Stack} {qs : List Piece} {s' : State} →
+continues : (body : Statements) {s : Stack} {qs : List Piece} {s' : ReadState} →
     Runs qs (ExpectBrace (InContinuing body s)) s' →
     Runs (mark KeywordContinuing ∷ qs)
     (Expect (InStatements (rewind_statements body NoStatements) (InLoop s))) s'

@@ -24,11 +24,11 @@ use Rattle.naga_ir.specs.declared.flags.StorageAccess.{StorageAccess}
 use Rattle.naga_ir.specs.declared.operators.MathFunction.{MathFunction}
 use Rattle.naga_ir.specs.declared.operators.MathFunction.TheVariants as math
 use Rattle.wgsl_words.specs.Words.{scalar_word, scalar_word_of, interpolation_word, sampling_word}
-use Rattle.wgsl_words.specs.Words.{role_word, format_word, builtin_word, space_word}
+use Rattle.wgsl_words.specs.Words.{matrix_role_word, format_word, builtin_word, space_word}
 use Rattle.wgsl_words.specs.Words.{image_access_word, math_word, has, atomic_bit, load_bit}
 use Rattle.wgsl_words.specs.Words.{store_bit}
 use Rattle.wgsl_text.specs.Tables.{scalar_words, sampled_words, address_space_words, access_words}
-use Rattle.wgsl_text.specs.Tables.{format_words, role_words, builtin_value_words}
+use Rattle.wgsl_text.specs.Tables.{format_words, matrix_role_words, builtin_value_words}
 use Rattle.wgsl_text.specs.Tables.{interpolation_words, sampling_words}
 use Rattle.wgsl_text.specs.ValueWords.{AreTheWordsOf, ValueWords}
 use Rattle.wgsl_text.specs.Words.{stands_in, is_builtin}
@@ -100,7 +100,7 @@ format_stands : (f : StorageFormat) → stands_in format_words (format_word f) �
 format_stands format.R8Unorm = refl
 format_stands _ = refl
 
-role_stands : (r : CooperativeRole) → stands_in role_words (role_word r) ≡ true
+role_stands : (r : CooperativeRole) → stands_in matrix_role_words (matrix_role_word r) ≡ true
 role_stands role.A = refl
 role_stands _ = refl
 
@@ -160,7 +160,8 @@ value_words = record {
       format.R32Float ∷ format.Rg32Uint ∷ format.Rg32Sint ∷ format.Rg32Float ∷ format.Rgba32Uint
       ∷ format.Rgba32Sint ∷ format.Rgba32Float ∷
       format.Bgra8Unorm ∷ format.Rgb10a2Uint ∷ format.Rgb10a2Unorm ∷ format.Rg11b10Ufloat ∷ format.R64Uint ∷ []) refl;
-  roles = are_the_words (λ r. Some (role_word r)) role_words role_stands (role.A ∷ role.B ∷ role.C ∷ []) refl;
+  roles = are_the_words (λ r. Some (matrix_role_word r)) matrix_role_words role_stands
+      (role.A ∷ role.B ∷ role.C ∷ []) refl;
   builtin_values = are_the_words builtin_word builtin_value_words builtin_stands (
       builtin.Position false ∷ builtin.Barycentric true ∷ builtin.Barycentric false ∷ builtin.ViewIndex
       ∷ builtin.InstanceIndex ∷

@@ -10,7 +10,7 @@ use Rattle.wgsl_text.specs.Expressions.{Equal, NotEqual, Less, LessEqual, Greate
 use Rattle.wgsl_text.specs.Expressions.{And, ExclusiveOr, InclusiveOr, LogicalAnd, LogicalOr}
 use Rattle.wgsl_text.specs.Expressions.{ShiftLeft, ShiftRight, UnaryOperator, Negate, LogicalNot}
 use Rattle.wgsl_text.specs.Expressions.{BitwiseNot, binary_pieces, unary_mark}
-use Rattle.wgsl_text.specs.Requests.{word_before_parts}
+use Rattle.wgsl_text.specs.Requests.{word_before_arguments}
 use Rattle.wgsl_text.specs.Text.{text, mark_text, starts_with}
 use Rattle.wgsl_text.specs.Types.{plain_type_words, type_templates}
 use Rattle.wgsl_text.specs.Words.{stands_in}
@@ -72,7 +72,7 @@ type_words = plain_type_words ++ flat_map (λ row. row.0) type_templates
 unfoldable pub is_built_in : List ℕ → Bool
 is_built_in word =
     starts_with 32 word ||
-    (stands_in sign_words word || stands_in (function_words ++ type_words) (word_before_parts word))
+    (stands_in sign_words word || stands_in (function_words ++ type_words) (word_before_arguments word))
 
 -- the word is that of an operator: one of every text, or the name of a struct, whose value it makes
 abbrev pub is_operator : (structs : List (List ℕ)) → List ℕ → Bool

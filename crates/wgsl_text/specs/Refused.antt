@@ -18,7 +18,7 @@ IsNoExpression bytes = (e : Expression) → ReadsExpression (tokens bytes) e →
 abbrev pub IsNoProgram : List ℕ → Type 0
 IsNoProgram bytes = (program : Program) → Reads (tokens bytes) program → ⊥
 
-pub record RefusedTexts : Type 0 where
+pub record TextsNotInGrammar : Type 0 where
   -- a member of a unary expression that has no parentheses of its own
   pub member_of_unary : IsNoExpression (codes "-(v).x")
   -- a number without a suffix

@@ -3,9 +3,9 @@ use Rattle.std.specs.Prelude.{ℕ, Bool, ◌||◌, List, [], ◌∷◌, ◌==◌
 use Rattle.wgsl_text.specs.Words.{stands_in}
 
 -- what stands in front of the parts of a word
-abbrev pub word_before_parts : List ℕ → List ℕ
-word_before_parts [] = []
-word_before_parts (b ∷ bytes) = if b == 60 || b == 32 then [] else b ∷ word_before_parts bytes
+abbrev pub word_before_arguments : List ℕ → List ℕ
+word_before_arguments [] = []
+word_before_arguments (b ∷ bytes) = if b == 60 || b == 32 then [] else b ∷ word_before_arguments bytes
 
 -- the built-in functions that ask for an event: reads and stores of atomics, operations on images,
 -- derivatives, collectives, cooperative loads and stores, ray traces and barriers
@@ -44,4 +44,4 @@ request_words =
 
 -- the word asks for an event, whatever its parts
 unfoldable pub is_request : List ℕ → Bool
-is_request word = stands_in request_words (word_before_parts word)
+is_request word = stands_in request_words (word_before_arguments word)

@@ -116,8 +116,8 @@ format_words =
     codes "r64uint" ∷ []
 
 -- the role of a cooperative matrix
-abbrev pub role_words : List (List ℕ)
-role_words =
+abbrev pub matrix_role_words : List (List ℕ)
+matrix_role_words =
     codes "A" ∷ codes "B" ∷ codes "C" ∷ []
 
 -- built-in values (WGSL, "Built-in Values"), with those of the extensions

@@ -11,7 +11,7 @@ use Rattle.wgsl_text.specs.Words.{stands_in, is_builtin, IsWord}
 use Rattle.wgsl_text.specs.Tables.{storage_image_words, cooperative_matrix_words, scalar_words}
 use Rattle.wgsl_text.specs.Tables.{sampled_words, vector_words, matrix_words, sampled_image_words}
 use Rattle.wgsl_text.specs.Tables.{depth_image_words, sampler_words, ray_words, address_space_words}
-use Rattle.wgsl_text.specs.Tables.{access_words, format_words, role_words, atomic_words}
+use Rattle.wgsl_text.specs.Tables.{access_words, format_words, matrix_role_words, atomic_words}
 use Rattle.wgsl_text.specs.Tables.{array_words, pointer_words}
 use Rattle.std.specs.Str.{bytes_eq}
 
@@ -107,7 +107,7 @@ fits TakesFormat (TypeArgument (Named f) (TypeArgument (Named m) NoTemplateArgum
 fits TakesVertexReturn (TypeArgument (Named v) NoTemplateArguments) =
     bytes_eq (codes "vertex_return") v
 fits TakesRole (TypeArgument (Named s) (TypeArgument (Named r) NoTemplateArguments)) =
-    stands_in scalar_words s && stands_in role_words r
+    stands_in scalar_words s && stands_in matrix_role_words r
 fits TakesType (TypeArgument t NoTemplateArguments) = is_type t
 fits _ _ = false
 

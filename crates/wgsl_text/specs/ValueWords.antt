@@ -4,10 +4,10 @@
 use Rattle.std.specs.Prelude.{◌≡◌, ℕ, List, Option, Some, IsTrue}
 use Rattle.naga_ir.specs.declared.operators.MathFunction.{MathFunction}
 use Rattle.wgsl_words.specs.Words.{scalar_word, scalar_word_of, interpolation_word, sampling_word}
-use Rattle.wgsl_words.specs.Words.{role_word, format_word, builtin_word, space_word}
+use Rattle.wgsl_words.specs.Words.{matrix_role_word, format_word, builtin_word, space_word}
 use Rattle.wgsl_words.specs.Words.{image_access_word, math_word}
 use Rattle.wgsl_text.specs.Tables.{scalar_words, sampled_words, address_space_words, access_words}
-use Rattle.wgsl_text.specs.Tables.{format_words, role_words, builtin_value_words}
+use Rattle.wgsl_text.specs.Tables.{format_words, matrix_role_words, builtin_value_words}
 use Rattle.wgsl_text.specs.Tables.{interpolation_words, sampling_words}
 use Rattle.wgsl_text.specs.Words.{stands_in, is_builtin}
 
@@ -23,7 +23,7 @@ pub record ValueWords : Type 0 where
   -- a sampled image gives scalars of four bytes
   pub sampled : AreTheWordsOf (λ kind. scalar_word_of kind 4) sampled_words
   pub formats : AreTheWordsOf (λ format. Some (format_word format)) format_words
-  pub roles : AreTheWordsOf (λ role. Some (role_word role)) role_words
+  pub roles : AreTheWordsOf (λ role. Some (matrix_role_word role)) matrix_role_words
   pub builtin_values : AreTheWordsOf builtin_word builtin_value_words
   pub interpolations : AreTheWordsOf (λ i. Some (interpolation_word i)) interpolation_words
   pub samplings : AreTheWordsOf (λ sampling. Some (sampling_word sampling)) sampling_words

@@ -65,10 +65,10 @@ sampling_word sampling.First = codes "first"
 sampling_word sampling.Either = codes "either"
 
 -- which operand of a multiplication a cooperative matrix can be
-abbrev pub role_word : CooperativeRole → List ℕ
-role_word role.A = codes "A"
-role_word role.B = codes "B"
-role_word role.C = codes "C"
+abbrev pub matrix_role_word : CooperativeRole → List ℕ
+matrix_role_word role.A = codes "A"
+matrix_role_word role.B = codes "B"
+matrix_role_word role.C = codes "C"
 
 -- the dimension in an image's name
 abbrev pub dimension_word : ImageDimension → List ℕ

@@ -2,7 +2,7 @@
 
 ghost use Rattle.std.specs.Prelude.{◌≡◌, ℕ, List, Option, ◌++◌, codes, IfOk, string_bytes};
 ghost use Rattle.std.specs.Option.{option_map};
-ghost use Rattle.wgsl_words.specs.Words.{interpolation_word, sampling_word, role_word};
+ghost use Rattle.wgsl_words.specs.Words.{interpolation_word, sampling_word, matrix_role_word};
 ghost use Rattle.wgsl_words.specs.Words.{dimension_word, format_word, math_word, builtin_word};
 ghost use Rattle.wgsl_words.specs.Words.{scalar_word, space_word, space_access_word};
 ghost use Rattle.wgsl_words.specs.Words.{buffer_access_word, image_access_word, packing_word};
@@ -104,7 +104,7 @@ impl ToWgsl for StorageFormat {
 }
 
 impl ToWgsl for CooperativeRole {
-    ghost word = { role_word };
+    ghost word = { matrix_role_word };
 
     fn to_wgsl(self) -> &'static str {
         match self {

@@ -2,8 +2,8 @@
 
 use crate::texts::{Style, write_in};
 use module_answers::{
-    JsonRoot, MarkedRoot, NoOutcome, WriteOutcome, fault_text, labelled_position, listed_position,
-    refusal_line, refused_position, root_at, root_spots,
+    JsonHolder, MarkedRoot, NoOutcome, WriteOutcome, fault_text, labelled_position,
+    listed_position, refusal_line, refused_position, root_at, root_spots,
 };
 use naga_json::Known;
 use naga_listing::{ListingPosition, Spot, explain, explain_with};
@@ -24,7 +24,7 @@ pub struct Explanation {
 pub fn explained(
     alloc: Global,
     style: Style,
-    root: JsonRoot,
+    root: JsonHolder,
     known: &mut Known,
 ) -> Result<Explanation, AllocError> {
     match write_in(alloc, style, known) {
@@ -37,7 +37,7 @@ pub fn explained(
 
 fn of_written(
     alloc: Global,
-    root: JsonRoot,
+    root: JsonHolder,
     known: &Known,
     written: WriteOutcome<String>,
 ) -> Result<Explanation, AllocError> {
@@ -61,7 +61,7 @@ fn of_written(
 /// out of scope those around the expression that it has no value for.
 fn of_refusal(
     alloc: Global,
-    root: JsonRoot,
+    root: JsonHolder,
     known: &Known,
     refusal: Refusal,
 ) -> Result<Explanation, AllocError> {
@@ -89,7 +89,7 @@ fn of_refusal(
 /// Tells where a module is not accepted and why, and shows the lines around.
 fn of_unaccepted(
     alloc: Global,
-    root: JsonRoot,
+    root: JsonHolder,
     known: &Known,
     unaccepted: Unaccepted,
 ) -> Result<Explanation, AllocError> {

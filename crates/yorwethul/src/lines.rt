@@ -5,8 +5,8 @@ use crate::progress::{Outcome, Progress};
 use crate::texts::{Style, write_in};
 use json::Scratch;
 use module_answers::{
-    JsonPosition, JsonRefusalPosition, JsonRoot, NESTS_TOO_DEEP, NoOutcome, WriteOutcome, label_at,
-    label_of, mismatch_text, nests_too_deep, root_at,
+    JsonHolder, JsonPosition, JsonRefusalPosition, NESTS_TOO_DEEP, NoOutcome, WriteOutcome,
+    label_at, label_of, mismatch_text, nests_too_deep, root_at,
 };
 use naga_json::{Known, ReadError, known_of, parse_bytes};
 use naga_wgsl_out::info::{Unaccepted, explain};
@@ -252,7 +252,7 @@ fn tell_refused(
 ) -> Result<(), AllocError> {
     tell(alloc, "refused", reason, members)?;
     if let Some(refusal) = refusal {
-        let position = JsonRefusalPosition::of(JsonRoot::Member, module, refusal.position);
+        let position = JsonRefusalPosition::of(JsonHolder::Member, module, refusal.position);
         tell(alloc, "position", position, members)?;
         if let Some(label) = label_at(module, refusal.position) {
             tell(alloc, "function", label, members)?;
@@ -274,7 +274,7 @@ fn tell_unaccepted(
     tell(
         alloc,
         "position",
-        JsonPosition(JsonRoot::Member, unaccepted.item),
+        JsonPosition(JsonHolder::Member, unaccepted.item),
         &mut told,
     )?;
     tell(alloc, "fault", unaccepted.fault, &mut told)?;
@@ -282,7 +282,7 @@ fn tell_unaccepted(
         tell(alloc, "function", label, &mut told)?;
     }
     if let Some(reason) = explain(alloc, &known.module, &known.info, unaccepted)? {
-        let reason = mismatch_text(alloc, &known.module, reason, JsonRoot::Member)?;
+        let reason = mismatch_text(alloc, &known.module, reason, JsonHolder::Member)?;
         put(alloc, "reason", Value::String(reason), &mut told)?;
     }
     put(alloc, "not_accepted", Value::Object(told), members)

@@ -8,7 +8,7 @@ use crate::progress::Progress;
 use crate::texts::write_in;
 use crate::words::{Invocation, Task, invocation_of};
 use module_answers::{
-    JsonRoot, NoOutcome, WriteOutcome, check_nesting, fault_line, layout_table, refusal_line,
+    JsonHolder, NoOutcome, WriteOutcome, check_nesting, fault_line, layout_table, refusal_line,
 };
 use naga_json::Known;
 use naga_wgsl_out::info::{Unaccepted, unaccepted};
@@ -219,7 +219,7 @@ fn tell_layouts<O: Write, E: Write>(
 fn print_written<O: Write, E: Write>(
     alloc: Global,
     written: WriteOutcome<String>,
-    root: JsonRoot,
+    root: JsonHolder,
     module: &Module,
     out: &mut O,
     err: &mut E,

@@ -2,7 +2,7 @@
 
 use crate::texts::Style;
 use clap::{Arg, ArgAction, ArgMatches, Command, Error, value_parser};
-use module_answers::JsonRoot;
+use module_answers::JsonHolder;
 use naga_wgsl_out::wgsl::Limits;
 use std::alloc::{AllocError, Global};
 
@@ -36,10 +36,10 @@ pub struct Invocation<'a> {
 
 impl Invocation<'_> {
     /// What the file with the module holds, by which places are told.
-    pub fn root(self) -> JsonRoot {
+    pub fn root(self) -> JsonHolder {
         match self.info {
-            Some(_) => JsonRoot::Module,
-            None => JsonRoot::Member,
+            Some(_) => JsonHolder::Module,
+            None => JsonHolder::Member,
         }
     }
 }

@@ -22,7 +22,7 @@ use Rattle.naga_acceptance.specs.declared.faults.Unaccepted.{Unaccepted}
 use Rattle.naga_wgsl_out.specs.declared.unwritable.Refusal.{Refusal}
 use Rattle.module_answers.specs.Faults.{TellsFaultAt}
 use Rattle.module_answers.specs.WriteOutcomes.{TellsBeside}
-use Rattle.module_answers.specs.declared.positions.JsonRoot.TheVariants as root
+use Rattle.module_answers.specs.declared.positions.JsonHolder.TheVariants as root
 use Rattle.module_answers.specs.Within.{IsUnwritten, TellsDepth}
 use Rattle.module_answers.specs.declared.within.NoOutcome.{NoOutcome}
 use Rattle.module_answers.specs.declared.within.NoOutcome.TheVariants as unwritten

@@ -16,7 +16,7 @@ use Rattle.module_meaning.specs.acceptance.Accepted.{is_accepted}
 use Rattle.module_answers.specs.Faults.{TellsFaultAt}
 use Rattle.module_answers.specs.Refusals.{TellsRefusalAt}
 use Rattle.module_answers.specs.WriteOutcomes.{TellsRefusal}
-use Rattle.module_answers.specs.declared.positions.JsonRoot.TheVariants as root
+use Rattle.module_answers.specs.declared.positions.JsonHolder.TheVariants as root
 use Rattle.module_answers.specs.declared.within.NoOutcome.{NoOutcome}
 use Rattle.module_answers.specs.declared.within.NoOutcome.TheVariants as unwritten
 use Rattle.module_limits.specs.Nesting.{nested_past}

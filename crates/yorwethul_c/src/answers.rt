@@ -11,7 +11,7 @@ ghost use Rattle.yorwethul_c.specs.Answers.{TellsOfWriting};
 use crate::status::{Status, status_of};
 use bitflags::Flags;
 use module_answers::{
-    JsonRoot, NESTS_TOO_DEEP, NoOutcome, WriteOutcome, check_nesting, fault_line, layout_table,
+    JsonHolder, NESTS_TOO_DEEP, NoOutcome, WriteOutcome, check_nesting, fault_line, layout_table,
     nests_too_deep, refusal_line, write_decimal_within, write_within,
 };
 use naga_json::{Known, ReadError, read_known};
@@ -203,7 +203,7 @@ fn told_refusal(
 {
     match refusal {
         Some(refusal) => {
-            let text = refusal_line(alloc, module, refusal, JsonRoot::Member);
+            let text = refusal_line(alloc, module, refusal, JsonHolder::Member);
             settled(alloc, status, text)
         }
         None => told(alloc, status, error),
@@ -273,10 +273,10 @@ fn laid_out_flat(alloc: Global, known: &Known) -> Answer
 
 /// Tells where and why the module is not accepted, and what was expected there.
 fn not_accepted(alloc: Global, known: &Known, fault: Unaccepted) -> Answer
-    ensures { SaysThat (TellsFaultAt JsonRoot.Member known.now.module known.now.info fault)
+    ensures { SaysThat (TellsFaultAt JsonHolder.Member known.now.module known.now.info fault)
         Status.NotAccepted result.status (string_bytes result.text) }
 {
-    let text = fault_line(alloc, &known.module, &known.info, fault, JsonRoot::Member);
+    let text = fault_line(alloc, &known.module, &known.info, fault, JsonHolder::Member);
     settled(alloc, Status::NotAccepted, text)
 }
 

@@ -6,7 +6,7 @@ use Rattle.std.proofs.Common.{◌≡◌, ℕ, Bool, true, false, not, ◌&&◌, 
 use Rattle.std.proofs.Common.{ap, ◌∙◌, nat_eq, codes, true≢false}
 use Rattle.std.specs.List.{list_all}
 use Rattle.std.proofs.lemmas.Bool.{false≢true, and_parts, not-true, eqb-true}
-use Rattle.wgsl_text.specs.Requests.{is_request, word_before_parts}
+use Rattle.wgsl_text.specs.Requests.{is_request, word_before_arguments}
 use Rattle.wgsl_text.specs.Words.{is_word_text}
 use Rattle.module_meaning.specs.OperatorTable.{Operator, CooperativeLoad, Construct, Convert}
 use Rattle.module_meaning.specs.OperatorTable.{Reinterpret, WithoutForm, Unsupported, Cast}
@@ -71,18 +71,18 @@ untyped_is_distinguished o u =
     }
 
 -- ---- operators with types
-no_number : (w : List ℕ) → is_word_text (word_before_parts w) ≡ true → begins_free w ≡ false
+no_number : (w : List ℕ) → is_word_text (word_before_arguments w) ≡ true → begins_free w ≡ false
 no_number [] e = refl
 no_number (b ∷ bytes) e = by (nat_eq b 1) refl
   where
     by : (x : Bool) → nat_eq b 1 ≡ x → x ≡ false
     by true is = absurd
-        (false≢true (ap (λ c. is_word_text (word_before_parts (c ∷ bytes))) (sym (eqb-true b 1 is)) ∙ e))
+        (false≢true (ap (λ c. is_word_text (word_before_arguments (c ∷ bytes))) (sym (eqb-true b 1 is)) ∙ e))
     by false is = refl
 
-type_begins : (w : List ℕ) → SpellsAType w → is_word_text (word_before_parts w) ≡ true
+type_begins : (w : List ℕ) → SpellsAType w → is_word_text (word_before_arguments w) ≡ true
 type_begins w is =
-    ap (λ v. is_word_text (word_before_parts v)) (sym is.1.1)
+    ap (λ v. is_word_text (word_before_arguments v)) (sym is.1.1)
     ∙ (ap is_word_text (head_is is.0 is.1.0.part) ∙ head_text is.0 is.1.0.part)
 
 no_own_request : (w : List ℕ) → SpellsAType w → own_request w ≡ false

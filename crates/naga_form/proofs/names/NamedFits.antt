@@ -18,11 +18,11 @@ use Rattle.std.proofs.Math.Bool.{or-true}
 use Rattle.wgsl_text.specs.Operators.{is_built_in}
 use Rattle.module_meaning.specs.ExpressionOperators.{cast_to, constructor, applied_operator}
 use Rattle.module_meaning.specs.ExpressionOperators.{own_operator, type_known, is_depth_image}
-use Rattle.module_meaning.specs.ExpressionOperators.{level_of, query_operator, sample_operator}
+use Rattle.module_meaning.specs.ExpressionOperators.{level_of, query_operator, image_sample_operator}
 use Rattle.module_meaning.specs.ExpressionOperators.{matrix_load, is_atomic_pointer}
 use Rattle.module_meaning.specs.ExpressionShapes.{Declared, shape_of, applied_or, applied_shape}
 use Rattle.module_meaning.specs.ExpressionShapes.{constant_shape, part_selector, part_shape}
-use Rattle.module_meaning.specs.ExpressionShapes.{constant_tree, sample_shape, trees, written_zero}
+use Rattle.module_meaning.specs.ExpressionShapes.{constant_tree, image_sample_shape, trees, written_zero}
 use Rattle.module_meaning.specs.OperatorTable.{run_word, Operator, Construct, AtomicLoad}
 use Rattle.module_meaning.specs.OperatorTable.{is_untyped, WithoutForm, ValueOf, Cast, PartAt}
 use Rattle.module_meaning.specs.OperatorTable.{with_type, asks}
@@ -340,13 +340,13 @@ module _ (m : Module) (info : ModuleInfo) (types : TypesAreFit m) (p : shapes.Mo
     where
       op : Option SwizzleComponent → Operator
       op g =
-          sample_operator (option_map_or is_depth_image (type_known d.context image) false) g
+          image_sample_operator (option_map_or is_depth_image (type_known d.context image) false) g
           (level_of level) (is_some depth_ref) clamp (is_some array_index) (is_some offset)
 
       sampled : (g : Option SwizzleComponent) → asks_freely (run_word (op g)) ≡ true →
           WordFits p own
           (Some
-          (sample_shape
+          (image_sample_shape
           (expression.ImageSample image sampler g coordinate array_index offset level depth_ref clamp)
           (option_and_then (constant_tree d f.expressions) offset) (Some (op g))))
       sampled g free =
@@ -355,7 +355,7 @@ module _ (m : Module) (info : ModuleInfo) (types : TypesAreFit m) (p : shapes.Mo
       by : (g : Option SwizzleComponent) →
           WordFits p own
           (Some
-          (sample_shape
+          (image_sample_shape
           (expression.ImageSample image sampler g coordinate array_index offset level depth_ref clamp)
           (option_and_then (constant_tree d f.expressions) offset) (Some (op g))))
       by None = sampled None (asking_free (op None) refl refl refl)

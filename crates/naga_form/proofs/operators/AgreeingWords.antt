@@ -31,7 +31,7 @@ use Rattle.module_meaning.specs.acceptance.Accepted.{is_accepted}
 use Rattle.module_meaning.specs.acceptance.AgreeingOperators.{Group, operator_key}
 use Rattle.module_meaning.specs.AlikeTypes.{type_identity}
 use Rattle.module_meaning.specs.ExpressionOperators.{applied_operator, constructor, matrix_load}
-use Rattle.module_meaning.specs.ExpressionOperators.{is_atomic_pointer, sample_operator}
+use Rattle.module_meaning.specs.ExpressionOperators.{is_atomic_pointer, image_sample_operator}
 use Rattle.module_meaning.specs.ExpressionOperators.{query_operator}
 use Rattle.module_meaning.specs.ExpressionShapes.{part_selector, letter}
 use Rattle.module_meaning.specs.acceptance.ExpressionTypes.{expected_type, LikeThis, only}
@@ -55,7 +55,7 @@ use Rattle.naga_form.proofs.types.SameValues.{IsFit, numbers_by_words, values_by
 use Rattle.naga_form.proofs.operators.Signatures.{IsCalled, by_operator, by_zero, by_constant}
 use Rattle.naga_form.proofs.operators.Signatures.{by_index, by_part, by_letters, IsOfExpression}
 use Rattle.naga_form.proofs.operators.Signatures.{IsOfZero, group_context, declared_for}
-use Rattle.naga_form.proofs.operators.TypedWords.{no_blank, share_a_word}
+use Rattle.naga_form.proofs.operators.TypedWords.{no_blank, have_one_word}
 
 module _ (m : Module) (info : ModuleInfo) (accepted : IsTrue (is_accepted m info))
     (distinguished : TypesAreDistinguished m) where
@@ -87,7 +87,7 @@ module _ (m : Module) (info : ModuleInfo) (accepted : IsTrue (is_accepted m info
 
   samples_ask : (of_depths : Bool) (gather : Option SwizzleComponent) (level : Level)
       (compares clamped arrayed offset : Bool) →
-      asks (sample_operator of_depths gather level compares clamped arrayed offset) ≡ true
+      asks (image_sample_operator of_depths gather level compares clamped arrayed offset) ≡ true
   samples_ask of_depths None level compares clamped arrayed offset = refl
   samples_ask of_depths (Some component) level compares clamped arrayed offset = refl
 
@@ -240,7 +240,7 @@ module _ (m : Module) (info : ModuleInfo) (accepted : IsTrue (is_accepted m info
       IsKeyed m (are m info accepted distinguished) o count k →
       run_word o ≡ run_word (WithoutForm (ValueOf numbers n)) → ⊥
   not_unsupported o count k numbers n keyed e =
-      by keyed (share_a_word o (WithoutForm (ValueOf numbers n))
+      by keyed (have_one_word o (WithoutForm (ValueOf numbers n))
       (sound m (are m info accepted distinguished) o count k keyed) tt e)
     where
       no_key : None ≡ Some k → ⊥

@@ -20,7 +20,7 @@ use Rattle.module_meaning.specs.ExpressionContexts.{expression_context}
 use Rattle.module_meaning.specs.ExpressionOperators.{ExpressionContext, applied_operator, cast_to}
 use Rattle.module_meaning.specs.ExpressionOperators.{constructor, has_parts, is_atomic_pointer}
 use Rattle.module_meaning.specs.ExpressionOperators.{is_depth_image, level_of, matrix_load}
-use Rattle.module_meaning.specs.ExpressionOperators.{sample_operator, type_known}
+use Rattle.module_meaning.specs.ExpressionOperators.{image_sample_operator, type_known}
 use Rattle.module_meaning.specs.Names.{module_names, name_in}
 use Rattle.module_meaning.specs.OperatorTable.{Operator, AtomicLoad, WithoutForm, Cast, PartAt}
 use Rattle.module_meaning.specs.OperatorTable.{with_type, asks, is_untyped, run_word}
@@ -97,7 +97,7 @@ module _ (m : Module) (types : TypesAreFit m) (W : List ℕ → Type 0)
       of_depths = option_map_or is_depth_image (type_known context image) false
 
       by : (g : Option SwizzleComponent) →
-          Some (sample_operator of_depths g (level_of level) (is_some depth_ref) clamp
+          Some (image_sample_operator of_depths g (level_of level) (is_some depth_ref) clamp
           (is_some array_index) (is_some offset)) ≡ Some o → W (run_word o)
       by None e = table_word o (sym (ap is_untyped (same_Some _ o e))) none
       by (Some component) e = table_word o (sym (ap is_untyped (same_Some _ o e))) none

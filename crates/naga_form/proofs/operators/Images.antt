@@ -8,9 +8,9 @@ use Rattle.std.specs.Fmt.{digits}
 use Rattle.std.specs.Prelude.{decimal, ◌||◌}
 use Rattle.std.specs.List.{AllByRecursion}
 use Rattle.std.specs.Option.{is_some, option_to_list}
-use Rattle.module_meaning.specs.ExpressionOperators.{level_of, sample_operator}
+use Rattle.module_meaning.specs.ExpressionOperators.{level_of, image_sample_operator}
 use Rattle.module_meaning.specs.ExpressionShapes.{trees, written_zero}
-use Rattle.module_meaning.specs.OperatorTable.{Gather, Level, Sample, run_word, sample_word}
+use Rattle.module_meaning.specs.OperatorTable.{Gather, Level, Sample, run_word, image_sample_word}
 use Rattle.module_meaning.specs.OperatorTable.{Automatic, Biased, Exact, Graded, Zero}
 use Rattle.module_meaning.specs.OperatorTable.{zero_is_written}
 use Rattle.module_meaning.specs.Sampling.{sampling_has_form}
@@ -74,7 +74,7 @@ with_number w n = ap (λ v. v ++ (codes " " ++ decimal n)) (named_text w)
 gather_read : (c : SwizzleComponent) (l : SampleLevel) (compares clamped arrayed offset : Bool) →
     sampling_has_form (Some c) l compares clamped ≡ true → (of_depths : Bool) →
     (e : Expression) (args : Arguments) →
-    let op = sample_operator of_depths (Some c) (level_of l) compares clamped arrayed offset in
+    let op = image_sample_operator of_depths (Some c) (level_of l) compares clamped arrayed offset in
     called_word (Named (sampling_word op)) (component_then (gathered_component op) (Argument e args)) ≡
     run_word op
 unfolding digits
@@ -119,7 +119,7 @@ gather_read c _ compares clamped arrayed offset is of_depths e args = absurd cc
 word_read : (gather : Option SwizzleComponent) (l : SampleLevel)
     (compares clamped arrayed offset of_depths : Bool) →
     sampling_has_form gather l compares clamped ≡ true → (e : Expression) (args : Arguments) →
-    let op = sample_operator of_depths gather (level_of l) compares clamped arrayed offset in
+    let op = image_sample_operator of_depths gather (level_of l) compares clamped arrayed offset in
     called_word (Named (sampling_word op)) (component_then (gathered_component op) (Argument e args)) ≡
     run_word op
 word_read None l compares clamped arrayed offset of_depths is e args = named_text _
@@ -156,7 +156,7 @@ module _ (operand : ℕ → PlainForm) (like : ℕ → runs.Plain) (outer : Modu
       sampling_has_form gather l compares clamped ≡ true → (h : ℕ) (hs : List ℕ) →
       AllReadLike operand like (h ∷ hs) → (offset : List Expression) (c : Option ConstantTree) →
       arguments_read (operands offset) ≡ constant_forms outer (trees (option_to_list c)) →
-      let op = sample_operator of_depths gather (level_of l) compares clamped arrayed with_offset in
+      let op = image_sample_operator of_depths gather (level_of l) compares clamped arrayed with_offset in
       expression_read
       (sampling_form op (zero_is_written (level_of l) unwritten) whole
       (value_forms operand (h ∷ hs)) offset) ≡
@@ -165,7 +165,7 @@ module _ (operand : ℕ → PlainForm) (like : ℕ → runs.Plain) (outer : Modu
       (constant_forms outer (trees (written_zero l unwritten ++ option_to_list c))))
   sampling_read gather l compares clamped arrayed with_offset of_depths unwritten whole is h hs same
       offset c following =
-      let op = sample_operator of_depths gather (level_of l) compares clamped arrayed with_offset in
+      let op = image_sample_operator of_depths gather (level_of l) compares clamped arrayed with_offset in
       let last = zero_then (zero_is_written (level_of l) unwritten) whole (operands offset) in
       let args = operands_then (value_forms operand (h ∷ hs)) last in
       λ i. Apply
@@ -241,7 +241,7 @@ module _ (e : Expression) (es offset : List Expression) (are : Each IsExpression
       (called_words.level whole (codes "textureSampleLevel") e es offset refl are last)
 
   word_called : (l : Level) (compares clamped arrayed with_offset : Bool) →
-      is_some (sample_word l compares clamped) ≡ true →
+      is_some (image_sample_word l compares clamped) ≡ true →
       IsCallee (Named (run_word (Sample l compares clamped arrayed with_offset)))
   unfolding is_builtin builtin_words
   word_called Automatic true false arrayed with_offset is =
@@ -265,7 +265,7 @@ module _ (e : Expression) (es offset : List Expression) (are : Each IsExpression
   word_called _ compares true arrayed with_offset is = absurd cc
 
   sample_is : (l : Level) (compares clamped arrayed with_offset whole : Bool) →
-      is_some (sample_word l compares clamped) ≡ true →
+      is_some (image_sample_word l compares clamped) ≡ true →
       IsExpression
       (sampling_form (Sample l compares clamped arrayed with_offset) false whole (e ∷ es) offset)
   sample_is l compares clamped arrayed with_offset whole is =
@@ -278,7 +278,7 @@ module _ (e : Expression) (es offset : List Expression) (are : Each IsExpression
 
   -- the level is written just where `textureSampleLevel` takes it
   by_level : (l : SampleLevel) (compares clamped arrayed with_offset whole : Bool) →
-      is_some (sample_word (level_of l) compares clamped) ≡ true →
+      is_some (image_sample_word (level_of l) compares clamped) ≡ true →
       IsExpression
       (sampling_form (Sample (level_of l) compares clamped arrayed with_offset)
       (zero_is_written (level_of l) (compares || clamped)) whole (e ∷ es) offset)
@@ -302,7 +302,7 @@ module _ (e : Expression) (es offset : List Expression) (are : Each IsExpression
       sampling_has_form gather l compares clamped ≡ true →
       IsExpression
       (sampling_form
-      (sample_operator of_depths gather (level_of l) compares clamped arrayed with_offset)
+      (image_sample_operator of_depths gather (level_of l) compares clamped arrayed with_offset)
       (zero_is_written (level_of l) (is_some gather || (compares || clamped))) whole (e ∷ es)
       offset)
   sampling_is None l compares clamped arrayed with_offset of_depths whole is =

@@ -23,7 +23,7 @@ use Rattle.wgsl_text.proofs.Words.{all_words, passes}
 use Rattle.wgsl_text.specs.Keywords.{builtin_words}
 use Rattle.wgsl_text.specs.Operators.{is_built_in}
 use Rattle.wgsl_text.specs.Reading.{type_layout}
-use Rattle.wgsl_text.specs.Requests.{word_before_parts, is_request, request_words}
+use Rattle.wgsl_text.specs.Requests.{word_before_arguments, is_request, request_words}
 use Rattle.wgsl_text.specs.Types.{Named, plain_type_words, type_templates}
 use Rattle.wgsl_text.specs.Words.{is_builtin, stands_in}
 
@@ -110,11 +110,11 @@ goes_on b is = by (nat_eq b 60) refl (nat_eq b 32) refl
     by false less true blank = absurd (false≢true (sym (ap is_identifier_char (eqb-true b 32 blank)) ∙ is))
     by false less false blank = refl
 
-head_whole : (w : List ℕ) → list_all is_identifier_char w ≡ true → word_before_parts w ≡ w
+head_whole : (w : List ℕ) → list_all is_identifier_char w ≡ true → word_before_arguments w ≡ w
 head_whole [] all = refl
 head_whole (b ∷ bytes) all =
     let parts = and_parts (is_identifier_char b) (list_all is_identifier_char bytes) all in
-    ap (λ t. if t then [] else b ∷ word_before_parts bytes) (goes_on b parts.0)
+    ap (λ t. if t then [] else b ∷ word_before_arguments bytes) (goes_on b parts.0)
     ∙ ap (λ bs. b ∷ bs) (head_whole bytes parts.1)
 
 -- each is a built-in word that begins with no `_`
@@ -127,7 +127,7 @@ unfolding is_builtin builtin_words
 plain_requests = refl
 
 -- so that it is no name, whatever its parts are
-head_free : (w : List ℕ) → stands_in request_words (word_before_parts w) ≡ true → names_no_item w ≡ true
+head_free : (w : List ℕ) → stands_in request_words (word_before_arguments w) ≡ true → names_no_item w ≡ true
 head_free [] stands = absurd (false≢true stands)
 head_free (c ∷ rest) stands = by (nat_eq c 60 || nat_eq c 32) refl stands
   where
@@ -140,14 +140,14 @@ head_free (c ∷ rest) stands = by (nat_eq c 60 || nat_eq c 32) refl stands
         (passes (λ w. begins_plainly w && is_builtin w) request_words (c ∷ rest) plain_requests at)).1
 
     by : (parted : Bool) → (nat_eq c 60 || nat_eq c 32) ≡ parted →
-        stands_in request_words (if parted then [] else c ∷ word_before_parts rest) ≡ true →
+        stands_in request_words (if parted then [] else c ∷ word_before_arguments rest) ≡ true →
         (not (nat_eq c 95) &&
         (is_signed (c ∷ rest) && (not (is_word (c ∷ rest)) || is_builtin (c ∷ rest)))) ≡ true
     by true at stands = absurd (false≢true stands)
     by false at stands =
         let passed = passes (λ w. begins_plainly w && is_builtin w) request_words
-        (c ∷ word_before_parts rest) plain_requests stands in
-        let plain = (and_parts (not (nat_eq c 95)) (is_builtin (c ∷ word_before_parts rest)) passed).0 in
+        (c ∷ word_before_arguments rest) plain_requests stands in
+        let plain = (and_parts (not (nat_eq c 95)) (is_builtin (c ∷ word_before_arguments rest)) passed).0 in
         and_from (not (nat_eq c 95)) _ plain
         (and_from (is_signed (c ∷ rest)) _
         (ap (λ b. not b || is_signed rest) (or_parts (nat_eq c 60) (nat_eq c 32) at).1)

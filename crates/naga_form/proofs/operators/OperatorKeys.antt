@@ -43,7 +43,7 @@ use Rattle.module_meaning.proofs.ExpressionForms.{called_spelled}
 use Rattle.naga_form.proofs.types.AlikeTypes.{form_read}
 use Rattle.naga_form.proofs.types.SameValues.{TypesAreCounted, IsFit, numbers_by_words, tree_of}
 use Rattle.naga_form.proofs.types.SameValues.{spelling_of, tree_is}
-use Rattle.naga_form.proofs.operators.TypedWords.{share_a_word}
+use Rattle.naga_form.proofs.operators.TypedWords.{have_one_word}
 
 module _ (m : Module) (are : TypesAreCounted m) where
   -- a spelled type, of which the operator is told
@@ -267,4 +267,4 @@ module _ (m : Module) (are : TypesAreCounted m) where
   -- operators that the runs call by one word, over as many operands, have one key
   pub one_key_of_word : (o p : Operator) (n : ℕ) (x y : List ℕ) → IsKeyed o n x → IsKeyed p n y →
       run_word o ≡ run_word p → x ≡ y
-  one_key_of_word o p n x y k l e = one_key_each o p n x y k l (share_a_word o p (sound o n x k) (sound p n y l) e)
+  one_key_of_word o p n x y k l e = one_key_each o p n x y k l (have_one_word o p (sound o n x k) (sound p n y l) e)

@@ -403,9 +403,9 @@ distinguished (WithoutForm x) u = absurd (false≢true u)
 distinguished _ u = refl
 
 -- two that take no type, and have one word, have one operator that stands for them
-pub untyped_share : (a b : Operator) → is_untyped a ≡ true → is_untyped b ≡ true → run_word a ≡ run_word b →
+pub untyped_one_word : (a b : Operator) → is_untyped a ≡ true → is_untyped b ≡ true → run_word a ≡ run_word b →
     one_word a ≡ one_word b
-untyped_share a b ua ub e = same_Some (one_word a) (one_word b) (sym (distinguished a ua)
+untyped_one_word a b ua ub e = same_Some (one_word a) (one_word b) (sym (distinguished a ua)
     ∙ (ap operator_of e ∙ distinguished b ub))
 
 -- ---- what all of the table have

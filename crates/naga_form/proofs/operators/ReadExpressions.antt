@@ -7,7 +7,7 @@ use Rattle.std.specs.Option.{option_map_or, option_map, is_some, option_and_then
 use Rattle.naga_info.specs.declared.info.TypeResolution.{TypeResolution}
 use Rattle.naga_info.specs.declared.info.TypeResolution.TheVariants.{Handle}
 use Rattle.module_meaning.specs.ExpressionOperators.{constructor, is_depth_image, level_of}
-use Rattle.module_meaning.specs.ExpressionOperators.{sample_operator, type_known, load_operator}
+use Rattle.module_meaning.specs.ExpressionOperators.{image_sample_operator, type_known, load_operator}
 use Rattle.module_meaning.specs.ExpressionOperators.{applied_operator}
 use Rattle.module_meaning.specs.ExpressionShapes.{constant_shape, swizzle_letters, constant_tree}
 use Rattle.module_meaning.specs.ExpressionShapes.{trees, written_zero, part_selector, part_shape}
@@ -310,7 +310,7 @@ module _ (m : Module) (n : Naming) (code : Source)
 
       by : (o : Option ℕ) → AllByRecursion ReadsOut (option_to_list o) →
           (let op =
-          sample_operator of_depths gather (level_of level) (is_some depth_ref) clamp
+          image_sample_operator of_depths gather (level_of level) (is_some depth_ref) clamp
           (is_some array_index) (is_some o) in
           let c = option_and_then tree_of o in
           expression_read
@@ -327,7 +327,7 @@ module _ (m : Module) (n : Naming) (code : Source)
           reads [] None refl
       by (Some x) out =
           let op =
-          sample_operator of_depths gather (level_of level) (is_some depth_ref) clamp
+          image_sample_operator of_depths gather (level_of level) (is_some depth_ref) clamp
           (is_some array_index) true in
           sampling_read operand like n.names.outer gather level (is_some depth_ref) clamp
           (is_some array_index) true of_depths unwritten (zero_is_whole code image) w image hs reads

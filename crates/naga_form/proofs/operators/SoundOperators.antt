@@ -21,7 +21,7 @@ use Rattle.module_meaning.specs.Conversions.{converted_scalar}
 use Rattle.module_meaning.specs.ExpressionOperators.{ExpressionContext, applied_operator}
 use Rattle.module_meaning.specs.ExpressionOperators.{constructor, cast, cast_to, matrix_load}
 use Rattle.module_meaning.specs.ExpressionOperators.{load_operator, part_operator}
-use Rattle.module_meaning.specs.ExpressionOperators.{is_atomic_pointer, sample_operator}
+use Rattle.module_meaning.specs.ExpressionOperators.{is_atomic_pointer, image_sample_operator}
 use Rattle.module_meaning.specs.ExpressionOperators.{pointee_scalar, type_known, has_parts}
 use Rattle.module_meaning.specs.OperatorTable.{Operator, Construct, CooperativeLoad, WithoutForm}
 use Rattle.module_meaning.specs.OperatorTable.{Cast, ValueOf, MatrixLoad, PartAt, AtomicLoad, Level}
@@ -137,8 +137,8 @@ module _ (m : Module) (are : TypesAreCounted m) where
     -- a sampling takes no type, and asks
     pub sampling_is_sound : (of_depths : Bool) (gather : Option SwizzleComponent) (level : Level)
         (compares clamped arrayed offset : Bool) →
-        TypeIsSound (sample_operator of_depths gather level compares clamped arrayed offset) ×
-        (asks (sample_operator of_depths gather level compares clamped arrayed offset) ≡ true)
+        TypeIsSound (image_sample_operator of_depths gather level compares clamped arrayed offset) ×
+        (asks (image_sample_operator of_depths gather level compares clamped arrayed offset) ≡ true)
     sampling_is_sound of_depths None level compares clamped arrayed offset = (tt, refl)
     sampling_is_sound of_depths (Some component) level compares clamped arrayed offset = (tt, refl)
 

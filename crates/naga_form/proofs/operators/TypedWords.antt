@@ -16,11 +16,11 @@ use Rattle.wgsl_text.specs.Types.{TypeSpecifier, Named, Template, TemplateArgume
 use Rattle.wgsl_text.specs.Types.{template_pieces, plain_type_words, is_type, TakesNone, rule_among}
 use Rattle.wgsl_text.specs.Types.{type_templates, fits, IsTemplateArgument, IsType}
 use Rattle.naga_form.proofs.operators.OperatorTable.{mathematical, others, first_with, operator_of}
-use Rattle.naga_form.proofs.operators.OperatorTable.{distinguished, untyped_share}
+use Rattle.naga_form.proofs.operators.OperatorTable.{distinguished, untyped_one_word}
 use Rattle.wgsl_text.proofs.Types.{fits_none, type_template, named_text}
 use Rattle.wgsl_text.specs.Reading.{type_layout}
 use Rattle.wgsl_text.specs.Text.{text}
-use Rattle.wgsl_text.specs.Requests.{word_before_parts, is_request, request_words}
+use Rattle.wgsl_text.specs.Requests.{word_before_arguments, is_request, request_words}
 use Rattle.wgsl_text.specs.Keywords.{builtin_words}
 use Rattle.wgsl_text.proofs.Words.{passes}
 use Rattle.module_meaning.specs.OperatorTable.{Operator, CooperativeLoad, Construct, Convert}
@@ -41,24 +41,24 @@ word_byte_goes_on b e = by (nat_eq b 60) refl (nat_eq b 32) refl
     by false is true also = absurd (false≢true (sym (ap is_word_byte (eqb-true b 32 also)) ∙ e))
     by false is false also = λ i. is i || also i
 
-head_before : (w rest : List ℕ) → all_word_bytes w ≡ true → word_before_parts (w ++ (60 ∷ rest)) ≡ w
+head_before : (w rest : List ℕ) → all_word_bytes w ≡ true → word_before_arguments (w ++ (60 ∷ rest)) ≡ w
 head_before [] rest e = refl
 head_before (b ∷ bytes) rest e =
     let parts = and_parts (is_word_byte b) (all_word_bytes bytes) e in
-    ap (λ x. if x then [] else b ∷ word_before_parts (bytes ++ (60 ∷ rest))) (word_byte_goes_on b parts.0)
+    ap (λ x. if x then [] else b ∷ word_before_arguments (bytes ++ (60 ∷ rest))) (word_byte_goes_on b parts.0)
     ∙ ap (λ bs. b ∷ bs) (head_before bytes rest parts.1)
 
-head_alone : (w : List ℕ) → all_word_bytes w ≡ true → word_before_parts w ≡ w
+head_alone : (w : List ℕ) → all_word_bytes w ≡ true → word_before_arguments w ≡ w
 head_alone [] e = refl
 head_alone (b ∷ bytes) e =
     let parts = and_parts (is_word_byte b) (all_word_bytes bytes) e in
-    ap (λ x. if x then [] else b ∷ word_before_parts bytes) (word_byte_goes_on b parts.0)
+    ap (λ x. if x then [] else b ∷ word_before_arguments bytes) (word_byte_goes_on b parts.0)
     ∙ ap (λ bs. b ∷ bs) (head_alone bytes parts.1)
 
 -- ---- no other operator's word is one of these
 -- a word with a `<` after it
 abbrev opens : List ℕ → Bool
-opens w = is_word_text (word_before_parts w) && list_any (nat_eq 60) w
+opens w = is_word_text (word_before_arguments w) && list_any (nat_eq 60) w
 
 -- a word of the language that is no type
 abbrev is_function : List ℕ → Bool
@@ -122,7 +122,7 @@ unfolding is_request is_builtin builtin_words
 no_request w is = by (stands_in request_words w) refl
   where
     by : (b : Bool) → stands_in request_words w ≡ b →
-        stands_in request_words (word_before_parts w) ≡ false
+        stands_in request_words (word_before_arguments w) ≡ false
     by false at = ap (stands_in request_words) (head_alone w (word_bytes w is.word.text)) ∙ at
     by true at = absurd (true≢false (sym (passes is_builtin request_words w refl at) ∙ is.own))
 
@@ -135,8 +135,8 @@ pub head_text : (t : TypeSpecifier) → IsTemplateArgument t → is_word_text (h
 head_text (Named w) is = is.text
 head_text (Template w parts) is = (type_template w parts is.0).word.text
 
-pub head_is : (t : TypeSpecifier) → IsTemplateArgument t → word_before_parts (type_layout t) ≡ head_of t
-head_is (Named w) is = ap word_before_parts (named_text w) ∙ head_alone w (word_bytes w is.text)
+pub head_is : (t : TypeSpecifier) → IsTemplateArgument t → word_before_arguments (type_layout t) ≡ head_of t
+head_is (Named w) is = ap word_before_arguments (named_text w) ∙ head_alone w (word_bytes w is.text)
 head_is (Template w parts) is = head_before w (text (template_pieces parts (has_gaps w)))
     (word_bytes w (head_text (Template w parts) is))
 
@@ -246,7 +246,7 @@ no_type_begins v named rule (Template w parts) is e =
 record TakesType (v : List ℕ) : Type 0 where
   pub named : is_type (Named v) ≡ false
   pub rule : rule_among type_templates v ≡ TakesNone
-  pub head : (w : List ℕ) → word_before_parts (with_type v w) ≡ v
+  pub head : (w : List ℕ) → word_before_arguments (with_type v w) ≡ v
 
 reinterpret_takes : TakesType (codes "bitcast")
 unfolding is_builtin
@@ -263,7 +263,7 @@ transposed_takes = record { named = refl; rule = refl; head = λ w. refl }
 type_is_no_call : (v : List ℕ) → TakesType v → (w x : List ℕ) → SpellsAType w → w ≡ with_type v x → ⊥
 type_is_no_call v takes w x is e =
     no_type_begins v takes.named takes.rule is.0 is.1.0
-    (sym (head_is is.0 is.1.0.part) ∙ (ap word_before_parts (is.1.1 ∙ e) ∙ takes.head x))
+    (sym (head_is is.0 is.1.0.part) ∙ (ap word_before_arguments (is.1.1 ∙ e) ∙ takes.head x))
 
 same_call : (v w x : List ℕ) → with_type v w ≡ with_type v x → w ≡ x
 same_call v w x e =
@@ -273,7 +273,7 @@ same_call v w x e =
 other_call : (v u : List ℕ) → TakesType v → TakesType u → bytes_eq v u ≡ false → (w x : List ℕ) →
     with_type v w ≡ with_type u x → ⊥
 other_call v u a b apart w x e =
-    false≢true (sym apart ∙ (bytes_eq-Decides v u).1 (sym (a.head w) ∙ (ap word_before_parts e ∙ b.head x)))
+    false≢true (sym apart ∙ (bytes_eq-Decides v u).1 (sym (a.head w) ∙ (ap word_before_arguments e ∙ b.head x)))
 
 -- ---- what no text has
 -- its word tells it
@@ -302,7 +302,7 @@ unsupported_share x y e = sym (unsupported_distinguished x)
 -- no type is spelled so
 pub no_blank : (w code : List ℕ) → SpellsAType w → w ≡ 32 ∷ code → ⊥
 no_blank w code is e =
-    false≢true (ap is_word_text (sym (ap word_before_parts (is.1.1 ∙ e)) ∙ head_is is.0 is.1.0.part)
+    false≢true (ap is_word_text (sym (ap word_before_arguments (is.1.1 ∙ e)) ∙ head_is is.0 is.1.0.part)
     ∙ head_text is.0 is.1.0.part)
 
 no_unsupported : (w : List ℕ) (x : Unsupported) → SpellsAType w → w ≡ unsupported_word x → ⊥
@@ -311,7 +311,7 @@ no_unsupported w (PartAt index) is e = no_blank w (unsupported_code (PartAt inde
 no_unsupported w (ValueOf numbers components) is e = no_blank w (unsupported_code (ValueOf numbers components)) is e
 no_unsupported w (MatrixLoad columns rows role row_major) is e =
     no_type_begins (codes "coopLoad") load_takes.named load_takes.rule is.0 is.1.0
-    (sym (head_is is.0 is.1.0.part) ∙ ap word_before_parts (is.1.1 ∙ e))
+    (sym (head_is is.0 is.1.0.part) ∙ ap word_before_arguments (is.1.1 ∙ e))
 
 -- nor a function that takes a type
 abbrev has_byte : (place byte : ℕ) → List ℕ → Bool
@@ -333,80 +333,80 @@ no_unsupported_transposed w _ e = false≢true (ap (has_byte 0 32) e)
 some_none : (o : Operator) → Some o ≡ None → ⊥
 some_none o e = cc
 
-typed_share : (a b : Operator) → is_untyped a ≡ false → is_untyped b ≡ false → TypeIsSound a → TypeIsSound b →
+typed_one_word : (a b : Operator) → is_untyped a ≡ false → is_untyped b ≡ false → TypeIsSound a → TypeIsSound b →
     run_word a ≡ run_word b → one_word a ≡ one_word b
-typed_share (Construct w n) (Construct x m) ua ub sa sb e = ap (λ y. Construct y 1) e
-typed_share (Construct w n) (Convert x) ua ub sa sb e = ap (λ y. Construct y 1) e
-typed_share (Construct w n) (Reinterpret x) ua ub sa sb e =
+typed_one_word (Construct w n) (Construct x m) ua ub sa sb e = ap (λ y. Construct y 1) e
+typed_one_word (Construct w n) (Convert x) ua ub sa sb e = ap (λ y. Construct y 1) e
+typed_one_word (Construct w n) (Reinterpret x) ua ub sa sb e =
     absurd (type_is_no_call (codes "bitcast") reinterpret_takes w x sa e)
-typed_share (Construct w n) (CooperativeLoad false x) ua ub sa sb e =
+typed_one_word (Construct w n) (CooperativeLoad false x) ua ub sa sb e =
     absurd (type_is_no_call (codes "coopLoad") load_takes w x sa e)
-typed_share (Construct w n) (CooperativeLoad true x) ua ub sa sb e =
+typed_one_word (Construct w n) (CooperativeLoad true x) ua ub sa sb e =
     absurd (type_is_no_call (codes "coopLoadT") transposed_takes w x sa e)
-typed_share (Convert w) (Construct x m) ua ub sa sb e = ap (λ y. Construct y 1) e
-typed_share (Convert w) (Convert x) ua ub sa sb e = ap (λ y. Construct y 1) e
-typed_share (Convert w) (Reinterpret x) ua ub sa sb e =
+typed_one_word (Convert w) (Construct x m) ua ub sa sb e = ap (λ y. Construct y 1) e
+typed_one_word (Convert w) (Convert x) ua ub sa sb e = ap (λ y. Construct y 1) e
+typed_one_word (Convert w) (Reinterpret x) ua ub sa sb e =
     absurd (type_is_no_call (codes "bitcast") reinterpret_takes w x sa e)
-typed_share (Convert w) (CooperativeLoad false x) ua ub sa sb e =
+typed_one_word (Convert w) (CooperativeLoad false x) ua ub sa sb e =
     absurd (type_is_no_call (codes "coopLoad") load_takes w x sa e)
-typed_share (Convert w) (CooperativeLoad true x) ua ub sa sb e =
+typed_one_word (Convert w) (CooperativeLoad true x) ua ub sa sb e =
     absurd (type_is_no_call (codes "coopLoadT") transposed_takes w x sa e)
-typed_share (Reinterpret w) (Construct x m) ua ub sa sb e =
+typed_one_word (Reinterpret w) (Construct x m) ua ub sa sb e =
     absurd (type_is_no_call (codes "bitcast") reinterpret_takes x w sb (sym e))
-typed_share (Reinterpret w) (Convert x) ua ub sa sb e =
+typed_one_word (Reinterpret w) (Convert x) ua ub sa sb e =
     absurd (type_is_no_call (codes "bitcast") reinterpret_takes x w sb (sym e))
-typed_share (Reinterpret w) (Reinterpret x) ua ub sa sb e = ap Reinterpret (same_call (codes "bitcast") w x e)
-typed_share (Reinterpret w) (CooperativeLoad false x) ua ub sa sb e =
+typed_one_word (Reinterpret w) (Reinterpret x) ua ub sa sb e = ap Reinterpret (same_call (codes "bitcast") w x e)
+typed_one_word (Reinterpret w) (CooperativeLoad false x) ua ub sa sb e =
     absurd (other_call (codes "bitcast") (codes "coopLoad") reinterpret_takes load_takes refl w x e)
-typed_share (Reinterpret w) (CooperativeLoad true x) ua ub sa sb e =
+typed_one_word (Reinterpret w) (CooperativeLoad true x) ua ub sa sb e =
     absurd (other_call (codes "bitcast") (codes "coopLoadT") reinterpret_takes transposed_takes refl w x e)
-typed_share (CooperativeLoad false w) (Construct x m) ua ub sa sb e =
+typed_one_word (CooperativeLoad false w) (Construct x m) ua ub sa sb e =
     absurd (type_is_no_call (codes "coopLoad") load_takes x w sb (sym e))
-typed_share (CooperativeLoad false w) (Convert x) ua ub sa sb e =
+typed_one_word (CooperativeLoad false w) (Convert x) ua ub sa sb e =
     absurd (type_is_no_call (codes "coopLoad") load_takes x w sb (sym e))
-typed_share (CooperativeLoad false w) (Reinterpret x) ua ub sa sb e =
+typed_one_word (CooperativeLoad false w) (Reinterpret x) ua ub sa sb e =
     absurd (other_call (codes "coopLoad") (codes "bitcast") load_takes reinterpret_takes refl w x e)
-typed_share (CooperativeLoad false w) (CooperativeLoad false x) ua ub sa sb e =
+typed_one_word (CooperativeLoad false w) (CooperativeLoad false x) ua ub sa sb e =
     ap (CooperativeLoad false) (same_call (codes "coopLoad") w x e)
-typed_share (CooperativeLoad false w) (CooperativeLoad true x) ua ub sa sb e =
+typed_one_word (CooperativeLoad false w) (CooperativeLoad true x) ua ub sa sb e =
     absurd (other_call (codes "coopLoad") (codes "coopLoadT") load_takes transposed_takes refl w x e)
-typed_share (CooperativeLoad true w) (Construct x m) ua ub sa sb e =
+typed_one_word (CooperativeLoad true w) (Construct x m) ua ub sa sb e =
     absurd (type_is_no_call (codes "coopLoadT") transposed_takes x w sb (sym e))
-typed_share (CooperativeLoad true w) (Convert x) ua ub sa sb e =
+typed_one_word (CooperativeLoad true w) (Convert x) ua ub sa sb e =
     absurd (type_is_no_call (codes "coopLoadT") transposed_takes x w sb (sym e))
-typed_share (CooperativeLoad true w) (Reinterpret x) ua ub sa sb e =
+typed_one_word (CooperativeLoad true w) (Reinterpret x) ua ub sa sb e =
     absurd (other_call (codes "coopLoadT") (codes "bitcast") transposed_takes reinterpret_takes refl w x e)
-typed_share (CooperativeLoad true w) (CooperativeLoad false x) ua ub sa sb e =
+typed_one_word (CooperativeLoad true w) (CooperativeLoad false x) ua ub sa sb e =
     absurd (other_call (codes "coopLoadT") (codes "coopLoad") transposed_takes load_takes refl w x e)
-typed_share (CooperativeLoad true w) (CooperativeLoad true x) ua ub sa sb e =
+typed_one_word (CooperativeLoad true w) (CooperativeLoad true x) ua ub sa sb e =
     ap (CooperativeLoad true) (same_call (codes "coopLoadT") w x e)
-typed_share (WithoutForm x) (WithoutForm y) ua ub sa sb e = ap WithoutForm (unsupported_share x y e)
-typed_share (WithoutForm x) (Construct w n) ua ub sa sb e = absurd (no_unsupported w x sb (sym e))
-typed_share (WithoutForm x) (Convert w) ua ub sa sb e = absurd (no_unsupported w x sb (sym e))
-typed_share (WithoutForm x) (Reinterpret w) ua ub sa sb e = absurd (no_unsupported_reinterpret w x (sym e))
-typed_share (WithoutForm x) (CooperativeLoad false w) ua ub sa sb e = absurd (no_unsupported_load w x (sym e))
-typed_share (WithoutForm x) (CooperativeLoad true w) ua ub sa sb e = absurd (no_unsupported_transposed w x (sym e))
-typed_share (Construct w n) (WithoutForm x) ua ub sa sb e = absurd (no_unsupported w x sa e)
-typed_share (Convert w) (WithoutForm x) ua ub sa sb e = absurd (no_unsupported w x sa e)
-typed_share (Reinterpret w) (WithoutForm x) ua ub sa sb e = absurd (no_unsupported_reinterpret w x e)
-typed_share (CooperativeLoad false w) (WithoutForm x) ua ub sa sb e = absurd (no_unsupported_load w x e)
-typed_share (CooperativeLoad true w) (WithoutForm x) ua ub sa sb e = absurd (no_unsupported_transposed w x e)
-typed_share (WithoutForm x) _ ua ub sa sb e = absurd (true≢false ub)
-typed_share (Construct w n) _ ua ub sa sb e = absurd (true≢false ub)
-typed_share (Convert w) _ ua ub sa sb e = absurd (true≢false ub)
-typed_share (Reinterpret w) _ ua ub sa sb e = absurd (true≢false ub)
-typed_share (CooperativeLoad false w) _ ua ub sa sb e = absurd (true≢false ub)
-typed_share (CooperativeLoad true w) _ ua ub sa sb e = absurd (true≢false ub)
-typed_share _ b ua ub sa sb e = absurd (true≢false ua)
+typed_one_word (WithoutForm x) (WithoutForm y) ua ub sa sb e = ap WithoutForm (unsupported_share x y e)
+typed_one_word (WithoutForm x) (Construct w n) ua ub sa sb e = absurd (no_unsupported w x sb (sym e))
+typed_one_word (WithoutForm x) (Convert w) ua ub sa sb e = absurd (no_unsupported w x sb (sym e))
+typed_one_word (WithoutForm x) (Reinterpret w) ua ub sa sb e = absurd (no_unsupported_reinterpret w x (sym e))
+typed_one_word (WithoutForm x) (CooperativeLoad false w) ua ub sa sb e = absurd (no_unsupported_load w x (sym e))
+typed_one_word (WithoutForm x) (CooperativeLoad true w) ua ub sa sb e = absurd (no_unsupported_transposed w x (sym e))
+typed_one_word (Construct w n) (WithoutForm x) ua ub sa sb e = absurd (no_unsupported w x sa e)
+typed_one_word (Convert w) (WithoutForm x) ua ub sa sb e = absurd (no_unsupported w x sa e)
+typed_one_word (Reinterpret w) (WithoutForm x) ua ub sa sb e = absurd (no_unsupported_reinterpret w x e)
+typed_one_word (CooperativeLoad false w) (WithoutForm x) ua ub sa sb e = absurd (no_unsupported_load w x e)
+typed_one_word (CooperativeLoad true w) (WithoutForm x) ua ub sa sb e = absurd (no_unsupported_transposed w x e)
+typed_one_word (WithoutForm x) _ ua ub sa sb e = absurd (true≢false ub)
+typed_one_word (Construct w n) _ ua ub sa sb e = absurd (true≢false ub)
+typed_one_word (Convert w) _ ua ub sa sb e = absurd (true≢false ub)
+typed_one_word (Reinterpret w) _ ua ub sa sb e = absurd (true≢false ub)
+typed_one_word (CooperativeLoad false w) _ ua ub sa sb e = absurd (true≢false ub)
+typed_one_word (CooperativeLoad true w) _ ua ub sa sb e = absurd (true≢false ub)
+typed_one_word _ b ua ub sa sb e = absurd (true≢false ua)
 
 -- operators of one word have one operator that stands for them
-pub share_a_word : (a b : Operator) → TypeIsSound a → TypeIsSound b → run_word a ≡ run_word b → one_word a ≡ one_word b
-share_a_word a b sa sb e = by (is_untyped a) refl (is_untyped b) refl
+pub have_one_word : (a b : Operator) → TypeIsSound a → TypeIsSound b → run_word a ≡ run_word b → one_word a ≡ one_word b
+have_one_word a b sa sb e = by (is_untyped a) refl (is_untyped b) refl
   where
     by : (x : Bool) → is_untyped a ≡ x → (y : Bool) → is_untyped b ≡ y → one_word a ≡ one_word b
-    by true ua true ub = untyped_share a b ua ub e
+    by true ua true ub = untyped_one_word a b ua ub e
     by true ua false ub =
         absurd (some_none (one_word a) (sym (distinguished a ua) ∙ (ap operator_of e ∙ typed_is_none b ub sb)))
     by false ua true ub =
         absurd (some_none (one_word b) (sym (distinguished b ub) ∙ (ap operator_of (sym e) ∙ typed_is_none a ua sa)))
-    by false ua false ub = typed_share a b ua ub sa sb e
+    by false ua false ub = typed_one_word a b ua ub sa sb e

@@ -40,7 +40,7 @@ use Rattle.naga_ir.specs.declared.types.TypeInner.TheVariants as inner
 use Rattle.naga_info.specs.declared.info.ExpressionInfo.{ExpressionInfo}
 use Rattle.naga_info.specs.declared.info.ModuleInfo.{ModuleInfo}
 use Rattle.std.specs.List.{AllByRecursion, filter}
-use Rattle.module_meaning.specs.Written.{block_roots, cases_roots, simple_roots, statement_roots}
+use Rattle.module_meaning.specs.Written.{block_handles, cases_handles, simple_handles, statement_handles}
 use Rattle.module_meaning.specs.Written.{IsWrittenIn, OfLocal, WrittenHaveForms}
 use Rattle.naga_form.proofs.statements.WrittenHandles.{AreClosed, all_front, all_map}
 use Rattle.naga_form.proofs.statements.WrittenHandles.{written_are_closed, all_rest}
@@ -63,8 +63,8 @@ use Rattle.naga_form.specs.Statements.{let_form, then_if, lets_form, return_line
 use Rattle.naga_form.specs.Statements.{loop_form, case_value_form, case_values_form, line_form}
 use Rattle.naga_form.specs.Statements.{lines_form, cases_form, optional_form, act_line}
 use Rattle.naga_form.specs.Statements.{barrier_lines, shape_form}
-use Rattle.naga_form.proofs.statements.SimpleShapes.{has_no_blocks, no_blocks, shape_roots}
-use Rattle.naga_form.proofs.statements.SimpleShapes.{roots_are}
+use Rattle.naga_form.proofs.statements.SimpleShapes.{has_no_blocks, no_blocks, shape_handles}
+use Rattle.naga_form.proofs.statements.SimpleShapes.{handles_are}
 use Rattle.shader_runs.specs.ProgramRun.{barrier_words}
 use Rattle.module_meaning.specs.Names.{function_name, argument_name, module_names}
 use Rattle.naga_form.specs.Types.{type_form, annotated_type, LocalsHaveForms}
@@ -345,7 +345,7 @@ module _ (flags : WriterFlags) (named : ℕ → List ℕ) (m : Module) (info : M
       λ i. before (Perform (named_text word i) trees_of_text.no_more) (barrier_reads words rest i)
 
   shape_reads : (annotated : ℕ → Option TypeSpecifier) (k : ℕ) (st : shapes.Statement) (s : Handles)
-      (rest : tree.Statements) → has_no_blocks st ≡ true → Writes (shape_roots bound st) →
+      (rest : tree.Statements) → has_no_blocks st ≡ true → Writes (shape_handles bound st) →
       statements_read (shape_form own annotated source k st s rest) ≡
       runs.form own k st s (statements_read rest)
   shape_reads annotated k (shapes.Emit first count) s rest none w = lets_read annotated k (from first count) s rest w
@@ -362,12 +362,12 @@ module _ (flags : WriterFlags) (named : ℕ → List ℕ) (m : Module) (info : M
   shape_reads annotated k _ s rest none w = absurd cc
 
   simple_reads : (annotated : ℕ → Option TypeSpecifier) (k : ℕ) (st : SimpleStatement) (s : Handles)
-      (rest : tree.Statements) → Writes (simple_roots bound st) →
+      (rest : tree.Statements) → Writes (simple_handles bound st) →
       statements_read (simple_form own annotated source k st s rest) ≡ runs.form own k
       (simple_shape d.context st) s (statements_read rest)
   simple_reads annotated k st s rest w =
       shape_reads annotated k (simple_shape d.context st) s rest (no_blocks d.context st)
-      (subst Writes (roots_are bound d.context st) w)
+      (subst Writes (handles_are bound d.context st) w)
 
   -- what is left out where a block has no statements does nothing
   optional_reads : (annotated : ℕ → Option TypeSpecifier) (k : ℕ) (b : BlockTree) (s : Handles) →
@@ -378,7 +378,7 @@ module _ (flags : WriterFlags) (named : ℕ → List ℕ) (m : Module) (info : M
 
   mutual
     line_reads : (annotated : ℕ → Option TypeSpecifier) (k : ℕ) (st : StatementTree) (s : Handles)
-        (rest : tree.Statements) → Writes (statement_roots bound st) →
+        (rest : tree.Statements) → Writes (statement_handles bound st) →
         statements_read (line_form own annotated source k st s rest) ≡ runs.form own k
         (statement_shape d.context st) s (statements_read rest)
     line_reads annotated k (simple st) s rest w = simple_reads annotated k st s rest w
@@ -386,8 +386,8 @@ module _ (flags : WriterFlags) (named : ℕ → List ℕ) (m : Module) (info : M
         (lines_read annotated k b s w)
     line_reads annotated k (branch condition accept reject) s rest w =
         let following = named_by_all own.function (statements_shape d.context accept) k in
-        let one = all_front W (block_roots bound accept) (block_roots bound reject) w.1 in
-        let other = all_rest W (block_roots bound accept) (block_roots bound reject) w.1 in
+        let one = all_front W (block_handles bound accept) (block_handles bound reject) w.1 in
+        let other = all_rest W (block_handles bound accept) (block_handles bound reject) w.1 in
         λ i. before (IfElse (value_reads s condition w.0 i) (lines_read annotated k accept s one i)
         ((optional_reads annotated following reject s ∙ lines_read annotated following reject s other) i))
         (statements_read rest)
@@ -398,10 +398,12 @@ module _ (flags : WriterFlags) (named : ℕ → List ℕ) (m : Module) (info : M
         let following = named_by_all own.function (statements_shape d.context body) k in
         let inside = after_all own k (statements_shape d.context body) s in
         let last = after_all own following (statements_shape d.context continuing) inside in
-        let one = all_front W (block_roots bound body) (block_roots bound continuing ++ option_to_list break_if) w in
-        let more = all_rest W (block_roots bound body) (block_roots bound continuing ++ option_to_list break_if) w in
-        let other = all_front W (block_roots bound continuing) (option_to_list break_if) more in
-        let value = all_rest W (block_roots bound continuing) (option_to_list break_if) more in
+        let one = all_front W (block_handles bound body)
+        (block_handles bound continuing ++ option_to_list break_if) w in
+        let more = all_rest W (block_handles bound body)
+        (block_handles bound continuing ++ option_to_list break_if) w in
+        let other = all_front W (block_handles bound continuing) (option_to_list break_if) more in
+        let value = all_rest W (block_handles bound continuing) (option_to_list break_if) more in
         ap (λ l. before l (statements_read rest))
         (loop_reads (lines_form own annotated source k body s) continuing
         (lines_form own annotated source following continuing inside)
@@ -411,13 +413,13 @@ module _ (flags : WriterFlags) (named : ℕ → List ℕ) (m : Module) (info : M
         (statements_read rest)
 
     lines_read : (annotated : ℕ → Option TypeSpecifier) (k : ℕ) (b : BlockTree) (s : Handles) →
-        Writes (block_roots bound b) →
+        Writes (block_handles bound b) →
         statements_read (lines_form own annotated source k b s) ≡ runs.form_all own k
         (statements_shape d.context b) s
     lines_read annotated k no_statements s w = refl
     lines_read annotated k (statement st b) s w =
-        let one = all_front W (statement_roots bound st) (block_roots bound b) w in
-        let more = all_rest W (statement_roots bound st) (block_roots bound b) w in
+        let one = all_front W (statement_handles bound st) (block_handles bound b) w in
+        let more = all_rest W (statement_handles bound st) (block_handles bound b) w in
         line_reads annotated k st s (lines_form own annotated source
         (named_by own.function (statement_shape d.context st) k) b
         (after own k (statement_shape d.context st) s)) one
@@ -426,19 +428,19 @@ module _ (flags : WriterFlags) (named : ℕ → List ℕ) (m : Module) (info : M
         (after own k (statement_shape d.context st) s) more)
 
     cases_read_as : (annotated : ℕ → Option TypeSpecifier) (k : ℕ) (labels : List tree.CaseValue)
-        (cs : CaseTrees) (s : Handles) → Writes (cases_roots bound cs) →
+        (cs : CaseTrees) (s : Handles) → Writes (cases_handles bound cs) →
         cases_read (cases_form own annotated source k labels cs s) ≡
         runs.form_cases own k (map case_value_read labels) (cases_shape d.context cs) s
     cases_read_as annotated k labels no_cases s w = refl
     cases_read_as annotated k labels (case value body true cs) s w =
         let following = named_by_all own.function (statements_shape d.context body) k in
         cases_read_as annotated following (labels ++ case_value_form value ∷ []) cs s
-        (all_rest W (block_roots bound body) (cases_roots bound cs) w)
+        (all_rest W (block_handles bound body) (cases_handles bound cs) w)
         ∙ ap (λ ls. runs.form_cases own following ls (cases_shape d.context cs) s) (case_values_with labels value)
     cases_read_as annotated k labels (case value body false cs) s w =
         let following = named_by_all own.function (statements_shape d.context body) k in
-        let one = all_front W (block_roots bound body) (cases_roots bound cs) w in
-        let more = all_rest W (block_roots bound body) (cases_roots bound cs) w in
+        let one = all_front W (block_handles bound body) (cases_handles bound cs) w in
+        let more = all_rest W (block_handles bound body) (cases_handles bound cs) w in
         λ i. group (case_values_read_as labels value i) (lines_read annotated k body s one i)
         (cases_read_as annotated following [] cs s more i)
 

@@ -5,7 +5,7 @@ use Rattle.std.specs.Option.{option_to_list}
 use Rattle.naga_ir.specs.StatementTree.{SimpleStatement, store}
 use Rattle.module_meaning.specs.ExpressionOperators.{ExpressionContext, is_atomic_pointer}
 use Rattle.module_meaning.specs.StatementShapes.{simple_shape, store_shape}
-use Rattle.module_meaning.specs.Written.{simple_roots}
+use Rattle.module_meaning.specs.Written.{simple_handles}
 use Rattle.shader_runs.specs.Program.{Statement, Emit, Store, Block, If, Switch, Loop, Return, Act}
 use Rattle.shader_runs.specs.Program.{from, Jumps}
 
@@ -26,18 +26,19 @@ no_blocks a (store p v) = stored_blocks (is_atomic_pointer a p) p v
 no_blocks a _ = refl
 
 -- the handles that it writes by itself
-abbrev pub shape_roots : (binds : ℕ → Bool) → Statement → List ℕ
-shape_roots binds (Emit first count) = filter binds (from first count)
-shape_roots binds (Store p v) = p ∷ v ∷ []
-shape_roots binds (Jumps (Return v)) = option_to_list v
-shape_roots binds (Act action xs outcome) = xs
-shape_roots binds _ = []
+abbrev pub shape_handles : (binds : ℕ → Bool) → Statement → List ℕ
+shape_handles binds (Emit first count) = filter binds (from first count)
+shape_handles binds (Store p v) = p ∷ v ∷ []
+shape_handles binds (Jumps (Return v)) = option_to_list v
+shape_handles binds (Act action xs outcome) = xs
+shape_handles binds _ = []
 
-stored_roots : (binds : ℕ → Bool) (atomic : Bool) (p v : ℕ) → p ∷ v ∷ [] ≡ shape_roots binds (store_shape atomic p v)
-stored_roots binds true p v = refl
-stored_roots binds false p v = refl
+stored_handles : (binds : ℕ → Bool) (atomic : Bool) (p v : ℕ) →
+    p ∷ v ∷ [] ≡ shape_handles binds (store_shape atomic p v)
+stored_handles binds true p v = refl
+stored_handles binds false p v = refl
 
-pub roots_are : (binds : ℕ → Bool) (a : ExpressionContext) (st : SimpleStatement) →
-    simple_roots binds st ≡ shape_roots binds (simple_shape a st)
-roots_are binds a (store p v) = stored_roots binds (is_atomic_pointer a p) p v
-roots_are binds a _ = refl
+pub handles_are : (binds : ℕ → Bool) (a : ExpressionContext) (st : SimpleStatement) →
+    simple_handles binds st ≡ shape_handles binds (simple_shape a st)
+handles_are binds a (store p v) = stored_handles binds (is_atomic_pointer a p) p v
+handles_are binds a _ = refl

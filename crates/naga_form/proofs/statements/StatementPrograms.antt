@@ -23,7 +23,7 @@ use Rattle.module_meaning.specs.FunctionShapes.{statement_shape, statements_shap
 use Rattle.module_meaning.specs.Names.{module_names, numbered_name}
 use Rattle.module_meaning.specs.Namings.{function_naming}
 use Rattle.module_meaning.specs.StatementShapes.{simple_shape, store_shape}
-use Rattle.module_meaning.specs.Written.{block_roots, cases_roots, statement_roots}
+use Rattle.module_meaning.specs.Written.{block_handles, cases_handles, statement_handles}
 use Rattle.shader_runs.specs.Form.{word_of}
 use Rattle.shader_runs.specs.Program as shapes
 use Rattle.shader_runs.specs.Program.{Act, Barrier, Emit, Return, Store, binds, binds_as}
@@ -59,7 +59,7 @@ use Rattle.naga_form.proofs.ModuleIndices.{expression_is}
 use Rattle.naga_form.proofs.names.NumberedNames.{numbered_is}
 use Rattle.naga_form.proofs.operators.PlainForms.{IsPlainForm, NamesAre, reference_is_one}
 use Rattle.naga_form.proofs.operators.PlainForms.{value_is_one, values_are}
-use Rattle.naga_form.proofs.statements.SimpleShapes.{roots_are, shape_roots}
+use Rattle.naga_form.proofs.statements.SimpleShapes.{handles_are, shape_handles}
 use Rattle.naga_form.proofs.statements.Switches.{labels_are, case_values_more, one_is_written}
 use Rattle.naga_form.proofs.statements.WrittenHandles.{all_front, all_map, all_rest}
 use Rattle.naga_back.specs.declared.flags.WriterFlags.{WriterFlags}
@@ -299,7 +299,7 @@ module _ (flags : WriterFlags) (m : Module) (info : ModuleInfo) (g : ℕ) (f : i
 
     shape_is : (k : ℕ) (shape : shapes.Statement) → ShapeFits own shape → (s : Handles) → NamesAre s →
         HasRoom k (shape_labels shape) → (rest : tree.Statements) → IsStatements rest →
-        Writes (shape_roots bound shape) → IsStatements (shape_form own annotated source k shape s rest)
+        Writes (shape_handles bound shape) → IsStatements (shape_form own annotated source k shape s rest)
     shape_is k (Emit first count) fit s well room rest is w = lets_are k (from first count) s well room rest is w
     shape_is k (Store pointer value) fit s well room rest is w =
         let r = reference_is_one (plain_form own source s pointer) (plain_is s well pointer w.0) in
@@ -326,15 +326,15 @@ module _ (flags : WriterFlags) (m : Module) (info : ModuleInfo) (g : ℕ) (f : i
     mutual
       line_is : (k : ℕ) (st : StatementTree) → StatementFits own d.context st → (s : Handles) → NamesAre s →
           HasRoom k (labels_in f st) → (rest : tree.Statements) → IsStatements rest →
-          Writes (statement_roots bound st) → IsStatements (line_form own annotated source k st s rest)
+          Writes (statement_handles bound st) → IsStatements (line_form own annotated source k st s rest)
       line_is k (simple st) fit s well room rest is w =
           shape_is k (simple_shape d.context st) fit s well (subst (HasRoom k) (labels_given st) room) rest is
-          (subst Writes (roots_are bound d.context st) w)
+          (subst Writes (handles_are bound d.context st) w)
       line_is k (block b) fit s well room rest is w = (lines_are k b fit s well room w, is)
       line_is k (branch condition accept reject) fit s well room rest is w =
           let following = named_by_all own.function (statements_shape d.context accept) k in
-          let one = all_front W (block_roots bound accept) (block_roots bound reject) w.1 in
-          let other = all_rest W (block_roots bound accept) (block_roots bound reject) w.1 in (
+          let one = all_front W (block_handles bound accept) (block_handles bound reject) w.1 in
+          let other = all_rest W (block_handles bound accept) (block_handles bound reject) w.1 in (
             (
               value_at_is s well condition w.0,
               lines_are k accept fit.0 s well (room_front k (block_labels f accept) (block_labels f reject) room) one,
@@ -357,10 +357,12 @@ module _ (flags : WriterFlags) (m : Module) (info : ModuleInfo) (g : ℕ) (f : i
           let following = named_by_all own.function (statements_shape d.context body) k in
           let inside = after_all own k (statements_shape d.context body) s in
           let inside_well = after_all_is k body fit.0 s well front in
-          let one = all_front W (block_roots bound body) (block_roots bound continuing ++ option_to_list break_if) w in
-          let more = all_rest W (block_roots bound body) (block_roots bound continuing ++ option_to_list break_if) w in
-          let other = all_front W (block_roots bound continuing) (option_to_list break_if) more in
-          let value = all_rest W (block_roots bound continuing) (option_to_list break_if) more in (
+          let one = all_front W (block_handles bound body)
+          (block_handles bound continuing ++ option_to_list break_if) w in
+          let more = all_rest W (block_handles bound body)
+          (block_handles bound continuing ++ option_to_list break_if) w in
+          let other = all_front W (block_handles bound continuing) (option_to_list break_if) more in
+          let value = all_rest W (block_handles bound continuing) (option_to_list break_if) more in (
             loop_is _ continuing _ (after_all own following (statements_shape d.context continuing) inside)
                 (after_all_is following continuing fit.1 inside inside_well beyond) break_if value
                 (lines_are k body fit.0 s well front one)
@@ -369,13 +371,13 @@ module _ (flags : WriterFlags) (m : Module) (info : ModuleInfo) (g : ℕ) (f : i
           )
 
       pub lines_are : (k : ℕ) (b : BlockTree) → AllFit own d.context b → (s : Handles) → NamesAre s →
-          HasRoom k (block_labels f b) → Writes (block_roots bound b) →
+          HasRoom k (block_labels f b) → Writes (block_handles bound b) →
           IsStatements (lines_form own annotated source k b s)
       lines_are k no_statements fit s well room w = tt
       lines_are k (statement st b) fit s well room w =
           let here = room_front k (labels_in f st) (block_labels f b) room in
-          let one = all_front W (statement_roots bound st) (block_roots bound b) w in
-          let more = all_rest W (statement_roots bound st) (block_roots bound b) w in
+          let one = all_front W (statement_handles bound st) (block_handles bound b) w in
+          let more = all_rest W (statement_handles bound st) (block_handles bound b) w in
           let following = named_by own.function (statement_shape d.context st) k in
           let after_it = after own k (statement_shape d.context st) s in
           line_is k st fit.0 s well here (lines_form own annotated source following b after_it)
@@ -383,18 +385,18 @@ module _ (flags : WriterFlags) (m : Module) (info : ModuleInfo) (g : ℕ) (f : i
 
       cases_are : (k : ℕ) (labels : List tree.CaseValue) → Each IsCaseValue labels → (cs : CaseTrees) →
           CasesFit own d.context cs → (s : Handles) → NamesAre s → HasRoom k (cases_labels f cs) →
-          Writes (cases_roots bound cs) → IsCases (cases_form own annotated source k labels cs s)
+          Writes (cases_handles bound cs) → IsCases (cases_form own annotated source k labels cs s)
       cases_are k labels are no_cases fit s well room w = tt
       cases_are k labels are (case value body true cs) fit s well room w =
           cases_are (named_by_all own.function (statements_shape d.context body) k)
           (labels ++ case_value_form value ∷ []) (case_values_more labels value are fit.0) cs fit.2 s well
           (room_beyond k body (cases_labels f cs) room)
-          (all_rest W (block_roots bound body) (cases_roots bound cs) w)
+          (all_rest W (block_handles bound body) (cases_handles bound cs) w)
       cases_are k labels are (case value body false cs) fit s well room w = (
         labels_are labels value are fit.0,
         lines_are k body fit.1 s well (room_front k (block_labels f body) (cases_labels f cs) room)
-            (all_front W (block_roots bound body) (cases_roots bound cs) w),
+            (all_front W (block_handles bound body) (cases_handles bound cs) w),
         cases_are (named_by_all own.function (statements_shape d.context body) k) [] tt cs fit.2 s well
             (room_beyond k body (cases_labels f cs) room)
-            (all_rest W (block_roots bound body) (cases_roots bound cs) w),
+            (all_rest W (block_handles bound body) (cases_handles bound cs) w),
       )

@@ -6,7 +6,7 @@ use Rattle.std.specs.Prelude.{slice_get}
 use Rattle.std.specs.List.{AllByRecursion, IsAmong, flat_map}
 use Rattle.std.specs.Option.{option_to_list}
 use Rattle.module_meaning.specs.FunctionShapes.{function_shape}
-use Rattle.module_meaning.specs.Written.{IsWrittenIn, OperandOf, Root, block_roots}
+use Rattle.module_meaning.specs.Written.{IsWrittenIn, OperandOf, Root, block_handles}
 use Rattle.naga_info.specs.declared.info.ExpressionInfo.{ExpressionInfo}
 use Rattle.naga_info.specs.declared.info.ModuleInfo.{ModuleInfo}
 use Rattle.naga_ir.specs.declared.module.Module.{Module}
@@ -22,7 +22,7 @@ pub record AreClosed (W : ℕ → Type 0) (binds : ℕ → Bool) (f : ir_functio
       AllByRecursion W (expression_operands e)
   pub firsts : (l : ℕ) (v : LocalVariable) → slice_get f.local_variables l ≡ Some v →
       AllByRecursion W (option_to_list v.init)
-  pub body : AllByRecursion W (block_roots binds f.body)
+  pub body : AllByRecursion W (block_handles binds f.body)
 
 -- ---- lists
 pub all_map : {X : Type 0} {P Q : X → Type 0} → ((x : X) → P x → Q x) → (xs : List X) →
@@ -76,8 +76,8 @@ module _ (m : Module) (info : ModuleInfo) (f : ir_function.Function) (es : List 
     operands = λ h e at w. all_among (expression_operands e) (λ x is. OperandOf h x e w at is);
     firsts = λ l v at. all_among (option_to_list v.init)
         (λ x is. Root x
-        (among_front _ (block_roots bound f.body) x
+        (among_front _ (block_handles bound f.body) x
         (among_each (λ (v : LocalVariable). option_to_list v.init) f.local_variables l v x at is)));
-    body = all_among (block_roots bound f.body)
+    body = all_among (block_handles bound f.body)
         (λ x is. Root x (among_rest (flat_map (λ l. option_to_list l.init) f.local_variables) _ x is));
   }

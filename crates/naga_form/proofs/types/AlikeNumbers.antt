@@ -38,7 +38,7 @@ use Rattle.wgsl_text.specs.Types.{TypeSpecifier, TemplateArguments, Named, Templ
 use Rattle.wgsl_text.specs.Types.{NoTemplateArguments, TypeArgument, SizeArgument, of_one, of_two}
 use Rattle.wgsl_text.specs.Types.{pointer_tree}
 use Rattle.wgsl_words.specs.Words.{scalar_word, scalar_word_of, space_word, space_access_word}
-use Rattle.wgsl_words.specs.Words.{image_access_word, format_word, role_word, has, atomic_bit}
+use Rattle.wgsl_words.specs.Words.{image_access_word, format_word, matrix_role_word, has, atomic_bit}
 use Rattle.wgsl_words.specs.Words.{store_bit, load_bit}
 use Rattle.naga_words.specs.Words.{vector_word, matrix_word, cooperative_word, image_word}
 use Rattle.naga_words.specs.Words.{sampler_word}
@@ -46,7 +46,7 @@ use Rattle.naga_words.specs.Spelling.{is_struct}
 use Rattle.module_meaning.specs.acceptance.InfoSizes.{is_handle_pointer, is_handle_space}
 use Rattle.module_meaning.specs.acceptance.InfoSizes.{resolution_is_fit}
 use Rattle.module_meaning.specs.TypeIdentity.{level, kind_number, component_count}
-use Rattle.module_meaning.specs.TypeIdentity.{cooperative_number, role_number, dimension_number}
+use Rattle.module_meaning.specs.TypeIdentity.{cooperative_number, matrix_role_number, dimension_number}
 use Rattle.module_meaning.specs.TypeIdentity.{truth_number}
 use Rattle.module_meaning.proofs.TypeIdentity.{formats}
 use Rattle.module_meaning.specs.AlikeTypes.{value_key, scalar_key, pointer_key, value_pointer_key}
@@ -408,9 +408,9 @@ module _ (distinguished : List ℕ → ℕ) where
   depth_numbers true Cube true = refl
 
   abbrev role_parts : CooperativeRole → TemplateArguments
-  role_parts r = TypeArgument (Named []) (TypeArgument (Named (role_word r)) NoTemplateArguments)
+  role_parts r = TypeArgument (Named []) (TypeArgument (Named (matrix_role_word r)) NoTemplateArguments)
 
-  role_numbers : (r : CooperativeRole) → role_at (letter_in (role_parts r)) ≡ role_number r
+  role_numbers : (r : CooperativeRole) → role_at (letter_in (role_parts r)) ≡ matrix_role_number r
   role_numbers A = refl
   role_numbers _ = refl
 
@@ -626,9 +626,9 @@ module _ (distinguished : List ℕ → ℕ) where
         over_is_distinguished (scalar_word s) (of_one (matrix_word c r)) _
         (scalar_part (matrix_word c r) _ (matrix_filling c r) s)
     inner_is_distinguished f g same (inner.CooperativeMatrix c r s role) is named =
-        over_is_distinguished (scalar_word s) (λ t. of_two (cooperative_word c r) t (Named (role_word role))) _
+        over_is_distinguished (scalar_word s) (λ t. of_two (cooperative_word c r) t (Named (matrix_role_word role))) _
         (λ w e. (λ i. filled (cooperative_filling c r i) (letter_in (role_parts role))
-        (scalar_numbers s.kind s.width w e i ∷ word_numbers distinguished (role_word role) ∷ [])) ∙
+        (scalar_numbers s.kind s.width w e i ∷ word_numbers distinguished (matrix_role_word role) ∷ [])) ∙
         ap (λ x. level 3 (kind_number s.kind) s.width (cooperative_number c) (cooperative_number r) x)
         (role_numbers role))
     inner_is_distinguished f g same (inner.Atomic s) is named =

@@ -23,7 +23,7 @@ use Rattle.naga_info.specs.declared.info.TypeResolution.TheVariants.{Handle, Val
 use Rattle.wgsl_text.specs.Types.{TypeSpecifier, Named, Template, NoTemplateArguments, TypeArgument}
 use Rattle.wgsl_text.specs.Types.{SizeArgument, of_one, of_two, pointer_tree}
 use Rattle.wgsl_words.specs.Words.{scalar_word, scalar_word_of, space_word, space_access_word}
-use Rattle.wgsl_words.specs.Words.{format_word, role_word, has, atomic_bit, store_bit, load_bit}
+use Rattle.wgsl_words.specs.Words.{format_word, matrix_role_word, has, atomic_bit, store_bit, load_bit}
 use Rattle.naga_words.specs.Words.{vector_word, matrix_word, cooperative_word, image_word}
 use Rattle.naga_words.specs.Words.{sampler_word}
 use Rattle.naga_words.specs.Spelling.{is_struct}
@@ -88,7 +88,8 @@ level_read under tag a b c d e more =
     scalar_read a b ∷
     of_one (vector_word (vector_of c)) (scalar_read a b) ∷
     of_one (matrix_word (vector_of c) (vector_of d)) (scalar_read a b) ∷
-    of_two (cooperative_word (cooperative_of c) (cooperative_of d)) (scalar_read a b) (Named (role_word (role_of e))) ∷
+    of_two (cooperative_word (cooperative_of c) (cooperative_of d)) (scalar_read a b)
+    (Named (matrix_role_word (role_of e))) ∷
     of_one (codes "atomic") (scalar_read a b) ∷
     pointer_read (space_read a) (buffer_access_read b) more ∷
     array_read under (codes "array") a b more ∷
@@ -272,9 +273,10 @@ module _ (under : Names) where
       (λ i. of_one (matrix_word (vector_distinguished columns i) (vector_distinguished rows i))
       (scalar_is_read s i))
   inner_is_read f g same (inner.CooperativeMatrix columns rows s role) =
-      over_is_read under (scalar_word s) (λ t. of_two (cooperative_word columns rows) t (Named (role_word role))) _
+      over_is_read under (scalar_word s) (λ t. of_two (cooperative_word columns rows) t
+      (Named (matrix_role_word role))) _
       (λ i. of_two (cooperative_word (cooperative_distinguished columns i) (cooperative_distinguished rows i))
-      (scalar_is_read s i) (Named (role_word (role_distinguished role i))))
+      (scalar_is_read s i) (Named (matrix_role_word (role_distinguished role i))))
   inner_is_read f g same (inner.Atomic s) = over_is_read under (scalar_word s) (of_one (codes "atomic")) _
       (λ i. of_one (codes "atomic") (scalar_is_read s i))
   inner_is_read f g same (inner.Pointer base at) = pointer_is_read under at (g base) (f base) (same base)

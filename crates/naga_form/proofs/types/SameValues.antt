@@ -53,7 +53,7 @@ use Rattle.module_meaning.specs.Types.{type_of_values, word_of_values, values_of
 use Rattle.module_meaning.specs.Types.{type_names, spelled_resolution}
 use Rattle.module_meaning.specs.TypeIdentity.{identity, identity_code, word_of_unspelled_type}
 use Rattle.module_meaning.specs.TypeIdentity.{level, kind_number, truth_number, dimension_number}
-use Rattle.module_meaning.specs.TypeIdentity.{component_count, cooperative_number, role_number}
+use Rattle.module_meaning.specs.TypeIdentity.{component_count, cooperative_number, matrix_role_number}
 use Rattle.module_meaning.specs.TypeIdentity.{space_number, length_kind, length_number}
 use Rattle.module_meaning.proofs.TypeIdentity.{word_tells}
 use Rattle.naga_form.specs.Readable.{AreNamed, ResolutionIsWithin, LengthIsWithin, InnerIsWithin}
@@ -477,7 +477,7 @@ module _ (m : Module) (are : TypesAreCounted m) where
   inner_tag f (inner.Matrix columns rows s) w = over_tag 2 s (component_count columns) (component_count rows) 0
       (inner.Matrix columns rows s) (λ w. refl) w
   inner_tag f (inner.CooperativeMatrix columns rows s role) w =
-      over_tag 3 s (cooperative_number columns) (cooperative_number rows) (role_number role)
+      over_tag 3 s (cooperative_number columns) (cooperative_number rows) (matrix_role_number role)
       (inner.CooperativeMatrix columns rows s role) (λ w. refl) w
   inner_tag f (inner.Atomic s) w = over_tag 4 s 0 0 0 (inner.Atomic s) (λ w. refl) w
   inner_tag f (inner.Pointer base at) w =

@@ -27,7 +27,7 @@ use Rattle.naga_ir.specs.declared.types.VectorSize.{VectorSize}
 use Rattle.naga_words.specs.Contexts.{Names}
 use Rattle.naga_words.specs.Spelling.{is_struct, length_within, size_within}
 use Rattle.naga_words.specs.Words.{cooperative_word, image_word, sampler_word}
-use Rattle.wgsl_words.specs.Words.{format_word, image_access_word, role_word, scalar_word}
+use Rattle.wgsl_words.specs.Words.{format_word, image_access_word, matrix_role_word, scalar_word}
 use Rattle.wgsl_words.specs.Words.{space_word, space_access_word}
 use Rattle.std.specs.Int.NonZero.{non_zero_u32_get}
 use Rattle.wgsl_text.proofs.Building.{in_front}
@@ -187,9 +187,9 @@ module _ (m : Module) (names : List ℕ → Option Item) (are : ItemsAreNamed m 
       inner_items h (inner.Vector v s) free within t e = of_scalar names _ s t e
       inner_items h (inner.Matrix c r s) free within t e = of_scalar names _ s t e
       inner_items h (inner.CooperativeMatrix c r s l) free within t e =
-          mapped_items names (λ x. of_two (cooperative_word c r) x (Named (role_word l)))
+          mapped_items names (λ x. of_two (cooperative_word c r) x (Named (matrix_role_word l)))
           (λ x none. parts_items names (cooperative_word c r)
-          (TypeArgument x (TypeArgument (Named (role_word l)) NoTemplateArguments))
+          (TypeArgument x (TypeArgument (Named (matrix_role_word l)) NoTemplateArguments))
           TakesRole (cooperative_rule c r) refl)
           (scalar_tree s) (scalar_items names s) t e
       inner_items h (inner.Atomic s) free within t e = of_scalar names _ s t e

@@ -30,12 +30,12 @@ use Rattle.naga_ir.specs.declared.image.ImageClass.TheVariants as class
 use Rattle.naga_ir.specs.declared.image.ImageDimension.{ImageDimension}
 use Rattle.naga_ir.specs.declared.image.ImageDimension.TheVariants.{D1, D2, D3, Cube}
 use Rattle.wgsl_words.specs.Words.{scalar_word, space_word, space_access_word, image_access_word}
-use Rattle.wgsl_words.specs.Words.{role_word, format_word, scalar_word_of, has, atomic_bit}
+use Rattle.wgsl_words.specs.Words.{matrix_role_word, format_word, scalar_word_of, has, atomic_bit}
 use Rattle.wgsl_words.specs.Words.{store_bit}
 use Rattle.naga_words.specs.Segments.{Segment, Word, Shown, Missing, IsText, NoSegments, WordThen}
 use Rattle.naga_words.specs.Segments.{lacks, known_text}
 use Rattle.naga_words.specs.Words.{vector_word, matrix_word, cooperative_word, image_word}
-use Rattle.naga_words.specs.Words.{role_tail, acceleration_structure_text, ray_query_text}
+use Rattle.naga_words.specs.Words.{matrix_role_tail, acceleration_structure_text, ray_query_text}
 use Rattle.naga_words.specs.Words.{sampler_word}
 use Rattle.naga_words.specs.Values.{scalar_segments_of, template_segments, value_segments}
 use Rattle.naga_words.specs.Values.{pointer_in, value_pointer_segments, access_segments}
@@ -59,7 +59,7 @@ use Rattle.naga_info.proofs.Options.{map_some}
 use Rattle.naga_info.specs.declared.info.TypeResolution.{TypeResolution}
 use Rattle.naga_info.specs.declared.info.TypeResolution.TheVariants as resolution
 use Rattle.wgsl_text.specs.Tables.{scalar_words, address_space_words, access_words, format_words}
-use Rattle.wgsl_text.specs.Tables.{role_words}
+use Rattle.wgsl_text.specs.Tables.{matrix_role_words}
 use Rattle.wgsl_text.specs.Words.{stands_in, is_builtin, IsWord, is_reserved}
 use Rattle.wgsl_text.proofs.ValueWords.{value_words}
 use Rattle.wgsl_text.proofs.Building.{scalars_free, formats_free, plain_is, scalar_word_is, name_is}
@@ -135,8 +135,8 @@ template_row w (Some s) kind = refl
 
 cooperative_row : (columns rows : CooperativeSize) (role : CooperativeRole) (o : Option (List ℕ)) (kind : ScalarKind) →
     known_text (template_segments (cooperative_word columns rows) (scalar_segments_of true o kind)
-    (role_tail role)) ≡ option_map type_layout
-    (option_map (λ s. of_two (cooperative_word columns rows) s (Named (role_word role)))
+    (matrix_role_tail role)) ≡ option_map type_layout
+    (option_map (λ s. of_two (cooperative_word columns rows) s (Named (matrix_role_word role)))
     (option_map Named o))
 cooperative_row columns rows role None kind = refl
 cooperative_row Eight Eight A (Some s) kind = refl
@@ -315,7 +315,7 @@ module _ (text_of_appended : (first second : List Piece) → text (first ++ seco
 
 -- ---- words
 
-role_is : (r : CooperativeRole) → IsWord (role_word r)
+role_is : (r : CooperativeRole) → IsWord (matrix_role_word r)
 unfolding is_reserved
 role_is A = record { text = refl; free = refl }
 role_is _ = record { text = refl; free = refl }
@@ -365,18 +365,18 @@ value_tree_is None s t e = scalar_tree_is s t e
 value_tree_is (Some v) s t e = of_scalar_is (vector_word v) (vector_rule v) s t e
 
 cooperative_is : (c r : CooperativeSize) (l : CooperativeRole) (s : Scalar) (t : TypeSpecifier) →
-    option_map (λ x. of_two (cooperative_word c r) x (Named (role_word l))) (scalar_tree s) ≡
+    option_map (λ x. of_two (cooperative_word c r) x (Named (matrix_role_word l))) (scalar_tree s) ≡
     Some t → IsType t
 cooperative_is c r l s t e =
-    let x = map_some (λ x. of_two (cooperative_word c r) x (Named (role_word l))) (scalar_tree s) t e in
+    let x = map_some (λ x. of_two (cooperative_word c r) x (Named (matrix_role_word l))) (scalar_tree s) t e in
     let w = map_some Named (scalar_word s) x.0 x.1 in
     let scalar = value_words.scalars.each s w.0 w.1 in
-    subst IsType (ap (λ x. of_two (cooperative_word c r) x (Named (role_word l))) w.2 ∙ x.2)
+    subst IsType (ap (λ x. of_two (cooperative_word c r) x (Named (matrix_role_word l))) w.2 ∙ x.2)
     (record {
       part = (
         rw (cooperative_rule c r)
-            (and_from (stands_in scalar_words w.0) (stands_in role_words (role_word l)) scalar
-            (value_words.roles.each l (role_word l) refl)),
+            (and_from (stands_in scalar_words w.0) (stands_in matrix_role_words (matrix_role_word l)) scalar
+            (value_words.roles.each l (matrix_role_word l) refl)),
         (table_word scalar_words w.0 scalars_free scalar, (role_is l, tt)),
       );
       whole = refl;

@@ -7,9 +7,9 @@ ghost use Rattle.std.specs.Bool.{nat_eq};
 ghost use Rattle.std.specs.Char.{is_ascii_alphanumeric};
 ghost use Rattle.std.specs.Str.{chars};
 ghost use Rattle.naga_names.specs.Label.{is_numeric, is_mark, is_foreign, by_number};
-ghost use Rattle.naga_names.specs.Label.{after_numerics, spelling, with_separator};
+ghost use Rattle.naga_names.specs.Label.{after_numerics, ascii_of, with_separator};
 ghost use Rattle.naga_names.specs.Label.{without_last_separators, or_unnamed, base_of};
-ghost use Rattle.naga_names.specs.Label.{ends_separated, IsPlain, IsSpelledAlike};
+ghost use Rattle.naga_names.specs.Label.{ends_separated, IsPlain, IsLeftAsItIs};
 ghost use Rattle.naga_names.specs.Naming.{ends_in_digit};
 
 use std::alloc::{AllocError, Global};
@@ -56,7 +56,7 @@ fn without_last_separator(text: &str) -> &str
 fn is_plain(text: &str) -> bool
     ensures { IsTrue result → IsPlain text.now }
 {
-    begins_plainly(text) && is_spelled_alike(text)
+    begins_plainly(text) && is_left_as_it_is(text)
 }
 
 /// Whether the text has a first byte, which is no number as a character.
@@ -71,8 +71,8 @@ fn begins_plainly(text: &str) -> bool
 }
 
 /// Whether the text has letters, digits and lone `_` of ASCII alone, and no `_` at its end.
-fn is_spelled_alike(text: &str) -> bool
-    ensures { IsTrue result → IsSpelledAlike text.now × (ends_separated text.now ≡ false) }
+fn is_left_as_it_is(text: &str) -> bool
+    ensures { IsTrue result → IsLeftAsItIs text.now × (ends_separated text.now ≡ false) }
 {
     let bytes = text.as_bytes();
     let mut is_separated = false;
@@ -125,11 +125,11 @@ pub fn ends_in_digit(text: &str) -> bool
 /// have it.
 fn spell(alloc: Global, label: &str) -> Result<String, AllocError>
     ensures { IfOk result (λ text.
-        string_bytes text ≡ spelling (after_numerics (chars label.now))) }
+        string_bytes text ≡ ascii_of (after_numerics (chars label.now))) }
 {
     let mut text = String::new(alloc);
     for c in label.chars().skip_while(is_numeric) {
-        push_spelled(&mut text, c)?;
+        push_as_ascii(&mut text, c)?;
     }
     Ok(text)
 }
@@ -143,9 +143,9 @@ fn is_numeric(c: &char) -> bool
 }
 
 /// One more character on a text that spells some.
-fn push_spelled(text: &mut String, c: char) -> Result<(), AllocError>
-    ensures { OnOk result ((before : List ℕ) → string_bytes text.old ≡ spelling before →
-        string_bytes text.new ≡ spelling (before ++ c ∷ [])) }
+fn push_as_ascii(text: &mut String, c: char) -> Result<(), AllocError>
+    ensures { OnOk result ((before : List ℕ) → string_bytes text.old ≡ ascii_of before →
+        string_bytes text.new ≡ ascii_of (before ++ c ∷ [])) }
 {
     if is_separating(c) {
         push_separator(text)
@@ -166,8 +166,8 @@ fn is_separating(c: char) -> bool
 /// A character that no identifier has, after a `_` unless it is the first one.
 fn push_foreign(text: &mut String, c: char) -> Result<(), AllocError>
     requires { is_foreign c ≡ true }
-    ensures { OnOk result ((before : List ℕ) → string_bytes text.old ≡ spelling before →
-        string_bytes text.new ≡ spelling (before ++ c ∷ [])) }
+    ensures { OnOk result ((before : List ℕ) → string_bytes text.old ≡ ascii_of before →
+        string_bytes text.new ≡ ascii_of (before ++ c ∷ [])) }
 {
     if text.as_str().is_empty() {
         return push_number(text, c);

@@ -40,7 +40,7 @@ pub enum Construct {
     /// A texel that is compared and exchanged.
     ImageCompareExchange,
     /// A way to sample an image that has no form.
-    SamplingForm,
+    SamplingMethod,
     /// An operator, or what else is no constant, in an initialiser or in the offset of a sample.
     ConstantOperator,
     /// The load of an image with both a sample and a level.
@@ -91,7 +91,7 @@ impl Construct {
             Construct::SubgroupOperation => unimplemented(alloc, "subgroup operation"),
             Construct::FallThrough => unimplemented(alloc, "fall-through switch case block"),
             Construct::ImageCompareExchange => unimplemented(alloc, "image compare exchange"),
-            Construct::SamplingForm => unimplemented(alloc, "sampling form"),
+            Construct::SamplingMethod => unimplemented(alloc, "sampling form"),
             Construct::ConstantOperator => custom(alloc, "operator in a constant"),
             Construct::ImageLoad => custom(alloc, "image load with sample and level"),
             Construct::Index => custom(alloc, "cannot index"),
@@ -128,7 +128,7 @@ impl fmt::Display for Construct {
             Construct::SubgroupOperation => f.write_str("subgroup operation"),
             Construct::FallThrough => f.write_str("fall-through switch case block"),
             Construct::ImageCompareExchange => f.write_str("image compare exchange"),
-            Construct::SamplingForm => f.write_str("sampling form"),
+            Construct::SamplingMethod => f.write_str("sampling form"),
             Construct::ConstantOperator => f.write_str("operator in a constant"),
             Construct::ImageLoad => f.write_str("image load with sample and level"),
             Construct::Index => f.write_str("cannot index"),

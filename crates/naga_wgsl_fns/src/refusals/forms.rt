@@ -201,7 +201,7 @@ fn sampling_without_form(
     if sampling_has_form(gather, level, compares, clamped) {
         Construct::ConstantOperator
     } else {
-        Construct::SamplingForm
+        Construct::SamplingMethod
     }
 }
 

@@ -42,14 +42,15 @@ returns-in-Some-clause-written c =
     let begun = subst (λ s. AnswersWriting flags m info w.answer w.refusal s.text w.sink.text s.failures
     w.sink.failures) c.new-empty.ensures written in
     as_kept flags m info w.answer v.answer w.refusal v.refusal w.sink.text (string_bytes v.sink) w.sink.failures
-    (subst (λ o. IfSome o (λ v. v.answer ≡ unfailed w.answer)) c.in-Some.is c.kept.ensures.answer)
-    (subst (λ o. IfSome o (λ v. v.refusal ≡ w.refusal)) c.in-Some.is c.kept.ensures.refusal)
-    (subst (λ o. IfSome o (λ v. string_bytes v.sink ≡ w.sink.text)) c.in-Some.is c.kept.ensures.text)
+    (subst (λ o. IfSome o (λ v. v.answer ≡ unfailed w.answer)) c.in-Some.is c.within_its_limit.ensures.answer)
+    (subst (λ o. IfSome o (λ v. v.refusal ≡ w.refusal)) c.in-Some.is c.within_its_limit.ensures.refusal)
+    (subst (λ o. IfSome o (λ v. string_bytes v.sink ≡ w.sink.text)) c.in-Some.is c.within_its_limit.ensures.text)
     begun
 
 pub returns-in-Some-clause-within : goal.returns-in-Some-clause-within
 returns-in-Some-clause-within c =
-    subst (λ o. IfSome o (λ v. length (string_bytes v.sink) ≤ c.args.limits.text)) c.in-Some.is c.kept.ensures.within
+    subst (λ o. IfSome o (λ v. length (string_bytes v.sink) ≤ c.args.limits.text)) c.in-Some.is
+    c.within_its_limit.ensures.within
 
 pub returns-in-None-clause-unwritten : goal.returns-in-None-clause-unwritten
 returns-in-None-clause-unwritten c =
@@ -67,7 +68,7 @@ returns-in-None-clause-unwritten c =
     (subst (λ r. IfOk r (λ _. IsCounted m c.args.info.now info)) c.in-Ok.is c.write_decimal.ensures.counted)
     (subst (λ s. AnswersWriting flags m info w.answer w.refusal s.text w.sink.text s.failures w.sink.failures)
     c.new-empty.ensures written)
-    (subst (λ o. IfNone o (c.args.limits.text < length w.sink.text)) c.in-None.is c.kept.ensures.too_long)
+    (subst (λ o. IfNone o (c.args.limits.text < length w.sink.text)) c.in-None.is c.within_its_limit.ensures.too_long)
 
 pub returns-in-None-clause-too_long : goal.returns-in-None-clause-too_long
 returns-in-None-clause-too_long c =

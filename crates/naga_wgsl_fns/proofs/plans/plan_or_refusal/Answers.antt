@@ -50,7 +50,7 @@ returns-in-Ok-construct_of_plan-clause-err c =
     let info = c.args.info.now in
     let number = function_number m c.args.ty.now in
     subst (λ explicit. IsRefusedFor explicit m info number c.args.namer.now c.in-Ok-construct_of_plan.construct
-    c.part_of-part.result)
+    c.function_position-part.result)
     c.annotates_types.ensures
     (record {
       error = c.in-Err.error;
@@ -70,6 +70,6 @@ returns-in-Ok-construct_of_plan-clause-err c =
           c.function_of.result.0.now c.function_of.result.1.now c.function_of.ensures.function
           c.function_of.ensures.known
           c.construct_of_plan.result c.construct_of_plan.ensures.carries);
-      part = c.part_of-part.ensures;
+      part = c.function_position-part.ensures;
       other = c.in-Ok-construct_of_plan.ensures.refused;
     })

@@ -3,12 +3,12 @@ use Rattle.std.specs.Str.{chars}
 use Rattle.std.proofs.lemmas.Iterator.{YieldsList-from_chars}
 use Rattle.std.proofs.lemmas.Iterator.Adapters.{YieldsList-from_skip_while}
 use Rattle.std.proofs.lemmas.Iterator.Consumers.{YieldsList-at, YieldsList-end}
-use Rattle.naga_names.specs.Label.{spelling, is_numeric}
-use Rattle.naga_names.proofs.Label.{after_numerics-drop, spelling-nil, same_items}
+use Rattle.naga_names.specs.Label.{ascii_of, is_numeric}
+use Rattle.naga_names.proofs.Label.{after_numerics-drop, ascii_of-nil, same_items}
 use Rattle.naga_names.proofs.namer.label.spell.Goals as goal
 
 pub loop-c-init : goal.loop-c-init
-loop-c-init c = c.new-text.ensures.bytes ∙ sym spelling-nil
+loop-c-init c = c.new-text.ensures.bytes ∙ sym ascii_of-nil
 
 pub returns : goal.returns
 returns c =
@@ -19,5 +19,5 @@ returns c =
     skipped.closure skipped.done_skipping) in
     let done = YieldsList-end road c.loop-c.yielded c.loop-c.c-iterator c.loop-c.yielded_by c.next.result
     c.next.new.self c.in-None.is c.next.ensures.steps in
-    c.loop-c.invariant ∙ ap spelling (sym (same_items c.loop-c.yielded) ∙ done.0
+    c.loop-c.invariant ∙ ap ascii_of (sym (same_items c.loop-c.yielded) ∙ done.0
     ∙ sym (after_numerics-drop (chars c.args.label.now)))

@@ -9,13 +9,13 @@ use Rattle.naga_words.proofs.Writing.{writes_as}
 use Rattle.shader_runs.specs.Scope.{after_result}
 use Rattle.naga_wgsl_fns.specs.FunctionText.{AreInText, bound, handles_in, named_in, naming, number}
 use Rattle.naga_wgsl_fns.specs.Statements.{act_text}
-use Rattle.naga_wgsl_fns.proofs.StatementRows.{act_after, act_changes, act_is, act_named, act_roots}
+use Rattle.naga_wgsl_fns.proofs.StatementRows.{act_after, act_changes, act_is, act_named, act_handles}
 use Rattle.naga_wgsl_fns.proofs.functions.FunctionText.write_act.Goals as goal
 
 pub write_act_line-requires-clause-operands : goal.write_act_line-requires-clause-operands
 write_act_line-requires-clause-operands g c =
     let self = c.args.self.now in
-    subst (AreInText self) (act_roots (bound self) (tree_of c.args.statement.now) c.requires.act)
+    subst (AreInText self) (act_handles (bound self) (tree_of c.args.statement.now) c.requires.act)
     c.requires.statement.roots
 
 pub returns-in-Some-clause-text : goal.returns-in-Some-clause-text

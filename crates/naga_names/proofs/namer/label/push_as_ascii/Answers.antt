@@ -1,14 +1,14 @@
 use Rattle.std.proofs.Common.{[], ◌∷◌, ◌++◌, sym, ap, ◌∙◌, string_bytes}
 use Rattle.std.specs.Char.{encode_utf8}
 use Rattle.naga_names.specs.Label.{with_separator}
-use Rattle.naga_names.proofs.Label.{spelling-separating, spelling-alphanumeric}
+use Rattle.naga_names.proofs.Label.{ascii_of-separating, ascii_of-alphanumeric}
 use Rattle.naga_names.proofs.Label.{alphanumeric_is_ascii, on_ok, on_ok_then, pushed_char}
-use Rattle.naga_names.proofs.namer.label.push_spelled.Goals as goal
+use Rattle.naga_names.proofs.namer.label.push_as_ascii.Goals as goal
 
 pub returns-then-is_separating : goal.returns-then-is_separating
 returns-then-is_separating c = on_ok_then c.push_separator.result c.push_separator.ensures (λ done before is.
     done ∙ ap with_separator is
-    ∙ sym (spelling-separating before c.args.c (sym c.is_separating.ensures ∙ c.if-is_separating.true)))
+    ∙ sym (ascii_of-separating before c.args.c (sym c.is_separating.ensures ∙ c.if-is_separating.true)))
 
 pub returns-then-is_ascii_alphanumeric : goal.returns-then-is_ascii_alphanumeric
 returns-then-is_ascii_alphanumeric c =
@@ -18,4 +18,4 @@ returns-then-is_ascii_alphanumeric c =
     (encode_utf8 c.args.c) c.args.c
     (c.push.ensures.ascii (alphanumeric_is_ascii c.args.c plain)) c.push.ensures.bytes ok
     ∙ ap (λ t. t ++ c.args.c ∷ []) is
-    ∙ sym (spelling-alphanumeric before c.args.c (sym c.is_separating.ensures ∙ c.if-is_separating.false) plain))
+    ∙ sym (ascii_of-alphanumeric before c.args.c (sym c.is_separating.ensures ∙ c.if-is_separating.false) plain))

@@ -1,6 +1,6 @@
 use Rattle.std.proofs.Common.{sym, ◌∙◌}
 use Rattle.naga_acceptance.proofs.CaseValueNumbers.{shares_nothing}
-use Rattle.naga_acceptance.proofs.case_value_numbers.shares.Goals as goal
+use Rattle.naga_acceptance.proofs.case_value_numbers.has_common.Goals as goal
 
 pub returns-then-is_empty : goal.returns-then-is_empty
 returns-then-is_empty c =

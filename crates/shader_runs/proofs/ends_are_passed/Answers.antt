@@ -1,5 +1,0 @@
-use Rattle.shader_runs.proofs.Ends.{ends_are_passed}
-use Rattle.shader_runs.proofs.ends_are_passed.Goals as goal
-
-pub returns : goal.returns
-returns c = ends_are_passed
