@@ -153,7 +153,10 @@ impl Expression {
                 &[("a", Some(*a)), ("b", Some(*b)), ("c", Some(*c))],
                 number,
             ),
-            _ => self.image_field(number),
+            Expression::ImageSample { .. }
+            | Expression::ImageLoad { .. }
+            | Expression::ImageQuery { .. } => self.image_field(number),
+            _ => None,
         }
     }
 
@@ -298,7 +301,12 @@ impl Statement {
                     number,
                 )
             }
-            _ => self.shared_field(number),
+            Statement::Atomic { .. }
+            | Statement::ImageAtomic { .. }
+            | Statement::SubgroupBallot { .. }
+            | Statement::SubgroupGather { .. }
+            | Statement::SubgroupCollectiveOperation { .. } => self.shared_field(number),
+            _ => None,
         }
     }
 
