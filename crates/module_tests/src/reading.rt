@@ -427,7 +427,8 @@ const READINGS: &[(&str, &str, &str)] = &[
         "Literal(DecimalF32(Decimal { negative: false, digits: 5, exponent: -1 }))",
     ),
     (
-        r#"{"global_expressions": [{"Literal": {"DecimalF64": {"negative": true, "digits": 18446744073709551615, "exponent": -9223372036854775808}}}]}"#,
+        r#"{"global_expressions": [{"Literal": {"DecimalF64": {
+            "negative": true, "digits": 18446744073709551615, "exponent": -9223372036854775808}}}]}"#,
         "{}",
         "Literal(DecimalF64(Decimal { negative: true, digits: 18446744073709551615, exponent: -9223372036854775808 }))",
     ),

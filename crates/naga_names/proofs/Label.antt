@@ -30,7 +30,7 @@ use Rattle.naga_names.specs.Label.{by_number, character_ascii, begins_separated}
 use Rattle.naga_names.specs.Label.{without_repeated_underscores, begins_foreign}
 use Rattle.naga_names.specs.Label.{ascii_of, ends_separated, with_separator, kept_before}
 use Rattle.naga_names.specs.Label.{without_last_separators, or_unnamed, set_apart, base_of, IsPlain}
-use Rattle.naga_names.specs.Label.{IsLeftAsItIs}
+use Rattle.naga_names.specs.Label.{StaysSame}
 use Rattle.naga_names.specs.Naming.{digits_of}
 
 -- ---- numeric characters at the front
@@ -391,11 +391,11 @@ pub lowercase_is_alphanumeric : (c : ℕ) → is_ascii_lowercase c ≡ true
     → is_ascii_alphanumeric c ≡ true
 lowercase_is_alphanumeric c e = grind (arith, nat_tests)
 
-pub alike-nothing : IsLeftAsItIs []
+pub alike-nothing : StaysSame []
 alike-nothing = record { ascii = IsAscii-nil; alike = ascii_of-nil }
 
-pub alike-letter : (cs : List ℕ) (c : ℕ) → IsLeftAsItIs cs → is_ascii_alphanumeric c ≡ true
-    → IsLeftAsItIs (cs ++ c ∷ []) × (ends_separated (cs ++ c ∷ []) ≡ false)
+pub alike-letter : (cs : List ℕ) (c : ℕ) → StaysSame cs → is_ascii_alphanumeric c ≡ true
+    → StaysSame (cs ++ c ∷ []) × (ends_separated (cs ++ c ∷ []) ≡ false)
 alike-letter cs c so_far letter =
     let other : (c == 95) ≡ false = grind (arith, nat_tests) in
     let test : (is_mark c || c == 95) ≡ false = grind (arith, nat_tests) in (
@@ -406,8 +406,8 @@ alike-letter cs c so_far letter =
       ends_separated-push cs c ∙ other,
     )
 
-pub alike-separator : (cs : List ℕ) (c : ℕ) → c ≡ 95 → IsLeftAsItIs cs → ends_separated cs ≡ false
-    → IsLeftAsItIs (cs ++ c ∷ []) × (ends_separated (cs ++ c ∷ []) ≡ true)
+pub alike-separator : (cs : List ℕ) (c : ℕ) → c ≡ 95 → StaysSame cs → ends_separated cs ≡ false
+    → StaysSame (cs ++ c ∷ []) × (ends_separated (cs ++ c ∷ []) ≡ true)
 alike-separator cs c is so_far lone = (
   record {
     ascii = IsAscii-push cs c so_far.ascii (omega (arith, is));
@@ -419,7 +419,7 @@ alike-separator cs c is so_far lone = (
 )
 
 base_of-front : (prefixes : List (List ℕ)) (c : ℕ) (cs rest : List ℕ) → is_numeric c ≡ false
-    → list_any (starts_with nat_eq (c ∷ cs)) prefixes ≡ false → IsLeftAsItIs (c ∷ rest)
+    → list_any (starts_with nat_eq (c ∷ cs)) prefixes ≡ false → StaysSame (c ∷ rest)
     → without_last_separators (c ∷ rest) ≡ c ∷ cs → base_of prefixes (chars (c ∷ rest)) ≡ c ∷ cs
 unfolding base_of
 base_of-front prefixes c cs rest first free alike done =

@@ -97,7 +97,7 @@ set_apart prefixes text =
     if list_any (starts_with nat_eq text) prefixes then codes "gen_" ++ text else text
 
 -- an ASCII text that is spelled as it stands
-pub record IsLeftAsItIs (text : List ℕ) : Type 0 where
+pub record StaysSame (text : List ℕ) : Type 0 where
   pub ascii : IsAscii text
   pub alike : ascii_of text ≡ text
 
@@ -106,7 +106,7 @@ pub record IsLeftAsItIs (text : List ℕ) : Type 0 where
 pub record IsPlain (text : List ℕ) : Type 0 where
   pub some : 0 < length text
   pub first : is_numeric (slice_index text 0) ≡ false
-  pub alike : IsLeftAsItIs text
+  pub alike : StaysSame text
   pub last : ends_separated text ≡ false
 
 -- the base of a label, of which these are the characters, where identifiers keep off these prefixes

@@ -9,7 +9,7 @@ ghost use Rattle.std.specs.Str.{chars};
 ghost use Rattle.naga_names.specs.Label.{is_numeric, is_mark, is_foreign, by_number};
 ghost use Rattle.naga_names.specs.Label.{after_numerics, ascii_of, with_separator};
 ghost use Rattle.naga_names.specs.Label.{without_last_separators, or_unnamed, base_of};
-ghost use Rattle.naga_names.specs.Label.{ends_separated, IsPlain, IsLeftAsItIs};
+ghost use Rattle.naga_names.specs.Label.{ends_separated, IsPlain, StaysSame};
 ghost use Rattle.naga_names.specs.Naming.{ends_in_digit};
 
 use std::alloc::{AllocError, Global};
@@ -56,7 +56,7 @@ fn without_last_separator(text: &str) -> &str
 fn is_plain(text: &str) -> bool
     ensures { IsTrue result → IsPlain text.now }
 {
-    begins_plainly(text) && is_left_as_it_is(text)
+    begins_plainly(text) && stays_same(text)
 }
 
 /// Whether the text has a first byte, which is no number as a character.
@@ -71,8 +71,8 @@ fn begins_plainly(text: &str) -> bool
 }
 
 /// Whether the text has letters, digits and lone `_` of ASCII alone, and no `_` at its end.
-fn is_left_as_it_is(text: &str) -> bool
-    ensures { IsTrue result → IsLeftAsItIs text.now × (ends_separated text.now ≡ false) }
+fn stays_same(text: &str) -> bool
+    ensures { IsTrue result → StaysSame text.now × (ends_separated text.now ≡ false) }
 {
     let bytes = text.as_bytes();
     let mut is_separated = false;

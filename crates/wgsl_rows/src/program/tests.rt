@@ -135,13 +135,23 @@ const ROWS: &[(&[&str], &str, &str, u8)] = &[
     ),
     (
         &["sample"],
-        "fn sp(t: texture_2d<f32>, s: sampler, p: vec2<f32>) -> vec4<f32> {\n    let _e3 = textureSampleLevel(t, s, p, 0.0);\n    return _e3;\n}\n\n",
+        "fn sp(t: texture_2d<f32>, s: sampler, p: vec2<f32>) -> vec4<f32> {
+    let _e3 = textureSampleLevel(t, s, p, 0.0);
+    return _e3;
+}
+
+",
         "",
         0,
     ),
     (
         &["sample", "explicit"],
-        "fn sp(t: texture_2d<f32>, s: sampler, p: vec2<f32>) -> vec4<f32> {\n    let _e3: vec4<f32> = textureSampleLevel(t, s, p, 0.0);\n    return _e3;\n}\n\n",
+        "fn sp(t: texture_2d<f32>, s: sampler, p: vec2<f32>) -> vec4<f32> {
+    let _e3: vec4<f32> = textureSampleLevel(t, s, p, 0.0);
+    return _e3;
+}
+
+",
         "",
         0,
     ),
@@ -195,13 +205,31 @@ const ROWS: &[(&[&str], &str, &str, u8)] = &[
     ),
     (
         &["twofold"],
-        "fn q(x: i32) -> i32 {\n    var a: i32;\n\n    let _e2 = (x + x);\n    a = _e2;\n    let _e3 = a;\n    return (_e2 * _e3);\n}\n\n",
+        "fn q(x: i32) -> i32 {
+    var a: i32;
+
+    let _e2 = (x + x);
+    a = _e2;
+    let _e3 = a;
+    return (_e2 * _e3);
+}
+
+",
         "",
         0,
     ),
     (
         &["twofold", "explicit"],
-        "fn q(x: i32) -> i32 {\n    var a: i32;\n\n    let _e2: i32 = (x + x);\n    a = _e2;\n    let _e3: i32 = a;\n    return (_e2 * _e3);\n}\n\n",
+        "fn q(x: i32) -> i32 {
+    var a: i32;
+
+    let _e2: i32 = (x + x);
+    a = _e2;
+    let _e3: i32 = a;
+    return (_e2 * _e3);
+}
+
+",
         "",
         0,
     ),
@@ -268,49 +296,129 @@ const BRANCH_ROWS: &[(&[&str], &str, &str, u8)] = &[
     ),
     (
         &["barriers"],
-        "fn b() {\n    storageBarrier();\n    workgroupBarrier();\n    subgroupBarrier();\n    textureBarrier();\n}\n\n",
+        "fn b() {
+    storageBarrier();
+    workgroupBarrier();
+    subgroupBarrier();
+    textureBarrier();
+}
+
+",
         "",
         0,
     ),
     (
         &["barriers", "explicit"],
-        "fn b() {\n    storageBarrier();\n    workgroupBarrier();\n    subgroupBarrier();\n    textureBarrier();\n}\n\n",
+        "fn b() {
+    storageBarrier();
+    workgroupBarrier();
+    subgroupBarrier();
+    textureBarrier();
+}
+
+",
         "",
         0,
     ),
     (
         &["call"],
-        "fn inc(p: ptr<function, i32>) {\n    let _e2 = (*p);\n    (*p) = (_e2 + 1i);\n}\n\nfn run() -> i32 {\n    var a: i32;\n\n    inc((&a));\n    let _e1 = a;\n    return _e1;\n}\n\n",
+        "fn inc(p: ptr<function, i32>) {
+    let _e2 = (*p);
+    (*p) = (_e2 + 1i);
+}
+
+fn run() -> i32 {
+    var a: i32;
+
+    inc((&a));
+    let _e1 = a;
+    return _e1;
+}
+
+",
         "",
         0,
     ),
     (
         &["call", "explicit"],
-        "fn inc(p: ptr<function, i32>) {\n    let _e2: i32 = (*p);\n    (*p) = (_e2 + 1i);\n}\n\nfn run() -> i32 {\n    var a: i32;\n\n    inc((&a));\n    let _e1: i32 = a;\n    return _e1;\n}\n\n",
+        "fn inc(p: ptr<function, i32>) {
+    let _e2: i32 = (*p);
+    (*p) = (_e2 + 1i);
+}
+
+fn run() -> i32 {
+    var a: i32;
+
+    inc((&a));
+    let _e1: i32 = a;
+    return _e1;
+}
+
+",
         "",
         0,
     ),
     (
         &["sibling"],
-        "fn k(c: bool, x: i32) -> i32 {\n    if c {\n        let _e2 = (x + x);\n        return _e2;\n    } else {\n        let _e2 = (x + x);\n        return _e2;\n    }\n}\n\n",
+        "fn k(c: bool, x: i32) -> i32 {
+    if c {
+        let _e2 = (x + x);
+        return _e2;
+    } else {
+        let _e2 = (x + x);
+        return _e2;
+    }
+}
+
+",
         "",
         0,
     ),
     (
         &["sibling", "explicit"],
-        "fn k(c: bool, x: i32) -> i32 {\n    if c {\n        let _e2: i32 = (x + x);\n        return _e2;\n    } else {\n        let _e2: i32 = (x + x);\n        return _e2;\n    }\n}\n\n",
+        "fn k(c: bool, x: i32) -> i32 {
+    if c {
+        let _e2: i32 = (x + x);
+        return _e2;
+    } else {
+        let _e2: i32 = (x + x);
+        return _e2;
+    }
+}
+
+",
         "",
         0,
     ),
     (
         &["twice"],
-        "fn k(c: bool, x: i32) -> i32 {\n    if c {\n        let y = (x + x);\n        return y;\n    } else {\n        let y_1 = (x + x);\n        return y_1;\n    }\n}\n\n",
+        "fn k(c: bool, x: i32) -> i32 {
+    if c {
+        let y = (x + x);
+        return y;
+    } else {
+        let y_1 = (x + x);
+        return y_1;
+    }
+}
+
+",
         "",
         0,
     ),
     (
         &["twice", "explicit"],
-        "fn k(c: bool, x: i32) -> i32 {\n    if c {\n        let y: i32 = (x + x);\n        return y;\n    } else {\n        let y_1: i32 = (x + x);\n        return y_1;\n    }\n}\n\n",
+        "fn k(c: bool, x: i32) -> i32 {
+    if c {
+        let y: i32 = (x + x);
+        return y;
+    } else {
+        let y_1: i32 = (x + x);
+        return y_1;
+    }
+}
+
+",
         "",
         0,
     ),
@@ -332,7 +440,20 @@ const LOOP_ROWS: &[(&[&str], &str, &str, u8)] = &[
     ),
     (
         &["tail"],
-        "fn lp(x: i32) {\n    var a: i32;\n\n    loop {\n        let _e2 = (x + x);\n        a = _e2;\n        continuing {\n            a = _e2;\n            break if true;\n        }\n    }\n}\n\n",
+        "fn lp(x: i32) {
+    var a: i32;
+
+    loop {
+        let _e2 = (x + x);
+        a = _e2;
+        continuing {
+            a = _e2;
+            break if true;
+        }
+    }
+}
+
+",
         "",
         0,
     ),
@@ -345,14 +466,30 @@ a = _e2;\n        continuing {\n            a = _e2;\n            break if true;
     ),
     (
         &["folded"],
-        "fn cf(c: bool) {\n    var a: i32;\n\n    loop {\n        if c {\n            continue;\n        }\n        let _e3 = (1i + 1i);\n        \
+        "fn cf(c: bool) {
+    var a: i32;
+
+    loop {
+        if c {
+            continue;
+        }
+        let _e3 = (1i + 1i);
+        \
 a = _e3;\n        continuing {\n            a = (1i + 1i);\n            break if c;\n        }\n    }\n}\n\n",
         "",
         0,
     ),
     (
         &["folded", "explicit"],
-        "fn cf(c: bool) {\n    var a: i32;\n\n    loop {\n        if c {\n            continue;\n        }\n        let _e3: i32 = (1i + 1i);\n        \
+        "fn cf(c: bool) {
+    var a: i32;
+
+    loop {
+        if c {
+            continue;
+        }
+        let _e3: i32 = (1i + 1i);
+        \
 a = _e3;\n        continuing {\n            a = (1i + 1i);\n            break if c;\n        }\n    }\n}\n\n",
         "",
         0,

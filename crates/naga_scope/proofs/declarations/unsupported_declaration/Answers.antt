@@ -34,7 +34,8 @@ returns-in-Some-unsupported_in_functions-clause-some c =
     c.in_default-unsupported_in_overrides.ensures
     c.in_default-unsupported_in_variables.ensures step.unsupported step.ensures).some
 
-pub returns-in-Some-unsupported_in_entry_points-clause-some : goal.returns-in-Some-unsupported_in_entry_points-clause-some
+pub returns-in-Some-unsupported_in_entry_points-clause-some :
+    goal.returns-in-Some-unsupported_in_entry_points-clause-some
 returns-in-Some-unsupported_in_entry_points-clause-some c =
     let step = c.in-Some-unsupported_in_entry_points in
     (of_entry_points c.args.module.now c.in_default.ensures c.in_default-unsupported_in_constants.ensures
@@ -72,7 +73,8 @@ returns-in-Some-unsupported_in_functions-clause-place c =
     c.in_default-unsupported_in_overrides.ensures
     c.in_default-unsupported_in_variables.ensures step.unsupported step.ensures).place
 
-pub returns-in-Some-unsupported_in_entry_points-clause-place : goal.returns-in-Some-unsupported_in_entry_points-clause-place
+pub returns-in-Some-unsupported_in_entry_points-clause-place :
+    goal.returns-in-Some-unsupported_in_entry_points-clause-place
 returns-in-Some-unsupported_in_entry_points-clause-place c =
     let step = c.in-Some-unsupported_in_entry_points in
     (of_entry_points c.args.module.now c.in_default.ensures c.in_default-unsupported_in_constants.ensures
@@ -110,7 +112,8 @@ returns-in-Some-unsupported_in_functions-clause-first c =
     c.in_default-unsupported_in_overrides.ensures
     c.in_default-unsupported_in_variables.ensures step.unsupported step.ensures).first
 
-pub returns-in-Some-unsupported_in_entry_points-clause-first : goal.returns-in-Some-unsupported_in_entry_points-clause-first
+pub returns-in-Some-unsupported_in_entry_points-clause-first :
+    goal.returns-in-Some-unsupported_in_entry_points-clause-first
 returns-in-Some-unsupported_in_entry_points-clause-first c =
     let step = c.in-Some-unsupported_in_entry_points in
     (of_entry_points c.args.module.now c.in_default.ensures c.in_default-unsupported_in_constants.ensures

@@ -523,12 +523,14 @@ write_offset-returns-in_default g t c =
     let self = c.args.self.now in
     writes_as (no_offset self ∙ ap (offset_text self) (sym c.in_default.is)) (writes_nothing _)
 
-pub write_sampling-write_sampling_head-requires-clause-image : goal.write_sampling-write_sampling_head-requires-clause-image
+pub write_sampling-write_sampling_head-requires-clause-image :
+    goal.write_sampling-write_sampling_head-requires-clause-image
 write_sampling-write_sampling_head-requires-clause-image g t c =
     (operands_in c.args.self.now c.requires.can
     c.index.ensures c.in-ImageSample.is c.requires.handle).0.1
 
-pub write_sampling-write_sampling_head-requires-clause-written : goal.write_sampling-write_sampling_head-requires-clause-written
+pub write_sampling-write_sampling_head-requires-clause-written :
+    goal.write_sampling-write_sampling_head-requires-clause-written
 write_sampling-write_sampling_head-requires-clause-written g t c =
     let s = c.in-ImageSample in
     ap (λ b. sampling_has_form s.gather s.level b s.clamp_to_edge) c.is_some-compares.ensures
@@ -555,7 +557,8 @@ write_sampling-write_next_operand-requires g t c κs within =
     let before = all.1.0.0 in
     (omega (arith, before, c.decreases), (within, (c.requires.can, all.1.0.1)))
 
-pub write_sampling-write_next_operand-requires-in-ImageSample : goal.write_sampling-write_next_operand-requires-in-ImageSample
+pub write_sampling-write_next_operand-requires-in-ImageSample :
+    goal.write_sampling-write_next_operand-requires-in-ImageSample
 write_sampling-write_next_operand-requires-in-ImageSample g t c κs within =
     let all =
     operands_in c.args.self.now c.requires.can

@@ -58,7 +58,8 @@ write_representative-write_constant-requires g t c κs within =
     c.index.ensures c.in-Constant.is c.requires.written in
     (omega (arith, before, c.decreases), (within, (c.requires.can, written)))
 
-pub write_representative-write_override_name-requires-clause-there : goal.write_representative-write_override_name-requires-clause-there
+pub write_representative-write_override_name-requires-clause-there :
+    goal.write_representative-write_override_name-requires-clause-there
 write_representative-write_override_name-requires-clause-there g t c =
     override_there c.args.self.now.shader.now c.requires.can.of_module c.args.handle
     c.index.result.now _ c.index.ensures c.in-Override.is
@@ -68,7 +69,8 @@ write_constant-index-item-requires g t c =
     let m = c.args.self.now.shader.now in
     constant_there m (in_order m c.requires.can.of_module) c.args.constant c.requires.written
 
-pub write_constant-write_constant_name-requires-clause-constant : goal.write_constant-write_constant_name-requires-clause-constant
+pub write_constant-write_constant_name-requires-clause-constant :
+    goal.write_constant-write_constant_name-requires-clause-constant
 write_constant-write_constant_name-requires-clause-constant g t c =
     let m = c.args.self.now.shader.now in
     constant_there m (in_order m c.requires.can.of_module) c.args.constant c.requires.written
@@ -105,7 +107,8 @@ write_representative-write_made_global-requires g t c κs within =
     c.in-ZeroValue.ty c.index.ensures c.in-ZeroValue.is c.requires.written in
     (omega (arith, c.decreases), (within, (c.requires.can, (formed, c.requires.written))))
 
-pub write_representative-write_made_global-requires-in-Compose : goal.write_representative-write_made_global-requires-in-Compose
+pub write_representative-write_made_global-requires-in-Compose :
+    goal.write_representative-write_made_global-requires-in-Compose
 write_representative-write_made_global-requires-in-Compose g t c κs within =
     let m = c.args.self.now.shader.now in
     let formed =

@@ -131,7 +131,8 @@ unsupported_representative-returns-in-None t c =
     }
 
 -- ---- operands
-pub unsupported_representative-unsupported_global-requires-in-Some : goal.unsupported_representative-unsupported_global-requires-in-Some
+pub unsupported_representative-unsupported_global-requires-in-Some :
+    goal.unsupported_representative-unsupported_global-requires-in-Some
 unsupported_representative-unsupported_global-requires-in-Some t c =
     let parts = c.in-Compose.components in
     let found =
@@ -162,7 +163,8 @@ unsupported_representative-returns-in-Some t c =
           here refl first c.unsupported_global-in-Some.result c.unsupported_global-in-Some.ensures.carries;
     }
 
-pub unsupported_representative-unsupported_global-requires-in-Splat : goal.unsupported_representative-unsupported_global-requires-in-Splat
+pub unsupported_representative-unsupported_global-requires-in-Splat :
+    goal.unsupported_representative-unsupported_global-requires-in-Splat
 unsupported_representative-unsupported_global-requires-in-Splat t c =
     let value = c.in-Splat.value in
     let before =

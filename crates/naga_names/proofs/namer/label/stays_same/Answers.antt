@@ -1,11 +1,11 @@
 use Rattle.std.proofs.Common.{refl, sym, ap, subst, ◌∙◌, ◌≡◌, List, ℕ, false, take_all}
 use Rattle.std.proofs.lemmas.Bool.{not-true}
 use Rattle.std.proofs.lemmas.List.{take_more}
-use Rattle.naga_names.specs.Label.{ends_separated, IsLeftAsItIs}
+use Rattle.naga_names.specs.Label.{ends_separated, StaysSame}
 use Rattle.naga_names.proofs.Label.{alike-nothing, alike-letter, alike-separator}
-use Rattle.naga_names.proofs.namer.label.is_left_as_it_is.Goals.{then-is_letter_or_digit}
-use Rattle.naga_names.proofs.namer.label.is_left_as_it_is.Goals.{else-is_letter_or_digit+then-byte-eq95+then-not-is_separated}
-use Rattle.naga_names.proofs.namer.label.is_left_as_it_is.Goals as goal
+use Rattle.naga_names.proofs.namer.label.stays_same.Goals.{then-is_letter_or_digit}
+use Rattle.naga_names.proofs.namer.label.stays_same.Goals.{else-is_letter_or_digit+then-byte-eq95+then-not-is_separated}
+use Rattle.naga_names.proofs.namer.label.stays_same.Goals as goal
 
 pub loop-byte-init : goal.loop-byte-init
 loop-byte-init c = record { alike = alike-nothing; separated = refl }
@@ -19,7 +19,7 @@ loop-byte-preserved c =
           let step = alike-letter _ _ c.loop-byte.invariant.alike
           (sym c.is_letter_or_digit.ensures ∙ w.if-is_letter_or_digit.true) in
           record {
-            alike = subst IsLeftAsItIs (sym more) step.0;
+            alike = subst StaysSame (sym more) step.0;
             separated = ap ends_separated more
                 ∙ step.1 ∙ sym w.is_separated-is;
           }
@@ -27,7 +27,7 @@ loop-byte-preserved c =
           let step = alike-separator _ _ w.if-byte-eq95.true c.loop-byte.invariant.alike
           (c.loop-byte.invariant.separated ∙ w.if-not-is_separated.true) in
           record {
-            alike = subst IsLeftAsItIs (sym more) step.0;
+            alike = subst StaysSame (sym more) step.0;
             separated = ap ends_separated more
                 ∙ step.1 ∙ sym w.is_separated-is;
           }
@@ -35,7 +35,7 @@ loop-byte-preserved c =
 
 pub returns : goal.returns
 returns c = λ lone.
-    let P : List ℕ → Type 0 = λ text. IsLeftAsItIs text × (ends_separated text ≡ false) in
+    let P : List ℕ → Type 0 = λ text. StaysSame text × (ends_separated text ≡ false) in
     subst P (take_all c.loop-byte.byte-index c.as_bytes-bytes.result.now c.loop-byte-test.false
     ∙ c.as_bytes-bytes.ensures.value)
     (c.loop-byte.invariant.alike, c.loop-byte.invariant.separated ∙ not-true _ lone)
