@@ -1,7 +1,7 @@
 //! The constructs for which a module is refused.
 
 ghost use Rattle.std.specs.Prelude.{◌≡◌};
-ghost use Rattle.naga_wgsl_fns.specs.Constructs.{IsToldAs, construct_text};
+ghost use Rattle.naga_wgsl_fns.specs.Constructs.{IsToldAs, construct_text, construct_words};
 
 use crate::refusals::error::{Error, custom, unimplemented, unsupported};
 use naga_ir::{BuiltIn, MathFunction, RelationalFunction, Scalar};
@@ -64,44 +64,59 @@ pub enum Construct {
 }
 
 impl Construct {
+    /// The words of the construct. Of one with a value they say what kind of thing that is.
+    fn words(self) -> &'static str
+        ensures { result.now ≡ construct_words self }
+    {
+        match self {
+            Construct::FloatLiteral => "float literal",
+            Construct::AbstractLiteral => {
+                "Abstract types should not appear in IR presented to backends"
+            }
+            Construct::MathFunction(_) => MathFunction::DESCRIPTION,
+            Construct::RelationalFunction(_) => "relational function",
+            Construct::ScalarType(_) => Scalar::DESCRIPTION,
+            Construct::BuiltIn(_) => BuiltIn::DESCRIPTION,
+            Construct::OtherType => "type without a WGSL form",
+            Construct::PredeclaredStruct => "predeclared struct",
+            Construct::Conversion => "conversion of this type",
+            Construct::RayQuery => "ray query",
+            Construct::SubgroupOperation => "subgroup operation",
+            Construct::FallThrough => "fall-through switch case block",
+            Construct::ImageCompareExchange => "image compare exchange",
+            Construct::SamplingMethod => "sampling form",
+            Construct::ConstantOperator => "operator in a constant",
+            Construct::ImageLoad => "image load with sample and level",
+            Construct::Index => "cannot index",
+            Construct::OutOfScope => "operand out of scope",
+            Construct::StageVariable => "missing payload or mesh output",
+            Construct::OffAlignment => "member off its alignment",
+            Construct::Overlap => "members overlap",
+            Construct::ArrayStride => "array stride",
+            Construct::FullNamer => "namer is full",
+            Construct::NameKey => "name key out of range",
+        }
+    }
+
     /// The refusal that names the construct; want of memory where there is none for its text.
     pub fn to_error(self, alloc: Global) -> Error
         ensures { IsToldAs self result }
     {
         match self {
-            Construct::FloatLiteral => unimplemented(alloc, "float literal"),
-            Construct::AbstractLiteral => custom(
-                alloc,
-                "Abstract types should not appear in IR presented to backends",
-            ),
-            Construct::MathFunction(fun) => {
-                unsupported(MathFunction::DESCRIPTION, format!(in alloc; "{fun:?}"))
-            }
+            Construct::MathFunction(fun) => unsupported(self.words(), format!(in alloc; "{fun:?}")),
             Construct::RelationalFunction(fun) => Error::UnsupportedRelationalFunction(fun),
             Construct::ScalarType(scalar) => {
-                unsupported(Scalar::DESCRIPTION, format!(in alloc; "{scalar:?}"))
+                unsupported(self.words(), format!(in alloc; "{scalar:?}"))
             }
-            Construct::BuiltIn(value) => {
-                unsupported(BuiltIn::DESCRIPTION, format!(in alloc; "{value:?}"))
-            }
-            Construct::OtherType => custom(alloc, "type without a WGSL form"),
-            Construct::PredeclaredStruct => custom(alloc, "predeclared struct"),
-            Construct::Conversion => unimplemented(alloc, "conversion of this type"),
-            Construct::RayQuery => unimplemented(alloc, "ray query"),
-            Construct::SubgroupOperation => unimplemented(alloc, "subgroup operation"),
-            Construct::FallThrough => unimplemented(alloc, "fall-through switch case block"),
-            Construct::ImageCompareExchange => unimplemented(alloc, "image compare exchange"),
-            Construct::SamplingMethod => unimplemented(alloc, "sampling form"),
-            Construct::ConstantOperator => custom(alloc, "operator in a constant"),
-            Construct::ImageLoad => custom(alloc, "image load with sample and level"),
-            Construct::Index => custom(alloc, "cannot index"),
-            Construct::OutOfScope => custom(alloc, "operand out of scope"),
-            Construct::StageVariable => custom(alloc, "missing payload or mesh output"),
-            Construct::OffAlignment => custom(alloc, "member off its alignment"),
-            Construct::Overlap => custom(alloc, "members overlap"),
-            Construct::ArrayStride => custom(alloc, "array stride"),
-            Construct::FullNamer => custom(alloc, "namer is full"),
-            Construct::NameKey => custom(alloc, "name key out of range"),
+            Construct::BuiltIn(value) => unsupported(self.words(), format!(in alloc; "{value:?}")),
+            Construct::FloatLiteral
+            | Construct::Conversion
+            | Construct::RayQuery
+            | Construct::SubgroupOperation
+            | Construct::FallThrough
+            | Construct::ImageCompareExchange
+            | Construct::SamplingMethod => unimplemented(alloc, self.words()),
+            _ => custom(alloc, self.words()),
         }
     }
 }
@@ -111,34 +126,13 @@ impl fmt::Display for Construct {
 
     fn fmt<W: fmt::Write>(&self, f: &mut fmt::Formatter<W>) -> fmt::Result {
         match self {
-            Construct::FloatLiteral => f.write_str("float literal"),
-            Construct::AbstractLiteral => {
-                f.write_str("Abstract types should not appear in IR presented to backends")
-            }
-            Construct::MathFunction(fun) => write!(f, "Unsupported math function: {fun:?}"),
+            Construct::MathFunction(fun) => write!(f, "Unsupported {}: {fun:?}", self.words()),
             Construct::RelationalFunction(fun) => {
-                write!(f, "Unsupported relational function: {fun:?}")
+                write!(f, "Unsupported {}: {fun:?}", self.words())
             }
-            Construct::ScalarType(scalar) => write!(f, "Unsupported scalar type: {scalar:?}"),
-            Construct::BuiltIn(value) => write!(f, "Unsupported builtin value: {value:?}"),
-            Construct::OtherType => f.write_str("type without a WGSL form"),
-            Construct::PredeclaredStruct => f.write_str("predeclared struct"),
-            Construct::Conversion => f.write_str("conversion of this type"),
-            Construct::RayQuery => f.write_str("ray query"),
-            Construct::SubgroupOperation => f.write_str("subgroup operation"),
-            Construct::FallThrough => f.write_str("fall-through switch case block"),
-            Construct::ImageCompareExchange => f.write_str("image compare exchange"),
-            Construct::SamplingMethod => f.write_str("sampling form"),
-            Construct::ConstantOperator => f.write_str("operator in a constant"),
-            Construct::ImageLoad => f.write_str("image load with sample and level"),
-            Construct::Index => f.write_str("cannot index"),
-            Construct::OutOfScope => f.write_str("operand out of scope"),
-            Construct::StageVariable => f.write_str("missing payload or mesh output"),
-            Construct::OffAlignment => f.write_str("member off its alignment"),
-            Construct::Overlap => f.write_str("members overlap"),
-            Construct::ArrayStride => f.write_str("array stride"),
-            Construct::FullNamer => f.write_str("namer is full"),
-            Construct::NameKey => f.write_str("name key out of range"),
+            Construct::ScalarType(scalar) => write!(f, "Unsupported {}: {scalar:?}", self.words()),
+            Construct::BuiltIn(value) => write!(f, "Unsupported {}: {value:?}", self.words()),
+            _ => f.write_str(self.words()),
         }
     }
 }
