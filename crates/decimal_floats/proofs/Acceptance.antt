@@ -38,7 +38,7 @@ use Rattle.module_meaning.specs.acceptance.InfoSizes.{function_size_fits, sizes_
 use Rattle.module_meaning.specs.acceptance.Initialisers.{initialisers_fit, locals_are_sound}
 use Rattle.module_meaning.specs.acceptance.Operations.{all_agree}
 use Rattle.module_meaning.specs.acceptance.OperandDemands.{operand_is, operands_fit}
-use Rattle.module_meaning.specs.acceptance.Ranges.{all_below, all_placed, block_in_range}
+use Rattle.module_meaning.specs.acceptance.Ranges.{all_below, all_by_handle, block_in_range}
 use Rattle.module_meaning.specs.acceptance.Ranges.{constant_in_range, declarations_in_range}
 use Rattle.module_meaning.specs.acceptance.Ranges.{entry_point_in_range, expression_in_range}
 use Rattle.module_meaning.specs.acceptance.Ranges.{expressions_in_range, function_in_range}
@@ -158,15 +158,15 @@ module _ (m new : Module) (all : IsDecimalModule m new) where
       (list_all (constant_in_range types k) m.constants)
       (list_all (override_in_range types k) m.overrides)
       (list_all (global_in_range types k) m.global_variables)
-      (all_placed (global_expression_in_range m) m.global_expressions)
-      (all_placed (global_expression_in_range n) es)
+      (all_by_handle (global_expression_in_range m) m.global_expressions)
+      (all_by_handle (global_expression_in_range n) es)
       (placed_kept IsDecimalExpression (global_expression_in_range m) (global_expression_in_range n)
       global_kept 0 m.global_expressions es expressions)
       (ap (λ k. types_in_range (length m.overrides) m.types && (special_types_fit types m.special_types
       && (list_all (constant_in_range types k) m.constants
       && (list_all (override_in_range types k) m.overrides
       && (list_all (global_in_range types k) m.global_variables
-      && all_placed (global_expression_in_range m) m.global_expressions))))) count ∙ h)
+      && all_by_handle (global_expression_in_range m) m.global_expressions))))) count ∙ h)
 
   function_kept : (callees : ℕ) (f g : Function) → IsDecimalFunction f g →
       function_in_range m callees f ≡ true → function_in_range n callees g ≡ true
@@ -182,7 +182,7 @@ module _ (m new : Module) (all : IsDecimalModule m new) where
       (list_all (λ h. nat_lt h (length ds)) (keys f.named_expressions))
       (list_all (local_in_range (length m.types) (length ds)) f.local_variables)
       (expressions_in_range m f)
-      (all_placed (expression_in_range n arguments locals) ds)
+      (all_by_handle (expression_in_range n arguments locals) ds)
       (block_in_range callees (length ds) f.body)
       (placed_kept IsDecimalExpression (expression_in_range m arguments locals)
       (expression_in_range n arguments locals) (expression_kept arguments locals) 0 f.expressions ds
@@ -210,14 +210,14 @@ module _ (m new : Module) (all : IsDecimalModule m new) where
   module_kept : module_in_range m ≡ true → module_in_range n ≡ true
   module_kept h =
       and_kept (declarations_in_range m)
-      (all_placed (function_in_range m) m.functions
+      (all_by_handle (function_in_range m) m.functions
       && list_all (entry_point_in_range m) m.entry_points.items)
       (declarations_in_range n)
-      (all_placed (function_in_range n) fs && list_all (entry_point_in_range n) ps)
+      (all_by_handle (function_in_range n) fs && list_all (entry_point_in_range n) ps)
       declarations_kept
-      (and_kept (all_placed (function_in_range m) m.functions)
+      (and_kept (all_by_handle (function_in_range m) m.functions)
       (list_all (entry_point_in_range m) m.entry_points.items)
-      (all_placed (function_in_range n) fs)
+      (all_by_handle (function_in_range n) fs)
       (list_all (entry_point_in_range n) ps)
       (placed_kept IsDecimalFunction (function_in_range m) (function_in_range n) function_kept 0
       m.functions fs functions)

@@ -22,7 +22,7 @@ use Rattle.naga_info.specs.declared.info.TypeResolution.TheVariants.{Handle, Val
 use Rattle.module_meaning.specs.LetCounts.{are_bound_by_uses, is_bound_by_uses, uses_of}
 use Rattle.module_meaning.specs.ExpressionContexts.{declared, types_known}
 use Rattle.module_meaning.specs.ExpressionOperators.{applied_operator}
-use Rattle.module_meaning.specs.ExpressionShapes.{constant_tree, Declared, image_sample_shape, shape_of}
+use Rattle.module_meaning.specs.ExpressionShapes.{constant_tree, ModuleDeclarations, image_sample_shape, shape_of}
 use Rattle.module_meaning.specs.ExpressionShapes.{tree_over, tree_within}
 use Rattle.module_meaning.specs.acceptance.ExpressionTypes.{variable_type}
 use Rattle.module_meaning.specs.FunctionNumbers.{all_functions, all_infos}
@@ -43,7 +43,7 @@ use Rattle.decimal_meaning.proofs.DecimalContexts.{value_types_same, words_same}
 use Rattle.decimal_meaning.proofs.DecimalPlaces.{places_same}
 
 -- ---- expressions
-module _ (d : Declared) (xs ys : List ir.Expression)
+module _ (d : ModuleDeclarations) (xs ys : List ir.Expression)
     (decimal : AllZip IsDecimalExpression xs ys) where
   -- one level deeper
   deeper_same : (levels : ℕ) → tree_within levels d ys ≡ tree_within levels d xs → (h : ℕ) →

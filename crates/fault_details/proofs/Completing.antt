@@ -32,7 +32,7 @@ use Rattle.module_meaning.specs.acceptance.Initialisers.{constant_is_sound, glob
 use Rattle.module_meaning.specs.acceptance.Initialisers.{override_is_sound}
 use Rattle.module_meaning.specs.acceptance.Numbers.{fits_16_bits, resource_fits_32_bits}
 use Rattle.module_meaning.specs.acceptance.Numbers.{workgroup_fits_32_bits}
-use Rattle.module_meaning.specs.acceptance.Ranges.{all_below, all_placed, constant_in_range}
+use Rattle.module_meaning.specs.acceptance.Ranges.{all_below, all_by_handle, constant_in_range}
 use Rattle.module_meaning.specs.acceptance.Ranges.{declarations_in_range, entry_point_in_range}
 use Rattle.module_meaning.specs.acceptance.Ranges.{expression_in_range, function_in_range}
 use Rattle.module_meaning.specs.acceptance.Ranges.{global_expression_in_range, global_in_range}
@@ -140,14 +140,14 @@ module _ (m : Module) (info : ModuleInfo) (ranges : IsTrue (module_ranges_fit m 
   declared_in_range : (list_all (constant_in_range (length m.types) (length m.global_expressions)) m.constants ≡ true)
       × (list_all (override_in_range (length m.types) (length m.global_expressions)) m.overrides ≡ true)
       × (list_all (global_in_range (length m.types) (length m.global_expressions)) m.global_variables ≡ true)
-      × (all_placed (global_expression_in_range m) m.global_expressions ≡ true)
+      × (all_by_handle (global_expression_in_range m) m.global_expressions ≡ true)
   declared_in_range =
       let constants = list_all (constant_in_range (length m.types) (length m.global_expressions)) m.constants in
       let overrides = list_all (override_in_range (length m.types) (length m.global_expressions)) m.overrides in
       let globals = list_all (global_in_range (length m.types) (length m.global_expressions)) m.global_variables in
-      let expressions = all_placed (global_expression_in_range m) m.global_expressions in
+      let expressions = all_by_handle (global_expression_in_range m) m.global_expressions in
       let a = and_parts (declarations_in_range m)
-      (all_placed (function_in_range m) m.functions
+      (all_by_handle (function_in_range m) m.functions
       && list_all (entry_point_in_range m) m.entry_points.items) sizes_are.1 in
       let b = and_parts (types_in_range (length m.overrides) m.types)
       (special_types_fit (length m.types) m.special_types
@@ -159,13 +159,13 @@ module _ (m : Module) (info : ModuleInfo) (ranges : IsTrue (module_ranges_fit m 
       let g = and_parts globals expressions e.1 in
       (d.0, e.0, g.0, g.1)
 
-  functions_in_range : (all_placed (function_in_range m) m.functions ≡ true)
+  functions_in_range : (all_by_handle (function_in_range m) m.functions ≡ true)
       × (list_all (entry_point_in_range m) m.entry_points.items ≡ true)
   functions_in_range =
       let a = and_parts (declarations_in_range m)
-      (all_placed (function_in_range m) m.functions
+      (all_by_handle (function_in_range m) m.functions
       && list_all (entry_point_in_range m) m.entry_points.items) sizes_are.1 in
-      and_parts (all_placed (function_in_range m) m.functions)
+      and_parts (all_by_handle (function_in_range m) m.functions)
       (list_all (entry_point_in_range m) m.entry_points.items) a.1
 
   known_sizes : (all_paired function_size_fits m.functions info.functions.items ≡ true)

@@ -33,13 +33,13 @@ unspelled_text (Handle h) = type_position_text h
 unspelled_text (Value it) = codes "a type that names what is not there"
 
 -- types and overrides by their labels
-abbrev pub labels_of : Module → Context
-labels_of m = global_context m.types m.overrides
+abbrev pub labels_context : Module → Context
+labels_context m = global_context m.types m.overrides
 
 -- The type has no spelling: a type does not stand after those that it names, or what this one names
 -- is not there.
 abbrev pub HasNoOrder : Module → TypeResolution → Type 0
-HasNoOrder m r = (IsInOrder (labels_of m) → ⊥) ⊎ (FitsResolution (labels_of m) r → ⊥)
+HasNoOrder m r = (IsInOrder (labels_context m) → ⊥) ⊎ (FitsResolution (labels_context m) r → ⊥)
 
 -- the type is one of the module
 abbrev pub IsOfModule : TypeResolution → Type 0
@@ -49,13 +49,13 @@ IsOfModule (Value it) = ⊥
 -- The type is one of the module, and its spelling has braces, in which stands what has no form.
 abbrev pub HasBraces : Module → TypeResolution → Type 0
 HasBraces m r = IsOfModule r × ((spelled : List ℕ)
-    × IsText (resolution_segments (labels_of m) r) spelled × HasSubslice spelled (codes "{"))
+    × IsText (resolution_segments (labels_context m) r) spelled × HasSubslice spelled (codes "{"))
 
 -- The type is told as it is spelled by the labels of structs and overrides, with what controls
 -- escaped; without a spelling only where it has none, or where that has braces.
 abbrev pub IsTold : Module → TypeResolution → (text : List ℕ) → Type 0
 IsTold m r text =
-    ((spelled : List ℕ) × IsText (resolution_segments (labels_of m) r) spelled
+    ((spelled : List ℕ) × IsText (resolution_segments (labels_context m) r) spelled
     × (text ≡ on_one_line spelled))
     ⊎ ((HasNoOrder m r ⊎ HasBraces m r) × (text ≡ unspelled_text r))
 

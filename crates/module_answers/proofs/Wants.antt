@@ -20,7 +20,7 @@ use Rattle.naga_wgsl_out.specs.ModuleRefusals.{NothingIsRefused, RefusesOnlyFor}
 use Rattle.naga_wgsl_out.specs.Unwritable.{IsFirst, StandsAt, StandsIn, TellsFirst}
 use Rattle.naga_wgsl_out.specs.Writing.{AppendsItsText, written_text}
 use Rattle.naga_wgsl_out.specs.declared.unwritable.Refusal.{Refusal}
-use Rattle.module_answers.specs.Wants.{IsAnswerOrWant}
+use Rattle.module_answers.specs.Wants.{IsAnswerOrMemory}
 use Rattle.module_answers.specs.WriteOutcomes.{AnswersWriting, TellsBeside}
 
 -- ---- what is told beside an answer
@@ -88,13 +88,13 @@ module _ (flags : WriterFlags) (m : Module) (info : ModuleInfo) (content now : L
   following_written (Err e) tells leaves = leaves.following
 
   -- ---- the writer's answer, or want of memory in its place
-  pub answer_or_want : (answer told : Result Unit Error) (found : Option Refusal) → IsAnswerOrWant answer told →
+  pub answer_or_memory : (answer told : Result Unit Error) (found : Option Refusal) → IsAnswerOrMemory answer told →
       FaithfulWriting flags m info answer content now before after →
       OnOk answer (EachReading content now (MatchesModule (annotates_types flags) m info)) →
       AppendsItsText m info flags answer content now → Leaves flags m info answer content now before after →
       TellsBeside (annotates_types flags) m info told found →
       AnswersWriting flags m info told found content now before after
-  answer_or_want answer told found (inl same) faithful matches text leaves beside =
+  answer_or_memory answer told found (inl same) faithful matches text leaves beside =
       let back = sym same in
       record {
         faithful = subst (λ r. FaithfulWriting flags m info r content now before after) back faithful;
@@ -104,7 +104,7 @@ module _ (flags : WriterFlags) (m : Module) (info : ModuleInfo) (content now : L
         leaves = subst (λ r. Leaves flags m info r content now before after) back leaves;
         refusal = beside;
       }
-  answer_or_want answer told found (inr wanted) faithful matches text leaves beside =
+  answer_or_memory answer told found (inr wanted) faithful matches text leaves beside =
       let back = sym wanted.1 in
       let following = following_written answer wanted.0 leaves in
       record {

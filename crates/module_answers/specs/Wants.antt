@@ -5,6 +5,6 @@ use Rattle.naga_wgsl_fns.specs.declared.refusals.error.Error.{Error}
 use Rattle.naga_wgsl_fns.specs.declared.refusals.error.Error.TheVariants.{Memory}
 
 -- the answer, or where that is an error that tells of the module, that memory was wanting
-abbrev pub IsAnswerOrWant : (answer told : Result Unit Error) → Type 0
-IsAnswerOrWant answer told =
+abbrev pub IsAnswerOrMemory : (answer told : Result Unit Error) → Type 0
+IsAnswerOrMemory answer told =
     (told ≡ answer) ⊎ (IsErrAnd answer TellsOfModule × (told ≡ Err (Memory alloc_error)))

@@ -23,11 +23,11 @@ use Rattle.naga_info.specs.declared.info.TypeResolution.{TypeResolution}
 use Rattle.module_meaning.specs.ExpressionOperators.{ExpressionContext, cast, cast_to, constructor}
 use Rattle.module_meaning.specs.ExpressionOperators.{matrix_load, is_atomic_pointer, query_operator}
 use Rattle.module_meaning.specs.ExpressionOperators.{is_composite, has_parts, type_with}
-use Rattle.module_meaning.specs.ExpressionShapes.{Declared, shape_of, applied_shape, applied_or}
+use Rattle.module_meaning.specs.ExpressionShapes.{ModuleDeclarations, shape_of, applied_shape, applied_or}
 use Rattle.module_meaning.specs.ExpressionShapes.{part_shape, part_selector, own_selector, selector}
 use Rattle.naga_ir.specs.declared.types.TypeInner.{TypeInner}
 use Rattle.naga_ir.specs.declared.types.TypeInner.TheVariants as inner
-use Rattle.module_meaning.specs.OperatorTable.{Operator as TableOperator, BinarySign, Construct}
+use Rattle.module_meaning.specs.OperatorTable.{Operator as TableOperator, BinarySign, MakeSpelled}
 use Rattle.module_meaning.specs.OperatorTable.{AtomicLoad, CooperativeLoad, WithoutForm, ValueOf}
 use Rattle.module_meaning.specs.OperatorTable.{Cast, MatrixLoad, asks, run_word}
 use Rattle.module_meaning.specs.ShapeKinds.{shape_kind}
@@ -43,7 +43,7 @@ pub constructor_asks : (a : ExpressionContext) (r : TypeResolution) (n : ℕ) �
 constructor_asks a r n = by (a.spelled r)
   where
     by : (o : Option (List ℕ)) →
-        asks (option_map_or (λ w. Construct w n) o (WithoutForm (ValueOf (a.numbers r) n))) ≡ false
+        asks (option_map_or (λ w. MakeSpelled w n) o (WithoutForm (ValueOf (a.numbers r) n))) ≡ false
     by None = refl
     by (Some w) = refl
 
@@ -97,7 +97,7 @@ kind_shaped a (expression.Load pointer) =
 kind_shaped a e = kind_of e
 
 -- the kind of what an expression evaluates is its own
-pub shape_kinds : (d : Declared) (es : List ir.Expression) (h : ℕ) (e : ir.Expression) →
+pub shape_kinds : (d : ModuleDeclarations) (es : List ir.Expression) (h : ℕ) (e : ir.Expression) →
     shape_kind (Some (shape_of d es h e)) ≡ kind_shaped d.context e
 shape_kinds d es h (expression.Literal value) = refl
 shape_kinds d es h (expression.Constant handle) = refl
@@ -148,7 +148,7 @@ has_no_offset
 has_no_offset e = true
 
 -- an expression without an offset evaluates over its own operands
-pub shape_operands : (d : Declared) (es : List ir.Expression) (h : ℕ) (e : ir.Expression) →
+pub shape_operands : (d : ModuleDeclarations) (es : List ir.Expression) (h : ℕ) (e : ir.Expression) →
     IsTrue (has_no_offset e) → operands_of (Some (shape_of d es h e)) ≡ expression_operands e
 shape_operands d es h (expression.Compose ty components) none = applied_operands _ components.items
 shape_operands d es h (expression.AccessIndex base index) none = by (part_selector d base index)
@@ -181,12 +181,12 @@ shape_operands d es h (expression.CooperativeLoad columns rows role place) none 
 shape_operands d es h _ none = refl
 
 -- ---- parts
-own_there : (d : Declared) (w : Option ℕ) (it : TypeInner) (index : ℕ) →
+own_there : (d : ModuleDeclarations) (w : Option ℕ) (it : TypeInner) (index : ℕ) →
     is_some (own_selector d w it index) ≡ is_composite it
 own_there d w (inner.Vector size s) index = refl
 own_there d w _ index = refl
 
-there : (d : Declared) (w : Option ℕ) (it : TypeInner) (index : ℕ) →
+there : (d : ModuleDeclarations) (w : Option ℕ) (it : TypeInner) (index : ℕ) →
     is_some (selector d w it index) ≡ has_parts d.context.types it
 there d w (inner.Pointer base space) index = by (type_with d.context.types base)
   where

@@ -33,7 +33,7 @@ use Rattle.naga_words.specs.Segments.{known_text}
 use Rattle.naga_words.specs.Spelling.{resolution_segments, type_segments}
 use Rattle.module_meaning.specs.ExpressionOperators.{ExpressionContext, applied_operator}
 use Rattle.module_meaning.specs.ExpressionOperators.{constructor}
-use Rattle.module_meaning.specs.ExpressionShapes.{Declared, shape_of}
+use Rattle.module_meaning.specs.ExpressionShapes.{ModuleDeclarations, shape_of}
 use Rattle.module_meaning.specs.OperatorTable.{run_word}
 use Rattle.module_meaning.specs.StatementShapes.{simple_shape}
 use Rattle.module_meaning.specs.TypeIdentity.{identity, identity_code}
@@ -70,7 +70,7 @@ module _ (members : Vec StructMember Global) where
         known = λ h. option_map (λ t. Handle h) (slice_get types h);
       }
 
-  abbrev declared : Declared
+  abbrev declared : ModuleDeclarations
   declared =
       record {
         context = context;

@@ -37,7 +37,7 @@ use Rattle.wgsl_text.specs.Declarations.{Program}
 use Rattle.wgsl_text.specs.Expressions.{Expression, IndexAt, operands}
 use Rattle.wgsl_text.specs.Statements.{Assign, CallStatement, ReturnValue, Statement}
 use Rattle.wgsl_text.specs.WorkedTrees as worked
-use Rattle.module_meaning.specs.ExpressionShapes.{Declared, shape_of}
+use Rattle.module_meaning.specs.ExpressionShapes.{ModuleDeclarations, shape_of}
 use Rattle.module_meaning.specs.TypeIdentity.{identity, identity_code}
 use Rattle.module_meaning.proofs.InterfaceExamples.{two}
 use Rattle.module_meaning.proofs.StageBindingExamples.{differ}
@@ -111,7 +111,7 @@ module _ (members : Vec StructMember Global) (handles : Vec ℕ Global) where
       inner.Struct members 8 ∷ inner.Struct members 8 ∷ inner.Struct members 8 ∷
       inner.Pointer 2 space.Function ∷ inner.Pointer 0 space.Function ∷ [])
 
-  abbrev declared : Declared
+  abbrev declared : ModuleDeclarations
   declared =
       record {
         context = record {

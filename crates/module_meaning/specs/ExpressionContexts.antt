@@ -14,7 +14,7 @@ use Rattle.naga_info.specs.declared.info.TypeResolution.{TypeResolution}
 use Rattle.naga_info.specs.declared.info.TypeResolution.TheVariants.{Handle}
 use Rattle.naga_names.specs.declared.key.NameKey.TheVariants as key
 use Rattle.module_meaning.specs.ExpressionOperators.{ExpressionContext, constructor}
-use Rattle.module_meaning.specs.ExpressionShapes.{Declared, computed_over}
+use Rattle.module_meaning.specs.ExpressionShapes.{ModuleDeclarations, computed_over}
 use Rattle.module_meaning.specs.acceptance.InfoSizes.{is_handle_space}
 use Rattle.module_meaning.specs.Names.{module_names, name_in}
 use Rattle.module_meaning.specs.OperatorTable.{if_there, run_word}
@@ -56,7 +56,7 @@ is_handle_variable m h =
 -- ---- declarations
 -- what a module declares, its constants written so
 abbrev pub declared_over :
-    Module → (ℕ → Option ConstantTree) → (known : ℕ → Option TypeResolution) → Declared
+    Module → (ℕ → Option ConstantTree) → (known : ℕ → Option TypeResolution) → ModuleDeclarations
 declared_over m constant_tree known =
     record {
       context = expression_context m known;
@@ -107,7 +107,7 @@ abbrev pub written_constant : Module → ModuleInfo → ℕ → Option ConstantT
 written_constant m info h = constant_over m (global_tree m info) h
 
 -- what a module declares, for the expressions of which this is known
-abbrev pub declared : Module → ModuleInfo → (known : ℕ → Option TypeResolution) → Declared
+abbrev pub declared : Module → ModuleInfo → (known : ℕ → Option TypeResolution) → ModuleDeclarations
 declared m info known = declared_over m (written_constant m info) known
 
 -- what is known of a function's expressions

@@ -32,7 +32,7 @@ use Rattle.module_meaning.specs.OperatorTable.{Operator, BinarySign, UnarySign, 
 use Rattle.module_meaning.specs.OperatorTable.{Math, Relational, Derivative, ArrayLength}
 use Rattle.module_meaning.specs.OperatorTable.{Sample, Gather, Texel, ImageSize, CountOf}
 use Rattle.module_meaning.specs.OperatorTable.{AtomicLoad, CooperativeLoad, CooperativeMultiplyAdd}
-use Rattle.module_meaning.specs.OperatorTable.{RayIntersection, RayCorners, Construct, Splat}
+use Rattle.module_meaning.specs.OperatorTable.{RayIntersection, RayCorners, MakeSpelled, Splat}
 use Rattle.module_meaning.specs.OperatorTable.{Convert, Reinterpret, WithoutForm, Cast, PartAt}
 use Rattle.module_meaning.specs.OperatorTable.{ValueOf, MatrixLoad, Level, Automatic, Zero, Exact}
 use Rattle.module_meaning.specs.OperatorTable.{Biased, Graded, TexelOf, OnlyTexel, SampleTexel}
@@ -63,7 +63,7 @@ type_with types h = option_map (λ t. t.inner) (slice_get types h)
 -- a value of this type from so many components
 abbrev pub constructor : ExpressionContext → TypeResolution → (components : ℕ) → Operator
 constructor a r components =
-    option_map_or (λ spelling. Construct spelling components) (a.spelled r)
+    option_map_or (λ spelling. MakeSpelled spelling components) (a.spelled r)
     (WithoutForm (ValueOf (a.numbers r) components))
 
 -- ---- other scalar types

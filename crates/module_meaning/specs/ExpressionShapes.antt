@@ -38,7 +38,7 @@ use Rattle.shader_runs.specs.Program.{Access, AccessIndex, Swizzle, Request}
 use Rattle.shader_runs.specs.Program.{Result}
 
 -- what the shapes of a function's expressions ask of the module
-pub record Declared : Type 0 where
+pub record ModuleDeclarations : Type 0 where
   -- their context
   pub context : ExpressionContext
   -- the type of the values of a type
@@ -68,7 +68,7 @@ trees_of tree_of [] = Some []
 trees_of tree_of (h ∷ hs) = tree_then (tree_of h) (trees_of tree_of hs)
 
 -- a value of a type from parts; the type is that known of the expression with this handle
-abbrev pub built : Declared → ℕ → TableOperator → List ConstantTree → Option ConstantTree
+abbrev pub built : ModuleDeclarations → ℕ → TableOperator → List ConstantTree → Option ConstantTree
 built d h operator ts =
     option_map (λ r. Constructed (run_word operator) (d.value_type r) (trees ts))
     (d.context.known h)
@@ -76,7 +76,7 @@ built d h operator ts =
 -- An expression that is written out as a constant, over the trees of its operands: a literal, a
 -- constant, an override, a zero value, a composition or a splat. All others have no such tree.
 abbrev pub tree_over :
-    Declared → (ℕ → Option ConstantTree) → ℕ → ir.Expression → Option ConstantTree
+    ModuleDeclarations → (ℕ → Option ConstantTree) → ℕ → ir.Expression → Option ConstantTree
 tree_over d tree_of h (expression.Literal value) = Some (Fixed (literal_value value))
 tree_over d tree_of h (expression.Constant handle) = d.constant_tree handle
 tree_over d tree_of h (expression.Override handle) = Some (d.override_tree handle)
@@ -89,13 +89,13 @@ tree_over d tree_of h (expression.Splat size value) =
 tree_over d tree_of h _ = None
 
 -- the tree of a handle, at most so many levels deep
-abbrev pub tree_within : (levels : ℕ) → Declared → List ir.Expression → ℕ → Option ConstantTree
+abbrev pub tree_within : (levels : ℕ) → ModuleDeclarations → List ir.Expression → ℕ → Option ConstantTree
 tree_within zero d es h = None
 tree_within (suc levels) d es h =
     option_and_then (tree_over d (tree_within levels d es) h) (slice_get es h)
 
 -- the tree of a handle of these expressions, whose operands stand before it
-abbrev pub constant_tree : Declared → List ir.Expression → ℕ → Option ConstantTree
+abbrev pub constant_tree : ModuleDeclarations → List ir.Expression → ℕ → Option ConstantTree
 constant_tree d es h = tree_within (suc h) d es h
 
 -- a constant; one that has no tree, as its handle or its type isn't known, is `false`
@@ -133,7 +133,7 @@ swizzle_letters size pattern = flat_map letter (take (component_count size) patt
 -- column or an element by its number. `whole` is the type's handle, if it has one. Others have no
 -- parts.
 abbrev pub own_selector :
-    Declared → (whole : Option ℕ) → TypeInner → (index : ℕ) → Option Selector
+    ModuleDeclarations → (whole : Option ℕ) → TypeInner → (index : ℕ) → Option Selector
 own_selector d whole (inner.Vector size s) index =
     Some (option_map_or MemberNamed (slice_get component_letters index) (ElementAt index))
 own_selector d whole (inner.Matrix columns rows s) index = Some (ElementAt index)
@@ -144,14 +144,14 @@ own_selector d whole (inner.Struct members span) index =
 own_selector d whole _ index = None
 
 -- the same, of a value or of what a pointer points to
-abbrev pub selector : Declared → (whole : Option ℕ) → TypeInner → (index : ℕ) → Option Selector
+abbrev pub selector : ModuleDeclarations → (whole : Option ℕ) → TypeInner → (index : ℕ) → Option Selector
 selector d whole (inner.Pointer base space) index =
     option_and_then (λ it. own_selector d (Some base) it index) (type_with d.context.types base)
 selector d whole (inner.ValuePointer (Some size) s space) index = Some (ElementAt index)
 selector d whole it index = own_selector d whole it index
 
 -- the part at an index of the values of the expression with this handle
-abbrev pub part_selector : Declared → (base index : ℕ) → Option Selector
+abbrev pub part_selector : ModuleDeclarations → (base index : ℕ) → Option Selector
 part_selector d base index =
     option_and_then
     (λ r. option_and_then (λ it. selector d (handle_of r) it index) (inner_of r d.context.types))
@@ -169,11 +169,11 @@ is_value_type (PointerType spelling) = false
 is_value_type _ = true
 
 -- the expression with this handle has values, and no pointers
-abbrev pub has_values : Declared → ℕ → Bool
+abbrev pub has_values : ModuleDeclarations → ℕ → Bool
 has_values d h = option_map_or (λ r. is_value_type (d.value_type r)) (d.context.known h) false
 
 -- a tree of the type that is known of the expression with this handle
-abbrev pub typed_tree : Declared → ℕ → (ValueType → ConstantTree) → Option ConstantTree
+abbrev pub typed_tree : ModuleDeclarations → ℕ → (ValueType → ConstantTree) → Option ConstantTree
 typed_tree d h make = option_map (λ r. make (d.value_type r)) (d.context.known h)
 
 -- over two operands
@@ -183,26 +183,26 @@ abbrev pub over_two :
 over_two make a b = option_and_then (λ t. option_and_then (make t) b) a
 
 -- an index into a constant
-abbrev pub indexed : Declared → ℕ → (base index : ConstantTree) → Option ConstantTree
+abbrev pub indexed : ModuleDeclarations → ℕ → (base index : ConstantTree) → Option ConstantTree
 indexed d h base index = typed_tree d h (λ ty. Indexing ty base index)
 
 -- a part of a constant
-abbrev pub picked : Declared → ℕ → Selector → (base : ConstantTree) → Option ConstantTree
+abbrev pub picked : ModuleDeclarations → ℕ → Selector → (base : ConstantTree) → Option ConstantTree
 picked d h part base = typed_tree d h (λ ty. Picking part ty base)
 
 -- `&&` or `||` of constants
-abbrev pub joined : Declared → ℕ → ShortCircuit → (left right : ConstantTree) → Option ConstantTree
+abbrev pub joined : ModuleDeclarations → ℕ → ShortCircuit → (left right : ConstantTree) → Option ConstantTree
 joined d h circuit left right = typed_tree d h (λ ty. Joining circuit ty left right)
 
 -- an operator over the trees of its operands, unless it asks for an event
-abbrev pub operated : Declared → (ℕ → Option ConstantTree) → ℕ → (operands : List ℕ) →
+abbrev pub operated : ModuleDeclarations → (ℕ → Option ConstantTree) → ℕ → (operands : List ℕ) →
     Option TableOperator → Option ConstantTree
 operated d tree_of h operands None = None
 operated d tree_of h operands (Some operator) =
     if asks operator then None else option_and_then (built d h operator) (trees_of tree_of operands)
 
 -- a part of a constant that has parts, or the operator that is applied to one that has none
-abbrev pub part_tree : Declared → (ℕ → Option ConstantTree) → ℕ → (base : ℕ) → Option Selector →
+abbrev pub part_tree : ModuleDeclarations → (ℕ → Option ConstantTree) → ℕ → (base : ℕ) → Option Selector →
     Option TableOperator → Option ConstantTree
 part_tree d tree_of h base (Some part) operator =
     if has_values d base then option_and_then (picked d h part) (tree_of base) else None
@@ -215,7 +215,7 @@ part_tree d tree_of h base None operator = operated d tree_of h (base ∷ []) op
 -- such (a composition, an index and a part count as operators here). One that names a constant has
 -- a tree, whatever that constant's initialiser is.
 abbrev pub computed_over :
-    Declared → (ℕ → Option ConstantTree) → ℕ → ir.Expression → Option ConstantTree
+    ModuleDeclarations → (ℕ → Option ConstantTree) → ℕ → ir.Expression → Option ConstantTree
 computed_over d tree_of h (expression.Literal value) =
     tree_over d tree_of h (expression.Literal value)
 computed_over d tree_of h (expression.Constant handle) =
@@ -274,7 +274,7 @@ image_sample_shape e tree operator = Result
 -- ---- expressions
 -- What the expression with this handle evaluates, in a function with these expressions. What is
 -- neither listed here nor applies an operator is the result of a statement.
-abbrev pub shape_of : Declared → List ir.Expression → ℕ → ir.Expression → Expression
+abbrev pub shape_of : ModuleDeclarations → List ir.Expression → ℕ → ir.Expression → Expression
 shape_of d es h (expression.Literal value) = Constant (Fixed (literal_value value))
 shape_of d es h (expression.Constant handle) = constant_shape (d.constant_tree handle)
 shape_of d es h (expression.Override handle) = Constant (d.override_tree handle)

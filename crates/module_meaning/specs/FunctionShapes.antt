@@ -17,7 +17,7 @@ use Rattle.naga_info.specs.declared.info.ExpressionInfo.{ExpressionInfo}
 use Rattle.naga_info.specs.declared.info.ModuleInfo.{ModuleInfo}
 use Rattle.module_meaning.specs.LetCounts.{are_bound_by_uses}
 use Rattle.module_meaning.specs.ExpressionOperators.{ExpressionContext}
-use Rattle.module_meaning.specs.ExpressionShapes.{Declared, shape_of}
+use Rattle.module_meaning.specs.ExpressionShapes.{ModuleDeclarations, shape_of}
 use Rattle.module_meaning.specs.Shapes.{case_value_shape, named_from}
 use Rattle.module_meaning.specs.StatementShapes.{simple_shape}
 use Rattle.module_meaning.specs.ExpressionContexts.{declared, types_known}
@@ -48,7 +48,7 @@ abbrev mutual
 -- what these expressions evaluate, which stand in the function from this handle on; `all` are those
 -- of the function
 abbrev pub shapes_from :
-    Declared → (all : List ir.Expression) → ℕ → List ir.Expression → List Expression
+    ModuleDeclarations → (all : List ir.Expression) → ℕ → List ir.Expression → List Expression
 shapes_from d all h [] = []
 shapes_from d all h (e ∷ xs) = shape_of d all h e ∷ shapes_from d all (h + 1) xs
 

@@ -61,7 +61,7 @@ pub data Source : Type 0 where
 
 -- what a barrier keeps apart
 pub data BarrierMemory : Type 0 where
-  StorageKept WorkgroupKept SubgroupKept TextureKept : BarrierMemory
+  StorageOrdered WorkgroupOrdered SubgroupOrdered TextureOrdered : BarrierMemory
 
 -- What no text has: an operator by itself, told by what the expression says of it.
 pub data Unsupported : Type 0 where
@@ -108,7 +108,7 @@ pub data Operator : Type 0 where
   RayStep : Operator
   RayIntersection RayCorners : (committed : Bool) → Operator
   -- a value of the type spelled so from so many components; none make its zero value
-  Construct : (spelling : List ℕ) → (components : ℕ) → Operator
+  MakeSpelled : (spelling : List ℕ) → (components : ℕ) → Operator
   Splat : VectorSize → Operator
   -- to another scalar type, or a matrix
   Convert : (spelling : List ℕ) → Operator
@@ -222,10 +222,10 @@ source_word (QuadSwapped direction.Y) = codes "quadSwapY"
 source_word (QuadSwapped direction.Diagonal) = codes "quadSwapDiagonal"
 
 abbrev pub barrier_word : BarrierMemory → List ℕ
-barrier_word StorageKept = codes "storageBarrier"
-barrier_word WorkgroupKept = codes "workgroupBarrier"
-barrier_word SubgroupKept = codes "subgroupBarrier"
-barrier_word TextureKept = codes "textureBarrier"
+barrier_word StorageOrdered = codes "storageBarrier"
+barrier_word WorkgroupOrdered = codes "workgroupBarrier"
+barrier_word SubgroupOrdered = codes "subgroupBarrier"
+barrier_word TextureOrdered = codes "textureBarrier"
 
 -- a built-in function that takes a type
 abbrev pub with_type : (word spelling : List ℕ) → List ℕ
@@ -266,7 +266,7 @@ operator_word TraceRay = Some (codes "traceRay")
 operator_word RayStep = None
 operator_word (RayIntersection committed) = None
 operator_word (RayCorners committed) = None
-operator_word (Construct spelling components) = Some spelling
+operator_word (MakeSpelled spelling components) = Some spelling
 operator_word (Splat size) = Some (vector_word size)
 operator_word (Convert spelling) = Some spelling
 operator_word (Reinterpret spelling) = Some (with_type (codes "bitcast") spelling)
@@ -316,13 +316,13 @@ unsupported_code (MatrixLoad columns rows role row_major) =
     ∷ matrix_role_number role ∷ truth_number row_major ∷ []
 
 -- What asks for an event begins like what does so in a text.
-abbrev pub unsupported_head : Unsupported → List ℕ
-unsupported_head (MatrixLoad columns rows role row_major) = codes "coopLoad"
-unsupported_head what = []
+abbrev pub unsupported_opening : Unsupported → List ℕ
+unsupported_opening (MatrixLoad columns rows role row_major) = codes "coopLoad"
+unsupported_opening what = []
 
 -- a blank, and after it what tells it
 abbrev pub unsupported_word : Unsupported → List ℕ
-unsupported_word what = unsupported_head what ++ (32 ∷ unsupported_code what)
+unsupported_word what = unsupported_opening what ++ (32 ∷ unsupported_code what)
 
 -- What has no word is called by one that no text can spell: with a blank in front or, where it asks
 -- an image or loads a matrix, the word of such an operation with a blank and what is no number of a
@@ -444,7 +444,7 @@ operand_count TraceRay = 3
 operand_count RayStep = 1
 operand_count (RayIntersection committed) = 1
 operand_count (RayCorners committed) = 1
-operand_count (Construct spelling components) = components
+operand_count (MakeSpelled spelling components) = components
 operand_count (Splat size) = 1
 operand_count (Convert spelling) = 1
 operand_count (Reinterpret spelling) = 1
@@ -494,8 +494,8 @@ one_word (Ballot predicate) = Ballot false
 one_word (Barrier control kept) = Barrier true kept
 -- constructors of one type, which their number of operands tells apart; and a conversion, which is
 -- one operation with the constructor of one operand.
-one_word (Construct spelling components) = Construct spelling 1
-one_word (Convert spelling) = Construct spelling 1
+one_word (MakeSpelled spelling components) = MakeSpelled spelling 1
+one_word (Convert spelling) = MakeSpelled spelling 1
 one_word (WithoutForm what) = WithoutForm (one_unsupported what)
 one_word operator = operator
 
@@ -523,7 +523,7 @@ asks ArrayLength = false
 asks CooperativeMultiplyAdd = false
 asks (RayIntersection committed) = false
 asks (RayCorners committed) = false
-asks (Construct spelling components) = false
+asks (MakeSpelled spelling components) = false
 asks (Splat size) = false
 asks (Convert spelling) = false
 asks (Reinterpret spelling) = false
@@ -533,7 +533,7 @@ asks _ = true
 -- the operator is one of a few, as it takes no type and no number
 abbrev pub is_untyped : Operator → Bool
 is_untyped (CooperativeLoad row_major spelling) = false
-is_untyped (Construct spelling components) = false
+is_untyped (MakeSpelled spelling components) = false
 is_untyped (Convert spelling) = false
 is_untyped (Reinterpret spelling) = false
 is_untyped (WithoutForm what) = false
@@ -546,7 +546,7 @@ SpellsAType spelling = (t : TypeSpecifier) × (IsType t × (type_layout t ≡ sp
 -- the type that it takes, if it takes one, is one of the grammar
 abbrev pub TypeIsSound : Operator → Type 0
 TypeIsSound (CooperativeLoad row_major spelling) = SpellsAType spelling
-TypeIsSound (Construct spelling components) = SpellsAType spelling
+TypeIsSound (MakeSpelled spelling components) = SpellsAType spelling
 TypeIsSound (Convert spelling) = SpellsAType spelling
 TypeIsSound (Reinterpret spelling) = SpellsAType spelling
 TypeIsSound _ = ⊤

@@ -26,7 +26,7 @@ use Rattle.naga_names.specs.declared.key.NameKey.TheVariants as key
 use Rattle.module_meaning.specs.acceptance.AgreeingOperators.{Group, groups_of}
 use Rattle.module_meaning.specs.AlikeTypes.{has_type_form}
 use Rattle.module_meaning.specs.ExpressionContexts.{declared}
-use Rattle.module_meaning.specs.ExpressionShapes.{Declared, part_selector}
+use Rattle.module_meaning.specs.ExpressionShapes.{ModuleDeclarations, part_selector}
 use Rattle.module_meaning.specs.Names.{module_names, name_in}
 use Rattle.module_meaning.specs.TypeIdentity.{component_count}
 use Rattle.module_meaning.specs.TypeParts.{element_count, inner_at}
@@ -81,7 +81,7 @@ pointer_spelled m info whole =
 
 -- ---- expressions that take a member
 -- Is the value of the expression with this handle a pointer spelled so?
-abbrev pub points_so : Declared → (whole : List ℕ) → (handle : ℕ) → Bool
+abbrev pub points_so : ModuleDeclarations → (whole : List ℕ) → (handle : ℕ) → Bool
 points_so d whole handle =
     option_map_or (λ r. same_type (d.value_type r) (PointerType whole)) (d.context.known handle)
     false
@@ -92,7 +92,7 @@ selects_member word (MemberNamed own) = same_bytes own word
 selects_member word _ = false
 
 -- Does the expression take this member of what a pointer spelled so points to?
-abbrev pub takes_member : Declared → (whole word : List ℕ) → ir.Expression → Bool
+abbrev pub takes_member : ModuleDeclarations → (whole word : List ℕ) → ir.Expression → Bool
 takes_member d whole word (expression.AccessIndex base index) =
     points_so d whole base &&
     option_map_or (selects_member word) (part_selector d base index) false
@@ -100,7 +100,7 @@ takes_member d whole word _ = false
 
 -- its type, where it does
 abbrev pub member_taken :
-    Declared → (whole word : List ℕ) → ir.Expression × TypeResolution → List TypeResolution
+    ModuleDeclarations → (whole word : List ℕ) → ir.Expression × TypeResolution → List TypeResolution
 member_taken d whole word p = if takes_member d whole word p.0 then p.1 ∷ [] else []
 
 -- the types of all expressions of a group that do

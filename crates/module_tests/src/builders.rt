@@ -1,6 +1,6 @@
 //! Builders: the calls that no sample and no example makes, and what is told twice. The others are
 //! told by the texts of the samples (`wgsl_rows`) and of the examples.
-use naga_builder::{FunctionBuilder, ModuleBuilder, StageParts};
+use naga_builder::{FunctionBuilder, ModuleBuilder, StageExtras};
 use naga_info::TypeResolution;
 use naga_ir::{
     Binding, BuiltIn, Constant, Expression, GlobalVariable, Handle, Literal, MeshStageInfo,
@@ -79,9 +79,9 @@ fn entry_point_holds(
     let mask = Binding::BuiltIn(BuiltIn::SampleMask);
     function.returns_with_binding(ty, mask);
     let output_variable = Handle::<GlobalVariable>::from_index(0);
-    let parts = StageParts {
+    let parts = StageExtras {
         mesh_info: Some(MeshStageInfo { output_variable }),
-        ..StageParts::none()
+        ..StageExtras::none()
     };
     shader
         .add_stage_entry_point("ms", ShaderStage::Mesh, [1, 2, 3], parts, function)

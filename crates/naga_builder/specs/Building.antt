@@ -30,7 +30,7 @@ use Rattle.naga_info.specs.declared.info.TypeResolution.{TypeResolution}
 use Rattle.naga_info.specs.declared.info.TypeResolution.TheVariants.{Handle}
 use Rattle.naga_builder.specs.declared.function.FunctionBuilder.{FunctionBuilder}
 use Rattle.naga_builder.specs.declared.«module».ModuleBuilder.{ModuleBuilder}
-use Rattle.naga_builder.specs.declared.«module».StageParts.{StageParts}
+use Rattle.naga_builder.specs.declared.«module».StageExtras.{StageExtras}
 
 -- ---- statements
 -- the expressions from the first to the last are evaluated
@@ -200,23 +200,23 @@ pub record AddsFunction (b : FunctionBuilder) (old new : ModuleBuilder) : Type 0
   pub rest : new.info ≡ record old.info { functions = new.info.functions }
 
 -- nothing that a mesh, a task or a ray stage has beside its function
-abbrev pub no_parts : StageParts
-no_parts = record { mesh_info = None; task_payload = None; incoming_ray_payload = None }
+abbrev pub no_extras : StageExtras
+no_extras = record { mesh_info = None; task_payload = None; incoming_ray_payload = None }
 
 -- An entry point is added, with what is known of its function. It has this label, stage, size of
 -- workgroups and function, and these parts of its stage.
 pub record AddsEntryPoint (b : FunctionBuilder) (label : List ℕ) (stage : ShaderStage)
-    (workgroup_size : List ℕ) (parts : StageParts) (old new : ModuleBuilder) : Type 0 where
-  pub point : EntryPoint
+    (workgroup_size : List ℕ) (parts : StageExtras) (old new : ModuleBuilder) : Type 0 where
+  pub entry_point_added : EntryPoint
   pub entry_points : new.«module».entry_points.items
-      ≡ old.«module».entry_points.items ++ point ∷ []
-  pub labelled : string_bytes point.name ≡ label
-  pub stage_is : point.stage ≡ stage
-  pub size : point.workgroup_size ≡ workgroup_size
-  pub function : point.function ≡ function_of b
-  pub mesh : point.mesh_info ≡ parts.mesh_info
-  pub task : point.task_payload ≡ parts.task_payload
-  pub ray : point.incoming_ray_payload ≡ parts.incoming_ray_payload
+      ≡ old.«module».entry_points.items ++ entry_point_added ∷ []
+  pub labelled : string_bytes entry_point_added.name ≡ label
+  pub stage_is : entry_point_added.stage ≡ stage
+  pub size : entry_point_added.workgroup_size ≡ workgroup_size
+  pub function : entry_point_added.function ≡ function_of b
+  pub mesh : entry_point_added.mesh_info ≡ parts.mesh_info
+  pub task : entry_point_added.task_payload ≡ parts.task_payload
+  pub ray : entry_point_added.incoming_ray_payload ≡ parts.incoming_ray_payload
   pub others : new.«module» ≡
       record old.«module» { entry_points = new.«module».entry_points }
   pub known : new.info.entry_points.items ≡ old.info.entry_points.items ++ b.known.items ∷ []

@@ -15,4 +15,4 @@ pub mod module;
 
 pub use block::BlockBuilder;
 pub use function::FunctionBuilder;
-pub use module::{ModuleBuilder, StageParts};
+pub use module::{ModuleBuilder, StageExtras};

@@ -5,7 +5,7 @@ ghost use Rattle.naga_ir.specs.Empty.{IsEmptyModule};
 ghost use Rattle.naga_info.specs.declared.info.TypeResolution.TheVariants as type_of;
 ghost use Rattle.naga_builder.specs.Building.{AddsEntryPoint, AddsFunction, AddsGlobalExpression};
 ghost use Rattle.naga_builder.specs.Building.{FindsType, IsLabel, IsTypeOf};
-ghost use Rattle.naga_builder.specs.Building.{KeepsModule, KnowsNothing, no_parts};
+ghost use Rattle.naga_builder.specs.Building.{KeepsModule, KnowsNothing, no_extras};
 ghost use Rattle.naga_builder.specs.Building.{KeepsPredeclared, TellsPredeclared};
 ghost use Rattle.naga_ir.specs.declared.types.Type_.{Type_};
 ghost use Rattle.naga_ir.specs.declared.types.TypeInner.TheVariants as inner;
@@ -20,7 +20,7 @@ use std::alloc::{AllocError, Global};
 
 /// What an entry point of a mesh, task or ray stage has beside its function.
 #[derive(Debug, Clone, Copy, PartialEq, Eq)]
-pub struct StageParts {
+pub struct StageExtras {
     /// What a mesh stage has beside.
     pub mesh_info: Option<MeshStageInfo>,
     /// The global variable of the payload between a task and a mesh stage.
@@ -29,12 +29,12 @@ pub struct StageParts {
     pub incoming_ray_payload: Option<Handle<GlobalVariable>>,
 }
 
-impl StageParts {
+impl StageExtras {
     /// None of them, as of a vertex, fragment or compute stage.
     pub fn none() -> Self
-        ensures { result ≡ no_parts }
+        ensures { result ≡ no_extras }
     {
-        StageParts {
+        StageExtras {
             mesh_info: None,
             task_payload: None,
             incoming_ray_payload: None,
@@ -273,10 +273,10 @@ impl ModuleBuilder {
         function: FunctionBuilder,
     ) -> Result<(), AllocError>
         ensures ok { OnOk result
-            (AddsEntryPoint function label.now stage workgroup_size no_parts self.old self.new) }
+            (AddsEntryPoint function label.now stage workgroup_size no_extras self.old self.new) }
         ensures err { OnErr result (KeepsModule self.old self.new) }
     {
-        self.add_stage_entry_point(label, stage, workgroup_size, StageParts::none(), function)
+        self.add_stage_entry_point(label, stage, workgroup_size, StageExtras::none(), function)
     }
 
     /// Adds an entry point under the label by which pipelines name it, with the parts of its stage.
@@ -286,7 +286,7 @@ impl ModuleBuilder {
         label: &str,
         stage: ShaderStage,
         workgroup_size: [u32; 3],
-        parts: StageParts,
+        parts: StageExtras,
         function: FunctionBuilder,
     ) -> Result<(), AllocError>
         ensures ok { OnOk result

@@ -14,7 +14,7 @@ use Rattle.naga_info.specs.declared.info.ExpressionInfo.{ExpressionInfo}
 use Rattle.naga_info.specs.declared.info.ModuleInfo.{ModuleInfo}
 use Rattle.module_meaning.specs.acceptance.Accepted.{is_accepted}
 use Rattle.module_meaning.specs.acceptance.AgreeingOperators.{function_group}
-use Rattle.module_meaning.specs.ExpressionShapes.{Declared, shape_of}
+use Rattle.module_meaning.specs.ExpressionShapes.{ModuleDeclarations, shape_of}
 use Rattle.module_meaning.specs.FunctionShapes.{function_shape, shapes_from}
 use Rattle.module_meaning.specs.ModuleShapes.{module_shape}
 use Rattle.module_meaning.specs.ExpressionContexts.{declared, types_known}
@@ -85,7 +85,7 @@ module _ (m : ir_module.Module) (info : ModuleInfo) (accepted : IsTrue (is_accep
 
 -- ---- handles
 -- what is evaluated at an index of expressions that stand in a function from a handle on
-pub shapes_at : (d : Declared) (all : List ir.Expression) (n : ℕ) (es : List ir.Expression) (h : ℕ) →
+pub shapes_at : (d : ModuleDeclarations) (all : List ir.Expression) (n : ℕ) (es : List ir.Expression) (h : ℕ) →
     slice_get (shapes_from d all n es) h ≡ option_map (shape_of d all (n + h)) (slice_get es h)
 shapes_at d all n [] h = refl
 shapes_at d all n (e ∷ es) zero =
@@ -94,7 +94,7 @@ shapes_at d all n (e ∷ es) (suc h) =
     let at : (n + 1) + h ≡ n + suc h = omega arith in
     shapes_at d all (n + 1) es h ∙ ap (λ k. option_map (shape_of d all k) (slice_get es h)) at
 
-pub shapes_length : (d : Declared) (all : List ir.Expression) (n : ℕ) (es : List ir.Expression) →
+pub shapes_length : (d : ModuleDeclarations) (all : List ir.Expression) (n : ℕ) (es : List ir.Expression) →
     length (shapes_from d all n es) ≡ length es
 shapes_length d all n [] = refl
 shapes_length d all n (e ∷ es) = ap suc (shapes_length d all (n + 1) es)

@@ -50,7 +50,7 @@ use Rattle.naga_form.specs.Types.{annotated_type}
 use Rattle.naga_form.proofs.declarations.AcceptedGroups.{known_fits, types_are_fit}
 use Rattle.naga_form.proofs.types.SameValues.{IsFit, TypesAreFit}
 use Rattle.naga_form.proofs.types.WrittenTypes.{is_type_at, distinguished_is}
-use Rattle.module_meaning.specs.ExpressionShapes.{Declared}
+use Rattle.module_meaning.specs.ExpressionShapes.{ModuleDeclarations}
 use Rattle.naga_form.specs.ConstantForms.{written_constant_form}
 use Rattle.naga_form.proofs.statements.Abstraction.{AreWritten}
 use Rattle.module_meaning.specs.FunctionShapes.{function_shape}
@@ -98,7 +98,7 @@ module _ (m : Module) (info : ModuleInfo) (g : ℕ) (f : ir_function.Function)
   abbrev source : Source
   source = function_source flags m info f es
 
-  abbrev d : Declared
+  abbrev d : ModuleDeclarations
   d = source.declared
 
   formed : (s : Handles) → NamesAre s → (h : ℕ) → W h → IsPlainForm (plain_form own source s h)

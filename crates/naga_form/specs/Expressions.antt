@@ -28,7 +28,7 @@ use Rattle.module_meaning.specs.Conversions.{conversion_target, keeps_bits}
 use Rattle.module_meaning.specs.ExpressionOperators.{ExpressionContext, applied_operator}
 use Rattle.module_meaning.specs.ExpressionOperators.{constructor, is_depth_image, level_of}
 use Rattle.module_meaning.specs.ExpressionOperators.{load_operator, pointee_scalar, type_known}
-use Rattle.module_meaning.specs.ExpressionShapes.{Declared, part_selector, swizzle_letters}
+use Rattle.module_meaning.specs.ExpressionShapes.{ModuleDeclarations, part_selector, swizzle_letters}
 use Rattle.module_meaning.specs.OperatorTable.{Operator, WithoutForm, PartAt, is_zero_by_name}
 use Rattle.module_meaning.specs.OperatorTable.{zero_is_written}
 use Rattle.module_meaning.specs.ExpressionContexts.{declared, types_known}
@@ -141,7 +141,7 @@ selected_part (ElementAt index) base = IndexAt base index
 -- and variables of the module, and whether the text is for standard compilers
 pub record Source : Type 0 where
   pub expressions : List ir.Expression
-  pub declared : Declared
+  pub declared : ModuleDeclarations
   pub type_names : TypeNames
   -- the form of a constant
   pub constant : ℕ → Expression

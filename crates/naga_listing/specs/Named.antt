@@ -58,15 +58,15 @@ given_spots f handle e =
     ++ map spot.Statement (option_to_list (giver f.body handle))
 
 -- what a part of a function names of it
-abbrev pub part_spots : Function → Spot → List Spot
-part_spots f (spot.Local handle) =
+abbrev pub spots_in_function : Function → Spot → List Spot
+spots_in_function f (spot.Local handle) =
     option_map_or (λ local. map spot.Expression (option_to_list local.init))
     (slice_get f.local_variables handle) []
-part_spots f (spot.Expression handle) =
+spots_in_function f (spot.Expression handle) =
     option_map_or (given_spots f handle) (slice_get f.expressions handle) []
-part_spots f (spot.Statement number) =
+spots_in_function f (spot.Statement number) =
     option_map_or statement_spots (slice_get (trees_in f.body) number) []
-part_spots f _ = []
+spots_in_function f _ = []
 
 abbrev pub size_spots : ArraySize → List Spot
 size_spots (size.Pending handle) = spot.Override handle ∷ []
@@ -113,9 +113,9 @@ declared_spots m _ = []
 abbrev pub listed_spots : Module → Listed → Spot → List Spot
 listed_spots m listed.Declarations s = declared_spots m s
 listed_spots m (listed.Function handle) s =
-    option_map_or (λ f. part_spots f s) (slice_get m.functions handle) []
+    option_map_or (λ f. spots_in_function f s) (slice_get m.functions handle) []
 listed_spots m (listed.EntryPoint index) s =
-    option_map_or (λ e. part_spots e.function s) (slice_get m.entry_points.items index) []
+    option_map_or (λ e. spots_in_function e.function s) (slice_get m.entry_points.items index) []
 
 -- what a position names, and what is to be seen beside it
 abbrev pub named_spots : Module → ListingPosition → List Spot

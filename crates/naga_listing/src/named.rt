@@ -7,7 +7,7 @@ ghost use Rattle.naga_ir.specs.StatementViews.{tree_of};
 ghost use Rattle.naga_listing.specs.declared.positions.Spot.TheVariants as spot;
 ghost use Rattle.naga_listing.specs.Named.{beside_operands, declared_spots, global_spots};
 ghost use Rattle.naga_listing.specs.Named.{given_spots, listed_spots, most_named, named_spots, operand_spots};
-ghost use Rattle.naga_listing.specs.Named.{part_spots};
+ghost use Rattle.naga_listing.specs.Named.{spots_in_function};
 ghost use Rattle.naga_listing.specs.Named.{size_spots, statement_spots, type_spots, typed_spots};
 
 use crate::givers::giver_of;
@@ -63,11 +63,11 @@ fn listed_spots(
     match listed {
         Listed::Declarations => declared_spots(alloc, module, spot),
         Listed::Function(handle) => match item_at(&module.functions, *handle) {
-            Some(function) => part_spots(alloc, function, spot),
+            Some(function) => spots_in_function(alloc, function, spot),
             None => Ok(Vec::new(alloc)),
         },
         Listed::EntryPoint(index) => match entry_point_at(module, *index) {
-            Some(entry_point) => part_spots(alloc, &entry_point.function, spot),
+            Some(entry_point) => spots_in_function(alloc, &entry_point.function, spot),
             None => Ok(Vec::new(alloc)),
         },
     }
@@ -75,8 +75,12 @@ fn listed_spots(
 
 // ---- in a function
 
-fn part_spots(alloc: Global, function: &Function, spot: &Spot) -> Result<Vec<Spot>, AllocError>
-    ensures { IfOk result (λ spots. spots.items ≡ part_spots function.now spot.now) }
+fn spots_in_function(
+    alloc: Global,
+    function: &Function,
+    spot: &Spot,
+) -> Result<Vec<Spot>, AllocError>
+    ensures { IfOk result (λ spots. spots.items ≡ spots_in_function function.now spot.now) }
 {
     match spot {
         Spot::Local(handle) => match item_at(&function.local_variables, *handle) {

@@ -32,7 +32,7 @@ pub(crate) fn push_type(
     if handle.index() < context.types.len() {
         if types_in_order(context.types, context.overrides.len()) {
             let mut text = String::new(alloc);
-            spelled(context.write_type(alloc, handle, &mut text))?;
+            only_memory(context.write_type(alloc, handle, &mut text))?;
             return push_on_one_line(alloc, text.as_str(), out);
         }
     }
@@ -52,7 +52,7 @@ fn push_inner(
     if type_fits(context.types.len(), overrides, inner) {
         if types_in_order(context.types, overrides) {
             let mut text = String::new(alloc);
-            spelled(context.write_type_inner(alloc, inner, &mut text))?;
+            only_memory(context.write_type_inner(alloc, inner, &mut text))?;
             return push_on_one_line(alloc, text.as_str(), out);
         }
     }
@@ -65,7 +65,7 @@ fn push_on_one_line(alloc: Global, text: &str, out: &mut String) -> Result<(), A
 }
 
 /// Want of memory alone: these contexts refuse no type, and a text does not fail otherwise.
-fn spelled(written: Result<(), TypeTextError>) -> Result<(), AllocError> {
+fn only_memory(written: Result<(), TypeTextError>) -> Result<(), AllocError> {
     match written {
         Err(TypeTextError::Memory(error)) => Err(error),
         Err(TypeTextError::Sink(SinkError::Memory(error))) => Err(error),

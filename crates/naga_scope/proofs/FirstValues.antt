@@ -18,7 +18,7 @@ use Rattle.shader_runs.specs.Scope.{Availability, Handles, usable_as, usable_if,
 use Rattle.shader_runs.specs.Scope.{before_local, is_present}
 use Rattle.shader_runs.proofs.Update.{and_left, and_right, and_both}
 use Rattle.module_meaning.specs.ExpressionOperators.{is_atomic_pointer}
-use Rattle.module_meaning.specs.ExpressionShapes.{Declared, shape_of, applied_or, applied_shape}
+use Rattle.module_meaning.specs.ExpressionShapes.{ModuleDeclarations, shape_of, applied_or, applied_shape}
 use Rattle.module_meaning.specs.ExpressionShapes.{part_selector, part_shape}
 use Rattle.module_meaning.specs.FunctionShapes.{function_shape}
 use Rattle.module_meaning.specs.OperatorTable.{Operator as TableOperator, AtomicLoad, BinarySign}
@@ -72,7 +72,7 @@ module _ (m : Module) (info : ModuleInfo) (f : ir_function.Function) (es : List 
   abbrev shape : Function
   shape = function_shape m info f es
 
-  abbrev d : Declared
+  abbrev d : ModuleDeclarations
   d = declared m info (types_known es)
 
   fewer : local_count (before_local shape i) ≡ min i (local_count shape)

@@ -8,7 +8,7 @@ use Rattle.std.specs.Result.{result_and}
 use Rattle.std.proofs.lemmas.Option.{slice_get_within}
 use Rattle.module_meaning.proofs.ExpressionShapes.{shape_operands}
 use Rattle.module_meaning.specs.ExpressionOperators.{constructor}
-use Rattle.module_meaning.specs.ExpressionShapes.{Declared, built, constant_tree, shape_of}
+use Rattle.module_meaning.specs.ExpressionShapes.{ModuleDeclarations, built, constant_tree, shape_of}
 use Rattle.module_meaning.specs.ExpressionShapes.{tree_over, tree_then, tree_within, trees_of}
 use Rattle.module_meaning.specs.FunctionShapes.{function_shape}
 use Rattle.module_meaning.specs.OperatorTable.{Operator, Splat}
@@ -40,7 +40,7 @@ module _ (m : Module) (info : ModuleInfo) (f : ir_function.Function) (es : List 
   abbrev shape : Function
   shape = function_shape m info f es
 
-  abbrev d : Declared
+  abbrev d : ModuleDeclarations
   d = declared m info (types_known es)
 
   -- the tree of a handle, where there is one, is a constant at the start

@@ -21,7 +21,7 @@ use Rattle.shader_runs.specs.Scope.{Handles, Availability, is_present, is_consta
 use Rattle.shader_runs.specs.Scope.{usable_as}
 use Rattle.shader_runs.specs.Value.{Selector}
 use Rattle.module_meaning.specs.ExpressionOperators.{ExpressionContext, is_atomic_pointer}
-use Rattle.module_meaning.specs.ExpressionShapes.{Declared, shape_of, applied_or, applied_shape}
+use Rattle.module_meaning.specs.ExpressionShapes.{ModuleDeclarations, shape_of, applied_or, applied_shape}
 use Rattle.module_meaning.specs.ExpressionShapes.{part_selector, part_shape}
 use Rattle.module_meaning.specs.LetCounts.{is_bound_by_uses, uses_of}
 use Rattle.module_meaning.specs.FunctionShapes.{function_shape}
@@ -68,7 +68,7 @@ module _ (m : Module) (info : ModuleInfo) (f : ir_function.Function) (es : List 
   abbrev shape : Function
   shape = function_shape m info f es
 
-  abbrev d : Declared
+  abbrev d : ModuleDeclarations
   d = declared m info (types_known es)
 
   tested : (test : ExpressionKind → Bool) → test kind.Request ≡ test kind.Load → (h : ℕ) →

@@ -33,8 +33,8 @@ use Rattle.naga_scope.specs.InOrder.{own_lets}
 use Rattle.naga_scope.specs.Lines.{declared_type, is_before, lets_at}
 use Rattle.naga_scope.specs.Marks.{is_one_of}
 use Rattle.naga_scope.specs.SpelledTypes.{FindsAnnotated, argument_types, declared_unsupported}
-use Rattle.naga_scope.specs.SpelledTypes.{first_unsupported, is_annotated_unsupported}
-use Rattle.naga_scope.specs.SpelledTypes.{is_unsupported, is_unsupported_let, local_types}
+use Rattle.naga_scope.specs.SpelledTypes.{first_unspellable, is_annotated_unsupported}
+use Rattle.naga_scope.specs.SpelledTypes.{is_unspellable, is_unsupported_let, local_types}
 use Rattle.naga_scope.specs.SpelledTypes.{own_annotated, result_types}
 use Rattle.naga_scope.specs.declared.lines.Declared.{Declared}
 use Rattle.naga_scope.specs.declared.lines.Declared.TheVariants.{Argument, Local}
@@ -140,25 +140,25 @@ numbered_locals ps = map (λ p. (Local p.0, p.1.ty)) ps
 -- a search from an argument on, by whether its type has no form
 module _ (m : Module) (xs : List FunctionArgument) (i n : ℕ) (x : FunctionArgument) (lt : i < length xs)
     (is : x ≡ slice_index_or xs i x) where
-  from_argument : first_unsupported m (arguments_from n (drop i xs)) ≡
-      cond (is_unsupported m x.ty) (Some (Argument n, x.ty))
-      (first_unsupported m (arguments_from (n + 1) (drop (i + 1) xs)))
-  from_argument = ap (λ ys. first_unsupported m (arguments_from n ys)) (drop_first i xs x lt is)
+  from_argument : first_unspellable m (arguments_from n (drop i xs)) ≡
+      cond (is_unspellable m x.ty) (Some (Argument n, x.ty))
+      (first_unspellable m (arguments_from (n + 1) (drop (i + 1) xs)))
+  from_argument = ap (λ ys. first_unspellable m (arguments_from n ys)) (drop_first i xs x lt is)
 
-  pub found_argument : is_unsupported m x.ty ≡ true → Some (Argument n, x.ty)
-      ≡ first_unsupported m (arguments_from n (drop i xs))
+  pub found_argument : is_unspellable m x.ty ≡ true → Some (Argument n, x.ty)
+      ≡ first_unspellable m (arguments_from n (drop i xs))
   found_argument passes =
       sym (from_argument
       ∙ ap (λ b. cond b (Some (Argument n, x.ty))
-      (first_unsupported m (arguments_from (n + 1) (drop (i + 1) xs)))) passes)
+      (first_unspellable m (arguments_from (n + 1) (drop (i + 1) xs)))) passes)
 
-  pub not_argument : is_unsupported m x.ty ≡ false →
-      first_unsupported m (arguments_from (n + 1) (drop (i + 1) xs))
-      ≡ first_unsupported m (arguments_from n (drop i xs))
+  pub not_argument : is_unspellable m x.ty ≡ false →
+      first_unspellable m (arguments_from (n + 1) (drop (i + 1) xs))
+      ≡ first_unspellable m (arguments_from n (drop i xs))
   not_argument fails =
       sym (from_argument
       ∙ ap (λ b. cond b (Some (Argument n, x.ty))
-      (first_unsupported m (arguments_from (n + 1) (drop (i + 1) xs)))) fails)
+      (first_unspellable m (arguments_from (n + 1) (drop (i + 1) xs)))) fails)
 
 -- the same by what is among a list
 pub there_among : {X : Type 0} (xs : List X) (x : X) → IsAmong xs x → (i : ℕ) × (slice_get xs i ≡ Some x)
@@ -201,26 +201,26 @@ module _ {X : Type 0} (p : X → Bool) where
 -- the first of all is the first of the arguments', or of the result's, or of the locals'
 pub parted : (m : Module) (f : Function) →
     declared_unsupported m f ≡
-    option_or (first_unsupported m (argument_types f.arguments.items))
-    (option_or (first_unsupported m (result_types f.result)) (first_unsupported m (local_types f.local_variables)))
+    option_or (first_unspellable m (argument_types f.arguments.items))
+    (option_or (first_unspellable m (result_types f.result)) (first_unspellable m (local_types f.local_variables)))
 parted m f =
-    find-append (λ d. is_unsupported m d.1) (argument_types f.arguments.items)
+    find-append (λ d. is_unspellable m d.1) (argument_types f.arguments.items)
     (result_types f.result ++ local_types f.local_variables)
-    ∙ ap (option_or (first_unsupported m (argument_types f.arguments.items)))
-    (find-append (λ d. is_unsupported m d.1) (result_types f.result) (local_types f.local_variables))
+    ∙ ap (option_or (first_unspellable m (argument_types f.arguments.items)))
+    (find-append (λ d. is_unspellable m d.1) (result_types f.result) (local_types f.local_variables))
 
 none_more : (x : ℕ) → 0 + x ≡ x
 none_more x = omega arith
 
 module _ (m : Module) (f : Function) where
   abbrev lacks : Declared × ℕ → Bool
-  lacks d = is_unsupported m d.1
+  lacks d = is_unspellable m d.1
 
   abbrev IsSpellable : ℕ → Type 0
   IsSpellable ty = is_spellable m (Handle ty) ≡ true
 
   -- where no argument has a type without a form, and so on
-  arguments_spelled : first_unsupported m (argument_types f.arguments.items) ≡ None → (i ty : ℕ) →
+  arguments_spelled : first_unspellable m (argument_types f.arguments.items) ≡ None → (i ty : ℕ) →
       declared_type f (Argument i) ≡ Some ty → IsSpellable ty
   arguments_spelled none i ty is =
       let a = map_some (λ a. a.ty) (slice_get f.arguments.items i) ty is in
@@ -228,7 +228,7 @@ module _ (m : Module) (f : Function) where
       subst IsSpellable a.2
       (not-false _ (none_passes lacks (argument_types f.arguments.items) none i (Argument (0 + i), a.0.ty) at))
 
-  result_spelled : first_unsupported m (result_types f.result) ≡ None → (ty : ℕ) →
+  result_spelled : first_unspellable m (result_types f.result) ≡ None → (ty : ℕ) →
       declared_type f declared.Result ≡ Some ty → IsSpellable ty
   result_spelled none ty is =
       let r = map_some (λ r. r.ty) f.result ty is in
@@ -245,7 +245,7 @@ module _ (m : Module) (f : Function) where
       let v = map_some (λ l. l.ty) (slice_get f.local_variables i) ty is in
       numbered_at (λ p. (Local p.0, p.1.ty)) 0 f.local_variables i v.0 v.1 ∙ (λ j. Some (Local (none_more i j), v.2 j))
 
-  locals_spelled : first_unsupported m (local_types f.local_variables) ≡ None → (i ty : ℕ) →
+  locals_spelled : first_unspellable m (local_types f.local_variables) ≡ None → (i ty : ℕ) →
       declared_type f (Local i) ≡ Some ty → IsSpellable ty
   locals_spelled none i ty is =
       not-false _ (none_passes lacks (local_types f.local_variables) none i (Local i, ty) (local_at i ty is))
@@ -255,9 +255,9 @@ module _ (m : Module) (f : Function) where
       ≡ Some ty → IsSpellable ty
   declared_spelled none at ty is = by (neither _ _ (sym (parted m f) ∙ none)) at is
     where
-      by : (first_unsupported m (argument_types f.arguments.items) ≡ None)
-          × (option_or (first_unsupported m (result_types f.result))
-          (first_unsupported m (local_types f.local_variables)) ≡ None) →
+      by : (first_unspellable m (argument_types f.arguments.items) ≡ None)
+          × (option_or (first_unspellable m (result_types f.result))
+          (first_unspellable m (local_types f.local_variables)) ≡ None) →
           (at : Declared) → declared_type f at ≡ Some ty → IsSpellable ty
       by both (Argument i) is = arguments_spelled both.0 i ty is
       by both declared.Result is = result_spelled (neither _ _ both.1).0 ty is
@@ -290,11 +290,11 @@ module _ (m : Module) (f : Function) where
 
   pub declared_found : (found : Declared × ℕ) → declared_unsupported m f ≡ Some found → FirstDeclared found
   declared_found found is =
-      by (first_unsupported m (argument_types f.arguments.items)) (first_unsupported m (result_types f.result))
-      (first_unsupported m (local_types f.local_variables)) refl refl refl (sym (parted m f) ∙ is)
+      by (first_unspellable m (argument_types f.arguments.items)) (first_unspellable m (result_types f.result))
+      (first_unspellable m (local_types f.local_variables)) refl refl refl (sym (parted m f) ∙ is)
     where
-      by : (a r l : Option (Declared × ℕ)) → first_unsupported m (argument_types f.arguments.items) ≡ a →
-          first_unsupported m (result_types f.result) ≡ r → first_unsupported m (local_types f.local_variables) ≡ l →
+      by : (a r l : Option (Declared × ℕ)) → first_unspellable m (argument_types f.arguments.items) ≡ a →
+          first_unspellable m (result_types f.result) ≡ r → first_unspellable m (local_types f.local_variables) ≡ l →
           option_or a (option_or r l) ≡ Some found → FirstDeclared found
       by (Some x) r l arguments result locals is =
           let same : x ≡ found = cc in

@@ -39,15 +39,15 @@ declared_types f =
     argument_types f.arguments.items ++ (result_types f.result ++ local_types f.local_variables)
 
 -- no text can spell it
-abbrev pub is_unsupported : Module → (ty : ℕ) → Bool
-is_unsupported m ty = not (is_spellable m (Handle ty))
+abbrev pub is_unspellable : Module → (ty : ℕ) → Bool
+is_unspellable m ty = not (is_spellable m (Handle ty))
 
 -- the first of some that none can, and of all of them
-abbrev pub first_unsupported : Module → List (Declared × ℕ) → Option (Declared × ℕ)
-first_unsupported m types = find (λ d. is_unsupported m d.1) types
+abbrev pub first_unspellable : Module → List (Declared × ℕ) → Option (Declared × ℕ)
+first_unspellable m types = find (λ d. is_unspellable m d.1) types
 
 abbrev pub declared_unsupported : Module → Function → Option (Declared × ℕ)
-declared_unsupported m f = first_unsupported m (declared_types f)
+declared_unsupported m f = first_unspellable m (declared_types f)
 
 -- a type is told, since it names no struct that no text declares, and has no form
 abbrev pub is_annotated_unsupported : Module → TypeResolution → Bool

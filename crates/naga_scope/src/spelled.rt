@@ -9,7 +9,7 @@ ghost use Rattle.naga_ir.specs.InOrder.{trees_of};
 ghost use Rattle.naga_scope.specs.InOrder.{own_lets};
 ghost use Rattle.naga_scope.specs.KnownFunctions.{bound_in};
 ghost use Rattle.naga_scope.specs.SpelledTypes.{FindsAnnotated, argument_types};
-ghost use Rattle.naga_scope.specs.SpelledTypes.{declared_unsupported, first_unsupported};
+ghost use Rattle.naga_scope.specs.SpelledTypes.{declared_unsupported, first_unspellable};
 ghost use Rattle.naga_scope.specs.SpelledTypes.{is_unsupported_let, local_types, result_types};
 ghost use Rattle.naga_scope.specs.Tables.{AreTablesOf};
 ghost use Rattle.shader_runs.specs.Program.{from};
@@ -29,7 +29,7 @@ fn argument_without_form(
     arguments: &[FunctionArgument],
 ) -> Option<(Declared, Handle<Type_>)>
     requires tables { AreTablesOf «module».now tables.now }
-    ensures { result ≡ first_unsupported «module».now (argument_types arguments.now) }
+    ensures { result ≡ first_unspellable «module».now (argument_types arguments.now) }
 {
     let mut index = 0;
     for argument in arguments {
@@ -47,7 +47,7 @@ fn answer_without_form(
     answer: &Option<FunctionResult>,
 ) -> Option<(Declared, Handle<Type_>)>
     requires tables { AreTablesOf «module».now tables.now }
-    ensures { result ≡ first_unsupported «module».now (result_types answer.now) }
+    ensures { result ≡ first_unspellable «module».now (result_types answer.now) }
 {
     match answer {
         Some(answer) => {
@@ -67,7 +67,7 @@ fn local_without_form(
     function: &Function,
 ) -> Option<(Declared, Handle<Type_>)>
     requires tables { AreTablesOf «module».now tables.now }
-    ensures { result ≡ first_unsupported «module».now (local_types function.now.local_variables) }
+    ensures { result ≡ first_unspellable «module».now (local_types function.now.local_variables) }
 {
     for (handle, local) in function.local_variables.iter() {
         if !tables.is_spellable(module, local.ty) {

@@ -48,7 +48,7 @@ use Rattle.naga_wgsl_fns.specs.Expressions.{applied_text, called_text, form_at, 
 use Rattle.naga_wgsl_fns.specs.Expressions.{global_reference_text, global_value_text, load_text}
 use Rattle.naga_wgsl_fns.specs.Expressions.{next_operand_text, operands_at, operands_left}
 use Rattle.naga_wgsl_fns.specs.Expressions.{operands_text, own_form, own_text, pointed_text}
-use Rattle.naga_wgsl_fns.specs.Expressions.{reference_text, spaced_text, value_text, base_of}
+use Rattle.naga_wgsl_fns.specs.Expressions.{reference_text, spaced_text, value_text, accessed_base}
 use Rattle.naga_wgsl_fns.specs.Expressions.{part_reference_text, part_value_text}
 use Rattle.naga_wgsl_fns.specs.Expressions.{plain_address_text, plain_text, plain_tree}
 use Rattle.naga_wgsl_fns.specs.FunctionText.{named_in, type_names_of, CanWrite, IsInText, context}
@@ -282,7 +282,7 @@ own_row f table handle can within = by (slice_get (expressions f) handle) refl
     loaded pointer true = refl
 
     parted : (e : Option ir.Expression) → slice_get (expressions f) handle ≡ e → (base : ℕ) →
-        base_of e ≡ Some base →
+        accessed_base e ≡ Some base →
         expression_layout (as_value (own_if (naming f) (source f) operand e)) ≡
         part_value_text f table handle base
     parted e at base is =
@@ -390,7 +390,8 @@ reference_row f table handle can within =
         ap expression_layout value
         ∙ (ap (λ o. expression_layout (Dereference (as_value (own o)))) (sym at) ∙ pointed mine)
 
-    parted : form_at f table handle ≡ own e → (o : Option ir.Expression) → e ≡ o → (base : ℕ) → base_of o ≡ Some base →
+    parted : form_at f table handle ≡ own e → (o : Option ir.Expression) → e ≡ o → (base : ℕ) → accessed_base o
+        ≡ Some base →
         expression_layout (as_reference (own o)) ≡ part_reference_text f table handle base
     parted mine o at base here =
         let p = part_form f table can handle within o at base here in

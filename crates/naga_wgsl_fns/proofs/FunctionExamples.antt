@@ -103,7 +103,7 @@ module _ (other : Module) (more : ModuleInfo) (o : Override) (first : Function)
       (writing : FunctionWriting m info flags earlier (item.Function 0) (Ok answer) namer content now
       before after) (named : LabelNames) (agree : AreNamesOfText m earlier 0 named) where
     meant : IsMeantUnder named flags m info (item.Function 0) content now
-    meant = (writing.meaning later begins).under named agree
+    meant = (writing.as_meant later begins).under named agree
 
     lets : BindsAt named m info (annotates_types flags)
         (program_under named m info flags) 0

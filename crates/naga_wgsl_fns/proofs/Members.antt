@@ -13,7 +13,7 @@ use Rattle.naga_ir.specs.declared.types.TypeInner.{TypeInner}
 use Rattle.naga_ir.specs.declared.types.TypeInner.TheVariants as inner
 use Rattle.naga_words.specs.Spelling.{is_struct}
 use Rattle.module_meaning.specs.ExpressionOperators.{type_with}
-use Rattle.module_meaning.specs.ExpressionShapes.{Declared, own_selector, selector}
+use Rattle.module_meaning.specs.ExpressionShapes.{ModuleDeclarations, own_selector, selector}
 use Rattle.module_meaning.specs.Undeclared.{whole_of}
 use Rattle.naga_form.proofs.operators.AllowedParts.{no_own_struct}
 use Rattle.naga_form.proofs.types.SameValues.{IsFit}
@@ -21,12 +21,12 @@ use Rattle.naga_wgsl_fns.specs.Expressions.{struct_at}
 use Rattle.shader_runs.specs.Value.{MemberNamed}
 
 -- a part of a struct is a member
-struct_selected : (d : Declared) (k index : ℕ) (it : TypeInner) → is_struct it ≡ true →
+struct_selected : (d : ModuleDeclarations) (k index : ℕ) (it : TypeInner) → is_struct it ≡ true →
     selector d (Some k) it index ≡ Some (MemberNamed (d.member k index))
 struct_selected d k index (inner.Struct members span) is = refl
 struct_selected d k index _ is = absurd cc
 
-own_member : (d : Declared) (k index : ℕ) (it : TypeInner) → is_struct it ≡ true →
+own_member : (d : ModuleDeclarations) (k index : ℕ) (it : TypeInner) → is_struct it ≡ true →
     own_selector d (Some k) it index ≡ Some (MemberNamed (d.member k index))
 own_member d k index (inner.Struct members span) is = refl
 own_member d k index _ is = absurd cc
@@ -75,7 +75,7 @@ module _ (m : Module) where
       by None at is = absurd cc
 
   -- the struct of which a part is taken has it as a member
-  pub member_selected : (d : Declared) → d.context.types ≡ m.types → (r : TypeResolution)
+  pub member_selected : (d : ModuleDeclarations) → d.context.types ≡ m.types → (r : TypeResolution)
       (it : TypeInner) (index h : ℕ) → inner_of r m.types ≡ Some it →
       option_and_then (struct_at m.types) (whole_of r it) ≡ Some h →
       selector d (handle_of r) it index ≡ Some (MemberNamed (d.member h index))

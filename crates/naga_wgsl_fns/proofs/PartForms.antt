@@ -12,7 +12,7 @@ use Rattle.naga_form.proofs.operators.AllowedParts.{selected}
 use Rattle.naga_form.specs.Expressions.{PlainForm, as_value, as_reference, applied_plain, no_form}
 use Rattle.naga_form.specs.Expressions.{own_if, part_plain, is_pointer, selected_part}
 use Rattle.naga_scope.specs.declared.points.Availability.{Availability}
-use Rattle.naga_wgsl_fns.specs.Expressions.{base_of, form_at, index_text, is_signed, number_text}
+use Rattle.naga_wgsl_fns.specs.Expressions.{accessed_base, form_at, index_text, is_signed, number_text}
 use Rattle.naga_wgsl_fns.specs.Expressions.{part_end, plain_tree, selector_end, selector_text}
 use Rattle.naga_wgsl_fns.specs.Expressions.{value_text, word_text}
 use Rattle.naga_wgsl_fns.proofs.Preconditions.{expression_formed}
@@ -78,7 +78,7 @@ module _ (f : FunctionText) (table : List Availability) (can : CanWrite f) where
       }
 
   pub part_form : (handle : ℕ) → IsInText f handle → (e : Option ir.Expression) →
-      slice_get (expressions f) handle ≡ e → (base : ℕ) → base_of e ≡ Some base →
+      slice_get (expressions f) handle ≡ e → (base : ℕ) → accessed_base e ≡ Some base →
       PartForm f table e base
   part_form handle within (Some (expression.Access b index)) at base is =
       subst (PartForm f table (Some (expression.Access b index))) (same_Some b base is)

@@ -16,7 +16,7 @@ use Rattle.naga_scope.specs.declared.points.Availability.{Availability}
 use Rattle.naga_words.specs.Output.{joined_texts}
 use Rattle.naga_wgsl_fns.specs.declared.functions.FunctionText.{FunctionText}
 use Rattle.naga_wgsl_fns.specs.Expressions.{base_text, form_at, is_signed, letter_at, member_text}
-use Rattle.naga_wgsl_fns.specs.Expressions.{parenthesized_text, value_text, base_of, index_text}
+use Rattle.naga_wgsl_fns.specs.Expressions.{parenthesized_text, value_text, accessed_base, index_text}
 use Rattle.naga_wgsl_fns.specs.Expressions.{number_text, part_base, part_end, selector_end}
 use Rattle.naga_wgsl_fns.specs.Expressions.{selector_of, selector_text, named_member_text}
 use Rattle.naga_wgsl_fns.specs.Expressions.{part_base_text, part_end_text, part_reference_text}
@@ -135,7 +135,7 @@ unfolding plain_address_text plain_text joined_texts
 plain_address_row f table handle = address_row_text (plain_tree (own_form f table handle))
 
 pub plain_row : (f : FunctionText) (table : List Availability) (handle base : ℕ) → CanWrite f →
-    IsInText f handle → base_of (slice_get (expressions f) handle) ≡ Some base →
+    IsInText f handle → accessed_base (slice_get (expressions f) handle) ≡ Some base →
     plain_text f table handle ≡
     joined_texts (part_base_text f table base) (part_end_text f table handle)
 unfolding plain_text part_base_text part_end_text joined_texts
@@ -190,12 +190,12 @@ element_end f table handle e b index here is =
 pub selected_end : (f : FunctionText) (table : List Availability) (handle base : ℕ)
     (e : ir.Expression)
     (b index : ℕ) → slice_get (expressions f) handle ≡ Some e → e ≡ expression.AccessIndex b index →
-    base_of (slice_get (expressions f) handle) ≡ Some base →
+    accessed_base (slice_get (expressions f) handle) ≡ Some base →
     selector_text f base index ≡ part_end_text f table handle
 unfolding part_end_text
 selected_end f table handle base e b index here is part =
     let there = here ∙ ap Some is in
-    let same = same_Some b base (sym (ap base_of there) ∙ part) in
+    let same = same_Some b base (sym (ap accessed_base there) ∙ part) in
     ap (λ b. selector_text f b index) (sym same) ∙ sym (ap (part_end f table) there)
 
 -- by whether the base points
@@ -430,7 +430,7 @@ signed_row f table handle can within =
         below_unsigned (naming f) (source f) (handles_in f table) (length (expressions f)) pointer
 
     parted : (o : Option ir.Expression) → slice_get (expressions f) handle ≡ o → (base : ℕ) →
-        base_of o ≡ Some base →
+        accessed_base o ≡ Some base →
         is_signed (as_value (own_if (naming f) (source f) operand o)) ≡ false
     parted o at base is =
         let p = part_form f table can handle within o at base is in

@@ -4,7 +4,7 @@ use Rattle.naga_scope.specs.declared.plan.PlanError.TheVariants.{LetWithoutForm,
 use Rattle.naga_scope.specs.declared.plan.PlanError.TheVariants.{TypeWithoutForm, Unnamed}
 use Rattle.naga_scope.specs.declared.plan.PlanError.TheVariants.{WithoutForm}
 use Rattle.naga_wgsl_fns.specs.Refusals.{NamesStatement, ExpressionNamesAreFullIn, IsErrorOfNames}
-use Rattle.naga_wgsl_fns.specs.Refusals.{IsFault, IsWritableAt, IsOfPlan, IsPlanRefusal}
+use Rattle.naga_wgsl_fns.specs.Refusals.{IsReasonForNoPlan, IsWritableAt, IsOfPlan, IsPlanRefusal}
 use Rattle.naga_wgsl_fns.specs.Refusals.{HasUnsupportedIn, NamesConversion, NamesExpression}
 use Rattle.naga_wgsl_fns.specs.Refusals.{NamesUnsupportedType, NamesPart, NamesType, NamesUnspelled}
 use Rattle.naga_wgsl_fns.specs.Refusals.{NamesUnsupported, NamesLiteral, NamesMatrix, converted}
@@ -157,7 +157,7 @@ scope_fails (Some f) fault holds = fault_is_no_rule f fault holds
 
 -- a fault
 pub fault_fails : (explicit : Bool) (m : Module) (info : ModuleInfo) (earlier : List (List ℕ)) (i : ℕ)
-    (error : Error) → IsFault explicit m info earlier i error →
+    (error : Error) → IsReasonForNoPlan explicit m info earlier i error →
     IsWritableAt explicit m info earlier i → ⊥
 fault_fails explicit m info earlier i error (inl scope) w =
     scope_fails (function_shape_at m info i) scope.1 w.in_scope

@@ -43,7 +43,7 @@ use Rattle.naga_info.specs.declared.info.ModuleInfo.{ModuleInfo}
 use Rattle.naga_words.specs.Spelling.{is_struct}
 use Rattle.module_meaning.specs.ExpressionOperators.{has_parts, is_composite, type_known}
 use Rattle.module_meaning.specs.ExpressionOperators.{called_word}
-use Rattle.module_meaning.specs.ExpressionShapes.{Declared, component_letters, own_selector}
+use Rattle.module_meaning.specs.ExpressionShapes.{ModuleDeclarations, component_letters, own_selector}
 use Rattle.module_meaning.specs.ExpressionShapes.{part_selector, selector}
 use Rattle.naga_form.proofs.operators.AllowedParts.{LoadedMatrix, conversion, known_base}
 use Rattle.naga_form.proofs.operators.AllowedParts.{loaded_matrix, selector_is, whole_is}
@@ -65,7 +65,7 @@ use Rattle.naga_names.specs.declared.key.NameKey.TheVariants as key
 use Rattle.module_meaning.specs.Undeclared.{is_spellable, member_is_written, names_undeclared}
 use Rattle.module_meaning.specs.Undeclared.{part_has_form_at, whole_known, whole_of}
 use Rattle.shader_runs.specs.Value.{MemberNamed}
-use Rattle.naga_wgsl_fns.specs.Expressions.{base_of, is_of_components, struct_at, struct_known}
+use Rattle.naga_wgsl_fns.specs.Expressions.{accessed_base, is_of_components, struct_at, struct_known}
 use Rattle.naga_wgsl_fns.specs.Expressions.{has_components, is_vector, selector_of}
 use Rattle.module_meaning.specs.acceptance.Ranges.{is_below, local_in_range, names_in_range}
 use Rattle.module_meaning.specs.acceptance.Ranges.{resolution_fits}
@@ -309,7 +309,7 @@ module _ (t : FunctionText) (can : CanWrite t) where
       by _ is k written = absurd cc
 
   -- the letter of a component, where a vector has it or one that is pointed at
-  letter_of : (d : Declared) (whole : Option ℕ) (it : TypeInner) (index : ℕ) →
+  letter_of : (d : ModuleDeclarations) (whole : Option ℕ) (it : TypeInner) (index : ℕ) →
       is_struct it ≡ false → is_composite it ≡ true →
       own_selector d whole it index ≡
       Some (selector_of (if is_vector it then slice_get component_letters index else None) index)
@@ -504,7 +504,7 @@ module _ (t : FunctionText) (can : CanWrite t) where
 
   -- so does what a part is taken of
   part_in : (h : ℕ) (base : ℕ) (o : Option Expression) → slice_get f.expressions h ≡ o →
-      base_of o ≡ Some base → IsInText t h → IsOperand t h base
+      accessed_base o ≡ Some base → IsInText t h → IsOperand t h base
   part_in h base (Some (expression.Access b i)) at is within =
       subst (IsOperand t h) (same_Some b base is)
       (operands_in at refl within).0
@@ -514,18 +514,18 @@ module _ (t : FunctionText) (can : CanWrite t) where
   part_in h base (Some _) at is within = absurd cc
   part_in h base None at is within = absurd cc
 
-  pub base_in : (h base : ℕ) → base_of (slice_get f.expressions h) ≡ Some base → IsInText t h →
+  pub base_in : (h base : ℕ) → accessed_base (slice_get f.expressions h) ≡ Some base → IsInText t h →
       IsOperand t h base
   base_in h base is within = part_in h base (slice_get f.expressions h) refl is within
 
   -- a part at a known index that is written is one of what has parts
   pub part_has_form : (h base : ℕ) (e : Expression) (b i : ℕ) → slice_get f.expressions h ≡ Some e →
       IsInText t h → e ≡ expression.AccessIndex b i →
-      base_of (slice_get f.expressions h) ≡ Some base →
+      accessed_base (slice_get f.expressions h) ≡ Some base →
       expression_has_own_form m es (expression.AccessIndex base i) ≡ true
   part_has_form h base e b i here within is part =
       let there = here ∙ ap Some is in
-      let same = same_Some b base (sym (ap base_of there) ∙ part) in
+      let same = same_Some b base (sym (ap accessed_base there) ∙ part) in
       subst (λ b. expression_has_own_form m es (expression.AccessIndex b i) ≡ true) same
       (expression_formed h (expression.AccessIndex b i) there within)
 
@@ -542,12 +542,12 @@ module _ (t : FunctionText) (can : CanWrite t) where
 
   -- no other expression is a part at an index
   pub no_other_part : (h base : ℕ) (e : Expression) → slice_get f.expressions h ≡ Some e →
-      base_of (slice_get f.expressions h) ≡ Some base →
+      accessed_base (slice_get f.expressions h) ≡ Some base →
       ((b i : ℕ) → e ≡ expression.Access b i → ⊥) →
       ((b i : ℕ) → e ≡ expression.AccessIndex b i → ⊥) → ⊥
-  no_other_part h base e here part = by e (sym (ap base_of here) ∙ part)
+  no_other_part h base e here part = by e (sym (ap accessed_base here) ∙ part)
     where
-      by : (e : Expression) → base_of (Some e) ≡ Some base →
+      by : (e : Expression) → accessed_base (Some e) ≡ Some base →
           ((b i : ℕ) → e ≡ expression.Access b i → ⊥) →
           ((b i : ℕ) → e ≡ expression.AccessIndex b i → ⊥) → ⊥
       by (expression.Access b i) is one two = one b i refl

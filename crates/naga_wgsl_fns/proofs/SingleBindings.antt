@@ -30,7 +30,7 @@ module _ (b : Binding) (content : List ℕ) (before : ℕ) where
   binding_writes now after (Ok _) formed text_ok text_err kept reason = record {
     formed = formed;
     text_ok = text_ok;
-    meaning = binding_means b formed;
+    as_meant = binding_means b formed;
     failures_ok = kept;
     text_err = tt;
     reason = tt;
@@ -38,7 +38,7 @@ module _ (b : Binding) (content : List ℕ) (before : ℕ) where
   binding_writes now after (Err e) formed text_ok text_err kept reason = record {
     formed = tt;
     text_ok = tt;
-    meaning = tt;
+    as_meant = tt;
     failures_ok = tt;
     text_err = text_err;
     reason = inl reason;
@@ -49,7 +49,7 @@ module _ (b : Binding) (content : List ℕ) (before : ℕ) where
   binding_refused e unsupported named = record {
     formed = tt;
     text_ok = tt;
-    meaning = tt;
+    as_meant = tt;
     failures_ok = tt;
     text_err = ([], binding_text b, refl, sym (append-nil content));
     reason = inr (record {

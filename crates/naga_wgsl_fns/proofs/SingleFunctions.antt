@@ -272,7 +272,7 @@ module _ (m : Module) (info : ModuleInfo) (flags : WriterFlags) (earlier : List 
       refusals = subst (IsFunctionRefusal explicit m info earlier g before before) (sym reported) refusal;
       text_ok = tt;
       reading = tt;
-      meaning = tt;
+      as_meant = tt;
       failures_ok = tt;
       text_err = ([], whole, refl, sym (append-nil content));
       untouched = λ tells. (refl, refl);
@@ -358,7 +358,7 @@ module _ (m : Module) (info : ModuleInfo) (flags : WriterFlags) (earlier : List 
           refusals = record { head = head; plan = writable };
           text_ok = appended;
           reading = reads_one m info flags earlier accepted ty there head well_formed content now appended;
-          meaning = λ later is.
+          as_meant = λ later is.
               is_meant flags m info accepted ty earlier later is writable content now
               (stands_in m info flags earlier accepted ty there head well_formed content now appended);
           failures_ok = kept;
@@ -371,7 +371,7 @@ module _ (m : Module) (info : ModuleInfo) (flags : WriterFlags) (earlier : List 
       refusals = for_want before after e reason;
       text_ok = tt;
       reading = tt;
-      meaning = tt;
+      as_meant = tt;
       failures_ok = tt;
       text_err = subst (λ t. IsAfter content t now) text_same text_err;
       untouched = λ tells. absurd (want_tells_nothing before after e reason tells);

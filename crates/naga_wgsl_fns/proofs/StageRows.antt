@@ -18,7 +18,7 @@ use Rattle.module_meaning.specs.acceptance.Accepted.{is_accepted}
 use Rattle.module_meaning.specs.Names.{global_name, module_names}
 use Rattle.module_meaning.specs.acceptance.AgreeingOperators.{module_operators_agree}
 use Rattle.module_meaning.specs.acceptance.InfoSizes.{sizes_fit, type_is_fit}
-use Rattle.module_meaning.specs.acceptance.Ranges.{all_placed, declarations_in_range}
+use Rattle.module_meaning.specs.acceptance.Ranges.{all_by_handle, declarations_in_range}
 use Rattle.module_meaning.specs.acceptance.Ranges.{entry_point_in_range, function_in_range}
 use Rattle.module_meaning.specs.acceptance.Ranges.{is_below, module_in_range, module_ranges_fit}
 use Rattle.module_meaning.specs.acceptance.Soundness.{module_is_sound}
@@ -45,7 +45,7 @@ stage_is_there m info accepted i e at =
     let known = and_parts (list_all type_is_fit m.types) _ types.1 in
     let all = and_parts (module_in_range m) _ known.1 in
     let declared = and_parts (declarations_in_range m) _ all.0 in
-    let points = and_parts (all_placed (function_in_range m) m.functions)
+    let points = and_parts (all_by_handle (function_in_range m) m.functions)
     (list_all (entry_point_in_range m) m.entry_points.items) declared.1 in
     let own = list_all_at (entry_point_in_range m) m.entry_points.items i e points.1 at in
     let count = length m.global_variables in

@@ -34,7 +34,7 @@ pub record BindingWriting (b : Binding) (answer : Result Unit Error) (content no
   -- It appends the attributes of the binding, which has a form then, and they say how it is bound.
   pub formed : OnOk answer (IsTrue (binding_has_form b))
   pub text_ok : OnOk answer (now ≡ content ++ binding_text b)
-  pub meaning : OnOk answer (stage_binding_read (binding_attributes b) ≡ binding_meant b)
+  pub as_meant : OnOk answer (stage_binding_read (binding_attributes b) ≡ binding_meant b)
   pub failures_ok : OnOk answer (after ≡ before)
   -- A call that gives up leaves a beginning of them. It gives up for want of memory, because the
   -- sink failed, or where the binding has no form.

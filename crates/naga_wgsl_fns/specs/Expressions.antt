@@ -309,10 +309,10 @@ part_reference_text f table handle base =
     if is_pointer (context f) base then plain_text f table handle else pointed_text f table handle
 
 -- what an expression takes a part of, if it is a part at an index
-abbrev pub base_of : Option ir.Expression → Option ℕ
-base_of (Some (expression.Access base index)) = Some base
-base_of (Some (expression.AccessIndex base index)) = Some base
-base_of _ = None
+abbrev pub accessed_base : Option ir.Expression → Option ℕ
+accessed_base (Some (expression.Access base index)) = Some base
+accessed_base (Some (expression.AccessIndex base index)) = Some base
+accessed_base _ = None
 
 -- a value in parentheses
 unfoldable pub parenthesized_text : FunctionText → (table : List Availability) →

@@ -44,7 +44,7 @@ use Rattle.naga_back.specs.Flags.{annotates_types}
 use Rattle.naga_wgsl_fns.specs.Functions.{text_under}
 use Rattle.naga_wgsl_fns.specs.GlobalExpressions.{RefusesGlobalOnlyFor}
 use Rattle.naga_wgsl_fns.specs.DeclarationRefusals.{NamesHead}
-use Rattle.naga_wgsl_fns.specs.Refusals.{HasNamedLabels, IsFault, IsWritableAt, TellsOfModule}
+use Rattle.naga_wgsl_fns.specs.Refusals.{HasNamedLabels, IsReasonForNoPlan, IsWritableAt, TellsOfModule}
 use Rattle.naga_wgsl_fns.specs.declared.refusals.error.Error.{Error}
 use Rattle.naga_wgsl_fns.specs.declared.refusals.error.Error.TheVariants.{FmtError, Memory}
 
@@ -72,7 +72,7 @@ abbrev pub IsFunctionRefusal : (explicit : Bool) → Module → ModuleInfo →
 IsFunctionRefusal explicit m info earlier number before now (FmtError e) = IsSinkWant before now e
 IsFunctionRefusal explicit m info earlier number before now (Memory e) = ⊤
 IsFunctionRefusal explicit m info earlier number before now error =
-    NamesHead m number error ⊎ IsFault explicit m info earlier number error
+    NamesHead m number error ⊎ IsReasonForNoPlan explicit m info earlier number error
 
 -- no reason stands in the function
 pub record IsWritableFunction (explicit : Bool) (m : Module) (info : ModuleInfo)
@@ -232,7 +232,7 @@ pub record FunctionWriting (m : Module) (info : ModuleInfo) (flags : WriterFlags
   -- `let`s, what its identifiers and words stand for, and its runs are the module's, whatever
   -- stands in the functions that it can't call, in any program in which its labels have the names
   -- that they got here.
-  pub meaning : OnOk answer ((later : List (List ℕ)) → earlier ≡ item_labels m ++ later →
+  pub as_meant : OnOk answer ((later : List (List ℕ)) → earlier ≡ item_labels m ++ later →
       IsMeant flags m info earlier ty content now)
   pub failures_ok : OnOk answer (after ≡ before)
   -- A call that gives up leaves a beginning of it, and nothing where it tells of the module.

@@ -354,9 +354,9 @@ pub record IsWritableAt (explicit : Bool) (m : Module) (info : ModuleInfo)
 -- why it has no plan: it breaks a rule of scope at some place, a statement without a form stands in
 -- it, an expression without one is written there or a type without one spelled, a label that a
 -- front end gave in it gets no name, or memory ran out
-abbrev pub IsFault : (explicit : Bool) → Module → ModuleInfo → (earlier : List (List ℕ)) →
+abbrev pub IsReasonForNoPlan : (explicit : Bool) → Module → ModuleInfo → (earlier : List (List ℕ)) →
     (number : ℕ) → Error → Type 0
-IsFault explicit m info earlier number error =
+IsReasonForNoPlan explicit m info earlier number error =
     (TellsOfScope error × HasScopeFaultIn m info number)
     ⊎ (HasUnsupportedIn explicit m info number error
     ⊎ (TellsOfFullNamer error × ExpressionNamesAreFullIn m earlier number))
@@ -365,7 +365,7 @@ abbrev pub IsPlanRefusal : (explicit : Bool) → Module → ModuleInfo → (earl
     (number : ℕ) → Error → Type 0
 IsPlanRefusal explicit m info earlier number (Memory e) = ⊤
 IsPlanRefusal explicit m info earlier number error =
-    TellsOfModule error × IsFault explicit m info earlier number error
+    TellsOfModule error × IsReasonForNoPlan explicit m info earlier number error
 
 -- the handle that an error of a plan tells of has an expression without a form, or one of which a
 -- type is known; and what is told is the name of that, or what else the error says

@@ -31,14 +31,14 @@ function_position (plan_error.Unnamed error) = part.Labels
 function_position (plan_error.Memory error) = part.Labels
 
 -- memory ran out
-abbrev pub is_names_want : NamerError → Bool
-is_names_want (namer_error.Memory e) = true
-is_names_want _ = false
+abbrev pub namer_lacks_memory : NamerError → Bool
+namer_lacks_memory (namer_error.Memory e) = true
+namer_lacks_memory _ = false
 
-abbrev pub is_want : PlanError → Bool
-is_want (plan_error.Unnamed error) = is_names_want error
-is_want (plan_error.Memory e) = true
-is_want _ = false
+abbrev pub plan_lacks_memory : PlanError → Bool
+plan_lacks_memory (plan_error.Unnamed error) = namer_lacks_memory error
+plan_lacks_memory (plan_error.Memory e) = true
+plan_lacks_memory _ = false
 
 -- With this namer the function with this number has no plan, for the first construct in the order of
 -- the text, which stands at this part of the function.
@@ -50,7 +50,7 @@ pub record IsRefusedFor (explicit : Bool) (m : Module) (info : ModuleInfo) (numb
   pub told : OfFunctionAt m info number (λ f known. Tells it (TellsPlanError m f known error))
   pub carries : OfFunctionAt m info number (λ f known. CarriesOfPlan m f known error it)
   pub part : at ≡ function_position error
-  pub other : IsFalse (is_want error)
+  pub other : IsFalse (plan_lacks_memory error)
 
 -- so it is, or memory ran out
 abbrev pub IsUnplanned : (explicit : Bool) → Module → ModuleInfo → (number : ℕ) → Names →

@@ -40,14 +40,14 @@ pub fn write_binding<W: TextSink>(
     ensures { BindingWriting binding.now result (W.text out.old) (W.text out.new)
         (W.failures out.old) (W.failures out.new) }
 {
-    match form_of_binding(alloc, *binding) {
+    match check_binding_form(alloc, *binding) {
         Ok(()) => write_formed(*binding, out),
         Err(error) => Err(error),
     }
 }
 
 /// Refuses a binding to a value without a word.
-fn form_of_binding(alloc: Global, binding: Binding) -> Result<(), Error>
+fn check_binding_form(alloc: Global, binding: Binding) -> Result<(), Error>
     ensures formed { OnOk result (IsTrue (binding_has_form binding)) }
     ensures unsupported { OnErr result (IsFalse (binding_has_form binding)) }
     ensures named { IfErr result NamesBuiltin }

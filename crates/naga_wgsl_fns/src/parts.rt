@@ -6,7 +6,7 @@ ghost use Rattle.module_meaning.specs.ExpressionShapes.{component_letters, lette
 ghost use Rattle.module_meaning.specs.ExpressionShapes.{swizzle_letters};
 ghost use Rattle.naga_form.specs.Expressions.{as_value, is_pointer};
 ghost use Rattle.naga_words.specs.Output.{Writes};
-ghost use Rattle.naga_wgsl_fns.specs.Expressions.{base_of, base_text, form_at, index_text};
+ghost use Rattle.naga_wgsl_fns.specs.Expressions.{accessed_base, base_text, form_at, index_text};
 ghost use Rattle.naga_wgsl_fns.specs.Expressions.{is_signed, letter_at, member_text, number_text};
 ghost use Rattle.naga_wgsl_fns.specs.Expressions.{parenthesized_text, part_base_text};
 ghost use Rattle.naga_wgsl_fns.specs.Expressions.{part_end_text, part_reference_text};
@@ -40,7 +40,7 @@ impl FunctionText<'_> {
     )
         requires can { CanWrite self.now }
         requires handle { IsInText self.now handle }
-        requires part { base_of (slice_get self.now.function.now.expressions handle) ≡ Some base }
+        requires part { accessed_base (slice_get self.now.function.now.expressions handle) ≡ Some base }
         ensures { Writes W.text W.failures out.old out.new
             (part_value_text self.now scope.now.table handle base) }
     {
@@ -62,7 +62,7 @@ impl FunctionText<'_> {
     )
         requires can { CanWrite self.now }
         requires handle { IsInText self.now handle }
-        requires part { base_of (slice_get self.now.function.now.expressions handle) ≡ Some base }
+        requires part { accessed_base (slice_get self.now.function.now.expressions handle) ≡ Some base }
         ensures { Writes W.text W.failures out.old out.new
             (part_reference_text self.now scope.now.table handle base) }
     {
@@ -85,7 +85,7 @@ impl FunctionText<'_> {
     )
         requires can { CanWrite self.now }
         requires handle { IsInText self.now handle }
-        requires part { base_of (slice_get self.now.function.now.expressions handle) ≡ Some base }
+        requires part { accessed_base (slice_get self.now.function.now.expressions handle) ≡ Some base }
         ensures { Writes W.text W.failures out.old out.new
             (plain_address_text self.now scope.now.table handle) }
     {
@@ -106,7 +106,7 @@ impl FunctionText<'_> {
     )
         requires can { CanWrite self.now }
         requires handle { IsInText self.now handle }
-        requires part { base_of (slice_get self.now.function.now.expressions handle) ≡ Some base }
+        requires part { accessed_base (slice_get self.now.function.now.expressions handle) ≡ Some base }
         ensures { Writes W.text W.failures out.old out.new (plain_text self.now scope.now.table handle) }
     {
         self.write_part_base(scope, base, out);
@@ -145,7 +145,7 @@ impl FunctionText<'_> {
     )
         requires can { CanWrite self.now }
         requires handle { IsInText self.now handle }
-        requires part { base_of (slice_get self.now.function.now.expressions handle) ≡ Some base }
+        requires part { accessed_base (slice_get self.now.function.now.expressions handle) ≡ Some base }
         ensures { Writes W.text W.failures out.old out.new
             (part_end_text self.now scope.now.table handle) }
     {

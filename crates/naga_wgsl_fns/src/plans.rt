@@ -20,8 +20,8 @@ ghost use Rattle.naga_wgsl_fns.specs.Carried.{CarriesOfPlan};
 ghost use Rattle.naga_wgsl_fns.specs.Constructs.{Tells};
 ghost use Rattle.naga_wgsl_fns.specs.Refusals.{IsErrorOfNames, TellsPlanError};
 ghost use Rattle.naga_wgsl_fns.specs.Unplanned.{IsToldOfUnplanned, IsUnplanned, TellsUnplanned};
-ghost use Rattle.naga_wgsl_fns.specs.Unplanned.{is_names_want};
-ghost use Rattle.naga_wgsl_fns.specs.Unplanned.{is_want, function_position};
+ghost use Rattle.naga_wgsl_fns.specs.Unplanned.{namer_lacks_memory};
+ghost use Rattle.naga_wgsl_fns.specs.Unplanned.{plan_lacks_memory, function_position};
 ghost use Rattle.naga_wgsl_fns.specs.declared.refusals.error.Error.TheVariants.{Memory};
 ghost use Rattle.naga_names.specs.declared.error.NamerError.TheVariants as namer_error;
 
@@ -201,7 +201,7 @@ fn construct_of_plan(
     ensures ok { IfOk result (λ it.
         Tells it (TellsPlanError «module».now function.now info.now error)) }
     ensures carries { IfOk result (CarriesOfPlan «module».now function.now info.now error) }
-    ensures refused { OnOk result (IsFalse (is_want error)) }
+    ensures refused { OnOk result (IsFalse (plan_lacks_memory error)) }
     ensures err { IfErr result (λ e.
         TellsPlanError «module».now function.now info.now error (Memory e)) }
 {
@@ -225,7 +225,7 @@ fn construct_of_plan(
 /// Why a module is refused of which an item or a label gets no name, or want of memory.
 pub fn construct_of_names(error: NamerError) -> Result<Construct, AllocError>
     ensures ok { IfOk result (λ it. Tells it (IsErrorOfNames error)) }
-    ensures refused { OnOk result (IsFalse (is_names_want error)) }
+    ensures refused { OnOk result (IsFalse (namer_lacks_memory error)) }
     ensures err { IfErr result (λ e. error ≡ namer_error.Memory e) }
 {
     match error {

@@ -32,8 +32,8 @@ use Rattle.naga_wgsl_fns.specs.declared.refusals.error.Error.TheVariants.{FmtErr
 use Rattle.naga_back.specs.declared.flags.WriterFlags.{WriterFlags}
 use Rattle.naga_back.specs.Flags.{annotates_types}
 use Rattle.naga_wgsl_out.specs.Writing.{HasPlan, MetNoPlan, WritesFunctions, WroteFunctions}
-use Rattle.naga_wgsl_out.specs.Writing.{WroteFunctionsBefore, front_text, lines_before}
-use Rattle.naga_wgsl_out.specs.Writing.{module_lines, AppendsItsText, written_text}
+use Rattle.naga_wgsl_out.specs.Writing.{WroteFunctionsBefore, front_text, spaced_functions_before}
+use Rattle.naga_wgsl_out.specs.Writing.{spaced_module, AppendsItsText, written_text}
 use Rattle.naga_wgsl_out.proofs.Functions.{lines_after, lines_split, written_lines}
 use Rattle.naga_wgsl_out.proofs.ModuleScopes.{all_planned_counted, all_planned_formed}
 use Rattle.naga_wgsl_out.proofs.ModuleScopes.{all_planned_hold, fault_refuses, fault_reported}
@@ -184,12 +184,12 @@ module _ (m : Module) (info : ModuleInfo) (flags : WriterFlags)
       by None past = none_past m full.0 past full.1
       by (Some f) at = (planned full.0 (slice_get_within (all_functions m) full.0 f at)).nameable full.1
 
-  same_text : front ++ module_lines m info flags ≡ written_text m info flags
+  same_text : front ++ spaced_module m info flags ≡ written_text m info flags
   same_text = written_lines m info flags accepted
 
   module _ (content now : List ℕ) (before after : ℕ) where
     -- memory or the sink stopped it
-    stopped : (e : Error) → StoppedWithin content before (front ++ module_lines m info flags) now after e →
+    stopped : (e : Error) → StoppedWithin content before (front ++ spaced_module m info flags) now after e →
         Concludes (Err e) content now before after
     stopped e s = record {
       is_faithful = refused flags m info e content now before after
@@ -211,7 +211,7 @@ module _ (m : Module) (info : ModuleInfo) (flags : WriterFlags)
     concludes_in_front (Ok x) error is s = absurd is
     concludes_in_front (Err e) error is s =
         subst (λ e. Concludes (Err e) content now before after) (sym is)
-        (stopped error (stopped_first (module_lines m info flags) s))
+        (stopped error (stopped_first (spaced_module m info flags) s))
 
     -- after it
     module _ (middle : List ℕ) (among : ℕ) (stands : Wrote content before front middle among) where
@@ -264,8 +264,8 @@ module _ (m : Module) (info : ModuleInfo) (flags : WriterFlags)
         leaves =
             on_error flags m info e content now before after
             (subst (λ t. IsAfter content t now) same_text
-            (after_then content front middle (module_lines m info flags) now stands.appended (
-              lines_before m info flags s.before.handle,
+            (after_then content front middle (spaced_module m info flags) now stands.appended (
+              spaced_functions_before m info flags s.before.handle,
               lines_after m info flags s.before.handle,
               sym (lines_split m info flags s.before.handle),
               s.before.written,

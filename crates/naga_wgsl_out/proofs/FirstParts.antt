@@ -41,7 +41,7 @@ use Rattle.naga_wgsl_fns.specs.Unplanned.{function_position}
 use Rattle.naga_wgsl_fns.specs.declared.plans.FunctionRefusalPosition.{FunctionRefusalPosition}
 use Rattle.naga_wgsl_fns.specs.declared.plans.FunctionRefusalPosition.TheVariants as part
 use Rattle.naga_wgsl_fns.specs.declared.refusals.construct.Construct.{Construct}
-use Rattle.naga_wgsl_out.specs.Unwritable.{IsUnspelled, LabelsGetNamesIn, StandsAtPart}
+use Rattle.naga_wgsl_out.specs.Unwritable.{IsUnspellable, LabelsGetNamesIn, StandsAtPart}
 use Rattle.shader_runs.proofs.ScopeFaults.{fault_is_no_rule}
 use Rattle.shader_runs.specs.Program.{binds}
 use Rattle.shader_runs.specs.ScopeRules.{ScopeHolds}
@@ -125,7 +125,7 @@ module _ (explicit : Bool) (m : Module) (info : ModuleInfo) (number : ℕ) (f : 
       false≢true (sym lacks ∙ formed.types _ spelled)
   part_refuses (part.Let n h) it (among, lacks) scope formed labelled = by (slice_get known h) lacks
     where
-      by : (o : Option ExpressionInfo) → IsSomeAnd o (λ k. IsUnspelled explicit m info f known k.ty it) → ⊥
+      by : (o : Option ExpressionInfo) → IsSomeAnd o (λ k. IsUnspellable explicit m info f known k.ty it) → ⊥
       by None lacks = lacks
       by (Some k) lacks = false≢true (sym lacks.1 ∙ formed.types k.ty lacks.0)
   part_refuses part.Labels it stands scope formed labelled = labelled stands.0

@@ -161,14 +161,15 @@ module _ (m : Module) where
   function_lacks f (declaration.Misplaced fault) lacks has = lacks
   function_lacks f (declaration.Stride ty) lacks has = lacks
 
-  point_lacks : (p : EntryPoint) (it : UnsupportedDeclaration) → IsUnsupportedHeadOf p it → EntryPointHasForm p → ⊥
-  point_lacks p (declaration.Head (head.BuiltIn v)) lacks has = io_lacks p.function v lacks has.io
-  point_lacks p (declaration.Head head.Stage) lacks has = false≢true (sym lacks.1 ∙ has.stage)
-  point_lacks p (declaration.Type_ ty) lacks has = lacks
-  point_lacks p (declaration.Initialiser h) lacks has = lacks
-  point_lacks p (declaration.BuiltIn v) lacks has = lacks
-  point_lacks p (declaration.Misplaced fault) lacks has = lacks
-  point_lacks p (declaration.Stride ty) lacks has = lacks
+  entry_point_lacks_form : (p : EntryPoint) (it : UnsupportedDeclaration) → IsUnsupportedHeadOf p it →
+      EntryPointHasForm p → ⊥
+  entry_point_lacks_form p (declaration.Head (head.BuiltIn v)) lacks has = io_lacks p.function v lacks has.io
+  entry_point_lacks_form p (declaration.Head head.Stage) lacks has = false≢true (sym lacks.1 ∙ has.stage)
+  entry_point_lacks_form p (declaration.Type_ ty) lacks has = lacks
+  entry_point_lacks_form p (declaration.Initialiser h) lacks has = lacks
+  entry_point_lacks_form p (declaration.BuiltIn v) lacks has = lacks
+  entry_point_lacks_form p (declaration.Misplaced fault) lacks has = lacks
+  entry_point_lacks_form p (declaration.Stride ty) lacks has = lacks
 
   -- where all declarations have forms, each item has one
   module _ (has : DeclarationsHaveForms m) where
@@ -355,8 +356,8 @@ module _ (m : Module) where
   one_declaration (declared.EntryPoint h) (declared.EntryPoint k) it that (e, there, lacks)
       (n, found, lack) first second =
       ap declared.EntryPoint (lowest h k
-      (λ less. point_lacks e it lacks (second.5 h e less there))
-      (λ less. point_lacks n that lack (first.5 k n less found)))
+      (λ less. entry_point_lacks_form e it lacks (second.5 h e less there))
+      (λ less. entry_point_lacks_form n that lack (first.5 k n less found)))
 
 -- ---- labels
 labels_refuse : (m : Module) (it : Construct) → StandsInLabels m it → (ItemsAreFull m → ⊥) →

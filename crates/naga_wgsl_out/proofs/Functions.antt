@@ -56,8 +56,8 @@ use Rattle.naga_wgsl_out.specs.Enables.{enables_text}
 use Rattle.naga_wgsl_out.proofs.DeclarationRows.{layout_row}
 use Rattle.naga_wgsl_out.specs.ModuleRefusals.{HasNamedBefore, KeyIsOutOfRange}
 use Rattle.naga_wgsl_out.specs.Writing.{HasNoPlan, HasPlan, IsNamedPlan, MetNoPlan, WritesFunctions}
-use Rattle.naga_wgsl_out.specs.Writing.{WritesNext, WroteFunctions, WroteNext, front_text, line_at}
-use Rattle.naga_wgsl_out.specs.Writing.{line_after, line_of, lines_before, lines_of, module_lines}
+use Rattle.naga_wgsl_out.specs.Writing.{WritesNext, WroteFunctions, WroteNext, front_text, spaced_function_at}
+use Rattle.naga_wgsl_out.specs.Writing.{line_after, line_of, spaced_functions_before, spaced_functions, spaced_module}
 use Rattle.naga_wgsl_out.specs.Writing.{written_text}
 use Rattle.naga_wgsl_out.proofs.ExpressionNames.{named_plan, none_full}
 use Rattle.naga_wgsl_fns.proofs.PlanRefusals.{fault_fails}
@@ -100,7 +100,7 @@ module _ (m : Module) (info : ModuleInfo) (flags : WriterFlags)
       ((i : ℕ) (es : List ExpressionInfo) → slice_get ess i ≡ Some es → known_of info (g + i) ≡ es) →
       text (functions_pieces
       (functions_form flags (module_names m) m info g fs ess)) ≡
-      lines_of m info flags (enumerate_from g fs)
+      spaced_functions m info flags (enumerate_from g fs)
   functions_text g [] [] within size known = refl
   functions_text g [] (es ∷ ess) within size known = refl
   functions_text g (f ∷ fs) [] within size known = absurd (cc)
@@ -108,7 +108,7 @@ module _ (m : Module) (info : ModuleInfo) (flags : WriterFlags)
       let here : g + 0 ≡ g = omega arith in
       let same : known_of info g ≡ es = ap (known_of info) (sym here) ∙ known 0 es refl in
       let following = functions_pieces (functions_form flags (module_names m) m info (g + 1) fs ess) in
-      let more = lines_of m info flags (enumerate_from (g + 1) fs) in
+      let more = spaced_functions m info flags (enumerate_from (g + 1) fs) in
       text-append (function_pieces (function_form flags (module_names m) (expression_name m g) m info g f es))
       (LineEnd ∷ following)
       ∙ (ap (λ rest. own_text g f es ++ (10 ∷ rest))
@@ -124,29 +124,29 @@ module _ (m : Module) (info : ModuleInfo) (flags : WriterFlags)
           let moved : g + suc i ≡ (g + 1) + i = omega arith in
           subst (λ h. known_of info h ≡ ks) moved (known (suc i) ks at)
 
-  point_text : (g : ℕ) (p : EntryPoint) (es : List ExpressionInfo) →
+  entry_point_text_is : (g : ℕ) (p : EntryPoint) (es : List ExpressionInfo) →
       text (entry_point_pieces (entry_point_form flags (module_names m) m info g p es)) ≡
       stage_text m p ++ own_text g p.function es
   unfolding stage_text attributes_text
-  point_text g p es =
+  entry_point_text_is g p es =
       let stage = attributes_pieces (stage_attributes (module_names m) p p.stage) in
       let own = function_pieces (function_form flags (module_names m) (expression_name m g) m info g p.function es) in
       text-append stage (LineEnd ∷ own) ∙ sym (append_assoc (text stage) (codes "\n") (text own))
 
   -- the line of one, by whether another comes after it
-  point_line : (j : ℕ) (p : EntryPoint) (es : List ExpressionInfo) (more : Bool) →
+  entry_point_own_text : (j : ℕ) (p : EntryPoint) (es : List ExpressionInfo) (more : Bool) →
       slice_get m.entry_points.items (j + 0) ≡ Some p →
       known_of info (length m.functions + (j + 0)) ≡ es →
       nat_lt (j + 1) (length m.entry_points.items) ≡ more →
       text (entry_point_pieces (entry_point_form flags (module_names m) m info (length m.functions + j) p es))
       ++ (if more then codes "\n" else []) ≡ line_of m info flags (length m.functions + j, p.function)
-  point_line j p es more there known is =
+  entry_point_own_text j p es more there known is =
       let g : ℕ = length m.functions + j in
       let first : j + 0 ≡ j = omega arith in
       let here = ap (slice_get m.entry_points.items) (sym first) ∙ there in
       let same : known_of info g ≡ es = ap (λ k. known_of info (length m.functions + k)) (sym first) ∙ known in
       ap (λ t. t ++ (if more then codes "\n" else []))
-      (point_text g p es ∙ ap (λ ks. stage_text m p ++ own_text g p.function ks) (sym same))
+      (entry_point_text_is g p es ∙ ap (λ ks. stage_text m p ++ own_text g p.function ks) (sym same))
       ∙ ap (λ b. (stage_text m p ++ own_text g p.function (known_of info g)) ++ (if b then codes "\n" else [])) (sym is)
       ∙ sym (entry_point_line j p here)
 
@@ -157,7 +157,7 @@ module _ (m : Module) (info : ModuleInfo) (flags : WriterFlags)
       known_of info (length m.functions + (j + i)) ≡ es) →
       text (entry_points_pieces
       (entry_points_form flags (module_names m) m info (length m.functions + j) ps ess)) ≡
-      lines_of m info flags (enumerate_from (length m.functions + j) (entry_functions ps))
+      spaced_functions m info flags (enumerate_from (length m.functions + j) (entry_functions ps))
   points_text j [] [] size counted there known = refl
   points_text j [] (es ∷ ess) size counted there known = absurd (cc)
   points_text j (p ∷ ps) [] size counted there known = absurd (cc)
@@ -169,7 +169,7 @@ module _ (m : Module) (info : ModuleInfo) (flags : WriterFlags)
       text-append point []
       ∙ ap (λ t. t ++ [])
       (sym (append-nil (text point))
-      ∙ point_line j p es false (there 0 p refl) (known 0 es refl)
+      ∙ entry_point_own_text j p es false (there 0 p refl) (known 0 es refl)
       (le-ltb (j + 1) (length m.entry_points.items) last))
   points_text j (p ∷ q ∷ ps) (es ∷ ks ∷ ess) size counted there known =
       let more : j + 1 < length m.entry_points.items = omega (arith, counted) in
@@ -179,9 +179,9 @@ module _ (m : Module) (info : ModuleInfo) (flags : WriterFlags)
       let following : ℕ → List Piece =
       λ h. entry_points_pieces (entry_points_form flags (module_names m) m info h (q ∷ ps) (ks ∷ ess)) in
       let rest : text (following ((length m.functions + j) + 1))
-      ≡ lines_of m info flags (enumerate_from ((length m.functions + j) + 1) (entry_functions (q ∷ ps))) =
+      ≡ spaced_functions m info flags (enumerate_from ((length m.functions + j) + 1) (entry_functions (q ∷ ps))) =
       subst
-      (λ h. text (following h) ≡ lines_of m info flags (enumerate_from h (entry_functions (q ∷ ps)))) next
+      (λ h. text (following h) ≡ spaced_functions m info flags (enumerate_from h (entry_functions (q ∷ ps)))) next
       (points_text (j + 1) (q ∷ ps) (ks ∷ ess) (ap pred size) all
       (λ i r at. let moved : j + suc i ≡ (j + 1) + i = omega arith in ap (slice_get m.entry_points.items)
       (sym moved) ∙ there (suc i) r at)
@@ -189,7 +189,7 @@ module _ (m : Module) (info : ModuleInfo) (flags : WriterFlags)
       subst (λ h. known_of info h ≡ rs) moved (known (suc i) rs at))) in
       text-append point (LineEnd ∷ following ((length m.functions + j) + 1))
       ∙ (sym (append_assoc (text point) (codes "\n") (text (following ((length m.functions + j) + 1))))
-      ∙ (λ i. point_line j p es true (there 0 p refl) (known 0 es refl)
+      ∙ (λ i. entry_point_own_text j p es true (there 0 p refl) (known 0 es refl)
       (lt-ltb (j + 1) (length m.entry_points.items) more) i ++ rest i))
 
 -- what stands in front of the functions, and what stands after
@@ -202,12 +202,12 @@ front_then m info flags rest = append_assoc (enables_text (written_enables m inf
 
 -- a module's text is what stands in front of its functions, these and its entry points
 pub written_lines : (m : Module) (info : ModuleInfo) (flags : WriterFlags) → IsTrue (is_accepted m info) →
-    front_text m info flags ++ module_lines m info flags ≡ written_text m info flags
+    front_text m info flags ++ spaced_module m info flags ≡ written_text m info flags
 written_lines m info flags accepted =
     let first = enumerate_from 0 m.functions in
     let points = entry_functions m.entry_points.items in
     ap (λ t. front_text m info flags ++ t)
-    (ap (lines_of m info flags) (enumerate_from-append 0 m.functions points)
+    (ap (spaced_functions m info flags) (enumerate_from-append 0 m.functions points)
     ∙ (flat_map-append (line_of m info flags) first (enumerate_from (0 + length m.functions) points)
     ∙ sym (λ i. functions_are i ++ points_are i)))
     ∙ (front_then m info flags (text (functions_pieces functions) ++ text (entry_points_pieces entry_points))
@@ -221,7 +221,7 @@ written_lines m info flags accepted =
         entry_points_form flags (module_names m) m info (length m.functions)
         m.entry_points.items info.entry_points.items
 
-    functions_are : text (functions_pieces functions) ≡ lines_of m info flags (enumerate_from 0 m.functions)
+    functions_are : text (functions_pieces functions) ≡ spaced_functions m info flags (enumerate_from 0 m.functions)
     functions_are =
         functions_text m info flags accepted 0 m.functions info.functions.items (omega arith)
         (functions_counted m info accepted)
@@ -229,7 +229,7 @@ written_lines m info flags accepted =
         subst (λ h. known_of info h ≡ es) same (ap (λ o. unwrap_or o []) (info_among info i es at)))
 
     points_are : text (entry_points_pieces entry_points) ≡
-        lines_of m info flags
+        spaced_functions m info flags
         (enumerate_from (0 + length m.functions) (entry_functions m.entry_points.items))
     points_are =
         let none : length m.functions + 0 ≡ length m.functions = omega arith in
@@ -243,7 +243,7 @@ written_lines m info flags accepted =
         (λ i p at. let same : i ≡ 0 + i = omega arith in ap (slice_get m.entry_points.items) (sym same) ∙ at)
         (λ i es at. let same : length m.functions + i ≡ length m.functions + (0 + i) = omega arith in
         subst (λ h. known_of info h ≡ es) same (ap (λ o. unwrap_or o []) (entry_info_among m info accepted i es at)))
-        ∙ ap (λ g. lines_of m info flags (enumerate_from g (entry_functions m.entry_points.items))) from)
+        ∙ ap (λ g. spaced_functions m info flags (enumerate_from g (entry_functions m.entry_points.items))) from)
 
 -- there are no more entry points than keys tell apart
 pub points_counted : (m : Module) → (KeyIsOutOfRange m → ⊥) → length m.entry_points.items ≤ 2 ^ 16
@@ -257,9 +257,9 @@ points_counted m keys = by (nat_lt (2 ^ 16) (length m.entry_points.items)) refl
         let past = ltb-false (2 ^ 16) (length m.entry_points.items) is in omega (arith, past)
 
 -- after the functions and the entry points there is none
-pub last_point : (m : Module) (j : ℕ) → j ≡ m.entry_points.len →
+pub last_entry_point : (m : Module) (j : ℕ) → j ≡ m.entry_points.len →
     length m.functions + j ≡ length (all_functions m)
-last_point m j is =
+last_entry_point m j is =
     let all = length-append m.functions (entry_functions m.entry_points.items) in
     let mapped = length-map m.entry_points.items (λ p. p.function) in
     let counted : m.entry_points.len ≡ length m.entry_points.items = m.entry_points.ok.0 in
@@ -282,7 +282,7 @@ at_enumerated n (x ∷ fs) (suc i) f lt is =
 -- the answer of a call that ends with an error
 writes_err : {m : Module} {info : ModuleInfo} {flags : WriterFlags} {content now : List ℕ}
     {failed failures : ℕ} (r : Result Unit Error) {error : Error} → IsErrAnd r (λ e. e ≡ error) →
-    (StoppedWithin content failed (module_lines m info flags) now failures error
+    (StoppedWithin content failed (spaced_module m info flags) now failures error
     ⊎ MetNoPlan m info flags content failed now failures error) →
     WritesFunctions m info flags r content failed now failures
 writes_err (Ok x) is w = absurd is
@@ -291,7 +291,7 @@ writes_err {m} {info} {flags} {content} {now} {failed} {failures} (Err e) is w =
 
 pub record IsUpTo (m : Module) (info : ModuleInfo) (flags : WriterFlags) (n : ℕ) (content : List ℕ)
     (failed : ℕ) (namer : Names) (now : List ℕ) (failures : ℕ) : Type 0 where
-  pub wrote : Wrote content failed (lines_before m info flags n) now failures
+  pub wrote : Wrote content failed (spaced_functions_before m info flags n) now failures
   pub planned : (i : ℕ) → i < n → HasPlan (annotates_types flags) m info i
   pub named : HasNamedBefore m n namer
 
@@ -306,15 +306,15 @@ up_to_none m info flags content failed namer named = record {
 
 -- the functions from this one on
 abbrev pub lines_after : Module → ModuleInfo → WriterFlags → (n : ℕ) → List ℕ
-lines_after m info flags n = lines_of m info flags (drop n (enumerate_from 0 (all_functions m)))
+lines_after m info flags n = spaced_functions m info flags (drop n (enumerate_from 0 (all_functions m)))
 
 -- all functions are those in front of one and the others
 pub lines_split : (m : Module) (info : ModuleInfo) (flags : WriterFlags) (n : ℕ) →
-    lines_before m info flags n ++ lines_after m info flags n ≡ module_lines m info flags
+    spaced_functions_before m info flags n ++ lines_after m info flags n ≡ spaced_module m info flags
 lines_split m info flags n =
     let all = enumerate_from 0 (all_functions m) in
     sym (flat_map-append (line_of m info flags) (take n all) (drop n all))
-    ∙ ap (lines_of m info flags) (take-append-drop n all)
+    ∙ ap (spaced_functions m info flags) (take-append-drop n all)
 
 module _ (m : Module) (info : ModuleInfo) (flags : WriterFlags) {n : ℕ} {content middle : List ℕ}
     {failed among : ℕ} {namer : Names} (so_far : IsUpTo m info flags n content failed namer middle among) where
@@ -324,7 +324,7 @@ module _ (m : Module) (info : ModuleInfo) (flags : WriterFlags) {n : ℕ} {conte
   -- where all were gone through
   pub up_to_all : n ≡ length (all_functions m) → WroteFunctions m info flags content failed middle among
   up_to_all is = record {
-    wrote = subst (λ fs. Wrote content failed (lines_of m info flags fs) middle among)
+    wrote = subst (λ fs. Wrote content failed (spaced_functions m info flags fs) middle among)
         (take_all n all (omega (arith, is, length-enumerate_from 0 (all_functions m)))) so_far.wrote;
     planned = λ i lt. so_far.planned i (omega (arith, is, lt));
   }
@@ -347,7 +347,7 @@ module _ (m : Module) (info : ModuleInfo) (flags : WriterFlags) {n : ℕ} {conte
 
     -- its line
     abbrev line : List ℕ
-    line = line_at m info flags n
+    line = spaced_function_at m info flags n
 
     line_is : line_of m info flags here ≡ line
     line_is =
@@ -358,12 +358,12 @@ module _ (m : Module) (info : ModuleInfo) (flags : WriterFlags) {n : ℕ} {conte
         (λ f. text_of m info flags (expression_name m n) n f (known_of info n)) o []
         ++ line_after m (function_type m n)) (sym found)
 
-    one_more_line : lines_before m info flags n ++ line ≡ lines_before m info flags (n + 1)
+    one_more_line : spaced_functions_before m info flags n ++ line ≡ spaced_functions_before m info flags (n + 1)
     one_more_line =
-        ap (λ t. lines_before m info flags n ++ t)
+        ap (λ t. spaced_functions_before m info flags n ++ t)
         (sym line_is ∙ sym (append-nil (line_of m info flags here)))
         ∙ (sym (flat_map-append (line_of m info flags) (take n all) (here ∷ []))
-        ∙ ap (λ fs. lines_of m info flags fs)
+        ∙ ap (λ fs. spaced_functions m info flags fs)
         (ap (λ q. take n all ++ q ∷ []) stands ∙ sym (take_more all n here below)))
 
     -- and those after it
@@ -372,8 +372,8 @@ module _ (m : Module) (info : ModuleInfo) (flags : WriterFlags) {n : ℕ} {conte
         let split : drop n all ≡ get_or all n here ∷ drop (n + 1) all =
         rw add-one (drop-cons all n here below) in
         ap (λ t. t ++ lines_after m info flags (n + 1)) (sym line_is)
-        ∙ sym (ap (lines_of m info flags) split
-        ∙ ap (λ q. lines_of m info flags (q ∷ drop (n + 1) all)) (sym stands))
+        ∙ sym (ap (spaced_functions m info flags) split
+        ∙ ap (λ q. spaced_functions m info flags (q ∷ drop (n + 1) all)) (sym stands))
 
     -- it was written
     pub up_to_more : {next : Names} {now : List ℕ} {failures : ℕ} →
@@ -389,9 +389,9 @@ module _ (m : Module) (info : ModuleInfo) (flags : WriterFlags) {n : ℕ} {conte
     -- memory or the sink stopped it
     stopped_here : {error : Error} {now : List ℕ} {failures : ℕ} →
         StoppedWithin middle among line now failures error →
-        StoppedWithin content failed (module_lines m info flags) now failures error
+        StoppedWithin content failed (spaced_module m info flags) now failures error
     stopped_here {error} {now} {failures} stopped =
-        let whole = ap (λ t. lines_before m info flags n ++ t) line_then ∙ lines_split m info flags n in
+        let whole = ap (λ t. spaced_functions_before m info flags n ++ t) line_then ∙ lines_split m info flags n in
         subst (λ t. StoppedWithin content failed t now failures error) whole
         (stopped_then so_far.wrote (stopped_first (lines_after m info flags (n + 1)) stopped))
 
@@ -425,7 +425,7 @@ module _ (m : Module) (info : ModuleInfo) (flags : WriterFlags) (n : ℕ) (conte
   -- the answer of a call that ends with an error
   pub next_err : (r : Result Unit Error) (error : Error) (namer : Names) {now : List ℕ}
       {failures : ℕ} → IsErrAnd r (λ e. e ≡ error) →
-      (StoppedWithin content failed (line_at m info flags n) now failures error
+      (StoppedWithin content failed (spaced_function_at m info flags n) now failures error
       ⊎ HasNoPlan m info flags n content failed now failures error) →
       WritesNext m info flags n namer r content failed now failures
   next_err (Ok x) error namer reported w = absurd reported
@@ -436,10 +436,10 @@ module _ (m : Module) (info : ModuleInfo) (flags : WriterFlags) (n : ℕ) (conte
   -- where it has no plan
   pub no_plan : (error : Error) →
       IsPlanRefusal (annotates_types flags) m info (labels_before m n) n error →
-      StoppedWithin content failed (line_at m info flags n) content failed error
+      StoppedWithin content failed (spaced_function_at m info flags n) content failed error
       ⊎ HasNoPlan m info flags n content failed content failed error
   no_plan (Memory e) refusal = inl (record {
-    following = ([], line_at m info flags n, refl, sym (append-nil content));
+    following = ([], spaced_function_at m info flags n, refl, sym (append-nil content));
     reason = tt;
   })
   no_plan _ refusal =
@@ -451,14 +451,14 @@ module _ (m : Module) (info : ModuleInfo) (flags : WriterFlags) (n : ℕ) (conte
       IsPlanOf (annotates_types flags) m info n planned →
       NamesLabels old [] (labels_named_in m n) next planned.named →
       (r : Result Unit Error) →
-      Appends r content failed (line_at m info flags n) now failures →
+      Appends r content failed (spaced_function_at m info flags n) now failures →
       WritesNext m info flags n next r content failed now failures
   next_written lt old next planned now failures before plan names r a = by r a
     where
       named : IsNamedPlan (annotates_types flags) m info n next planned
       named = named_plan m (annotates_types flags) info n old next planned lt before plan names
 
-      by : (r : Result Unit Error) → Appends r content failed (line_at m info flags n) now failures →
+      by : (r : Result Unit Error) → Appends r content failed (spaced_function_at m info flags n) now failures →
           WritesNext m info flags n next r content failed now failures
       by (Ok x) wrote = record {
         wrote = wrote;
@@ -482,11 +482,11 @@ module _ {m : Module} {info : ModuleInfo} {flags : WriterFlags} {a b : ℕ} (sam
       subst (λ n. WroteNext m info flags n namer content failed now failures) same w
 
   pub failed_as : {content now : List ℕ} {failed failures : ℕ} {error : Error} →
-      (StoppedWithin content failed (line_at m info flags a) now failures error
+      (StoppedWithin content failed (spaced_function_at m info flags a) now failures error
       ⊎ HasNoPlan m info flags a content failed now failures error) →
-      StoppedWithin content failed (line_at m info flags b) now failures error
+      StoppedWithin content failed (spaced_function_at m info flags b) now failures error
       ⊎ HasNoPlan m info flags b content failed now failures error
   failed_as {content} {now} {failed} {failures} {error} w =
       subst
-      (λ n. StoppedWithin content failed (line_at m info flags n) now failures error
+      (λ n. StoppedWithin content failed (spaced_function_at m info flags n) now failures error
       ⊎ HasNoPlan m info flags n content failed now failures error) same w

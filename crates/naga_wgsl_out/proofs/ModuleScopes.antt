@@ -25,7 +25,7 @@ use Rattle.naga_wgsl_fns.specs.declared.refusals.error.Error.TheVariants.{Custom
 use Rattle.naga_wgsl_fns.specs.declared.refusals.error.Error.TheVariants.{Unimplemented}
 use Rattle.naga_wgsl_fns.specs.declared.refusals.error.Error.TheVariants.{Unsupported}
 use Rattle.naga_wgsl_fns.specs.declared.refusals.error.Error.TheVariants.{UnsupportedRelationalFunction}
-use Rattle.naga_wgsl_fns.specs.Refusals.{IsFault, IsWritableAt, HasUnsupportedIn, NamesUnsupported}
+use Rattle.naga_wgsl_fns.specs.Refusals.{IsReasonForNoPlan, IsWritableAt, HasUnsupportedIn, NamesUnsupported}
 use Rattle.naga_wgsl_fns.specs.Refusals.{TellsOfModule, TellsOfScope}
 use Rattle.naga_wgsl_fns.specs.DeclarationRefusals.{NamesDeclaration}
 use Rattle.naga_wgsl_fns.specs.DeclarationRefusals.NamesDeclaration.{OfHead, OfInitialiser}
@@ -126,7 +126,7 @@ module _ (m : Module) (declarations : DeclarationsHaveForms m) where
 -- what a fault tells
 module _ (explicit : Bool) (m : Module) (info : ModuleInfo) (i : ℕ) where
   pub fault_reported : DeclarationsHaveForms m → (ItemsAreFull m → ⊥) → (error : Error) →
-      TellsOfModule error → IsFault explicit m info (labels_before m i) i error →
+      TellsOfModule error → IsReasonForNoPlan explicit m info (labels_before m i) i error →
       TellsOfFunction m error
   fault_reported declarations items error tells (inl scope) =
       record { declarations = declarations; tells = inl scope.0 }
@@ -136,7 +136,7 @@ module _ (explicit : Bool) (m : Module) (info : ModuleInfo) (i : ℕ) where
       record { declarations = declarations; tells = inr (inr (full.0, items)) }
 
   pub fault_refuses : (before after : ℕ) → (error : Error) → TellsOfModule error →
-      IsFault explicit m info (labels_before m i) i error →
+      IsReasonForNoPlan explicit m info (labels_before m i) i error →
       IsRefusal explicit m info before after error
   fault_refuses before after (FmtError e) tells fault = absurd tells
   fault_refuses before after (Memory e) tells fault = absurd tells

@@ -34,7 +34,7 @@ use Rattle.naga_wgsl_fns.specs.Constructs.{Tells}
 use Rattle.naga_wgsl_fns.specs.Refusals.{IsErrorOfNames, NamesExpression, NamesType, TellsOfModule}
 use Rattle.naga_wgsl_fns.specs.Refusals.{TellsPlanError}
 use Rattle.naga_wgsl_fns.specs.Unplanned.{IsRefusedFor, IsToldOfUnplanned, IsUnplanned}
-use Rattle.naga_wgsl_fns.specs.Unplanned.{is_names_want, is_want, function_position}
+use Rattle.naga_wgsl_fns.specs.Unplanned.{namer_lacks_memory, plan_lacks_memory, function_position}
 use Rattle.naga_wgsl_fns.specs.declared.refusals.error.Error.{Error}
 use Rattle.naga_wgsl_fns.specs.declared.refusals.error.Error.TheVariants.{Custom, Memory}
 use Rattle.naga_wgsl_fns.specs.declared.plans.Unplanned.{Unplanned}
@@ -51,7 +51,7 @@ use Rattle.naga_wgsl_out.proofs.Functions.{IsUpTo}
 use Rattle.naga_wgsl_out.specs.ModuleRefusals.{HasAllNames, HasNamedBefore, IsNamesRefusal}
 use Rattle.naga_wgsl_out.specs.ModuleRefusals.{NamerIsFull, NothingIsRefused}
 use Rattle.naga_wgsl_out.specs.Unwritable.{AreWritableBefore, IsFirst, IsFoundOf, IsRefusalOf}
-use Rattle.naga_wgsl_out.specs.Unwritable.{IsUnspelled, IsWritable, LabelsGetNamesIn, StandsAt}
+use Rattle.naga_wgsl_out.specs.Unwritable.{IsUnspellable, IsWritable, LabelsGetNamesIn, StandsAt}
 use Rattle.naga_wgsl_out.specs.Unwritable.{StandsAtPart, StandsIn, StandsInFunction, StandsInLabels}
 use Rattle.naga_wgsl_out.specs.Unwritable.{TellsFirst, TellsRefusalOf, position_at}
 use Rattle.naga_wgsl_out.specs.declared.unwritable.Refusal.{Refusal}
@@ -67,7 +67,7 @@ module _ (explicit : Bool) (m : Module) (info : ModuleInfo) (accepted : IsTrue (
     (namer : Names) (named : HasNamedBefore m number namer) where
   -- what stands there by an error of a plan
   by_error : (error : PlanError) (it : Construct) → IsRefusalToPlan explicit m info f known namer error →
-      Tells it (TellsPlanError m f known error) → CarriesOfPlan m f known error it → is_want error ≡ false →
+      Tells it (TellsPlanError m f known error) → CarriesOfPlan m f known error it → plan_lacks_memory error ≡ false →
       StandsAtPart explicit m info number f known (function_position error) it
   by_error (plan_error.OutOfScope fault) it refused told carries other = (refused, told)
   by_error (plan_error.StatementWithoutForm n statement) it refused told carries other =
@@ -91,7 +91,7 @@ module _ (explicit : Bool) (m : Module) (info : ModuleInfo) (accepted : IsTrue (
           IsSomeAnd o (λ k. IsSpelledIn explicit m info f known k.ty × IsFalse (is_spellable m k.ty)) →
           Tells it (λ reported. IsSomeAnd o (λ k. NamesType m k.ty reported)) →
           IsSomeAnd o (λ k. CarriesOfType m k.ty it) →
-          IsSomeAnd o (λ k. IsUnspelled explicit m info f known k.ty it)
+          IsSomeAnd o (λ k. IsUnspellable explicit m info f known k.ty it)
       let_ None lacks told carries = lacks
       let_ (Some k) lacks told carries = (lacks.0, lacks.1, told, carries)
   by_error (plan_error.Unnamed namer_error.Full) it refused told carries other = (
@@ -281,7 +281,7 @@ all_writable explicit m info names n namer declarations has is all = record {
 -- ---- labels of items
 -- why the items of a module get no names
 pub labels_stand : (m : Module) (error : NamerError) (it : Construct) → IsResetRefusal wgsl_names m error →
-    Tells it (IsErrorOfNames error) → is_names_want error ≡ false → StandsInLabels m it
+    Tells it (IsErrorOfNames error) → namer_lacks_memory error ≡ false → StandsInLabels m it
 labels_stand m namer_error.Full it refused told other = inl (refused, told)
 labels_stand m namer_error.KeyFull it refused told other = inr (refused, told)
 labels_stand m (namer_error.Memory e) it refused told other = absurd cc

@@ -57,9 +57,9 @@ TellsCustom it message = Tells it (IsCustom message)
 
 -- ---- functions
 -- it is a type that no text can spell
-abbrev pub IsUnspelled : (explicit : Bool) → Module → ModuleInfo → Function →
+abbrev pub IsUnspellable : (explicit : Bool) → Module → ModuleInfo → Function →
     (known : List ExpressionInfo) → TypeResolution → Construct → Type 0
-IsUnspelled explicit m info f known ty it =
+IsUnspellable explicit m info f known ty it =
     IsSpelledIn explicit m info f known ty × IsFalse (is_spellable m ty)
     × Tells it (NamesType m ty) × CarriesOfType m ty it
 
@@ -81,10 +81,10 @@ StandsAtPart explicit m info number f known (part.Expression line h) it =
     IsFalse (expression_has_form m known f.expressions e)
     × Tells it (NamesExpression m known f.expressions e) × CarriesOfExpression m known e it)
 StandsAtPart explicit m info number f known (part.Type_ at ty) it =
-    (declared_type f at ≡ Some ty) × IsUnspelled explicit m info f known (Handle ty) it
+    (declared_type f at ≡ Some ty) × IsUnspellable explicit m info f known (Handle ty) it
 StandsAtPart explicit m info number f known (part.Let n h) it =
     IsAmong (lets_at (binds (function_shape m info f known)) f n) h
-    × IsSomeAnd (slice_get known h) (λ k. IsUnspelled explicit m info f known k.ty it)
+    × IsSomeAnd (slice_get known h) (λ k. IsUnspellable explicit m info f known k.ty it)
 StandsAtPart explicit m info number f known part.Labels it =
     ExpressionNamesAreFullIn m (labels_before m number) number
     × TellsCustom it (codes "namer is full")

@@ -19,7 +19,7 @@ use Rattle.naga_wgsl_fns.specs.Appends.{StoppedWithin, Wrote}
 use Rattle.naga_back.specs.Flags.{annotates_types}
 use Rattle.naga_wgsl_fns.specs.Functions.{known_of, text_of, text_of_function}
 use Rattle.naga_wgsl_fns.specs.declared.refusals.error.Error.{Error}
-use Rattle.naga_wgsl_fns.specs.Refusals.{ExpressionNamesAreFullIn, IsFault, IsWritableAt}
+use Rattle.naga_wgsl_fns.specs.Refusals.{ExpressionNamesAreFullIn, IsReasonForNoPlan, IsWritableAt}
 use Rattle.naga_wgsl_fns.specs.Refusals.{TellsOfModule}
 use Rattle.naga_wgsl_out.specs.Declarations.{declarations_text}
 use Rattle.naga_wgsl_out.specs.Enables.{enables_text}
@@ -71,26 +71,26 @@ line_after m (item.EntryPoint index) =
     if nat_lt (index + 1) (length m.entry_points.items) then codes "\n" else []
 
 -- the text of a function or of an entry point, with its empty line
-abbrev pub line_of : Module → ModuleInfo → WriterFlags → ℕ × Function → List ℕ
-line_of m info flags p =
+abbrev pub spaced_function : Module → ModuleInfo → WriterFlags → ℕ × Function → List ℕ
+spaced_function m info flags p =
     text_of m info flags (expression_name m p.0) p.0 p.1 (known_of info p.0)
     ++ line_after m (function_type m p.0)
 
 -- the same of the one with this number
-abbrev pub line_at : Module → ModuleInfo → WriterFlags → (number : ℕ) → List ℕ
-line_at m info flags number =
+abbrev pub spaced_function_at : Module → ModuleInfo → WriterFlags → (number : ℕ) → List ℕ
+spaced_function_at m info flags number =
     text_of_function m info flags number ++ line_after m (function_type m number)
 
 -- those of these functions, of the module, and of it in front of this function
-abbrev pub lines_of : Module → ModuleInfo → WriterFlags → List (ℕ × Function) → List ℕ
-lines_of m info flags functions = flat_map (line_of m info flags) functions
+abbrev pub spaced_functions : Module → ModuleInfo → WriterFlags → List (ℕ × Function) → List ℕ
+spaced_functions m info flags functions = flat_map (spaced_function m info flags) functions
 
-abbrev pub module_lines : Module → ModuleInfo → WriterFlags → List ℕ
-module_lines m info flags = lines_of m info flags (enumerate_from 0 (all_functions m))
+abbrev pub spaced_module : Module → ModuleInfo → WriterFlags → List ℕ
+spaced_module m info flags = spaced_functions m info flags (enumerate_from 0 (all_functions m))
 
-abbrev pub lines_before : Module → ModuleInfo → WriterFlags → (number : ℕ) → List ℕ
-lines_before m info flags number =
-    lines_of m info flags (take number (enumerate_from 0 (all_functions m)))
+abbrev pub spaced_functions_before : Module → ModuleInfo → WriterFlags → (number : ℕ) → List ℕ
+spaced_functions_before m info flags number =
+    spaced_functions m info flags (take number (enumerate_from 0 (all_functions m)))
 
 -- After what the sink held stand the functions and entry points in front of the first one that
 -- can't be written, with their empty lines, and nothing else.
@@ -102,7 +102,7 @@ pub record WroteFunctionsBefore (m : Module) (info : ModuleInfo) (flags : Writer
   -- and those in front of it
   pub hold : (i : ℕ) → i < handle →
       IsWritableAt (annotates_types flags) m info (labels_before m i) i
-  pub written : now ≡ content ++ lines_before m info flags handle
+  pub written : now ≡ content ++ spaced_functions_before m info flags handle
 
 -- there is a plan of the function with this handle, which has names for its labels
 pub record HasPlan (explicit : Bool) (m : Module) (info : ModuleInfo) (handle : ℕ) : Type 0 where
@@ -120,7 +120,7 @@ pub record IsNamedPlan (explicit : Bool) (m : Module) (info : ModuleInfo) (handl
 -- the function with this number stands after what the sink held, written by a plan of it
 pub record WroteNext (m : Module) (info : ModuleInfo) (flags : WriterFlags) (number : ℕ)
     (namer : Names) (content : List ℕ) (failed : ℕ) (now : List ℕ) (failures : ℕ) : Type 0 where
-  pub wrote : Wrote content failed (line_at m info flags number) now failures
+  pub wrote : Wrote content failed (spaced_function_at m info flags number) now failures
   pub planned : HasPlan (annotates_types flags) m info number
   pub named : HasNamedBefore m (number + 1) namer
 
@@ -130,7 +130,7 @@ pub record HasNoPlan (m : Module) (info : ModuleInfo) (flags : WriterFlags) (num
   pub untouched : now ≡ content
   pub kept : failures ≡ failed
   pub tells : TellsOfModule error
-  pub fault : IsFault (annotates_types flags) m info (labels_before m number) number error
+  pub fault : IsReasonForNoPlan (annotates_types flags) m info (labels_before m number) number error
 
 -- what a call that writes this function did, by its answer
 abbrev pub WritesNext : Module → ModuleInfo → WriterFlags → (number : ℕ) → Names →
@@ -138,13 +138,13 @@ abbrev pub WritesNext : Module → ModuleInfo → WriterFlags → (number : ℕ)
 WritesNext m info flags number namer (Ok _) content failed now failures =
     WroteNext m info flags number namer content failed now failures
 WritesNext m info flags number namer (Err error) content failed now failures =
-    StoppedWithin content failed (line_at m info flags number) now failures error
+    StoppedWithin content failed (spaced_function_at m info flags number) now failures error
     ⊎ HasNoPlan m info flags number content failed now failures error
 
 -- all functions stand after what the sink held, each written by a plan of it
 pub record WroteFunctions (m : Module) (info : ModuleInfo) (flags : WriterFlags) (content : List ℕ)
     (failed : ℕ) (now : List ℕ) (failures : ℕ) : Type 0 where
-  pub wrote : Wrote content failed (module_lines m info flags) now failures
+  pub wrote : Wrote content failed (spaced_module m info flags) now failures
   pub planned : (i : ℕ) → i < length (all_functions m) → HasPlan (annotates_types flags) m info i
 
 -- the first one without a plan was met, and told
@@ -152,7 +152,7 @@ pub record MetNoPlan (m : Module) (info : ModuleInfo) (flags : WriterFlags) (con
     (failed : ℕ) (now : List ℕ) (failures : ℕ) (error : Error) : Type 0 where
   pub before : WroteFunctionsBefore m info flags content now
   pub tells : TellsOfModule error
-  pub fault : IsFault (annotates_types flags) m info (labels_before m before.handle) before.handle
+  pub fault : IsReasonForNoPlan (annotates_types flags) m info (labels_before m before.handle) before.handle
       error
   pub kept : failures ≡ failed
 
@@ -162,5 +162,5 @@ abbrev pub WritesFunctions : Module → ModuleInfo → WriterFlags → Result Un
 WritesFunctions m info flags (Ok _) content failed now failures =
     WroteFunctions m info flags content failed now failures
 WritesFunctions m info flags (Err error) content failed now failures =
-    StoppedWithin content failed (module_lines m info flags) now failures error
+    StoppedWithin content failed (spaced_module m info flags) now failures error
     ⊎ MetNoPlan m info flags content failed now failures error

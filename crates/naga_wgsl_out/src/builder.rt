@@ -13,4 +13,4 @@
 //! let text = write_checked(alloc, &shader.module, &mut shader.info, no_flags())?;
 //! ```
 
-pub use naga_builder::{BlockBuilder, FunctionBuilder, ModuleBuilder, StageParts};
+pub use naga_builder::{BlockBuilder, FunctionBuilder, ModuleBuilder, StageExtras};

@@ -22,7 +22,7 @@ ghost use Rattle.naga_wgsl_out.specs.ModuleRefusals.{HasAllNames, HasNamedBefore
 ghost use Rattle.naga_wgsl_out.specs.ModuleRefusals.{IsNamesRefusal};
 ghost use Rattle.naga_wgsl_out.specs.Unwritable.{TellsFirst, TellsRefusalOf};
 ghost use Rattle.naga_wgsl_out.specs.Writing.{WritesFunctions, WritesNext, Writing};
-ghost use Rattle.naga_wgsl_out.specs.Writing.{AppendsItsText, front_text, line_at, line_after};
+ghost use Rattle.naga_wgsl_out.specs.Writing.{AppendsItsText, front_text, spaced_function_at, line_after};
 ghost use Rattle.naga_wgsl_out.specs.Writing.{written_text};
 
 use crate::declarations::write_declarations;
@@ -263,7 +263,7 @@ fn write_with_line<W: TextSink>(
     requires named { AreExpressionNames «module».now (function_number «module».now ty.now)
         plan.named }
     ensures { Appends result (W.text out.old) (W.failures out.old)
-        (line_at «module».now info.now flags (function_number «module».now ty.now))
+        (spaced_function_at «module».now info.now flags (function_number «module».now ty.now))
         (W.text out.new) (W.failures out.new) }
 {
     write_planned(alloc, module, info, tables, names, flags, ty, plan, out)?;

@@ -16,7 +16,7 @@ use naga_wgsl_out::back::wgsl::write_string as _;
 use naga_wgsl_out::builder::BlockBuilder;
 use naga_wgsl_out::builder::FunctionBuilder;
 use naga_wgsl_out::builder::ModuleBuilder;
-use naga_wgsl_out::builder::StageParts;
+use naga_wgsl_out::builder::StageExtras;
 use naga_wgsl_out::diagnostics::DisplayFilterableTriggeringRule;
 use naga_wgsl_out::diagnostics::DisplayWgslIdent;
 use naga_wgsl_out::diagnostics::FilterableTriggeringRule;

@@ -17,7 +17,7 @@ ghost use Rattle.wgsl_text.specs.Reading.{AreReadOnce, ReadsType, ReadsExpressio
 ghost use Rattle.wgsl_text.specs.Reading.{ReadsFunction, Reads, HasOneReading, type_layout};
 ghost use Rattle.wgsl_text.specs.Reading.{expression_layout, statement_layout, function_layout};
 ghost use Rattle.wgsl_text.specs.Reading.{ReadsEntryPoint, entry_point_layout, layout};
-ghost use Rattle.wgsl_text.specs.Refused.{TextsNotInGrammar};
+ghost use Rattle.wgsl_text.specs.NotInGrammar.{TextsNotInGrammar};
 ghost use Rattle.wgsl_text.specs.Rows.{TypeRows, OperatorRows, AccessRows, LineRows};
 ghost use Rattle.wgsl_text.specs.Spelled.{SpelledPieces};
 ghost use Rattle.wgsl_text.specs.Spelling.{Spells, Begins};
@@ -130,6 +130,6 @@ pub fn row_texts()
 {}
 
 /// Texts that are no type, no expression or no program.
-pub fn refused_texts()
+pub fn texts_not_in_grammar()
     ensures { TextsNotInGrammar }
 {}

@@ -54,8 +54,8 @@ abbrev pub is_below : ℕ → Option ℕ → Bool
 is_below bound handle = option_map_or (λ h. nat_lt h bound) handle true
 
 -- each item passes the test together with its handle
-abbrev pub all_placed : {X : Type 0} → (ℕ → X → Bool) → List X → Bool
-all_placed test xs = list_all (λ p. test p.0 p.1) (enumerate_from 0 xs)
+abbrev pub all_by_handle : {X : Type 0} → (ℕ → X → Bool) → List X → Bool
+all_by_handle test xs = list_all (λ p. test p.0 p.1) (enumerate_from 0 xs)
 
 -- each handle lies below the bound
 abbrev pub all_below : ℕ → List ℕ → Bool
@@ -86,7 +86,7 @@ parts_before types (inner.BindingArray base size) = nat_lt base types
 
 -- each type's parts stand before it
 abbrev pub parts_stand_before : List Type_ → Bool
-parts_stand_before types = all_placed (λ here t. parts_before here t.inner) types
+parts_stand_before types = all_by_handle (λ here t. parts_before here t.inner) types
 
 -- the override of a type's length is one of so many, and the type's numbers have 32 bits
 abbrev pub numbers_in_range : (overrides : ℕ) → TypeInner → Bool
@@ -239,7 +239,7 @@ names_fit f = list_all (λ h. nat_lt h (length f.expressions)) (keys f.named_exp
 -- all expressions of a function
 abbrev pub expressions_in_range : Module → Function → Bool
 expressions_in_range m f =
-    all_placed
+    all_by_handle
     (expression_in_range m (length f.arguments.items) (length f.local_variables))
     f.expressions
 
@@ -277,13 +277,13 @@ declarations_in_range m =
     (list_all (constant_in_range (length m.types) (length m.global_expressions)) m.constants &&
     (list_all (override_in_range (length m.types) (length m.global_expressions)) m.overrides &&
     (list_all (global_in_range (length m.types) (length m.global_expressions)) m.global_variables &&
-    all_placed (global_expression_in_range m) m.global_expressions))))
+    all_by_handle (global_expression_in_range m) m.global_expressions))))
 
 -- all that the module names is there, and a callee stands before its caller
 abbrev pub module_in_range : Module → Bool
 module_in_range m =
     declarations_in_range m &&
-    (all_placed (function_in_range m) m.functions &&
+    (all_by_handle (function_in_range m) m.functions &&
     list_all (entry_point_in_range m) m.entry_points.items)
 
 -- One thing is known of each expression, types have forms that they may have, and all that the

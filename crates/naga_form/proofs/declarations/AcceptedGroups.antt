@@ -46,7 +46,7 @@ use Rattle.module_meaning.specs.acceptance.OperandDemands.{operands_fit, are_ope
 use Rattle.module_meaning.specs.acceptance.Ranges.{module_ranges_fit, module_in_range}
 use Rattle.module_meaning.specs.acceptance.Ranges.{resolution_fits, types_in_range}
 use Rattle.module_meaning.specs.acceptance.Ranges.{function_in_range, entry_point_in_range}
-use Rattle.module_meaning.specs.acceptance.Ranges.{expression_in_range, all_below, all_placed}
+use Rattle.module_meaning.specs.acceptance.Ranges.{expression_in_range, all_below, all_by_handle}
 use Rattle.module_meaning.specs.acceptance.Ranges.{global_expression_in_range, signature_fits}
 use Rattle.module_meaning.specs.acceptance.Ranges.{names_fit, local_in_range, expressions_in_range}
 use Rattle.module_meaning.specs.acceptance.Ranges.{block_in_range, declarations_in_range}
@@ -319,14 +319,14 @@ module _ (m : Module) (info : ModuleInfo) where
         let sizes = and_parts _ _ ranges_parts.0 in let more = and_parts _ _ sizes.1 in
         let types = length m.types in let own = length m.global_expressions in
         let range = and_parts (declarations_in_range m)
-        (all_placed (function_in_range m) m.functions
+        (all_by_handle (function_in_range m) m.functions
         && list_all (entry_point_in_range m) m.entry_points.items) ranges_parts.2 in
         let declared = and_parts (types_in_range (length m.overrides) m.types) _ range.0 in
         let d1 = and_parts (special_types_fit types m.special_types) _ declared.1 in
         let d2 = and_parts (list_all (constant_in_range types own) m.constants) _ d1.1 in
         let d3 = and_parts (list_all (override_in_range types own) m.overrides) _ d2.1 in
         let d4 = and_parts (list_all (global_in_range types own) m.global_variables)
-        (all_placed (global_expression_in_range m) m.global_expressions) d3.1 in
+        (all_by_handle (global_expression_in_range m) m.global_expressions) d3.1 in
         let known = and_parts _ _ ranges_parts.3 in let all = and_parts _ _ known.1 in
         let sound = and_parts _ _ sound_parts.0 in let typed = and_parts _ _ sound.0 in
         sound_group None own_group 0 0

@@ -26,7 +26,7 @@ use Rattle.shader_runs.specs.Premises.{EachLeaf, EachLeafOf}
 use Rattle.shader_runs.specs.Value.{Value}
 use Rattle.module_meaning.specs.acceptance.Accepted.{is_accepted}
 use Rattle.module_meaning.specs.ExpressionOperators.{constructor}
-use Rattle.module_meaning.specs.ExpressionShapes.{Declared, trees, tree_then, trees_of, built}
+use Rattle.module_meaning.specs.ExpressionShapes.{ModuleDeclarations, trees, tree_then, trees_of, built}
 use Rattle.module_meaning.specs.ExpressionShapes.{tree_over, computed_over}
 use Rattle.module_meaning.specs.ModuleShapes.{module_shape, named_constants, initialiser}
 use Rattle.module_meaning.specs.OperatorTable.{Operator, Splat, run_word}
@@ -112,7 +112,7 @@ module _ (m : Module) (info : ModuleInfo) where
 
   module _ (accepted : IsTrue (is_accepted m info)) (distinguished : TypesAreDistinguished m) where
     module _ (written : ℕ → Option ConstantTree) (are : AreBefore written) where
-      abbrev inside : Declared
+      abbrev inside : ModuleDeclarations
       inside = declared_over m written (global_types_known info)
 
       built_before : (h bound : ℕ) (o : Operator) (ts : List ConstantTree) →

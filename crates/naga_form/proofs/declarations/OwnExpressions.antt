@@ -26,7 +26,7 @@ use Rattle.module_meaning.specs.acceptance.Ranges.{declarations_in_range, types_
 use Rattle.module_meaning.specs.acceptance.Ranges.{special_types_fit, constant_in_range}
 use Rattle.module_meaning.specs.acceptance.Ranges.{override_in_range, global_in_range}
 use Rattle.module_meaning.specs.acceptance.Ranges.{global_expression_in_range, expression_in_range}
-use Rattle.module_meaning.specs.acceptance.Ranges.{initialiser_before, names_in_range, all_placed}
+use Rattle.module_meaning.specs.acceptance.Ranges.{initialiser_before, names_in_range, all_by_handle}
 use Rattle.module_meaning.specs.acceptance.Ranges.{all_below, resolution_fits, is_below}
 use Rattle.module_meaning.specs.acceptance.Ranges.{function_in_range, entry_point_in_range}
 use Rattle.module_meaning.specs.acceptance.Soundness.{module_is_sound}
@@ -54,7 +54,7 @@ module _ (m : Module) (info : ModuleInfo) where
         let three = and_parts (module_in_range m)
         (all_known (resolution_fits (length m.overrides) (length m.types)) info) two.1 in
         (and_parts (declarations_in_range m)
-        (all_placed (function_in_range m) m.functions
+        (all_by_handle (function_in_range m) m.functions
         && list_all (entry_point_in_range m) m.entry_points.items) three.0).0
 
     abbrev pub Own : Group
@@ -64,7 +64,7 @@ module _ (m : Module) (info : ModuleInfo) where
     own_is = declarations_are m info accepted
 
     own_parts : (list_all (constant_in_range (length m.types) (length m.global_expressions)) m.constants ≡ true)
-        × (all_placed (global_expression_in_range m) m.global_expressions ≡ true)
+        × (all_by_handle (global_expression_in_range m) m.global_expressions ≡ true)
     own_parts =
         let types = length m.types in let own = length m.global_expressions in
         let declared = and_parts (types_in_range (length m.overrides) m.types) _ declared_in_range in
@@ -72,7 +72,7 @@ module _ (m : Module) (info : ModuleInfo) where
         let d2 = and_parts (list_all (constant_in_range types own) m.constants) _ d1.1 in
         let d3 = and_parts (list_all (override_in_range types own) m.overrides) _ d2.1 in
         let d4 = and_parts (list_all (global_in_range types own) m.global_variables)
-        (all_placed (global_expression_in_range m) m.global_expressions) d3.1 in
+        (all_by_handle (global_expression_in_range m) m.global_expressions) d3.1 in
         (d2.0, d4.1)
 
     -- the constant that an expression names

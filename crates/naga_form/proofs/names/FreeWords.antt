@@ -8,7 +8,7 @@ use Rattle.std.specs.List.{list_all}
 use Rattle.std.proofs.lemmas.Bool.{false≢true, and_parts, not-true, eqb-true}
 use Rattle.wgsl_text.specs.Requests.{is_request, word_before_arguments}
 use Rattle.wgsl_text.specs.Words.{is_word_text}
-use Rattle.module_meaning.specs.OperatorTable.{Operator, CooperativeLoad, Construct, Convert}
+use Rattle.module_meaning.specs.OperatorTable.{Operator, CooperativeLoad, MakeSpelled, Convert}
 use Rattle.module_meaning.specs.OperatorTable.{Reinterpret, WithoutForm, Unsupported, Cast}
 use Rattle.module_meaning.specs.OperatorTable.{with_type, run_word, one_word, asks, is_untyped}
 use Rattle.module_meaning.specs.OperatorTable.{SpellsAType, TypeIsSound, unsupported_word}
@@ -119,7 +119,7 @@ unsupported_is_free _ = refl
 
 typed_is_distinguished : (o : Operator) → is_untyped o ≡ false → TypeIsSound o →
     WordIsDistinguished o
-typed_is_distinguished (Construct w n) u is = let parts = spelling_is_distinguished w is in
+typed_is_distinguished (MakeSpelled w n) u is = let parts = spelling_is_distinguished w is in
     record { free = parts.0; asking = parts.1 }
 typed_is_distinguished (Convert w) u is = let parts = spelling_is_distinguished w is in
     record { free = parts.0; asking = parts.1 }

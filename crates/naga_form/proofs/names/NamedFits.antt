@@ -20,10 +20,10 @@ use Rattle.module_meaning.specs.ExpressionOperators.{cast_to, constructor, appli
 use Rattle.module_meaning.specs.ExpressionOperators.{own_operator, type_known, is_depth_image}
 use Rattle.module_meaning.specs.ExpressionOperators.{level_of, query_operator, image_sample_operator}
 use Rattle.module_meaning.specs.ExpressionOperators.{matrix_load, is_atomic_pointer}
-use Rattle.module_meaning.specs.ExpressionShapes.{Declared, shape_of, applied_or, applied_shape}
+use Rattle.module_meaning.specs.ExpressionShapes.{ModuleDeclarations, shape_of, applied_or, applied_shape}
 use Rattle.module_meaning.specs.ExpressionShapes.{constant_shape, part_selector, part_shape}
 use Rattle.module_meaning.specs.ExpressionShapes.{constant_tree, image_sample_shape, trees, written_zero}
-use Rattle.module_meaning.specs.OperatorTable.{run_word, Operator, Construct, AtomicLoad}
+use Rattle.module_meaning.specs.OperatorTable.{run_word, Operator, MakeSpelled, AtomicLoad}
 use Rattle.module_meaning.specs.OperatorTable.{is_untyped, WithoutForm, ValueOf, Cast, PartAt}
 use Rattle.module_meaning.specs.OperatorTable.{with_type, asks}
 use Rattle.module_meaning.specs.FunctionNumbers.{all_functions, function_type}
@@ -115,7 +115,7 @@ module _ (m : Module) (info : ModuleInfo) (types : TypesAreFit m) (p : shapes.Mo
   abbrev shape : shapes.Function
   shape = function_shape m info f es
 
-  abbrev d : Declared
+  abbrev d : ModuleDeclarations
   d = declared m info (types_known es)
 
   -- the names that front ends gave are those of labels
@@ -205,7 +205,7 @@ module _ (m : Module) (info : ModuleInfo) (types : TypesAreFit m) (p : shapes.Mo
   type_words = spelled_words m types (OperatesBy p own) operates struct_operates
 
   value_words : (components ty : ℕ) → (P : Operator → Type 0) →
-      ((word : List ℕ) → OperatesBy p own word → P (Construct word components)) →
+      ((word : List ℕ) → OperatesBy p own word → P (MakeSpelled word components)) →
       (OperatesBy p own
       (run_word (WithoutForm (ValueOf (d.context.numbers (Handle ty)) components))) →
       P (WithoutForm (ValueOf (d.context.numbers (Handle ty)) components))) →

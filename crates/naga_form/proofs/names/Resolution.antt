@@ -26,7 +26,7 @@ use Rattle.module_meaning.specs.FunctionNumbers.{all_functions, all_infos}
 use Rattle.module_meaning.specs.Names.{AreLabelNames, expression_name, LabelNames, module_names}
 use Rattle.module_meaning.specs.Types.{declared_type}
 use Rattle.module_meaning.specs.ExpressionOperators.{is_atomic_pointer}
-use Rattle.module_meaning.specs.ExpressionShapes.{Declared, shape_of, applied_shape, applied_or}
+use Rattle.module_meaning.specs.ExpressionShapes.{ModuleDeclarations, shape_of, applied_shape, applied_or}
 use Rattle.module_meaning.specs.ExpressionShapes.{part_shape, part_selector}
 use Rattle.module_meaning.specs.FunctionShapes.{function_shape, function_shapes}
 use Rattle.module_meaning.specs.Namings.{function_naming, namings_from, namings_under, outer_names}
@@ -58,7 +58,7 @@ module _ (m : Module) (info : ModuleInfo) (callees : ℕ) (f : ir_function.Funct
   abbrev own : shapes.Function
   own = function_shape m info f es
 
-  abbrev d : Declared
+  abbrev d : ModuleDeclarations
   d = declared m info (types_known es)
 
   applied_stands : (op : Operator) (xs : List ℕ) → LeafStands own (Some (applied_shape op xs))

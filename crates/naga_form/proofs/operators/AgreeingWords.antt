@@ -36,7 +36,7 @@ use Rattle.module_meaning.specs.ExpressionOperators.{query_operator}
 use Rattle.module_meaning.specs.ExpressionShapes.{part_selector, letter}
 use Rattle.module_meaning.specs.acceptance.ExpressionTypes.{expected_type, LikeThis, only}
 use Rattle.module_meaning.specs.OperatorTable.{Operator, AtomicLoad, CooperativeLoad, MatrixLoad}
-use Rattle.module_meaning.specs.OperatorTable.{WithoutForm, ValueOf, Construct, Level, run_word}
+use Rattle.module_meaning.specs.OperatorTable.{WithoutForm, ValueOf, MakeSpelled, Level, run_word}
 use Rattle.module_meaning.specs.OperatorTable.{one_word, asks}
 use Rattle.module_meaning.specs.Types.{word_of_values, called_spelling, type_names}
 use Rattle.module_meaning.specs.Types.{spelled_resolution}
@@ -149,7 +149,7 @@ module _ (m : Module) (info : ModuleInfo) (accepted : IsTrue (is_accepted m info
   -- ---- the types of values
   abbrev value_word : Option (List ℕ) → TypeResolution → (components : ℕ) → List ℕ
   value_word o r n =
-      run_word (option_map_or (λ spelling. Construct spelling n) o
+      run_word (option_map_or (λ spelling. MakeSpelled spelling n) o
       (WithoutForm (ValueOf (identity_code (identity m.types r)) n)))
 
   -- what is called by its type has the type's word

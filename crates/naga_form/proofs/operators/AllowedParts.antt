@@ -48,13 +48,13 @@ use Rattle.naga_ir.specs.declared.module.Module.{Module}
 use Rattle.naga_ir.specs.declared.types.TypeInner.{TypeInner}
 use Rattle.naga_ir.specs.declared.types.TypeInner.TheVariants as inner
 use Rattle.module_meaning.specs.ExpressionOperators.{has_parts, is_composite, type_with}
-use Rattle.module_meaning.specs.ExpressionShapes.{Declared, component_letters, own_selector}
+use Rattle.module_meaning.specs.ExpressionShapes.{ModuleDeclarations, component_letters, own_selector}
 use Rattle.module_meaning.specs.ExpressionShapes.{part_selector, selector}
 use Rattle.module_meaning.specs.ExpressionContexts.{declared, types_known}
 use Rattle.shader_runs.specs.Value.{Selector, MemberNamed, ElementAt}
 
 -- what has parts has one at each index
-own_selected : (d : Declared) (whole : Option ℕ) (it : TypeInner) (index : ℕ) →
+own_selected : (d : ModuleDeclarations) (whole : Option ℕ) (it : TypeInner) (index : ℕ) →
     is_composite it ≡ true → (x : Selector) × (own_selector d whole it index ≡ Some x)
 own_selected d whole (inner.Vector size s) index is = (_, refl)
 own_selected d whole (inner.Matrix columns rows s) index is = (_, refl)
@@ -63,7 +63,7 @@ own_selected d whole (inner.BindingArray base size) index is = (_, refl)
 own_selected d whole (inner.Struct members span) index is = (_, refl)
 own_selected d whole _ index is = absurd cc
 
-inner_selected : (d : Declared) (whole : Option ℕ) (it : TypeInner) (index : ℕ) →
+inner_selected : (d : ModuleDeclarations) (whole : Option ℕ) (it : TypeInner) (index : ℕ) →
     has_parts d.context.types it ≡ true → (x : Selector) × (selector d whole it index ≡ Some x)
 inner_selected d whole (inner.Pointer base space) index is = by (type_with d.context.types base) is
   where
@@ -90,7 +90,7 @@ component_well (suc (suc (suc zero))) lt = letter_is_a_word component.W
 component_well (suc (suc (suc (suc index)))) lt = lt
 
 -- a part is named so where a struct's member is
-own_well : (d : Declared) (whole : Option ℕ) (it : TypeInner) (index : ℕ) →
+own_well : (d : ModuleDeclarations) (whole : Option ℕ) (it : TypeInner) (index : ℕ) →
     (is_struct it ≡ true → IsWord (option_map_or (λ h. d.member h index) whole [])) →
     index < 2 ^ 32 → (x : Selector) → own_selector d whole it index ≡ Some x → IsWellSelected x
 own_well d whole (inner.Vector size s) index named lt x e =
@@ -117,12 +117,12 @@ no_own_struct m own it fit same is =
 
 -- The members of the struct of which a part is taken are named by words: of one that is known, or of
 -- one that is pointed to.
-abbrev MembersAreWords : Declared → TypeResolution → (it : TypeInner) → (index : ℕ) → Type 0
+abbrev MembersAreWords : ModuleDeclarations → TypeResolution → (it : TypeInner) → (index : ℕ) → Type 0
 MembersAreWords d r it index =
     (h : ℕ) (t : Type_) → slice_get d.context.types h ≡ Some t → is_struct t.inner ≡ true →
     whole_of r it ≡ Some h → IsWord (d.member h index)
 
-inner_well : (m : Module) (d : Declared) → d.context.types ≡ m.types → (r : TypeResolution) →
+inner_well : (m : Module) (d : ModuleDeclarations) → d.context.types ≡ m.types → (r : TypeResolution) →
     IsFit m r → (it : TypeInner) (index : ℕ) → inner_of r d.context.types ≡ Some it →
     MembersAreWords d r it index → index < 2 ^ 32 →
     (x : Selector) → selector d (handle_of r) it index ≡ Some x → IsWellSelected x
@@ -260,7 +260,7 @@ target_fit m (inner.Matrix columns rows s) to kind convert is =
 target_fit m _ to kind convert is = absurd cc
 
 module _ (m : Module) (info : ModuleInfo) (es : List ExpressionInfo) where
-  abbrev d : Declared
+  abbrev d : ModuleDeclarations
   d = declared m info (types_known es)
 
   pub type_known_is : (h : ℕ) (k : ExpressionInfo) → slice_get es h ≡ Some k →

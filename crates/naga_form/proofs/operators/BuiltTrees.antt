@@ -20,7 +20,7 @@ use Rattle.module_meaning.specs.ExpressionContexts.{global_types_known, zero_of_
 use Rattle.module_meaning.specs.ExpressionForms.{constant_has_form_over, global_has_form}
 use Rattle.module_meaning.specs.ExpressionForms.{global_has_form_over, global_has_form_within}
 use Rattle.module_meaning.specs.ExpressionOperators.{constructor}
-use Rattle.module_meaning.specs.ExpressionShapes.{Declared, built, computed_over, tree_then, trees}
+use Rattle.module_meaning.specs.ExpressionShapes.{ModuleDeclarations, built, computed_over, tree_then, trees}
 use Rattle.module_meaning.specs.ExpressionShapes.{trees_of}
 use Rattle.module_meaning.specs.OperatorTable.{Operator, Splat, run_word}
 use Rattle.module_meaning.specs.Undeclared.{is_spellable}
@@ -42,7 +42,7 @@ module _ (m : Module) (info : ModuleInfo) where
   -- over what is said of the expressions before it
   module _ (own : ℕ → Bool) (global : ℕ → Option ConstantTree)
       (each : (k : ℕ) → own k ≡ true → (t : ConstantTree) → global k ≡ Some t → IsBuilt t) where
-    abbrev inside : Declared
+    abbrev inside : ModuleDeclarations
     inside = declared_over m (constant_over m global) (global_types_known info)
 
     all_built : (hs : List ℕ) → list_all own hs ≡ true → (ts : List ConstantTree) →

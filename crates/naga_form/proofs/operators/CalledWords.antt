@@ -5,8 +5,8 @@ use Rattle.std.specs.List.{AllByRecursion, list_all}
 use Rattle.std.specs.Option.{is_some}
 use Rattle.std.proofs.lemmas.Bool.{and_from}
 use Rattle.module_meaning.specs.OperatorTable.{Operator, BinarySign, UnarySign, Sample, Gather}
-use Rattle.module_meaning.specs.OperatorTable.{Texel, OnlyTexel, Barrier, StorageKept}
-use Rattle.module_meaning.specs.OperatorTable.{WorkgroupKept, SubgroupKept, TextureKept, has_word}
+use Rattle.module_meaning.specs.OperatorTable.{Texel, OnlyTexel, Barrier, StorageOrdered}
+use Rattle.module_meaning.specs.OperatorTable.{WorkgroupOrdered, SubgroupOrdered, TextureOrdered, has_word}
 use Rattle.module_meaning.specs.OperatorTable.{is_untyped, one_word, run_word}
 use Rattle.shader_runs.specs.Program.{BarrierBits}
 use Rattle.shader_runs.specs.ProgramRun.{barrier_words, word_if}
@@ -76,10 +76,10 @@ one_called false w ws one more = more
 pub barriers_called : (bits : BarrierBits) → AreCalled (barrier_words bits)
 barriers_called bits =
     one_called bits.storage (codes "storageBarrier") _
-    (word_is_called (Barrier true StorageKept) refl refl refl)
+    (word_is_called (Barrier true StorageOrdered) refl refl refl)
     (one_called bits.work_group (codes "workgroupBarrier") _
-    (word_is_called (Barrier true WorkgroupKept) refl refl refl)
+    (word_is_called (Barrier true WorkgroupOrdered) refl refl refl)
     (one_called bits.sub_group (codes "subgroupBarrier") _
-    (word_is_called (Barrier true SubgroupKept) refl refl refl)
+    (word_is_called (Barrier true SubgroupOrdered) refl refl refl)
     (one_called bits.texture (codes "textureBarrier") []
-    (word_is_called (Barrier true TextureKept) refl refl refl) tt)))
+    (word_is_called (Barrier true TextureOrdered) refl refl refl) tt)))

@@ -15,7 +15,7 @@ use Rattle.naga_ir.specs.declared.operators.BinaryOperator.TheVariants as binary
 use Rattle.naga_ir.specs.declared.module.Module.{Module}
 use Rattle.module_meaning.specs.ExpressionForms.{global_has_form_over}
 use Rattle.module_meaning.specs.ExpressionOperators.{applied_operator, part_operator}
-use Rattle.module_meaning.specs.ExpressionShapes.{Declared, built, computed_over, has_values}
+use Rattle.module_meaning.specs.ExpressionShapes.{ModuleDeclarations, built, computed_over, has_values}
 use Rattle.module_meaning.specs.ExpressionShapes.{indexed, operated, over_two, part_selector}
 use Rattle.module_meaning.specs.ExpressionShapes.{part_tree, picked, swizzle_letters, tree_over}
 use Rattle.module_meaning.specs.ExpressionShapes.{tree_then, trees, trees_of, typed_tree}
@@ -33,7 +33,7 @@ pub record HoldsOfMade (Q : ConstantTree → Type 0) (Qs : ConstantTrees → Typ
   pub picking : (x : Selector) (ty : ValueType) (b : ConstantTree) → Q b → Q (Picking x ty b)
   pub joining : (j : ShortCircuit) (ty : ValueType) (l r : ConstantTree) → Q l → Q r → Q (Joining j ty l r)
 
-module _ (d : Declared) (tree_of : ℕ → Option ConstantTree) (Q : ConstantTree → Type 0)
+module _ (d : ModuleDeclarations) (tree_of : ℕ → Option ConstantTree) (Q : ConstantTree → Type 0)
     (Qs : ConstantTrees → Type 0) (made : HoldsOfMade Q Qs) where
   -- it holds of an operand's tree
   abbrev OfOperand : ℕ → Type 0
@@ -131,7 +131,7 @@ module _ (d : Declared) (tree_of : ℕ → Option ConstantTree) (Q : ConstantTre
 
 -- ---- what has a form
 -- it is computed as it is written
-pub computed_as_formed : (m : Module) (d : Declared) (tree_of : ℕ → Option ConstantTree) (h : ℕ)
+pub computed_as_formed : (m : Module) (d : ModuleDeclarations) (tree_of : ℕ → Option ConstantTree) (h : ℕ)
     (own : ℕ → Bool) (e : Expression) → global_has_form_over m own e ≡ true →
     computed_over d tree_of h e ≡ tree_over d tree_of h e
 computed_as_formed m d tree_of h own (expression.Literal value) is = refl

@@ -15,7 +15,7 @@ use Rattle.module_meaning.proofs.ExpressionForms.{declared_of_spellable, type_fo
 use Rattle.module_meaning.specs.AlikeTypes.{has_type_form}
 use Rattle.module_meaning.specs.Undeclared.{is_spellable, is_undeclared_struct}
 use Rattle.module_meaning.specs.ExpressionOperators.{ExpressionContext, constructor}
-use Rattle.module_meaning.specs.ExpressionShapes.{Declared, built, computed_over, tree_over}
+use Rattle.module_meaning.specs.ExpressionShapes.{ModuleDeclarations, built, computed_over, tree_over}
 use Rattle.module_meaning.specs.ExpressionShapes.{tree_then, tree_within, trees, trees_of}
 use Rattle.naga_form.proofs.operators.ComputedTrees.{computed_as_formed}
 use Rattle.module_meaning.specs.Literals.{literal_value}
@@ -94,7 +94,7 @@ names_are_read m = record {
 module _ (outer : ModuleNames) (m : Module) (constants : ℕ → Option ConstantTree)
     (known other : ℕ → Option TypeResolution) (t : TypeNames)
     (spells : SpellsTypes m (expression_context m other) t) where
-  abbrev d : Declared
+  abbrev d : ModuleDeclarations
   d = declared_over m constants known
 
   abbrev a : ExpressionContext
@@ -190,7 +190,7 @@ module _ (outer : ModuleNames) (m : Module) (info : ModuleInfo) (es : List Expre
     AllByRecursion W (expression_operands e))
     (written : (h : ℕ) (e : ir.Expression) → slice_get all h ≡ Some e → W h →
     expression_has_own_form m es e ≡ true) where
-  abbrev own : Declared
+  abbrev own : ModuleDeclarations
   own = declared m info (types_known es)
 
   abbrev out_form : (levels : ℕ) → ℕ → Expression

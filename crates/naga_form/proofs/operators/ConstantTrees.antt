@@ -45,7 +45,7 @@ use Rattle.module_meaning.specs.acceptance.Accepted.{is_accepted}
 use Rattle.module_meaning.specs.acceptance.AgreeingOperators.{Group, module_operators_agree}
 use Rattle.module_meaning.specs.AlikeTypes.{type_identity, are_alike}
 use Rattle.module_meaning.specs.ExpressionOperators.{constructor, applied_operator, part_operator}
-use Rattle.module_meaning.specs.ExpressionShapes.{Declared, trees, tree_then, trees_of, built}
+use Rattle.module_meaning.specs.ExpressionShapes.{ModuleDeclarations, trees, tree_then, trees_of, built}
 use Rattle.module_meaning.specs.ExpressionShapes.{tree_over, tree_within, constant_tree}
 use Rattle.module_meaning.specs.ExpressionShapes.{computed_over, has_values, indexed, is_value_type}
 use Rattle.module_meaning.specs.ExpressionShapes.{joined, operated, over_two, part_selector}
@@ -168,7 +168,7 @@ module _ (m : Module) (info : ModuleInfo) where
     -- ---- of expressions that stand together
     module _ (f : Option Function) (g : Group) (is : IsSoundGroup m info f g)
         (written : ℕ → Option ConstantTree) (constants : ConstantsAre written) where
-      abbrev inside : Declared
+      abbrev inside : ModuleDeclarations
       inside = declared_over m written (λ h. slice_get g.known h)
 
       abbrev value : ℕ → ValueType

@@ -20,7 +20,7 @@ use Rattle.naga_ir.specs.declared.types.ScalarKind.TheVariants as kind
 use Rattle.naga_ir.specs.declared.types.TypeInner.TheVariants as inner
 use Rattle.naga_ir.specs.declared.types.Type_.{Type_}
 use Rattle.module_meaning.specs.ExpressionOperators.{ExpressionContext}
-use Rattle.module_meaning.specs.ExpressionShapes.{Declared}
+use Rattle.module_meaning.specs.ExpressionShapes.{ModuleDeclarations}
 use Rattle.module_meaning.specs.Names.{constant_name, module_names}
 use Rattle.module_meaning.specs.Types.{type_names}
 use Rattle.naga_form.specs.ConstantForms.{written_constant_form}
@@ -69,7 +69,7 @@ second first other zero = first
 second first other (suc h) = other
 
 -- the second variable stands in the handle space
-abbrev declared : Declared
+abbrev declared : ModuleDeclarations
 declared = record {
   context = context;
   value_type = λ r. OtherType (codes "T");

@@ -18,7 +18,7 @@ use Rattle.naga_info.specs.declared.info.TypeResolution.TheVariants.{Handle}
 use Rattle.naga_info.proofs.Options.{then_some}
 use Rattle.module_meaning.specs.acceptance.AgreeingOperators.{Group, function_group}
 use Rattle.module_meaning.specs.ExpressionOperators.{applied_operator, constructor, load_operator}
-use Rattle.module_meaning.specs.ExpressionShapes.{Declared, applied_or, built, constant_shape}
+use Rattle.module_meaning.specs.ExpressionShapes.{ModuleDeclarations, applied_or, built, constant_shape}
 use Rattle.module_meaning.specs.ExpressionShapes.{constant_tree, part_selector, part_shape}
 use Rattle.module_meaning.specs.ExpressionShapes.{shape_of, tree_over, tree_within, trees}
 use Rattle.module_meaning.specs.ExpressionShapes.{written_zero}
@@ -78,7 +78,7 @@ module _ (m : ir_module.Module) (info : ModuleInfo)
     abbrev g : Group
     g = function_group function es
 
-    abbrev d : Declared
+    abbrev d : ModuleDeclarations
     d = declared_for m info g
 
     abbrev shape : Function

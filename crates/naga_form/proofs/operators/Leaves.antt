@@ -26,7 +26,7 @@ use Rattle.naga_info.specs.declared.info.TypeResolution.TheVariants.{Handle, Val
 use Rattle.module_meaning.specs.acceptance.AgreeingOperators.{function_group}
 use Rattle.module_meaning.specs.AlikeTypes.{are_alike, type_identity}
 use Rattle.module_meaning.specs.ExpressionOperators.{is_atomic_pointer, constructor}
-use Rattle.module_meaning.specs.ExpressionShapes.{Declared, shape_of, applied_shape, applied_or}
+use Rattle.module_meaning.specs.ExpressionShapes.{ModuleDeclarations, shape_of, applied_shape, applied_or}
 use Rattle.module_meaning.specs.ExpressionShapes.{part_shape, part_selector, constant_tree, trees}
 use Rattle.module_meaning.specs.ExpressionShapes.{written_zero, constant_shape, tree_over}
 use Rattle.module_meaning.specs.ExpressionShapes.{tree_within, built}
@@ -139,7 +139,7 @@ module _ (m : Module) (info : ModuleInfo) (f : Function) (es : List ExpressionIn
   abbrev known : List TypeResolution
   known = map (λ e. e.ty) es
 
-  abbrev context : Declared
+  abbrev context : ModuleDeclarations
   context = declared m info (types_known es)
 
   -- an expression that has only one type

@@ -15,7 +15,7 @@ use Rattle.wgsl_text.specs.Reading.{type_layout}
 use Rattle.wgsl_text.specs.Requests.{request_words, is_request}
 use Rattle.module_meaning.specs.OperatorTable.{Operator, UnarySign, Sample, Gather, Texel}
 use Rattle.module_meaning.specs.OperatorTable.{OnlyTexel, Automatic, Zero, CooperativeLoad}
-use Rattle.module_meaning.specs.OperatorTable.{Construct, Convert, Reinterpret, with_type}
+use Rattle.module_meaning.specs.OperatorTable.{MakeSpelled, Convert, Reinterpret, with_type}
 use Rattle.module_meaning.specs.OperatorTable.{operator_word, own_word, run_word, one_word, asks}
 use Rattle.module_meaning.specs.OperatorTable.{is_untyped, SpellsAType, TypeIsSound, WithoutForm}
 use Rattle.module_meaning.specs.OperatorTable.{ValueOf}
@@ -137,7 +137,7 @@ typed_asks : (o : Operator) (w : List ℕ) → is_untyped o ≡ false → TypeIs
     is_request (run_word o) ≡ asks o
 typed_asks (CooperativeLoad false x) w u is e = load_asks x
 typed_asks (CooperativeLoad true x) w u is e = transposed_asks x
-typed_asks (Construct x n) w u is e = spelling_asks_nothing x is
+typed_asks (MakeSpelled x n) w u is e = spelling_asks_nothing x is
 typed_asks (Convert x) w u is e = spelling_asks_nothing x is
 typed_asks (Reinterpret x) w u is e = reinterpret_asks x
 typed_asks (WithoutForm x) w u is e = absurd (cc)

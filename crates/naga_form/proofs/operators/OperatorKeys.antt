@@ -3,7 +3,7 @@ use Rattle.std.proofs.Common.{◌≡◌, ℕ, Bool, true, false, List, ◌∷◌
 use Rattle.std.proofs.Common.{subst, Option, Some, None, slice_get, if◌then◌else◌, arith, suc, zero}
 use Rattle.std.specs.Option.{option_and_then, option_map, option_map_or, is_some}
 use Rattle.std.proofs.lemmas.Option.{same_Some}
-use denote.Enum.Declared.{tag_of}
+use denote.Enum.ModuleDeclarations.{tag_of}
 use Rattle.naga_ir.specs.contracts.operators.UnaryOperator.{the_type as unary_operators}
 use Rattle.naga_ir.specs.Operands.{expression_operands}
 use Rattle.naga_ir.specs.declared.expression.Expression.{Expression}
@@ -27,7 +27,7 @@ use Rattle.module_meaning.specs.AlikeTypes.{type_key, has_type_form}
 use Rattle.module_meaning.specs.Conversions.{converted_scalar}
 use Rattle.module_meaning.specs.ExpressionOperators.{ExpressionContext, applied_operator}
 use Rattle.module_meaning.specs.ExpressionOperators.{constructor, cast, cast_to}
-use Rattle.module_meaning.specs.OperatorTable.{Operator, BinarySign, UnarySign, Construct, Texel}
+use Rattle.module_meaning.specs.OperatorTable.{Operator, BinarySign, UnarySign, MakeSpelled, Texel}
 use Rattle.module_meaning.specs.OperatorTable.{Convert, Reinterpret, WithoutForm, Cast, PartAt}
 use Rattle.module_meaning.specs.OperatorTable.{ValueOf, CooperativeLoad, run_word, one_word}
 use Rattle.module_meaning.specs.OperatorTable.{TypeIsSound, SpellsAType}
@@ -56,7 +56,7 @@ module _ (m : Module) (are : TypesAreCounted m) where
   -- the key of an operator that stands for all of its word, over so many operands
   abbrev pub KeyIn : Operator → (count : ℕ) → List ℕ → Type 0
   KeyIn (BinarySign op) n x = (n ≡ 2) × (own_key (BinarySign op) ≡ Some x)
-  KeyIn (Construct w components) n x = IsTyped w false x
+  KeyIn (MakeSpelled w components) n x = IsTyped w false x
   KeyIn (Reinterpret w) n x = IsTyped w true x
   KeyIn (WithoutForm (Cast kind width)) n x = x ≡ unsupported_key kind width
   KeyIn (WithoutForm (PartAt index)) n x = x ≡ one_key 4 index
@@ -80,7 +80,7 @@ module _ (m : Module) (are : TypesAreCounted m) where
 
   key_once : (o : Operator) (n : ℕ) (x y : List ℕ) → KeyIn o n x → KeyIn o n y → x ≡ y
   key_once (BinarySign op) n x y a b = same_Some x y (sym a.1 ∙ b.1)
-  key_once (Construct w components) n x y a b = typed_once w false x y a b
+  key_once (MakeSpelled w components) n x y a b = typed_once w false x y a b
   key_once (Reinterpret w) n x y a b = typed_once w true x y a b
   key_once (WithoutForm (Cast kind width)) n x y a b = a ∙ sym b
   key_once (WithoutForm (PartAt index)) n x y a b = a ∙ sym b
@@ -176,7 +176,7 @@ module _ (m : Module) (are : TypesAreCounted m) where
   constructor_keyed known ty components is = by (called_spelling m (Handle ty)) refl is
     where
       by : (o : Option (List ℕ)) → called_spelling m (Handle ty) ≡ o → is_some o ≡ true →
-          IsKeyed (option_map_or (λ spelling. Construct spelling components) o
+          IsKeyed (option_map_or (λ spelling. MakeSpelled spelling components) o
           (WithoutForm (ValueOf (identity_code (identity m.types (Handle ty))) components)))
           components (constructor_key m.types ty)
       by (Some w) at is =
@@ -220,7 +220,7 @@ module _ (m : Module) (are : TypesAreCounted m) where
   own_keyed (BinarySign op) n x other key = absurd cc
   own_keyed (UnarySign op) n x other key = absurd cc
   own_keyed (Texel arrayed texel) n x other key = absurd cc
-  own_keyed (Construct spelling components) n x other key = absurd cc
+  own_keyed (MakeSpelled spelling components) n x other key = absurd cc
   own_keyed (Convert spelling) n x other key = absurd cc
   own_keyed (Reinterpret spelling) n x other key = absurd cc
   own_keyed (WithoutForm what) n x other key = absurd cc
@@ -254,8 +254,8 @@ module _ (m : Module) (are : TypesAreCounted m) where
 
   -- the type of such an operator, if it takes one, is one of the grammar
   pub sound : (o : Operator) (n : ℕ) (x : List ℕ) → IsKeyed o n x → TypeIsSound o
-  sound (Construct w c) n x (Keyed k) = spells k.typed k.fit w k.spelled
-  sound (Construct w c) n x (Negated a b d) = absurd (cc)
+  sound (MakeSpelled w c) n x (Keyed k) = spells k.typed k.fit w k.spelled
+  sound (MakeSpelled w c) n x (Negated a b d) = absurd (cc)
   sound (Convert w) n x (Keyed k) = spells k.typed k.fit w k.spelled
   sound (Convert w) n x (Negated a b d) = absurd (cc)
   sound (Reinterpret w) n x (Keyed k) = spells k.typed k.fit w k.spelled

@@ -36,7 +36,7 @@ use Rattle.module_meaning.specs.OperatorTable.{ImageSize, CountOf, AtomicLoad, A
 use Rattle.module_meaning.specs.OperatorTable.{AtomicChange, UniformLoad, Ballot, Collective}
 use Rattle.module_meaning.specs.OperatorTable.{FromSubgroup, Barrier, CooperativeLoad}
 use Rattle.module_meaning.specs.OperatorTable.{CooperativeStore, CooperativeMultiplyAdd, TraceRay}
-use Rattle.module_meaning.specs.OperatorTable.{RayStep, RayIntersection, RayCorners, Construct}
+use Rattle.module_meaning.specs.OperatorTable.{RayStep, RayIntersection, RayCorners, MakeSpelled}
 use Rattle.module_meaning.specs.OperatorTable.{Splat, Convert, Reinterpret, Level, Automatic, Zero}
 use Rattle.module_meaning.specs.OperatorTable.{Exact, Biased, Graded, OnlyTexel, BothTexel}
 use Rattle.module_meaning.specs.OperatorTable.{ImageCount, Levels, Layers, Samples, Change, AddTo}
@@ -44,8 +44,8 @@ use Rattle.module_meaning.specs.OperatorTable.{SubtractFrom, AndWith, OrWith, Xo
 use Rattle.module_meaning.specs.OperatorTable.{MaximumOf, Exchange, CompareExchange, Source, First}
 use Rattle.module_meaning.specs.OperatorTable.{Indexed, Shuffled, ShuffledDown, ShuffledUp}
 use Rattle.module_meaning.specs.OperatorTable.{ShuffledXor, QuadIndexed, QuadSwapped, BarrierMemory}
-use Rattle.module_meaning.specs.OperatorTable.{StorageKept, WorkgroupKept, SubgroupKept}
-use Rattle.module_meaning.specs.OperatorTable.{TextureKept, run_word, operand_count, one_word}
+use Rattle.module_meaning.specs.OperatorTable.{StorageOrdered, WorkgroupOrdered, SubgroupOrdered}
+use Rattle.module_meaning.specs.OperatorTable.{TextureOrdered, run_word, operand_count, one_word}
 use Rattle.module_meaning.specs.OperatorTable.{is_distinguished, is_untyped, WithoutForm, ValueOf}
 
 -- the operators of different words that take no type
@@ -108,8 +108,8 @@ others =
     FromSubgroup First ∷ FromSubgroup Indexed ∷ FromSubgroup Shuffled ∷ FromSubgroup ShuffledDown ∷
     FromSubgroup ShuffledUp ∷ FromSubgroup ShuffledXor ∷ FromSubgroup QuadIndexed ∷
     FromSubgroup (QuadSwapped direction.X) ∷ FromSubgroup (QuadSwapped direction.Y) ∷
-    FromSubgroup (QuadSwapped direction.Diagonal) ∷ Barrier true StorageKept ∷ Barrier true WorkgroupKept ∷
-    Barrier true SubgroupKept ∷ Barrier true TextureKept ∷ Math math.Inverse ∷
+    FromSubgroup (QuadSwapped direction.Diagonal) ∷ Barrier true StorageOrdered ∷ Barrier true WorkgroupOrdered ∷
+    Barrier true SubgroupOrdered ∷ Barrier true TextureOrdered ∷ Math math.Inverse ∷
     Math math.Outer ∷ Relational relational.IsNan ∷ Relational relational.IsInf ∷ Texel false BothTexel ∷
     TexelChange CompareExchange false ∷ Collective subgroup.All collective.InclusiveScan ∷
     Collective subgroup.Any collective.InclusiveScan ∷ Collective subgroup.Min collective.InclusiveScan ∷
@@ -364,7 +364,7 @@ source_distinguished (QuadSwapped _) = refl
 source_distinguished _ = refl
 
 barrier_distinguished : (control : Bool) (k : BarrierMemory) → IsDistinguishedBy (Barrier control k)
-barrier_distinguished control StorageKept = refl
+barrier_distinguished control StorageOrdered = refl
 barrier_distinguished control _ = refl
 
 splat_distinguished : (n : VectorSize) → IsDistinguishedBy (Splat n)
@@ -395,7 +395,7 @@ distinguished (RayIntersection true) u = refl
 distinguished (RayIntersection false) u = refl
 distinguished (RayCorners true) u = refl
 distinguished (RayCorners false) u = refl
-distinguished (Construct t n) u = absurd (false≢true u)
+distinguished (MakeSpelled t n) u = absurd (false≢true u)
 distinguished (Splat n) u = splat_distinguished n
 distinguished (Convert t) u = absurd (false≢true u)
 distinguished (Reinterpret t) u = absurd (false≢true u)
@@ -449,7 +449,7 @@ by_count (TexelStore arrayed) n = TexelStore (n == 4)
 by_count (TexelChange c arrayed) n = TexelChange c (n == 4)
 by_count (ImageSize of_level) n = ImageSize (n == 2)
 by_count (Ballot predicate) n = Ballot (n == 1)
-by_count (Construct t components) n = Construct t n
+by_count (MakeSpelled t components) n = MakeSpelled t n
 by_count (WithoutForm (ValueOf numbers components)) n = WithoutForm (ValueOf numbers n)
 by_count o n = o
 

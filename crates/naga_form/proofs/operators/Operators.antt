@@ -30,7 +30,7 @@ use Rattle.naga_ir.specs.declared.types.Scalar.{Scalar}
 use Rattle.naga_ir.specs.declared.types.ScalarKind.{ScalarKind}
 use Rattle.naga_ir.specs.declared.types.TypeInner.{TypeInner}
 use Rattle.naga_ir.specs.declared.types.TypeInner.TheVariants as inner
-use Rattle.module_meaning.specs.OperatorTable.{Construct, WithoutForm, ValueOf, Cast, with_type}
+use Rattle.module_meaning.specs.OperatorTable.{MakeSpelled, WithoutForm, ValueOf, Cast, with_type}
 use Rattle.module_meaning.specs.OperatorTable.{has_word, is_untyped, Operator, BinarySign}
 use Rattle.module_meaning.specs.OperatorTable.{UnarySign, AtomicLoad, asks, CooperativeLoad}
 use Rattle.module_meaning.specs.OperatorTable.{MatrixLoad, run_word}
@@ -134,7 +134,7 @@ pub constructor_spelled : (a : ExpressionContext) (r : TypeResolution) (componen
     Spells type (constructor a r components)
 constructor_spelled a r components None e = tt
 constructor_spelled a r components (Some t) e =
-    spelled_by (λ spelling. Construct spelling components)
+    spelled_by (λ spelling. MakeSpelled spelling components)
     (WithoutForm (ValueOf (a.numbers r) components)) (λ t. t) (λ t. refl) (a.spelled r) (Some t) e
 
 -- a function that takes a type is spelled by its word and the type
@@ -327,7 +327,7 @@ either_called spelled other called alone None = alone
 pub constructor_called : (a : ExpressionContext) (r : TypeResolution) (components : ℕ) →
     IsCalled (constructor a r components)
 constructor_called a r components =
-    either_called (λ spelling. Construct spelling components)
+    either_called (λ spelling. MakeSpelled spelling components)
     (WithoutForm (ValueOf (a.numbers r) components)) (λ w type. refl) (λ type. refl) (a.spelled r)
 
 pub cast_called : (a : ExpressionContext) (kind : ScalarKind) (convert : Option ℕ)

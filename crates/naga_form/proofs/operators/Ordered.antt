@@ -11,7 +11,7 @@ use Rattle.naga_ir.specs.declared.module.Function.{Function}
 use Rattle.naga_ir.specs.declared.module.Module.{Module}
 use Rattle.naga_info.specs.declared.info.ExpressionInfo.{ExpressionInfo}
 use Rattle.naga_info.specs.declared.info.ModuleInfo.{ModuleInfo}
-use Rattle.module_meaning.specs.ExpressionShapes.{Declared, shape_of, constant_tree}
+use Rattle.module_meaning.specs.ExpressionShapes.{ModuleDeclarations, shape_of, constant_tree}
 use Rattle.module_meaning.specs.FunctionShapes.{function_shape}
 use Rattle.module_meaning.specs.acceptance.Ranges.{all_below, function_in_range}
 use Rattle.module_meaning.specs.acceptance.Ranges.{expression_in_range, names_in_range}
@@ -37,7 +37,7 @@ following : (h : ℕ) (xs ys zs : List ℕ) → (AllBelow h ys → AllBelow h zs
 following h [] ys zs less all = less all
 following h (x ∷ xs) ys zs less all = (all.0, following h xs ys zs less all.1)
 
-pub shape_ordered : (d : Declared) (es : List ir.Expression) (h : ℕ) (e : ir.Expression) →
+pub shape_ordered : (d : ModuleDeclarations) (es : List ir.Expression) (h : ℕ) (e : ir.Expression) →
     AllBelow h (expression_operands e) → AllBelow h (operands_of (Some (shape_of d es h e)))
 shape_ordered d es h
     (expression.ImageSample

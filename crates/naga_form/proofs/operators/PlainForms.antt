@@ -2,7 +2,7 @@
 -- identifiers.
 use Rattle.module_meaning.specs.acceptance.OperandDemands.{are_operands_fit, operands_fit}
 use Rattle.module_meaning.specs.ExpressionForms.{constant_has_form, expression_has_own_form}
-use Rattle.module_meaning.specs.ExpressionShapes.{part_selector, Declared}
+use Rattle.module_meaning.specs.ExpressionShapes.{part_selector, ModuleDeclarations}
 use Rattle.module_meaning.specs.OperatorTable.{WithoutForm, PartAt, Operator}
 use Rattle.naga_form.proofs.operators.AllowedParts.{IsWellSelected, selected, selected_well}
 use Rattle.naga_form.proofs.operators.AllowedParts.{conversion, loaded_matrix, target_fit}
@@ -134,7 +134,7 @@ module _ (flags : WriterFlags) (m : Module) (info : ModuleInfo) (g : ℕ) (f : i
   abbrev source : Source
   source = function_source flags m info f es
 
-  abbrev d : Declared
+  abbrev d : ModuleDeclarations
   d = source.declared
 
   application_is : (otherwise : PlainForm) → IsPlainForm otherwise → (operand : ℕ → PlainForm) →

@@ -21,7 +21,7 @@ use Rattle.shader_runs.specs.Value.{Word, Spelled, PartWord, IndexWord, Selector
 use Rattle.module_meaning.specs.acceptance.AgreeingOperators.{Group}
 use Rattle.module_meaning.specs.ExpressionOperators.{ExpressionContext, applied_operator}
 use Rattle.module_meaning.specs.ExpressionOperators.{constructor}
-use Rattle.module_meaning.specs.ExpressionShapes.{Declared, part_selector, letter}
+use Rattle.module_meaning.specs.ExpressionShapes.{ModuleDeclarations, part_selector, letter}
 use Rattle.module_meaning.specs.OperatorTable.{Operator, run_word, asks}
 use Rattle.module_meaning.specs.ExpressionContexts.{expression_context, declared}
 use Rattle.module_meaning.specs.TypeIdentity.{component_count}
@@ -48,7 +48,7 @@ module _ (m : Module) (info : ModuleInfo) where
   abbrev pub group_context : Group → ExpressionContext
   group_context g = expression_context m (λ h. slice_get g.known h)
 
-  abbrev pub declared_for : Group → Declared
+  abbrev pub declared_for : Group → ModuleDeclarations
   declared_for g = declared m info (λ h. slice_get g.known h)
 
   -- the word by which the runs call what an expression applies

@@ -23,7 +23,7 @@ use Rattle.module_meaning.specs.ExpressionOperators.{constructor, cast, cast_to,
 use Rattle.module_meaning.specs.ExpressionOperators.{load_operator, part_operator}
 use Rattle.module_meaning.specs.ExpressionOperators.{is_atomic_pointer, image_sample_operator}
 use Rattle.module_meaning.specs.ExpressionOperators.{pointee_scalar, type_known, has_parts}
-use Rattle.module_meaning.specs.OperatorTable.{Operator, Construct, CooperativeLoad, WithoutForm}
+use Rattle.module_meaning.specs.OperatorTable.{Operator, MakeSpelled, CooperativeLoad, WithoutForm}
 use Rattle.module_meaning.specs.OperatorTable.{Cast, ValueOf, MatrixLoad, PartAt, AtomicLoad, Level}
 use Rattle.module_meaning.specs.OperatorTable.{Convert, Reinterpret, SpellsAType, TypeIsSound, asks}
 use Rattle.module_meaning.specs.OperatorTable.{is_untyped}
@@ -39,7 +39,7 @@ use Rattle.naga_form.proofs.types.SameValues.{TypesAreCounted, IsFit, spelling_o
 -- an operator that takes no type
 pub untyped_is_sound : (o : Operator) → is_untyped o ≡ true → TypeIsSound o
 untyped_is_sound (CooperativeLoad row_major spelling) u = absurd cc
-untyped_is_sound (Construct spelling components) u = absurd cc
+untyped_is_sound (MakeSpelled spelling components) u = absurd cc
 untyped_is_sound (Convert spelling) u = absurd cc
 untyped_is_sound (Reinterpret spelling) u = absurd cc
 untyped_is_sound _ u = tt
@@ -62,7 +62,7 @@ module _ (m : Module) (are : TypesAreCounted m) where
     constructor_is_sound ty components = by (called_spelling m (Handle ty)) refl
       where
         by : (o : Option (List ℕ)) → called_spelling m (Handle ty) ≡ o →
-            TypeIsSound (option_map_or (λ spelling. Construct spelling components) o
+            TypeIsSound (option_map_or (λ spelling. MakeSpelled spelling components) o
             (WithoutForm (ValueOf (context.numbers (Handle ty)) components)))
         by None is = tt
         by (Some w) is = spells (Handle ty) tt w (called_spelled m (Handle ty) w is).1

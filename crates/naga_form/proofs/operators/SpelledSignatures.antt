@@ -30,7 +30,7 @@ use Rattle.module_meaning.specs.acceptance.AgreeingOperators.{Group, function_gr
 use Rattle.module_meaning.specs.ExpressionOperators.{applied_operator, constructor, load_operator}
 use Rattle.module_meaning.specs.ExpressionOperators.{type_with, is_composite, has_parts}
 use Rattle.module_meaning.specs.ExpressionOperators.{part_operator}
-use Rattle.module_meaning.specs.ExpressionShapes.{Declared, constant_tree, tree_over, tree_within}
+use Rattle.module_meaning.specs.ExpressionShapes.{ModuleDeclarations, constant_tree, tree_over, tree_within}
 use Rattle.module_meaning.specs.ExpressionShapes.{built, trees, applied_or, own_selector, selector}
 use Rattle.module_meaning.specs.ExpressionShapes.{part_selector, part_shape, written_zero, shape_of}
 use Rattle.module_meaning.specs.ExpressionShapes.{letter}
@@ -62,7 +62,7 @@ operator_spells p f k (BinarySign LogicalOr) (l ∷ r ∷ []) = refl
 operator_spells p f k o hs = refl
 
 -- ---- what has no parts
-module _ (d : Declared) (index : ℕ) where
+module _ (d : ModuleDeclarations) (index : ℕ) where
   no_own_selector : (whole : Option ℕ) (it : TypeInner) → own_selector d whole it index ≡ None → is_composite it ≡ false
   no_own_selector whole (inner.Vector size s) none = absurd cc
   no_own_selector whole (inner.Matrix columns rows s) none = absurd cc
@@ -118,7 +118,7 @@ module _ (m : ir_module.Module) (info : ModuleInfo)
     abbrev g : Group
     g = function_group function es
 
-    abbrev d : Declared
+    abbrev d : ModuleDeclarations
     d = declared_for m info g
 
     abbrev own : Function
@@ -209,7 +209,7 @@ module _ (m : ir_module.Module) (info : ModuleInfo)
 
   module _ (function : ir_function.Function) (es : List ExpressionInfo)
       (sound : IsSoundGroup m info (Some function) (function_group function es)) (h : ℕ) where
-    abbrev context : Declared
+    abbrev context : ModuleDeclarations
     context = declared_for m info (function_group function es)
 
     abbrev shape : Function

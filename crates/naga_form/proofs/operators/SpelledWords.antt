@@ -13,7 +13,7 @@ use Rattle.naga_names.specs.declared.key.NameKey.TheVariants as key
 use Rattle.module_meaning.specs.ExpressionContexts.{expression_context}
 use Rattle.module_meaning.specs.ExpressionOperators.{constructor, ExpressionContext}
 use Rattle.module_meaning.specs.Names.{module_names, name_in}
-use Rattle.module_meaning.specs.OperatorTable.{Construct, Operator, run_word, ValueOf, WithoutForm}
+use Rattle.module_meaning.specs.OperatorTable.{MakeSpelled, Operator, run_word, ValueOf, WithoutForm}
 use Rattle.module_meaning.specs.Types.{spelled_resolution, type_names}
 use Rattle.module_meaning.specs.Undeclared.{is_declared, is_undeclared, is_undeclared_struct}
 use Rattle.naga_words.specs.Spelling.{is_struct}
@@ -94,11 +94,11 @@ module _ (m : Module) (types : TypesAreFit m) (W : List ℕ → Type 0)
   unmade components ty = WithoutForm (ValueOf (context.numbers (Handle ty)) components)
 
   pub made_words : (components ty : ℕ) → (P : Operator → Type 0) →
-      ((word : List ℕ) → W word → P (Construct word components)) →
+      ((word : List ℕ) → W word → P (MakeSpelled word components)) →
       (W (run_word (unmade components ty)) → P (unmade components ty)) →
       P (constructor context (Handle ty) components)
   made_words components ty P makes without =
-      spelled_words (Handle ty) tt P (λ spelling. Construct spelling components)
+      spelled_words (Handle ty) tt P (λ spelling. MakeSpelled spelling components)
       (unmade components ty) makes
       (without
       (free (run_word (unmade components ty))

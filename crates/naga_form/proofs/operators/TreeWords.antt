@@ -19,7 +19,7 @@ use Rattle.naga_info.specs.declared.info.TypeResolution.{TypeResolution}
 use Rattle.naga_info.specs.declared.info.TypeResolution.TheVariants.{Handle}
 use Rattle.naga_info.proofs.Options.{then_some, map_some}
 use Rattle.module_meaning.specs.ExpressionOperators.{applied_operator, constructor}
-use Rattle.module_meaning.specs.ExpressionShapes.{Declared, trees, tree_then, trees_of, built}
+use Rattle.module_meaning.specs.ExpressionShapes.{ModuleDeclarations, trees, tree_then, trees_of, built}
 use Rattle.module_meaning.specs.ExpressionShapes.{tree_over, computed_over, constant_tree}
 use Rattle.module_meaning.specs.ExpressionShapes.{tree_within, written_zero}
 use Rattle.module_meaning.specs.Literals.{literal_value}
@@ -41,7 +41,7 @@ module _ (m : Module) (info : ModuleInfo) (P : List ℕ → Type 0)
   module _ (constants : ℕ → Option ConstantTree)
       (in_constants : (c : ℕ) (t : ConstantTree) → constants c ≡ Some t → EachWord P t)
       (known : ℕ → Option TypeResolution) where
-    abbrev context : Declared
+    abbrev context : ModuleDeclarations
     context = declared_over m constants known
 
     built_words : (h : ℕ) (o : Operator) → P (run_word o) → (ts : List ConstantTree) → EachWordOf P (trees ts) →

@@ -23,7 +23,7 @@ use Rattle.wgsl_text.specs.Text.{text}
 use Rattle.wgsl_text.specs.Requests.{word_before_arguments, is_request, request_words}
 use Rattle.wgsl_text.specs.Keywords.{builtin_words}
 use Rattle.wgsl_text.proofs.Words.{passes}
-use Rattle.module_meaning.specs.OperatorTable.{Operator, CooperativeLoad, Construct, Convert}
+use Rattle.module_meaning.specs.OperatorTable.{Operator, CooperativeLoad, MakeSpelled, Convert}
 use Rattle.module_meaning.specs.OperatorTable.{Reinterpret, with_type, run_word, one_word}
 use Rattle.module_meaning.specs.OperatorTable.{is_untyped, SpellsAType, TypeIsSound, Unsupported}
 use Rattle.module_meaning.specs.OperatorTable.{Cast, PartAt, ValueOf, MatrixLoad, WithoutForm}
@@ -227,7 +227,7 @@ unsupported_is_none x =
 typed_is_none : (o : Operator) → is_untyped o ≡ false → TypeIsSound o → operator_of (run_word o) ≡ None
 typed_is_none (CooperativeLoad false w) u is = open_is_none (with_type (codes "coopLoad") w) (load_opens w)
 typed_is_none (CooperativeLoad true w) u is = open_is_none (with_type (codes "coopLoadT") w) (transposed_opens w)
-typed_is_none (Construct w n) u is = spelling_is_none w is
+typed_is_none (MakeSpelled w n) u is = spelling_is_none w is
 typed_is_none (Convert w) u is = spelling_is_none w is
 typed_is_none (Reinterpret w) u is = open_is_none (with_type (codes "bitcast") w) (reinterpret_opens w)
 typed_is_none (WithoutForm x) u is = unsupported_is_none x
@@ -335,23 +335,23 @@ some_none o e = cc
 
 typed_one_word : (a b : Operator) → is_untyped a ≡ false → is_untyped b ≡ false → TypeIsSound a → TypeIsSound b →
     run_word a ≡ run_word b → one_word a ≡ one_word b
-typed_one_word (Construct w n) (Construct x m) ua ub sa sb e = ap (λ y. Construct y 1) e
-typed_one_word (Construct w n) (Convert x) ua ub sa sb e = ap (λ y. Construct y 1) e
-typed_one_word (Construct w n) (Reinterpret x) ua ub sa sb e =
+typed_one_word (MakeSpelled w n) (MakeSpelled x m) ua ub sa sb e = ap (λ y. MakeSpelled y 1) e
+typed_one_word (MakeSpelled w n) (Convert x) ua ub sa sb e = ap (λ y. MakeSpelled y 1) e
+typed_one_word (MakeSpelled w n) (Reinterpret x) ua ub sa sb e =
     absurd (type_is_no_call (codes "bitcast") reinterpret_takes w x sa e)
-typed_one_word (Construct w n) (CooperativeLoad false x) ua ub sa sb e =
+typed_one_word (MakeSpelled w n) (CooperativeLoad false x) ua ub sa sb e =
     absurd (type_is_no_call (codes "coopLoad") load_takes w x sa e)
-typed_one_word (Construct w n) (CooperativeLoad true x) ua ub sa sb e =
+typed_one_word (MakeSpelled w n) (CooperativeLoad true x) ua ub sa sb e =
     absurd (type_is_no_call (codes "coopLoadT") transposed_takes w x sa e)
-typed_one_word (Convert w) (Construct x m) ua ub sa sb e = ap (λ y. Construct y 1) e
-typed_one_word (Convert w) (Convert x) ua ub sa sb e = ap (λ y. Construct y 1) e
+typed_one_word (Convert w) (MakeSpelled x m) ua ub sa sb e = ap (λ y. MakeSpelled y 1) e
+typed_one_word (Convert w) (Convert x) ua ub sa sb e = ap (λ y. MakeSpelled y 1) e
 typed_one_word (Convert w) (Reinterpret x) ua ub sa sb e =
     absurd (type_is_no_call (codes "bitcast") reinterpret_takes w x sa e)
 typed_one_word (Convert w) (CooperativeLoad false x) ua ub sa sb e =
     absurd (type_is_no_call (codes "coopLoad") load_takes w x sa e)
 typed_one_word (Convert w) (CooperativeLoad true x) ua ub sa sb e =
     absurd (type_is_no_call (codes "coopLoadT") transposed_takes w x sa e)
-typed_one_word (Reinterpret w) (Construct x m) ua ub sa sb e =
+typed_one_word (Reinterpret w) (MakeSpelled x m) ua ub sa sb e =
     absurd (type_is_no_call (codes "bitcast") reinterpret_takes x w sb (sym e))
 typed_one_word (Reinterpret w) (Convert x) ua ub sa sb e =
     absurd (type_is_no_call (codes "bitcast") reinterpret_takes x w sb (sym e))
@@ -360,7 +360,7 @@ typed_one_word (Reinterpret w) (CooperativeLoad false x) ua ub sa sb e =
     absurd (other_call (codes "bitcast") (codes "coopLoad") reinterpret_takes load_takes refl w x e)
 typed_one_word (Reinterpret w) (CooperativeLoad true x) ua ub sa sb e =
     absurd (other_call (codes "bitcast") (codes "coopLoadT") reinterpret_takes transposed_takes refl w x e)
-typed_one_word (CooperativeLoad false w) (Construct x m) ua ub sa sb e =
+typed_one_word (CooperativeLoad false w) (MakeSpelled x m) ua ub sa sb e =
     absurd (type_is_no_call (codes "coopLoad") load_takes x w sb (sym e))
 typed_one_word (CooperativeLoad false w) (Convert x) ua ub sa sb e =
     absurd (type_is_no_call (codes "coopLoad") load_takes x w sb (sym e))
@@ -370,7 +370,7 @@ typed_one_word (CooperativeLoad false w) (CooperativeLoad false x) ua ub sa sb e
     ap (CooperativeLoad false) (same_call (codes "coopLoad") w x e)
 typed_one_word (CooperativeLoad false w) (CooperativeLoad true x) ua ub sa sb e =
     absurd (other_call (codes "coopLoad") (codes "coopLoadT") load_takes transposed_takes refl w x e)
-typed_one_word (CooperativeLoad true w) (Construct x m) ua ub sa sb e =
+typed_one_word (CooperativeLoad true w) (MakeSpelled x m) ua ub sa sb e =
     absurd (type_is_no_call (codes "coopLoadT") transposed_takes x w sb (sym e))
 typed_one_word (CooperativeLoad true w) (Convert x) ua ub sa sb e =
     absurd (type_is_no_call (codes "coopLoadT") transposed_takes x w sb (sym e))
@@ -381,18 +381,18 @@ typed_one_word (CooperativeLoad true w) (CooperativeLoad false x) ua ub sa sb e 
 typed_one_word (CooperativeLoad true w) (CooperativeLoad true x) ua ub sa sb e =
     ap (CooperativeLoad true) (same_call (codes "coopLoadT") w x e)
 typed_one_word (WithoutForm x) (WithoutForm y) ua ub sa sb e = ap WithoutForm (unsupported_share x y e)
-typed_one_word (WithoutForm x) (Construct w n) ua ub sa sb e = absurd (no_unsupported w x sb (sym e))
+typed_one_word (WithoutForm x) (MakeSpelled w n) ua ub sa sb e = absurd (no_unsupported w x sb (sym e))
 typed_one_word (WithoutForm x) (Convert w) ua ub sa sb e = absurd (no_unsupported w x sb (sym e))
 typed_one_word (WithoutForm x) (Reinterpret w) ua ub sa sb e = absurd (no_unsupported_reinterpret w x (sym e))
 typed_one_word (WithoutForm x) (CooperativeLoad false w) ua ub sa sb e = absurd (no_unsupported_load w x (sym e))
 typed_one_word (WithoutForm x) (CooperativeLoad true w) ua ub sa sb e = absurd (no_unsupported_transposed w x (sym e))
-typed_one_word (Construct w n) (WithoutForm x) ua ub sa sb e = absurd (no_unsupported w x sa e)
+typed_one_word (MakeSpelled w n) (WithoutForm x) ua ub sa sb e = absurd (no_unsupported w x sa e)
 typed_one_word (Convert w) (WithoutForm x) ua ub sa sb e = absurd (no_unsupported w x sa e)
 typed_one_word (Reinterpret w) (WithoutForm x) ua ub sa sb e = absurd (no_unsupported_reinterpret w x e)
 typed_one_word (CooperativeLoad false w) (WithoutForm x) ua ub sa sb e = absurd (no_unsupported_load w x e)
 typed_one_word (CooperativeLoad true w) (WithoutForm x) ua ub sa sb e = absurd (no_unsupported_transposed w x e)
 typed_one_word (WithoutForm x) _ ua ub sa sb e = absurd (true≢false ub)
-typed_one_word (Construct w n) _ ua ub sa sb e = absurd (true≢false ub)
+typed_one_word (MakeSpelled w n) _ ua ub sa sb e = absurd (true≢false ub)
 typed_one_word (Convert w) _ ua ub sa sb e = absurd (true≢false ub)
 typed_one_word (Reinterpret w) _ ua ub sa sb e = absurd (true≢false ub)
 typed_one_word (CooperativeLoad false w) _ ua ub sa sb e = absurd (true≢false ub)

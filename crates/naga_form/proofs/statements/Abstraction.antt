@@ -73,7 +73,7 @@ use Rattle.naga_form.proofs.types.TypeTrees.{inner_tree_row}
 use Rattle.naga_form.proofs.types.WrittenTypes.{tree_there}
 use Rattle.module_meaning.specs.Types.{local_pointer, declared_type, type_names}
 use Rattle.module_meaning.specs.TypeIdentity.{identity, word_of_unspelled_type}
-use Rattle.module_meaning.specs.ExpressionShapes.{Declared}
+use Rattle.module_meaning.specs.ExpressionShapes.{ModuleDeclarations}
 use Rattle.module_meaning.specs.FunctionShapes.{statement_shape, statements_shape, cases_shape}
 use Rattle.module_meaning.specs.FunctionShapes.{function_shape}
 use Rattle.module_meaning.specs.Namings.{function_naming, outer_names}
@@ -163,7 +163,7 @@ module _ (flags : WriterFlags) (named : ℕ → List ℕ) (m : Module) (info : M
   abbrev source : Source
   source = function_source flags m info f es
 
-  abbrev d : Declared
+  abbrev d : ModuleDeclarations
   d = source.declared
 
   -- types are spelled as their trees are

@@ -28,7 +28,7 @@ use Rattle.module_meaning.specs.acceptance.Numbers.{case_value_fits_32_bits}
 use Rattle.module_meaning.specs.acceptance.AgreeingOperators.{function_group}
 use Rattle.module_meaning.specs.AlikeTypes.{are_alike}
 use Rattle.module_meaning.specs.ExpressionOperators.{is_atomic_pointer}
-use Rattle.module_meaning.specs.ExpressionShapes.{Declared, shape_of}
+use Rattle.module_meaning.specs.ExpressionShapes.{ModuleDeclarations, shape_of}
 use Rattle.module_meaning.specs.acceptance.ExpressionTypes.{is_expected, only, result_type}
 use Rattle.module_meaning.specs.FunctionShapes.{function_shape, statement_shape, statements_shape}
 use Rattle.module_meaning.specs.FunctionShapes.{cases_shape}
@@ -86,7 +86,7 @@ abbrev mutual
   CasesAreWorded p f (shapes.case l b falls cs) = AreWorded p f b × CasesAreWorded p f cs
 
 -- ---- results
-module _ (d : Declared) (es : List ir.Expression) (h : ℕ) where
+module _ (d : ModuleDeclarations) (es : List ir.Expression) (h : ℕ) where
   call_result : (function : ℕ) (e : ir.Expression) → is_result_of function e ≡ true →
       IsResult (Some (shape_of d es h e))
   call_result function (expression.CallResult callee) is = tt
@@ -127,7 +127,7 @@ module _ (m : Module) (info : ModuleInfo) (f : Function) (es : List ExpressionIn
   abbrev known : List TypeResolution
   known = map (λ e. e.ty) es
 
-  abbrev context : Declared
+  abbrev context : ModuleDeclarations
   context = declared m info (types_known es)
 
   value_typed : (h ty : ℕ) → value_has_type m.types known h (Handle ty) ≡ true →

@@ -18,7 +18,7 @@ use Rattle.naga_info.specs.declared.info.ModuleInfo.{ModuleInfo}
 use Rattle.module_meaning.specs.ExpressionOperators.{is_atomic_pointer}
 use Rattle.module_meaning.specs.ExpressionLabels.{block_labels, cases_labels, expression_labels}
 use Rattle.module_meaning.specs.ExpressionLabels.{label_of, labels_in, labels_of_each}
-use Rattle.module_meaning.specs.ExpressionShapes.{Declared, shape_of}
+use Rattle.module_meaning.specs.ExpressionShapes.{ModuleDeclarations, shape_of}
 use Rattle.module_meaning.specs.FunctionShapes.{statement_shape, statements_shape}
 use Rattle.module_meaning.specs.Names.{module_names, numbered_name}
 use Rattle.module_meaning.specs.Namings.{function_naming}
@@ -108,7 +108,7 @@ module _ (flags : WriterFlags) (m : Module) (info : ModuleInfo) (g : ℕ) (f : i
   abbrev source : Source
   source = function_source flags m info f es
 
-  abbrev d : Declared
+  abbrev d : ModuleDeclarations
   d = source.declared
 
   abbrev bound : ℕ → Bool

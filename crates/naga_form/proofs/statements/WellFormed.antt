@@ -35,7 +35,7 @@ use Rattle.wgsl_text.specs.Types.{Named}
 use Rattle.wgsl_text.proofs.Text.{text-append}
 use Rattle.module_meaning.specs.acceptance.Accepted.{is_accepted}
 use Rattle.module_meaning.specs.ExpressionOperators.{ExpressionContext, is_atomic_pointer}
-use Rattle.module_meaning.specs.ExpressionShapes.{Declared, shape_of, applied_shape, part_shape}
+use Rattle.module_meaning.specs.ExpressionShapes.{ModuleDeclarations, shape_of, applied_shape, part_shape}
 use Rattle.module_meaning.specs.ExpressionShapes.{part_selector, applied_or}
 use Rattle.module_meaning.specs.acceptance.ExpressionTypes.{is_bool, is_bool_of, have_their_types}
 use Rattle.module_meaning.specs.FunctionShapes.{function_shape, statement_shape, statements_shape}
@@ -235,7 +235,7 @@ module _ (m : Module) (info : ModuleInfo) (f : Function) (es : List ExpressionIn
       (pointer_values m three.0 two.0 three.2 (ap is_some two.2))
 
   -- ---- expressions
-  abbrev whole_context : Declared
+  abbrev whole_context : ModuleDeclarations
   whole_context = declared m info (types_known es)
 
   pub shape_there : (h : ℕ) (e : ir.Expression) → slice_get f.expressions h ≡ Some e →

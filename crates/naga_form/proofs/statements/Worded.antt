@@ -14,8 +14,8 @@ use Rattle.wgsl_text.specs.Requests.{is_request}
 use Rattle.module_meaning.specs.acceptance.Numbers.{case_value_fits_32_bits}
 use Rattle.module_meaning.specs.ExpressionOperators.{ExpressionContext, is_atomic_pointer}
 use Rattle.module_meaning.specs.FunctionShapes.{statement_shape, statements_shape, cases_shape}
-use Rattle.module_meaning.specs.OperatorTable.{Operator, AtomicStore, Barrier, StorageKept}
-use Rattle.module_meaning.specs.OperatorTable.{WorkgroupKept, SubgroupKept, TextureKept, asks}
+use Rattle.module_meaning.specs.OperatorTable.{Operator, AtomicStore, Barrier, StorageOrdered}
+use Rattle.module_meaning.specs.OperatorTable.{WorkgroupOrdered, SubgroupOrdered, TextureOrdered, asks}
 use Rattle.module_meaning.specs.OperatorTable.{has_word, is_untyped, operator_word, own_word}
 use Rattle.module_meaning.specs.OperatorTable.{run_word, TypeIsSound}
 use Rattle.module_meaning.specs.acceptance.Ranges.{simple_in_range, statement_in_range}
@@ -78,13 +78,13 @@ module _ (all : Bool) (p : shapes.Module) (f : Naming) (free : AsksFreely all p 
   barriers_ask : (bits : BarrierBits) → EachAsks p f (barrier_words bits)
   barriers_ask bits =
       one_asks bits.storage (codes "storageBarrier") _
-      (word_asks (Barrier true StorageKept) refl refl tt)
+      (word_asks (Barrier true StorageOrdered) refl refl tt)
       (one_asks bits.work_group (codes "workgroupBarrier") _
-      (word_asks (Barrier true WorkgroupKept) refl refl tt)
+      (word_asks (Barrier true WorkgroupOrdered) refl refl tt)
       (one_asks bits.sub_group (codes "subgroupBarrier") _
-      (word_asks (Barrier true SubgroupKept) refl refl tt)
+      (word_asks (Barrier true SubgroupOrdered) refl refl tt)
       (one_asks bits.texture (codes "textureBarrier") []
-      (word_asks (Barrier true TextureKept) refl refl tt) tt)))
+      (word_asks (Barrier true TextureOrdered) refl refl tt) tt)))
 
   -- an act that asks for an operator
   own_worded : (s : SimpleStatement) (o : Option Operator) →

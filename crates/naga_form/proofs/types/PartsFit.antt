@@ -45,7 +45,7 @@ use Rattle.module_meaning.specs.acceptance.ExpressionTypes.{if_any, only}
 use Rattle.module_meaning.specs.FunctionShapes.{function_shape}
 use Rattle.module_meaning.specs.acceptance.OperandDemands.{operand_is, is_integer, is_integer_kind}
 use Rattle.module_meaning.specs.OperatorTable.{Operator as TableOperator, BinarySign, WithoutForm}
-use Rattle.module_meaning.specs.OperatorTable.{Unsupported, ValueOf, Construct, CooperativeLoad}
+use Rattle.module_meaning.specs.OperatorTable.{Unsupported, ValueOf, MakeSpelled, CooperativeLoad}
 use Rattle.module_meaning.specs.OperatorTable.{AtomicLoad, asks, run_word}
 use Rattle.module_meaning.specs.Shapes.{operator_shape}
 use Rattle.module_meaning.specs.ExpressionContexts.{declared, expression_context, types_known}
@@ -305,7 +305,7 @@ module _ (m : ir_module.Module) (info : ModuleInfo) (accepted : IsTrue (is_accep
     no_constructor r n = by (called_spelling m r)
       where
         by : (o : Option Bytes) →
-            IsNoSign (Some (option_map_or (λ spelling. Construct spelling n) o
+            IsNoSign (Some (option_map_or (λ spelling. MakeSpelled spelling n) o
             (WithoutForm (ValueOf (identity_code (identity m.types r)) n))))
         by None = tt
         by (Some w) = tt

@@ -23,7 +23,7 @@ use Rattle.naga_ir.specs.declared.types.ScalarKind.TheVariants as kind
 use Rattle.shader_runs.specs.Value.{Bytes, Selector, MemberNamed, ElementAt, At, BooleanType}
 use Rattle.shader_runs.specs.Value.{PointerType, OtherType, Parts, NoParts, Elements, Components}
 use Rattle.shader_runs.specs.Value.{step_to, step_to_component, step_to_element, component_number}
-use Rattle.module_meaning.specs.ExpressionShapes.{Declared, own_selector, selector}
+use Rattle.module_meaning.specs.ExpressionShapes.{ModuleDeclarations, own_selector, selector}
 use Rattle.module_meaning.specs.ExpressionShapes.{component_letters}
 use Rattle.module_meaning.specs.ExpressionContexts.{declared}
 use Rattle.module_meaning.specs.PlaceParts.{parts_at, pointee_parts, member_word}
@@ -145,7 +145,7 @@ letter_step count (suc (suc (suc (suc index)))) within letter at = absurd cc
 
 -- ---- parts through pointers
 module _ (m : ir_module.Module) (info : ModuleInfo) (known : ℕ → Option TypeResolution) where
-  abbrev context : Declared
+  abbrev context : ModuleDeclarations
   context = declared m info known
 
   -- the member of a struct that a pointer points to

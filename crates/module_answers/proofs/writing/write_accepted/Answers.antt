@@ -1,7 +1,7 @@
 use Rattle.std.proofs.Common.{subst, sym}
 use Rattle.naga_back.specs.Flags.{annotates_types}
 use Rattle.module_answers.specs.WriteOutcomes.{AnswersWriting, TellsBeside}
-use Rattle.module_answers.proofs.Wants.{answer_or_want, leaves_told}
+use Rattle.module_answers.proofs.Wants.{answer_or_memory, leaves_told}
 use Rattle.module_answers.proofs.writing.write_accepted.Goals as goal
 
 -- what its error names is told by what it leaves
@@ -31,7 +31,7 @@ returns g c =
     (λ now. AnswersWriting c.new-writer.result.flags m info told.0 told.1
     (text c.new-writer.result.sink) (text now) (failures c.new-writer.result.sink) (failures now))
     (sym c.finish-sink.ensures)
-    (answer_or_want c.new-writer.result.flags m info _ _ _ _ c.write-answer.result told.0 told.1
+    (answer_or_memory c.new-writer.result.flags m info _ _ _ _ c.write-answer.result told.0 told.1
     c.with_refusal-answer.ensures.answer wrote.faithful wrote.matches wrote.text wrote.leaves
     (subst (λ flags. TellsBeside (annotates_types flags) m info told.0 told.1)
     (sym c.new-writer.ensures.flags) c.with_refusal-answer.ensures.beside))))

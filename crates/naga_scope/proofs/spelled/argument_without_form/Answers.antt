@@ -1,6 +1,6 @@
 use Rattle.std.proofs.Common.{ap, arith, refl, sym, ◌∙◌}
 use Rattle.std.specs.Prelude.{not}
-use Rattle.naga_scope.specs.SpelledTypes.{first_unsupported}
+use Rattle.naga_scope.specs.SpelledTypes.{first_unspellable}
 use Rattle.naga_scope.proofs.SpelledTypes.{arguments_from, found_argument, not_argument}
 use Rattle.std.proofs.lemmas.List.{drop_all}
 use Rattle.naga_scope.proofs.spelled.argument_without_form.Goals as goal
@@ -29,6 +29,6 @@ loop-argument-preserved c =
 
 pub returns : goal.returns
 returns c =
-    sym (ap (λ xs. first_unsupported c.args.module.now (arguments_from c.loop-argument.index xs))
+    sym (ap (λ xs. first_unspellable c.args.module.now (arguments_from c.loop-argument.index xs))
     (drop_all c.loop-argument.argument-index c.args.arguments.now c.loop-argument-test.false))
     ∙ c.loop-argument.invariant.found

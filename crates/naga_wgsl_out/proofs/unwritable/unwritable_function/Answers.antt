@@ -1,7 +1,7 @@
 use Rattle.std.proofs.Common.{◌≡◌, ◌+◌, arith, length, refl, subst, sym}
 use Rattle.naga_back.specs.Flags.{annotates_types}
 use Rattle.naga_back.specs.declared.context.FunctionType.TheVariants as item
-use Rattle.naga_wgsl_out.proofs.Functions.{last_point, points_counted}
+use Rattle.naga_wgsl_out.proofs.Functions.{last_entry_point, points_counted}
 use Rattle.naga_wgsl_out.proofs.Positions.{AreWritable, all_writable, before_writable, found_none}
 use Rattle.naga_wgsl_out.proofs.Positions.{found_some, none_writable, one_writable}
 use Rattle.naga_wgsl_out.proofs.Positions.{refusal_first, refusal_stands}
@@ -93,5 +93,5 @@ returns-clause-stands c =
     let points : c.loop-index-2.index ≡ m.entry_points.len =
     omega (arith, c.loop-index-2-test.false, c.len-index-end-2.ensures) in
     all_writable (annotates_types c.args.flags) m c.args.info.now _ _ c.loop-index-2.namer
-    c.requires.declared c.requires.names (last_point m c.loop-index-2.index points)
+    c.requires.declared c.requires.names (last_entry_point m c.loop-index-2.index points)
     c.loop-index-2.invariant

@@ -1,7 +1,7 @@
 use Rattle.std.proofs.Common.{◌≡◌, ◌+◌, ◌<◌, arith, length, subst, sym}
 use Rattle.module_meaning.proofs.FunctionNumbers.{number_within}
 use Rattle.naga_back.specs.declared.context.FunctionType.TheVariants as item
-use Rattle.naga_wgsl_out.proofs.Functions.{failed_as, last_point, points_counted, up_to_all}
+use Rattle.naga_wgsl_out.proofs.Functions.{failed_as, last_entry_point, points_counted, up_to_all}
 use Rattle.naga_wgsl_out.proofs.Functions.{up_to_as, up_to_failed, up_to_more, up_to_none, wrote_as}
 use Rattle.naga_back.specs.Flags.{annotates_types}
 use Rattle.naga_wgsl_out.proofs.Positions.{as_told, told_first, up_to_before}
@@ -91,7 +91,7 @@ returns-clause-wrote g c =
     up_to_all m c.args.info.now c.args.flags
     (c.loop-index-2.invariant (g.W.TextSink.text c.args.out.now) (g.W.TextSink.failures c.args.out.now)
     (up_to_as all c.loop-index.invariant))
-    (last_point m c.loop-index-2.index points)
+    (last_entry_point m c.loop-index-2.index points)
 
 pub returns-in_err-write_next-clause-told : goal.returns-in_err-write_next-clause-told
 returns-in_err-write_next-clause-told g c =

@@ -4,7 +4,7 @@ use Rattle.naga_builder.proofs.module.ModuleBuilder.add_stage_entry_point.Goals 
 
 pub returns-clause-ok : goal.returns-clause-ok
 returns-clause-ok c = record {
-  point = record {
+  entry_point_added = record {
     name = c.in_ok-name.name;
     stage = c.args.stage;
     workgroup_size = c.args.workgroup_size;

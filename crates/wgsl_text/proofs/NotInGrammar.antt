@@ -19,7 +19,7 @@ use Rattle.wgsl_text.specs.Words.{is_reserved, is_builtin}
 use Rattle.wgsl_text.specs.WorkedTrees.{named_type, name, call, parameter, function, of_functions}
 use Rattle.wgsl_text.specs.WorkedTrees.{member, struct}
 use Rattle.wgsl_text.specs.Reading.{ReadsType, ReadsExpression, Reads}
-use Rattle.wgsl_text.specs.Refused.{TextsNotInGrammar, IsNoExpression}
+use Rattle.wgsl_text.specs.NotInGrammar.{TextsNotInGrammar, IsNoExpression}
 use Rattle.wgsl_text.proofs.Machine.{ReadState, Expect, ExpectType, Got, GotType, Bottom, InProgram}
 use Rattle.wgsl_text.proofs.Reading.{read, type_read, expression_read, program_read, same_type}
 use Rattle.wgsl_text.proofs.Reading.{same_expression, same_program}
