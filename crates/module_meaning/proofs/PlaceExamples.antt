@@ -23,7 +23,7 @@ use Rattle.module_meaning.specs.FunctionShapes.{function_shape}
 use Rattle.module_meaning.specs.ModuleShapes.{module_shape}
 use Rattle.module_meaning.specs.PlaceParts.{place_parts, pointee_parts, member_word}
 use Rattle.module_meaning.specs.Types.{local_pointer}
-use Rattle.shader_runs.specs.Value.{Parts, NoParts, Elements, Components, Members, Place, Rooted}
+use Rattle.shader_runs.specs.Value.{Parts, NoParts, Elements, Components, Members, Place, AtOrigin}
 use Rattle.shader_runs.specs.Value.{LocalOrigin, Part, At, Pointer, has_types, ElementAt, step_to}
 use Rattle.module_meaning.proofs.ModuleShapeExamples.{one}
 
@@ -95,7 +95,7 @@ module _ (other : ir_module.Module) (info : ModuleInfo) (members : Vec StructMem
 
     -- element 2 of the array, where the function is entered for the first time
     abbrev element : Place
-    element = Part (Rooted (LocalOrigin (local_pointer m 1) 1 0)) (At (pos 2))
+    element = Part (AtOrigin (LocalOrigin (local_pointer m 1) 1 0)) (At (pos 2))
 
     -- the function may start with a pointer to it
     starts : has_types (module_shape m known).parts (function_shape m known taking []).argument_types

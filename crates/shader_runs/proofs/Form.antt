@@ -4,7 +4,7 @@ use Rattle.std.proofs.Common.{length, Option, Some, None, slice_get, refl, sym, 
 use Rattle.std.proofs.Common.{true≢false, arith, ltb-true}
 use Rattle.std.specs.Prelude.{IsTrue}
 use Rattle.std.proofs.lemmas.Option.{slice_get_within, same_Some, none-some}
-use Rattle.shader_runs.specs.Value.{Bytes, PartTypes, Rooted, GlobalOrigin, LocalOrigin, Selector}
+use Rattle.shader_runs.specs.Value.{Bytes, PartTypes, AtOrigin, GlobalOrigin, LocalOrigin, Selector}
 use Rattle.shader_runs.specs.Value.{ShortCircuit, ValueType, PointerType, type_at, has_type}
 use Rattle.shader_runs.specs.Value.{has_types, Value, Pointer, Spelled}
 use Rattle.shader_runs.specs.World.{Event, GlobalValue, Stored, InHandleSpace, Environment, Meaning}
@@ -118,7 +118,7 @@ no_name p c n fits w f =
 
 held_typed : (parts : PartTypes) (x : VariableShape) (i : ℕ) (g : GlobalValue) →
     IsTrue (global_fits parts x g) → TypedValue parts (variable_type x) (global_value i (Some g))
-held_typed parts (AtPlace s) i (Stored q) h = (Pointer (Rooted (GlobalOrigin q i)), refl, h)
+held_typed parts (AtPlace s) i (Stored q) h = (Pointer (AtOrigin (GlobalOrigin q i)), refl, h)
 held_typed parts (AtPlace s) i (InHandleSpace o) h = absurd (true≢false (sym h))
 held_typed parts (Held k) i (Stored q) h = absurd (true≢false (sym h))
 held_typed parts (Held k) i (InHandleSpace None) h = absurd (true≢false (sym h))
@@ -160,7 +160,7 @@ module _ (p : Module) (c : Call)
       (ltb-true i (argument_count c.function) u))
   used_typed k (Some (Local i)) l m o st v u =
       let pointer = local_pointer c.function i in
-      let place = Pointer (Rooted (LocalOrigin pointer c.frame i)) in
+      let place = Pointer (AtOrigin (LocalOrigin pointer c.frame i)) in
       retyped c.environment.parts k (PointerType pointer) (Some place) l
       (place, refl, same_type_self (PointerType pointer))
   used_typed k (Some (Global held i)) l m o st v u =
@@ -320,9 +320,9 @@ module _ (p : Module) (c : Call) (n : Names) (d : Respond) (facts : Facts p c n 
 
   local_means : (i : ℕ) → IsTrue (nat_lt i (local_count c.function)) →
       Means c d names (AsPlace (Name (n.local_ i)))
-      (Some (Pointer (Rooted (LocalOrigin (local_pointer c.function i) c.frame i))))
+      (Some (Pointer (AtOrigin (LocalOrigin (local_pointer c.function i) c.frame i))))
   local_means i u = (
-    Rooted (LocalOrigin (local_pointer c.function i) c.frame i),
+    AtOrigin (LocalOrigin (local_pointer c.function i) c.frame i),
     refl,
     λ t. ap (λ z. reach z t) (r.fixed (LocalName i) (ltb-true i (local_count c.function) u)),
   )
@@ -331,7 +331,7 @@ module _ (p : Module) (c : Call) (n : Names) (d : Respond) (facts : Facts p c n 
       names (n.outer.global i) ≡ stored_denoted i g →
       IsTrue (global_fits c.environment.parts x g) →
       Means c d names (global_form (is_held x) (Name (n.outer.global i))) (global_value i (Some g))
-  global_as_means (AtPlace s) i (Stored q) e h = (Rooted (GlobalOrigin q i), refl, λ t. ap (λ z. reach z t) e)
+  global_as_means (AtPlace s) i (Stored q) e h = (AtOrigin (GlobalOrigin q i), refl, λ t. ap (λ z. reach z t) e)
   global_as_means (AtPlace s) i (InHandleSpace o) e h = absurd (true≢false (sym h))
   global_as_means (Held k) i (Stored q) e h = absurd (true≢false (sym h))
   global_as_means (Held k) i (InHandleSpace None) e h = absurd (true≢false (sym h))

@@ -3,7 +3,7 @@ use Rattle.std.proofs.Common.{◌≡◌, ◌≢◌, ℕ, zero, suc, ◌+◌, ◌
 use Rattle.std.proofs.Common.{false, length, Option, Some, None, ◌||◌, slice_get, refl, sym, ap}
 use Rattle.std.proofs.Common.{◌∙◌, true≢false, arith, map}
 use Rattle.std.specs.Prelude.{IsTrue}
-use Rattle.shader_runs.specs.Value.{Bytes, same_bytes, PartTypes, Rooted, GlobalOrigin, LocalOrigin}
+use Rattle.shader_runs.specs.Value.{Bytes, same_bytes, PartTypes, AtOrigin, GlobalOrigin, LocalOrigin}
 use Rattle.shader_runs.specs.Value.{PointerType, Value}
 use Rattle.shader_runs.specs.World.{GlobalValue, Stored, InHandleSpace, bind, Environment}
 use Rattle.shader_runs.specs.Program.{local_pointer, VariableShape, Held, AtPlace, pointer_to}
@@ -96,7 +96,7 @@ parameter_at name n j one vs names e i lt =
 
 -- the place of a function's variable
 abbrev pub variable_place : Naming → (entries index : ℕ) → Option Denotation
-variable_place f k i = Some (IsPlace (Rooted (LocalOrigin (local_pointer f.function i) k i)))
+variable_place f k i = Some (IsPlace (AtOrigin (LocalOrigin (local_pointer f.function i) k i)))
 
 pub variable_other : (f : Naming) (x : Bytes) (os : List (Option ℕ)) (j k : ℕ) →
     NotAmong f.names.local_ j (length os) x →
@@ -193,7 +193,7 @@ choices_stand parts (x ∷ xs) (g ∷ gs) e =
 -- a variable of the module stands for what its declaration says
 declared_denoted : (parts : PartTypes) (x : VariableShape) (b : ℕ) (g : GlobalValue) →
     IsTrue (global_fits parts x g) → global_denoted (pointer_to x) b (held g) ≡ stored_denoted b g
-declared_denoted parts (AtPlace s) b (Stored q) h = ap (λ s. Some (IsPlace (Rooted (GlobalOrigin s b))))
+declared_denoted parts (AtPlace s) b (Stored q) h = ap (λ s. Some (IsPlace (AtOrigin (GlobalOrigin s b))))
     (same_bytes_true s q h)
 declared_denoted parts (AtPlace s) b (InHandleSpace o) h = absurd (true≢false (sym h))
 declared_denoted parts (Held k) b (Stored q) h = absurd (true≢false (sym h))

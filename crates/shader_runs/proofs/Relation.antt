@@ -2,7 +2,7 @@
 use Rattle.std.proofs.Common.{◌≡◌, ◌≢◌, ℕ, ◌<◌, Bool, true, false, cond, List, [], ◌∷◌, length}
 use Rattle.std.proofs.Common.{Option, Some, None, slice_get, refl, sym, ap, ◌∙◌, option_map}
 use Rattle.std.specs.Prelude.{IsTrue}
-use Rattle.shader_runs.specs.Value.{Bytes, Rooted, LocalOrigin, GlobalOrigin, PartTypes, ValueType}
+use Rattle.shader_runs.specs.Value.{Bytes, AtOrigin, LocalOrigin, GlobalOrigin, PartTypes, ValueType}
 use Rattle.shader_runs.specs.Value.{has_type, Value}
 use Rattle.shader_runs.specs.World.{GlobalValue, Stored, InHandleSpace}
 use Rattle.shader_runs.specs.Program.{Expression, Constant, Argument, Local, Global, Function}
@@ -35,7 +35,7 @@ abbrev pub as_denoted : Option Value → Option Denotation
 as_denoted o = option_map IsValue o
 
 abbrev pub stored_denoted : ℕ → GlobalValue → Option Denotation
-stored_denoted i (Stored pointer) = Some (IsPlace (Rooted (GlobalOrigin pointer i)))
+stored_denoted i (Stored pointer) = Some (IsPlace (AtOrigin (GlobalOrigin pointer i)))
 stored_denoted i (InHandleSpace o) = as_denoted o
 
 abbrev pub global_as : ℕ → Option GlobalValue → Option Denotation
@@ -52,7 +52,7 @@ IsHere c (GlobalName i) = i < length c.environment.globals
 -- and what they stand for
 abbrev pub fixed_denoted : Call → FixedName → Option Denotation
 fixed_denoted c (ArgumentName i) = as_denoted (slice_get c.arguments i)
-fixed_denoted c (LocalName i) = Some (IsPlace (Rooted (LocalOrigin (local_pointer c.function i) c.frame i)))
+fixed_denoted c (LocalName i) = Some (IsPlace (AtOrigin (LocalOrigin (local_pointer c.function i) c.frame i)))
 fixed_denoted c (ConstantName i) = as_denoted (slice_get c.environment.constants i)
 fixed_denoted c (GlobalName i) = global_as i (slice_get c.environment.globals i)
 

@@ -2,7 +2,7 @@
 -- on the bound.
 use Rattle.std.proofs.Common.{◌≡◌, ℕ, true, false, List, refl, ap, arith}
 use Rattle.std.specs.Prelude.{IsTrue, ◌∷◌, get_or, codes}
-use Rattle.shader_runs.specs.Value.{Value, Rooted, LocalOrigin, ShortCircuitAnd, ShortCircuitOr}
+use Rattle.shader_runs.specs.Value.{Value, AtOrigin, LocalOrigin, ShortCircuitAnd, ShortCircuitOr}
 use Rattle.shader_runs.specs.World.{Event, Read}
 use Rattle.shader_runs.specs.Outcome.{OutOfTurns, Gives, Done, Stopped, Next, and_then, turns}
 use Rattle.shader_runs.specs.Outcome.{answer}
@@ -50,7 +50,7 @@ word_is_taken =
 
 -- the letter after the comma in the spelling of a pointer to the place that is read last
 abbrev letter : CallEnd → ℕ
-letter (Gives v (Read (Rooted (LocalOrigin pointer k i)) ∷ t)) = get_or pointer 14 0
+letter (Gives v (Read (AtOrigin (LocalOrigin pointer k i)) ∷ t)) = get_or pointer 14 0
 letter _ = 0
 
 -- `u` is not `i`

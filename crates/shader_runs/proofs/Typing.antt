@@ -6,7 +6,7 @@ use Rattle.std.proofs.Common.{eqb-true, eq-eqb, option_map}
 use Rattle.std.specs.Prelude.{IsTrue, option_and_then}
 use Rattle.std.proofs.lemmas.Bool.{eqb-false}
 use Rattle.std.proofs.lemmas.Option.{slice_get_within, none-some, same_Some}
-use Rattle.shader_runs.specs.Value.{Bytes, PartTypes, Place, place_type, Step, Rooted, GlobalOrigin}
+use Rattle.shader_runs.specs.Value.{Bytes, PartTypes, Place, place_type, Step, AtOrigin, GlobalOrigin}
 use Rattle.shader_runs.specs.Value.{Part, Selector, MemberNamed, ElementAt, step_to, step_at}
 use Rattle.shader_runs.specs.Value.{part_pointer, element_place, ValueType, BooleanType, IntegerType}
 use Rattle.shader_runs.specs.Value.{PointerType, OtherType, type_of, same_type, has_type, has_types}
@@ -38,7 +38,7 @@ use Rattle.shader_runs.proofs.Evaluation.{part_value_is}
 abbrev pub default_value : ValueType → Value
 default_value BooleanType = Truth false
 default_value (IntegerType s) = Whole s (pos 0)
-default_value (PointerType s) = Pointer (Rooted (GlobalOrigin s 0))
+default_value (PointerType s) = Pointer (AtOrigin (GlobalOrigin s 0))
 default_value (OtherType s) = Opaque s 0
 
 pub default_typed : (parts : PartTypes) (t : ValueType) → IsTrue (has_type parts t (default_value t))

@@ -5,7 +5,7 @@ use Rattle.std.specs.Prelude.{◌≡◌, ℤ, pos, false, cond, [], ◌∷◌, O
 use Rattle.std.specs.Prelude.{IsTrue, codes}
 use Rattle.shader_runs.specs.Value.{Bytes, same_bytes, NoParts, Elements, Components, Members}
 use Rattle.shader_runs.specs.Value.{PartTypes, Selector, MemberNamed, ElementAt, Step, At, Field}
-use Rattle.shader_runs.specs.Value.{step_to, step_at, place_type, Place, Rooted, GlobalOrigin, Part}
+use Rattle.shader_runs.specs.Value.{step_to, step_at, place_type, Place, AtOrigin, GlobalOrigin, Part}
 use Rattle.shader_runs.specs.Value.{PointerType, Value, Pointer, PartWord}
 use Rattle.shader_runs.specs.World.{Read, Write, Settings}
 use Rattle.shader_runs.specs.Outcome.{ReachedOrHalted, Gives}
@@ -107,7 +107,7 @@ pub record StepsAreDistinguished : Type 0 where
 
 -- a variable `v`, by its place
 abbrev pub v_place : (whole : Bytes) → Place
-v_place whole = Rooted (GlobalOrigin whole 0)
+v_place whole = AtOrigin (GlobalOrigin whole 0)
 
 -- a text that returns this, with `v` declared so
 abbrev pub returning_text : (whole : Bytes) → Tree → TextModule

@@ -8,7 +8,7 @@
 use Rattle.std.specs.Prelude.{ℕ, zero, suc, ℤ, Bool, true, false, cond, nat_eq, List, [], ◌∷◌, ◌++◌}
 use Rattle.std.specs.Prelude.{option_map, option_and_then, length, Option, Some, None, ◌||◌}
 use Rattle.std.specs.Prelude.{slice_get, codes}
-use Rattle.shader_runs.specs.Value.{Bytes, same_integer, PartTypes, Place, Rooted, GlobalOrigin}
+use Rattle.shader_runs.specs.Value.{Bytes, same_integer, PartTypes, Place, AtOrigin, GlobalOrigin}
 use Rattle.shader_runs.specs.Value.{truth_in, integer_in, place_in, element_place, place_to}
 use Rattle.shader_runs.specs.Value.{LocalOrigin}
 use Rattle.shader_runs.specs.Value.{ValueType, has_type, Selector, MemberNamed, Value, Truth}
@@ -115,7 +115,7 @@ constant_values env m es = tree_values (slice_get env.constants) m es
 -- what a module-level variable's name gives: a pointer to it, or the value itself
 abbrev pub global_value : ℕ → Option GlobalValue → Option Value
 global_value i None = None
-global_value i (Some (Stored pointer)) = Some (Pointer (Rooted (GlobalOrigin pointer i)))
+global_value i (Some (Stored pointer)) = Some (Pointer (AtOrigin (GlobalOrigin pointer i)))
 global_value i (Some (InHandleSpace o)) = o
 
 -- what a use of a handle takes
@@ -123,7 +123,7 @@ abbrev pub used_value_as : Call → Option Expression → Option Value → Optio
 used_value_as c (Some (Constant e)) kept = constant_value c.environment c.meaning e
 used_value_as c (Some (Argument i)) kept = slice_get c.arguments i
 used_value_as c (Some (Local i)) kept =
-    Some (Pointer (Rooted (LocalOrigin (local_pointer c.function i) c.frame i)))
+    Some (Pointer (AtOrigin (LocalOrigin (local_pointer c.function i) c.frame i)))
 used_value_as c (Some (Global held i)) kept = global_value i (slice_get c.environment.globals i)
 used_value_as c None kept = None
 used_value_as c _ kept = kept

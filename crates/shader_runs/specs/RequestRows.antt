@@ -1,7 +1,7 @@
 -- Worked functions that ask for events: atomics, images, derivatives, collectives, barriers and ray
 -- traces. Each with its text, and what both runs of it do.
 use Rattle.std.specs.Prelude.{true, false, List, [], ◌∷◌, Some, None, codes}
-use Rattle.shader_runs.specs.Value.{Bytes, Place, Rooted, GlobalOrigin, ValueType, PointerType}
+use Rattle.shader_runs.specs.Value.{Bytes, Place, AtOrigin, GlobalOrigin, ValueType, PointerType}
 use Rattle.shader_runs.specs.Value.{OtherType, Value, Pointer, Opaque}
 use Rattle.shader_runs.specs.World.{Event, Ask, Write}
 use Rattle.shader_runs.specs.Outcome.{Gives}
@@ -25,7 +25,7 @@ counter_type = codes "ptr<workgroup, atomic<i32>>"
 
 -- its place
 abbrev pub counter_place : Place
-counter_place = Rooted (GlobalOrigin counter_type 0)
+counter_place = AtOrigin (GlobalOrigin counter_type 0)
 
 -- it is stored to, added to and loaded; what the addition found and what is loaded are added up
 abbrev pub count_function : Function
@@ -368,8 +368,8 @@ together_text =
 -- each barrier is an event, and what is read after them is what was stored
 abbrev pub TogetherRow : Type 0
 TogetherRow =
-    let cell = Rooted (GlobalOrigin cell_type 0) in
-    let payload = Rooted (GlobalOrigin payload_type 2) in
+    let cell = AtOrigin (GlobalOrigin cell_type 0) in
+    let payload = AtOrigin (GlobalOrigin payload_type 2) in
     let ray = Opaque ray_type 3 in
     let vs : List Value = number 8 ∷ ray ∷ [] in
     IsWorked together_example together_text 0 3 vs (Gives (Some ballot) (

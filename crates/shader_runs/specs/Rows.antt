@@ -4,7 +4,7 @@
 -- Throughout, t are the events so far, vs are arguments, and f and e a function and an expression.
 use Rattle.std.specs.Prelude.{◌≡◌, ℕ, pos, Bool, true, false, List, [], ◌∷◌, ◌++◌, Option, Some}
 use Rattle.std.specs.Prelude.{None, codes}
-use Rattle.shader_runs.specs.Value.{Bytes, Rooted, LocalOrigin, Place, ValueType, BooleanType, Value}
+use Rattle.shader_runs.specs.Value.{Bytes, AtOrigin, LocalOrigin, Place, ValueType, BooleanType, Value}
 use Rattle.shader_runs.specs.Value.{Truth, Pointer}
 use Rattle.shader_runs.specs.World.{Event, Entry, Ask, Read, Write}
 use Rattle.shader_runs.specs.Outcome.{ReachedOrHalted, Gives, Halts, Stuck, Unreturned, OutOfTurns}
@@ -46,7 +46,7 @@ a_first = number_variable a_name 1
 
 -- the first local of the first call
 abbrev pub a_place : Place
-a_place = Rooted (LocalOrigin local_i32 0 0)
+a_place = AtOrigin (LocalOrigin local_i32 0 0)
 
 -- the entry of a start
 abbrev pub entered_with : List Value → List (Option Value) → List Event

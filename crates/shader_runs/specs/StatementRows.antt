@@ -5,7 +5,7 @@
 -- vs are arguments, e is a tree.
 use Rattle.std.specs.Prelude.{◌≡◌, ◌≢◌, ℕ, pos, Bool, true, false, cond, List, [], ◌∷◌, ◌++◌, Some}
 use Rattle.std.specs.Prelude.{None, ◌&&◌, ◌||◌, codes}
-use Rattle.shader_runs.specs.Value.{Bytes, Place, Rooted, LocalOrigin, BooleanType, PointerType}
+use Rattle.shader_runs.specs.Value.{Bytes, Place, AtOrigin, LocalOrigin, BooleanType, PointerType}
 use Rattle.shader_runs.specs.Value.{Value, Truth, Pointer, MemberNamed, ShortCircuit}
 use Rattle.shader_runs.specs.Value.{ShortCircuitAnd, ShortCircuitOr, is_decided}
 use Rattle.shader_runs.specs.World.{Event, Entry, Read, Write, Discard}
@@ -41,7 +41,7 @@ abbrev pub local_bool : Bytes
 local_bool = codes "ptr<function, bool>"
 
 abbrev pub flag_place : Place
-flag_place = Rooted (LocalOrigin local_bool 0 0)
+flag_place = AtOrigin (LocalOrigin local_bool 0 0)
 
 -- an argument and a local that starts with this value
 abbrev pub logical_function : ShortCircuit → Bool → Function
@@ -102,10 +102,10 @@ ReadOnTheRight =
 
 -- the function's locals
 abbrev pub a_place : Place
-a_place = Rooted (LocalOrigin local_i32 0 0)
+a_place = AtOrigin (LocalOrigin local_i32 0 0)
 
 abbrev pub n_place : Place
-n_place = Rooted (LocalOrigin local_i32 0 1)
+n_place = AtOrigin (LocalOrigin local_i32 0 1)
 
 -- a loop over a switch whose default stands in the middle: one case continues the loop, one leaves
 -- the switch, and one returns
@@ -288,7 +288,7 @@ calls_text pointer passed =
 
 -- a local of the second call, with this spelling of a pointer to it
 abbrev pub second_local : Bytes → Place
-second_local pointer = Rooted (LocalOrigin pointer 1 0)
+second_local pointer = AtOrigin (LocalOrigin pointer 1 0)
 
 -- the entries of the first three calls
 abbrev pub entered_to_forward : Place → List Event

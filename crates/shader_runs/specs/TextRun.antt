@@ -10,7 +10,7 @@
 -- of entries, and i an index.
 use Rattle.std.specs.Prelude.{ℕ, suc, Bool, true, false, cond, nat_eq, List, [], ◌∷◌, length}
 use Rattle.std.specs.Prelude.{option_map, option_and_then, Option, Some, None, ◌||◌}
-use Rattle.shader_runs.specs.Value.{Bytes, same_bytes, PartTypes, Place, Rooted, GlobalOrigin}
+use Rattle.shader_runs.specs.Value.{Bytes, same_bytes, PartTypes, Place, AtOrigin, GlobalOrigin}
 use Rattle.shader_runs.specs.Value.{LocalOrigin, integer_in, place_in, element_place, place_to}
 use Rattle.shader_runs.specs.Value.{place_type}
 use Rattle.shader_runs.specs.Value.{Selector, takes_several}
@@ -292,7 +292,7 @@ with_parameters (x ∷ xs) (v ∷ vs) names = bind (with_parameters xs vs names)
 
 -- after the declaration of a function's variable its name stands for its place
 abbrev pub with_variable : Variable → (entries index : ℕ) → Scope → Scope
-with_variable x k i names = bind names x.name (Some (IsPlace (Rooted (LocalOrigin x.pointer k i))))
+with_variable x k i names = bind names x.name (Some (IsPlace (AtOrigin (LocalOrigin x.pointer k i))))
 
 -- after the declarations of a function's variables
 abbrev pub with_variables : List Variable → (entries index : ℕ) → Scope → Scope
@@ -302,7 +302,7 @@ with_variables (x ∷ xs) k i names = with_variables xs k (suc i) (with_variable
 -- what a module-level variable's name stands for, by its declaration: a place of the declared type,
 -- or what the caller chose, if any, where no pointer leads to it
 abbrev pub global_denoted : (pointer : Option Bytes) → ℕ → Option Value → Option Denotation
-global_denoted (Some pointer) i chosen = Some (IsPlace (Rooted (GlobalOrigin pointer i)))
+global_denoted (Some pointer) i chosen = Some (IsPlace (AtOrigin (GlobalOrigin pointer i)))
 global_denoted None i chosen = option_map IsValue chosen
 
 -- module-level variables with their places or values

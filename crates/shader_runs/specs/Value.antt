@@ -42,9 +42,9 @@ pub data Origin : Type 0 where
   GlobalOrigin : (pointer : Bytes) → (index : ℕ) → Origin
   LocalOrigin : (pointer : Bytes) → (entries index : ℕ) → Origin
 
--- a root and a path of steps
+-- an origin and a path of steps
 pub data Place : Type 0 where
-  Rooted : Origin → Place
+  AtOrigin : Origin → Place
   Part : Place → Step → Place
 
 -- what a place is made of, with the spelling of a pointer to each part: of nothing that a step
@@ -127,7 +127,7 @@ origin_type (LocalOrigin pointer entries index) = pointer
 
 -- the spelling of a pointer to a place: a place knows its type, by its variable and its steps
 abbrev pub place_type : PartTypes → Place → Bytes
-place_type parts (Rooted root) = origin_type root
+place_type parts (AtOrigin root) = origin_type root
 place_type parts (Part place step) = part_pointer (parts (place_type parts place)) step
 
 -- the part of a place to which a computed index leads, if it has such parts

@@ -2,7 +2,7 @@
 -- sides, and a text that declares it at a place does something else.
 use Rattle.std.specs.Prelude.{◌≡◌, ℕ, Bool, true, false, List, [], ◌∷◌, Option, Some, None}
 use Rattle.std.specs.Prelude.{codes}
-use Rattle.shader_runs.specs.Value.{Bytes, Place, Rooted, GlobalOrigin, PointerType, Value}
+use Rattle.shader_runs.specs.Value.{Bytes, Place, AtOrigin, GlobalOrigin, PointerType, Value}
 use Rattle.shader_runs.specs.Value.{Pointer}
 use Rattle.shader_runs.specs.World.{Read, Write}
 use Rattle.shader_runs.specs.Outcome.{Stuck, Gives, Halts}
@@ -29,7 +29,7 @@ pointer_pointer = codes "ptr<private, ptr<private, i32>>"
 
 -- the place of the number, the second variable
 abbrev pub number_place : Place
-number_place = Rooted (GlobalOrigin number_pointer 1)
+number_place = AtOrigin (GlobalOrigin number_pointer 1)
 
 -- the number is read, stored to where the first variable points, and returned
 abbrev pub pointed_function : Function
@@ -114,6 +114,6 @@ pub record VariableRowsHold : Type 0 where
   pub as_written : follow_declared (held_pointer ∷ placed_number ∷ []) ≡ pointed_result
   pub pointer_at_place : follow_declared (placed_pointer ∷ placed_number ∷ []) ≡
       Halts Stuck
-      (Read (Rooted (GlobalOrigin pointer_pointer 0)) ∷ Read number_place ∷ start_events 0 [] [])
+      (Read (AtOrigin (GlobalOrigin pointer_pointer 0)) ∷ Read number_place ∷ start_events 0 [] [])
   pub held_place : follow_declared (held_pointer ∷ held_number ∷ []) ≡
       Halts Stuck (start_events 0 [] [])

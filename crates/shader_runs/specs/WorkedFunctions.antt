@@ -6,7 +6,7 @@
 -- places, w is a word, a and b are operands.
 use Rattle.std.specs.Prelude.{◌≡◌, ℕ, ◌+◌, ◌*◌, pos, Bool, true, false, cond, List, [], ◌∷◌, ◌++◌}
 use Rattle.std.specs.Prelude.{Option, Some, ◌&&◌, ◌||◌, nat_eq, get_or, IsTrue, codes, map}
-use Rattle.shader_runs.specs.Value.{Bytes, NoParts, PartTypes, same_bytes, same_integer, At, Rooted}
+use Rattle.shader_runs.specs.Value.{Bytes, NoParts, PartTypes, same_bytes, same_integer, At, AtOrigin}
 use Rattle.shader_runs.specs.Value.{GlobalOrigin, LocalOrigin, Part, Place, ValueType, IntegerType}
 use Rattle.shader_runs.specs.Value.{PointerType, Value, Truth, Whole, Spelled}
 use Rattle.shader_runs.specs.World.{Event, Entry, Ask, Read, Write, Discard, World, Meaning}
@@ -154,8 +154,8 @@ text_of name xs ls lines = record { name = name; parameters = xs; variables = ls
 -- the one world of the rows: a read of a place gives what was last stored there, or 7
 abbrev pub same_place : Place → Place → Bool
 same_place (Part p (At i)) (Part q (At j)) = same_place p q && same_integer i j
-same_place (Rooted (GlobalOrigin a i)) (Rooted (GlobalOrigin b j)) = nat_eq i j
-same_place (Rooted (LocalOrigin a i j)) (Rooted (LocalOrigin b k l)) =
+same_place (AtOrigin (GlobalOrigin a i)) (AtOrigin (GlobalOrigin b j)) = nat_eq i j
+same_place (AtOrigin (LocalOrigin a i j)) (AtOrigin (LocalOrigin b k l)) =
     nat_eq i k && nat_eq j l
 same_place _ _ = false
 

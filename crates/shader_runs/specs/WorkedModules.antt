@@ -6,7 +6,7 @@
 use Rattle.std.specs.Prelude.{◌≡◌, ℕ, ◌+◌, ◌*◌, ◌/◌, ◌%◌, max, pos, cond, List, [], ◌∷◌, length}
 use Rattle.std.specs.Prelude.{map, reverse, Option, Some, None, nat_eq, get_or, unwrap_or, IsTrue}
 use Rattle.std.specs.Prelude.{codes}
-use Rattle.shader_runs.specs.Value.{Bytes, same_bytes, Place, Rooted, LocalOrigin, ValueType}
+use Rattle.shader_runs.specs.Value.{Bytes, same_bytes, Place, AtOrigin, LocalOrigin, ValueType}
 use Rattle.shader_runs.specs.Value.{OtherType, Value, Whole, Pointer}
 use Rattle.shader_runs.specs.Value.{Opaque, Spelled, PartWord, IndexWord, MemberNamed}
 use Rattle.shader_runs.specs.World.{Event, Entry, Ask, Read, Write, Discard, entries, World}
@@ -55,7 +55,7 @@ after_ask p word vs was = was
 
 -- what is at a place after an entry: a local's first value, if it has one
 abbrev pub after_entry : Place → (earlier : ℕ) → List (Option Value) → (was : Value) → Value
-after_entry (Rooted (LocalOrigin pointer k i)) earlier firsts was =
+after_entry (AtOrigin (LocalOrigin pointer k i)) earlier firsts was =
     cond (nat_eq k earlier) (unwrap_or (get_or firsts i None) was) was
 after_entry p earlier firsts was = was
 

@@ -268,7 +268,7 @@ module _ (flags : WriterFlags) (named : ℕ → List ℕ) (m : Module) (info : M
       ap (λ l. before l (statements_read rest)) (let_reads annotated x e)
   then_if_reads false annotated x e rest = refl
 
-  -- the roots of statements are written
+  -- the handles that statements write are written
   abbrev Writes : List ℕ → Type 0
   Writes hs = AllByRecursion W hs
 

@@ -247,7 +247,7 @@ module _ (flags : WriterFlags) (m : Module) (info : ModuleInfo) (g : ℕ) (f : i
       (unnamed_is : (s : Handles) → NamesAre s → (h : ℕ) → W h →
       IsPlainForm (unnamed_form own source s h)) (annotated : ℕ → Option TypeSpecifier)
       (annotated_well : (h : ℕ) (t : TypeSpecifier) → annotated h ≡ Some t → IsType t) where
-    -- the roots of statements are written
+    -- the handles that statements write are written
     abbrev Writes : List ℕ → Type 0
     Writes hs = AllByRecursion W hs
 

@@ -16,7 +16,7 @@ use Rattle.naga_ir.specs.declared.expression.Expression as ir
 use Rattle.naga_ir.specs.declared.module.Function as ir_function
 use Rattle.naga_ir.specs.declared.module.LocalVariable.{LocalVariable}
 
--- handles among which are the roots of a function, and with each its operands
+-- handles among which are those that a function writes itself, and with each its operands
 pub record AreClosed (W : ℕ → Type 0) (binds : ℕ → Bool) (f : ir_function.Function) : Type 0 where
   pub operands : (h : ℕ) (e : ir.Expression) → slice_get f.expressions h ≡ Some e → W h →
       AllByRecursion W (expression_operands e)
