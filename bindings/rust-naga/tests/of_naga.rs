@@ -156,7 +156,7 @@ fn locals_are_stored_and_loaded() {
 }
 
 #[test]
-fn a_refusal_tells_the_construct_and_its_place() {
+fn a_refusal_tells_the_construct_and_its_position() {
     let mut module = Module::default();
     let ty = scalar(&mut module, Scalar::F32);
     let mut half = function("half", ty);

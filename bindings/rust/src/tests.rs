@@ -120,7 +120,7 @@ fn a_place_is_apart_from_its_reason() {
 }
 
 #[test]
-fn a_label_is_apart_from_its_place() {
+fn a_label_is_apart_from_its_position() {
     for label in [
         "half",
         "",

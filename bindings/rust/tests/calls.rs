@@ -82,7 +82,7 @@ fn an_empty_module_has_an_empty_text() {
 }
 
 #[test]
-fn a_refused_module_tells_the_construct_and_its_place() {
+fn a_refused_module_tells_the_construct_and_its_position() {
     let half = DOUBLE
         .replace("\"Sint\"", "\"Float\"")
         .replace(r#"{"FunctionArgument": 0}"#, r#"{"Literal": {"F32": 0.5}}"#);
@@ -104,7 +104,7 @@ fn a_refused_module_tells_the_construct_and_its_place() {
 }
 
 #[test]
-fn a_module_that_is_not_accepted_tells_the_place() {
+fn a_module_that_is_not_accepted_tells_the_position() {
     let odd = DOUBLE.replace("\"left\": 0", "\"left\": 1");
     for error in [
         write_json(&odd, Flags::empty()).unwrap_err(),
