@@ -9,7 +9,7 @@ use Rattle.std.specs.Option.{option_map}
 use Rattle.naga_info.specs.declared.info.TypeResolution.{TypeResolution}
 use Rattle.naga_info.specs.declared.info.TypeResolution.TheVariants.{Handle, Value}
 use Rattle.naga_ir.specs.declared.types.Type_.{Type_}
-use denote.Enum.ModuleDeclarations.{tag_of}
+use denote.Enum.Declared.{tag_of}
 use Rattle.naga_ir.specs.contracts.image.StorageFormat.{the_type as the_formats}
 use Rattle.naga_ir.specs.declared.image.StorageFormat.{StorageFormat}
 use Rattle.naga_ir.specs.declared.image.StorageFormat.TheVariants as format

@@ -15,7 +15,7 @@ use Rattle.std.specs.Prelude.{ℕ, zero, suc, Bool, List, ◌++◌}
 use Rattle.std.specs.Prelude.{Option, Some, None, if◌then◌else◌, slice_get, unwrap_or}
 use Rattle.std.specs.Option.{option_map, is_some, is_none}
 use Rattle.std.specs.Str.{bytes_eq}
-use denote.Enum.ModuleDeclarations.{tag_of}
+use denote.Enum.Declared.{tag_of}
 use Rattle.naga_ir.specs.contracts.image.StorageFormat.{the_type as formats}
 use Rattle.naga_ir.specs.declared.flags.StorageAccess.{StorageAccess}
 use Rattle.naga_ir.specs.declared.image.ImageClass.{ImageClass}

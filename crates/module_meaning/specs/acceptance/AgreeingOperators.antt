@@ -11,7 +11,7 @@ use Rattle.std.specs.Prelude.{ℕ, suc, Bool, false, List, [], ◌∷◌, ◌++�
 use Rattle.std.specs.Prelude.{Some, None, if◌then◌else◌, slice_get, nat_lt, not, ◌&&◌}
 use Rattle.std.specs.List.{flat_map, enumerate_from}
 use Rattle.std.specs.Option.{option_and_then, option_map, option_map_or, option_to_list}
-use denote.Enum.ModuleDeclarations.{tag_of}
+use denote.Enum.Declared.{tag_of}
 use Rattle.naga_ir.specs.contracts.expression.SwizzleComponent.{the_type as components}
 use Rattle.naga_ir.specs.contracts.operators.BinaryOperator.{the_type as binary_operators}
 use Rattle.naga_ir.specs.contracts.operators.MathFunction.{the_type as math_functions}

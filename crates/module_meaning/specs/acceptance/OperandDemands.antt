@@ -6,7 +6,7 @@
 use Rattle.std.specs.Prelude.{ℕ, Bool, true, false, List, ◌&&◌, nat_lt, take}
 use Rattle.std.specs.List.{list_all}
 use Rattle.std.specs.Option.{option_map_or, is_some}
-use denote.Enum.ModuleDeclarations.{tag_of}
+use denote.Enum.Declared.{tag_of}
 use Rattle.naga_ir.specs.contracts.expression.SwizzleComponent.{the_type as components}
 use Rattle.naga_ir.specs.declared.expression.Expression.{Expression}
 use Rattle.naga_ir.specs.declared.expression.Expression.TheVariants as expression

@@ -6,7 +6,7 @@ use Rattle.std.proofs.Common.{get_or, if◌then◌else◌, nat_eq, nat_lt, ◌&&
 use Rattle.std.specs.Option.{option_map, option_map_or, option_and_then, is_some}
 use Rattle.std.proofs.lemmas.Bool.{ltb-true, true≢false}
 use Rattle.std.proofs.lemmas.Option.{same_Some}
-use denote.Enum.ModuleDeclarations.{tag_of}
+use denote.Enum.Declared.{tag_of}
 use Rattle.naga_ir.specs.contracts.expression.SwizzleComponent.{the_type as components}
 use Rattle.naga_ir.specs.declared.expression.SwizzleComponent.{SwizzleComponent}
 use Rattle.naga_ir.specs.declared.expression.SwizzleComponent.TheVariants as component

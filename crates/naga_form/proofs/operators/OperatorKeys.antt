@@ -3,7 +3,7 @@ use Rattle.std.proofs.Common.{◌≡◌, ℕ, Bool, true, false, List, ◌∷◌
 use Rattle.std.proofs.Common.{subst, Option, Some, None, slice_get, if◌then◌else◌, arith, suc, zero}
 use Rattle.std.specs.Option.{option_and_then, option_map, option_map_or, is_some}
 use Rattle.std.proofs.lemmas.Option.{same_Some}
-use denote.Enum.ModuleDeclarations.{tag_of}
+use denote.Enum.Declared.{tag_of}
 use Rattle.naga_ir.specs.contracts.operators.UnaryOperator.{the_type as unary_operators}
 use Rattle.naga_ir.specs.Operands.{expression_operands}
 use Rattle.naga_ir.specs.declared.expression.Expression.{Expression}
