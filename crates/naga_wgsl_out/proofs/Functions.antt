@@ -57,7 +57,7 @@ use Rattle.naga_wgsl_out.proofs.DeclarationRows.{layout_row}
 use Rattle.naga_wgsl_out.specs.ModuleRefusals.{HasNamedBefore, KeyIsOutOfRange}
 use Rattle.naga_wgsl_out.specs.Writing.{HasNoPlan, HasPlan, IsNamedPlan, MetNoPlan, WritesFunctions}
 use Rattle.naga_wgsl_out.specs.Writing.{WritesNext, WroteFunctions, WroteNext, front_text, spaced_function_at}
-use Rattle.naga_wgsl_out.specs.Writing.{line_after, line_of, spaced_functions_before, spaced_functions, spaced_module}
+use Rattle.naga_wgsl_out.specs.Writing.{line_after, spaced_function, spaced_functions_before, spaced_functions, spaced_module}
 use Rattle.naga_wgsl_out.specs.Writing.{written_text}
 use Rattle.naga_wgsl_out.proofs.ExpressionNames.{named_plan, none_full}
 use Rattle.naga_wgsl_fns.proofs.PlanRefusals.{fault_fails}
@@ -77,18 +77,18 @@ module _ (m : Module) (info : ModuleInfo) (flags : WriterFlags)
 
   lines_are : (g : ℕ) (f : Function) (ty : FunctionType) (stage : Option EntryPoint) →
       function_type m g ≡ ty → entry_point_numbered m g ≡ stage →
-      line_of m info flags (g, f) ≡
+      spaced_function m info flags (g, f) ≡
       (option_map_or (stage_text m) stage [] ++ own_text g f (known_of info g)) ++ line_after m ty
   lines_are g f ty stage ty_is is =
       λ i. (option_map_or (stage_text m) (is i) [] ++ own_text g f (known_of info g)) ++ line_after m (ty_is i)
 
   function_line : (h : ℕ) (f : Function) → h < length m.functions →
-      line_of m info flags (h, f) ≡ own_text h f (known_of info h) ++ codes "\n"
+      spaced_function m info flags (h, f) ≡ own_text h f (known_of info h) ++ codes "\n"
   function_line h f lt =
       lines_are h f (item.Function h) None (type_of_function m h lt) (no_entry_point m h lt)
 
   entry_point_line : (j : ℕ) (p : EntryPoint) → slice_get m.entry_points.items j ≡ Some p →
-      line_of m info flags (length m.functions + j, p.function) ≡
+      spaced_function m info flags (length m.functions + j, p.function) ≡
       (stage_text m p ++ own_text (length m.functions + j) p.function (known_of info (length m.functions + j)))
       ++ line_after m (item.EntryPoint j)
   entry_point_line j p at =
@@ -139,7 +139,7 @@ module _ (m : Module) (info : ModuleInfo) (flags : WriterFlags)
       known_of info (length m.functions + (j + 0)) ≡ es →
       nat_lt (j + 1) (length m.entry_points.items) ≡ more →
       text (entry_point_pieces (entry_point_form flags (module_names m) m info (length m.functions + j) p es))
-      ++ (if more then codes "\n" else []) ≡ line_of m info flags (length m.functions + j, p.function)
+      ++ (if more then codes "\n" else []) ≡ spaced_function m info flags (length m.functions + j, p.function)
   entry_point_own_text j p es more there known is =
       let g : ℕ = length m.functions + j in
       let first : j + 0 ≡ j = omega arith in
@@ -208,7 +208,7 @@ written_lines m info flags accepted =
     let points = entry_functions m.entry_points.items in
     ap (λ t. front_text m info flags ++ t)
     (ap (spaced_functions m info flags) (enumerate_from-append 0 m.functions points)
-    ∙ (flat_map-append (line_of m info flags) first (enumerate_from (0 + length m.functions) points)
+    ∙ (flat_map-append (spaced_function m info flags) first (enumerate_from (0 + length m.functions) points)
     ∙ sym (λ i. functions_are i ++ points_are i)))
     ∙ (front_then m info flags (text (functions_pieces functions) ++ text (entry_points_pieces entry_points))
     ∙ sym (layout_row (written_program m info flags)))
@@ -313,7 +313,7 @@ pub lines_split : (m : Module) (info : ModuleInfo) (flags : WriterFlags) (n : �
     spaced_functions_before m info flags n ++ lines_after m info flags n ≡ spaced_module m info flags
 lines_split m info flags n =
     let all = enumerate_from 0 (all_functions m) in
-    sym (flat_map-append (line_of m info flags) (take n all) (drop n all))
+    sym (flat_map-append (spaced_function m info flags) (take n all) (drop n all))
     ∙ ap (spaced_functions m info flags) (take-append-drop n all)
 
 module _ (m : Module) (info : ModuleInfo) (flags : WriterFlags) {n : ℕ} {content middle : List ℕ}
@@ -349,7 +349,7 @@ module _ (m : Module) (info : ModuleInfo) (flags : WriterFlags) {n : ℕ} {conte
     abbrev line : List ℕ
     line = spaced_function_at m info flags n
 
-    line_is : line_of m info flags here ≡ line
+    line_is : spaced_function m info flags here ≡ line
     line_is =
         let found = (at_enumerated 0 (all_functions m) n here below stands).1 in
         ap (λ g. text_of m info flags (expression_name m g) g here.1 (known_of info g)
@@ -361,8 +361,8 @@ module _ (m : Module) (info : ModuleInfo) (flags : WriterFlags) {n : ℕ} {conte
     one_more_line : spaced_functions_before m info flags n ++ line ≡ spaced_functions_before m info flags (n + 1)
     one_more_line =
         ap (λ t. spaced_functions_before m info flags n ++ t)
-        (sym line_is ∙ sym (append-nil (line_of m info flags here)))
-        ∙ (sym (flat_map-append (line_of m info flags) (take n all) (here ∷ []))
+        (sym line_is ∙ sym (append-nil (spaced_function m info flags here)))
+        ∙ (sym (flat_map-append (spaced_function m info flags) (take n all) (here ∷ []))
         ∙ ap (λ fs. spaced_functions m info flags fs)
         (ap (λ q. take n all ++ q ∷ []) stands ∙ sym (take_more all n here below)))
 
