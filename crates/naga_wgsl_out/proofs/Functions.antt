@@ -57,7 +57,8 @@ use Rattle.naga_wgsl_out.proofs.DeclarationRows.{layout_row}
 use Rattle.naga_wgsl_out.specs.ModuleRefusals.{HasNamedBefore, KeyIsOutOfRange}
 use Rattle.naga_wgsl_out.specs.Writing.{HasNoPlan, HasPlan, IsNamedPlan, MetNoPlan, WritesFunctions}
 use Rattle.naga_wgsl_out.specs.Writing.{WritesNext, WroteFunctions, WroteNext, front_text, spaced_function_at}
-use Rattle.naga_wgsl_out.specs.Writing.{line_after, spaced_function, spaced_functions_before, spaced_functions, spaced_module}
+use Rattle.naga_wgsl_out.specs.Writing.{line_after, spaced_function, spaced_functions_before}
+use Rattle.naga_wgsl_out.specs.Writing.{spaced_functions, spaced_module}
 use Rattle.naga_wgsl_out.specs.Writing.{written_text}
 use Rattle.naga_wgsl_out.proofs.ExpressionNames.{named_plan, none_full}
 use Rattle.naga_wgsl_fns.proofs.PlanRefusals.{fault_fails}
