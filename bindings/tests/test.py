@@ -268,7 +268,7 @@ def test_lines(folder, _):
             continue
         if "refused" in answer:
             root = ": {root}".format(**answer) if "root" in answer else ""
-            wanted = (REFUSED, "{refused}: {place}".format(**answer) + in_function(answer) + root)
+            wanted = (REFUSED, "{refused}: {position}".format(**answer) + in_function(answer) + root)
         elif "text" in answer:
             wanted = (DONE, answer["text"])
         elif "not_accepted" in answer:
