@@ -4,7 +4,7 @@
 # rest, and others, which are wrong: the status is 1 then. `unbuilt` are those in which the module found no memory. Run it
 # at the top of the repository; it works on a copy.
 set -- memory/refused_decimals float_numerals naga_info wgsl_words naga_words naga_back wgsl_layout naga_layout \
-    shader_runs wgsl_text text_meaning module_meaning decimal_floats
+    shader_runs wgsl_text text_semantics module_semantics decimal_floats
 . bench/memory/count_runs.sh
 . bench/on_a_copy.sh
 mkdir cases

@@ -45,10 +45,10 @@ LAYERS = [
         ("shader_runs", "both runs, and why they agree"),
     ]),
     ("meanings", LAWS, [
-        ("text_meaning", "what a syntax tree means"),
-        ("module_meaning", "what a module means"),
+        ("text_semantics", "what a syntax tree means"),
+        ("module_semantics", "what a module means"),
         ("decimal_floats", "floats get numerals"),
-        ("decimal_meaning", "and mean the same"),
+        ("decimal_semantics", "and mean the same"),
     ]),
     ("the form", LAWS, [("naga_form", "which syntax tree is written for a module, and the laws of the square")]),
     ("the writer", CODE, [
@@ -172,7 +172,7 @@ def square():
     picture.text((middle + 170 + right) / 2, rows[0] + 10, "layout")
     picture.arrow((right, rows[0] + 38), (middle + 170, rows[0] + 38))
     picture.text((middle + 170 + right) / 2, rows[0] + 55, "one reading")
-    for x, word, caption in ((left, "reduced", "module_meaning"), (middle, "reduced", "text_meaning")):
+    for x, word, caption in ((left, "reduced", "module_semantics"), (middle, "reduced", "text_semantics")):
         picture.arrow((x + 85, rows[0] + 54), (x + 85, rows[1]))
         picture.text(x + 97, rows[0] + 92, word, anchor="start")
         picture.text(x + 97, rows[0] + 110, caption, size=11, anchor="start", colour=PALE)

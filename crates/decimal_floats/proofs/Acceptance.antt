@@ -27,40 +27,40 @@ use Rattle.naga_info.specs.declared.info.ExpressionInfo.{ExpressionInfo}
 use Rattle.naga_info.specs.declared.info.ModuleInfo.{ModuleInfo}
 use Rattle.naga_info.specs.declared.info.TypeResolution.{TypeResolution}
 use Rattle.naga_info.specs.declared.info.TypeResolution.TheVariants as type_of
-use Rattle.module_meaning.specs.acceptance.Accepted.{is_accepted}
-use Rattle.module_meaning.specs.acceptance.AgreeingOperators.{expression_use, further_groups_of}
-use Rattle.module_meaning.specs.acceptance.AgreeingOperators.{Group, function_groups}
-use Rattle.module_meaning.specs.acceptance.AgreeingOperators.{module_operators_agree, uses_of}
-use Rattle.module_meaning.specs.acceptance.ExpressionTypes.{has_its_type, is_expected, LikeThis}
-use Rattle.module_meaning.specs.acceptance.ExpressionTypes.{only, result_type, expected_type}
-use Rattle.module_meaning.specs.acceptance.InfoSizes.{all_known, entry_point_size_fits}
-use Rattle.module_meaning.specs.acceptance.InfoSizes.{function_size_fits, sizes_fit, type_is_fit}
-use Rattle.module_meaning.specs.acceptance.Initialisers.{initialisers_fit, locals_are_sound}
-use Rattle.module_meaning.specs.acceptance.Operations.{all_agree}
-use Rattle.module_meaning.specs.acceptance.OperandDemands.{operand_is, operands_fit}
-use Rattle.module_meaning.specs.acceptance.Ranges.{all_below, all_by_handle, block_in_range}
-use Rattle.module_meaning.specs.acceptance.Ranges.{constant_in_range, declarations_in_range}
-use Rattle.module_meaning.specs.acceptance.Ranges.{entry_point_in_range, expression_in_range}
-use Rattle.module_meaning.specs.acceptance.Ranges.{expressions_in_range, function_in_range}
-use Rattle.module_meaning.specs.acceptance.Ranges.{global_expression_in_range, global_in_range}
-use Rattle.module_meaning.specs.acceptance.Ranges.{initialiser_before, is_below, local_in_range}
-use Rattle.module_meaning.specs.acceptance.Ranges.{module_in_range, module_ranges_fit}
-use Rattle.module_meaning.specs.acceptance.Ranges.{names_in_range, override_in_range}
-use Rattle.module_meaning.specs.acceptance.Ranges.{resolution_fits, signature_fits}
-use Rattle.module_meaning.specs.acceptance.Ranges.{special_types_fit, types_in_range}
-use Rattle.module_meaning.specs.acceptance.Numbers.{workgroup_fits_32_bits}
-use Rattle.module_meaning.specs.acceptance.Soundness.{entry_point_is_sound, expressions_are_sound}
-use Rattle.module_meaning.specs.acceptance.Soundness.{function_is_sound, module_is_sound}
-use Rattle.module_meaning.specs.acceptance.Soundness.{typed_function_is_sound}
-use Rattle.module_meaning.specs.acceptance.StatementsFit.{are_passed, block_is_sound, calls}
-use Rattle.module_meaning.specs.acceptance.StatementsFit.{cases_are_sound, is_answered}
-use Rattle.module_meaning.specs.acceptance.StatementsFit.{is_atomic_result, is_ballot_result}
-use Rattle.module_meaning.specs.acceptance.StatementsFit.{is_call, is_condition, is_result}
-use Rattle.module_meaning.specs.acceptance.StatementsFit.{is_result_if, is_returned, is_result_of}
-use Rattle.module_meaning.specs.acceptance.StatementsFit.{is_selection, is_subgroup_result}
-use Rattle.module_meaning.specs.acceptance.StatementsFit.{is_uniform_load_result, simple_is_sound}
-use Rattle.module_meaning.specs.acceptance.StatementsFit.{statement_is_sound}
-use Rattle.module_meaning.specs.TypeParts.{points_to_atomic}
+use Rattle.module_semantics.specs.acceptance.Accepted.{is_accepted}
+use Rattle.module_semantics.specs.acceptance.AgreeingOperators.{expression_use, further_groups_of}
+use Rattle.module_semantics.specs.acceptance.AgreeingOperators.{Group, function_groups}
+use Rattle.module_semantics.specs.acceptance.AgreeingOperators.{module_operators_agree, uses_of}
+use Rattle.module_semantics.specs.acceptance.ExpressionTypes.{has_its_type, is_expected, LikeThis}
+use Rattle.module_semantics.specs.acceptance.ExpressionTypes.{only, result_type, expected_type}
+use Rattle.module_semantics.specs.acceptance.InfoSizes.{all_known, entry_point_size_fits}
+use Rattle.module_semantics.specs.acceptance.InfoSizes.{function_size_fits, sizes_fit, type_is_fit}
+use Rattle.module_semantics.specs.acceptance.Initialisers.{initialisers_fit, locals_are_sound}
+use Rattle.module_semantics.specs.acceptance.Operations.{all_agree}
+use Rattle.module_semantics.specs.acceptance.OperandDemands.{operand_is, operands_fit}
+use Rattle.module_semantics.specs.acceptance.Ranges.{all_below, all_by_handle, block_in_range}
+use Rattle.module_semantics.specs.acceptance.Ranges.{constant_in_range, declarations_in_range}
+use Rattle.module_semantics.specs.acceptance.Ranges.{entry_point_in_range, expression_in_range}
+use Rattle.module_semantics.specs.acceptance.Ranges.{expressions_in_range, function_in_range}
+use Rattle.module_semantics.specs.acceptance.Ranges.{global_expression_in_range, global_in_range}
+use Rattle.module_semantics.specs.acceptance.Ranges.{initialiser_before, is_below, local_in_range}
+use Rattle.module_semantics.specs.acceptance.Ranges.{module_in_range, module_ranges_fit}
+use Rattle.module_semantics.specs.acceptance.Ranges.{names_in_range, override_in_range}
+use Rattle.module_semantics.specs.acceptance.Ranges.{resolution_fits, signature_fits}
+use Rattle.module_semantics.specs.acceptance.Ranges.{special_types_fit, types_in_range}
+use Rattle.module_semantics.specs.acceptance.Numbers.{workgroup_fits_32_bits}
+use Rattle.module_semantics.specs.acceptance.Soundness.{entry_point_is_sound, expressions_are_sound}
+use Rattle.module_semantics.specs.acceptance.Soundness.{function_is_sound, module_is_sound}
+use Rattle.module_semantics.specs.acceptance.Soundness.{typed_function_is_sound}
+use Rattle.module_semantics.specs.acceptance.StatementsFit.{are_passed, block_is_sound, calls}
+use Rattle.module_semantics.specs.acceptance.StatementsFit.{cases_are_sound, is_answered}
+use Rattle.module_semantics.specs.acceptance.StatementsFit.{is_atomic_result, is_ballot_result}
+use Rattle.module_semantics.specs.acceptance.StatementsFit.{is_call, is_condition, is_result}
+use Rattle.module_semantics.specs.acceptance.StatementsFit.{is_result_if, is_returned, is_result_of}
+use Rattle.module_semantics.specs.acceptance.StatementsFit.{is_selection, is_subgroup_result}
+use Rattle.module_semantics.specs.acceptance.StatementsFit.{is_uniform_load_result, simple_is_sound}
+use Rattle.module_semantics.specs.acceptance.StatementsFit.{statement_is_sound}
+use Rattle.module_semantics.specs.TypeParts.{points_to_atomic}
 use Rattle.decimal_floats.specs.Decimals.{IsDecimalEntryPoint, IsDecimalExpression, same, to_decimal, IsDecimalFunction}
 use Rattle.decimal_floats.specs.Decimals.{IsDecimalModule}
 use Rattle.decimal_floats.proofs.Literals.{decimal_scalar, decimal_within}

@@ -4,7 +4,7 @@ use Rattle.std.proofs.Common.{List, [], ◌∷◌, length, get_or, set, refl, ap
 use Rattle.std.specs.Prelude.{Option, Some, None, slice_get}
 use Rattle.std.specs.List.{AllZip, enumerate_from, list_all, zip}
 use Rattle.std.proofs.lemmas.Slice.Zip.{AllZip-long}
-use Rattle.module_meaning.specs.acceptance.InfoSizes.{all_paired}
+use Rattle.module_semantics.specs.acceptance.InfoSizes.{all_paired}
 
 -- ---- relations
 module _ {X : Type 0} (R : X → X → Type 0) where

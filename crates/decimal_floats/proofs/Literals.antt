@@ -5,7 +5,7 @@ use Rattle.std.proofs.Common.{◌≡◌, ◌≢◌, true, refl, sym, ap, ◌∙�
 use Rattle.naga_ir.specs.Literals.{literal_scalar}
 use Rattle.naga_ir.specs.declared.expression.Literal as ir
 use Rattle.naga_ir.specs.declared.expression.Literal.TheVariants as literal
-use Rattle.module_meaning.specs.Literals.{literal_is_within, literal_value, with_bits}
+use Rattle.module_semantics.specs.Literals.{literal_is_within, literal_value, with_bits}
 use Rattle.decimal_floats.specs.Decimals.{IsDecimalLiteral}
 
 -- ---- a literal and its bits

@@ -11,7 +11,7 @@ use Rattle.naga_ir.specs.declared.expression.Literal as ir
 use Rattle.naga_ir.specs.declared.module.EntryPoint.{EntryPoint}
 use Rattle.naga_ir.specs.declared.module.Function.{Function}
 use Rattle.naga_ir.specs.declared.module.Module.{Module}
-use Rattle.module_meaning.specs.Literals.{literal_is_within, with_bits}
+use Rattle.module_semantics.specs.Literals.{literal_is_within, with_bits}
 
 -- a literal is as it was, or its bits are those of a numeral that it has now, which is in range and
 -- denotes no infinity

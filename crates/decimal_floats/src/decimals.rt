@@ -3,7 +3,7 @@
 ghost use Rattle.std.specs.Prelude.{IfOk, IsTrue};
 ghost use Rattle.std.specs.List.{AllZip};
 ghost use Rattle.naga_info.specs.declared.info.ModuleInfo.{ModuleInfo};
-ghost use Rattle.module_meaning.specs.acceptance.Accepted.{is_accepted};
+ghost use Rattle.module_semantics.specs.acceptance.Accepted.{is_accepted};
 ghost use Rattle.decimal_floats.specs.Decimals.{IsDecimalEntryPoint, IsDecimalExpression};
 ghost use Rattle.decimal_floats.specs.Decimals.{IsDecimalFunction, IsDecimalLiteral};
 ghost use Rattle.decimal_floats.specs.Decimals.{IsDecimalModule};

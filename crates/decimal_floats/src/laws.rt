@@ -3,7 +3,7 @@
 ghost use Rattle.std.specs.Prelude.{◌≡◌, ◌≢◌};
 ghost use Rattle.naga_ir.specs.Literals.{literal_scalar};
 ghost use Rattle.naga_ir.specs.declared.expression.Literal.{Literal};
-ghost use Rattle.module_meaning.specs.Literals.{literal_value, with_bits};
+ghost use Rattle.module_semantics.specs.Literals.{literal_value, with_bits};
 ghost use Rattle.decimal_floats.specs.Decimals.{IsDecimalLiteral};
 
 /// A literal that becomes decimal has the value that it had, and the same type.

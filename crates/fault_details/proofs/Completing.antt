@@ -24,23 +24,23 @@ use Rattle.naga_info.specs.declared.info.ExpressionInfo.{ExpressionInfo}
 use Rattle.naga_info.specs.declared.info.ModuleInfo.{ModuleInfo}
 use Rattle.naga_info.specs.declared.info.TypeResolution.{TypeResolution}
 use Rattle.naga_info.specs.declared.info.TypeResolution.TheVariants.{Handle, Value}
-use Rattle.module_meaning.specs.acceptance.ExpressionTypes.{has_its_type}
-use Rattle.module_meaning.specs.acceptance.OperandDemands.{operands_fit}
-use Rattle.module_meaning.specs.acceptance.InfoSizes.{all_known, all_paired, entry_point_size_fits}
-use Rattle.module_meaning.specs.acceptance.InfoSizes.{function_size_fits, sizes_fit, type_is_fit}
-use Rattle.module_meaning.specs.acceptance.Initialisers.{constant_is_sound, global_is_sound}
-use Rattle.module_meaning.specs.acceptance.Initialisers.{override_is_sound}
-use Rattle.module_meaning.specs.acceptance.Numbers.{fits_16_bits, resource_fits_32_bits}
-use Rattle.module_meaning.specs.acceptance.Numbers.{workgroup_fits_32_bits}
-use Rattle.module_meaning.specs.acceptance.Ranges.{all_below, all_by_handle, constant_in_range}
-use Rattle.module_meaning.specs.acceptance.Ranges.{declarations_in_range, entry_point_in_range}
-use Rattle.module_meaning.specs.acceptance.Ranges.{expression_in_range, function_in_range}
-use Rattle.module_meaning.specs.acceptance.Ranges.{global_expression_in_range, global_in_range}
-use Rattle.module_meaning.specs.acceptance.Ranges.{initialiser_before, is_below, module_in_range}
-use Rattle.module_meaning.specs.acceptance.Ranges.{module_ranges_fit, names_in_range}
-use Rattle.module_meaning.specs.acceptance.Ranges.{override_in_range, resolution_fits}
-use Rattle.module_meaning.specs.acceptance.Ranges.{special_types_fit, types_in_range}
-use Rattle.module_meaning.proofs.Lists.{list_all_at}
+use Rattle.module_semantics.specs.acceptance.ExpressionTypes.{has_its_type}
+use Rattle.module_semantics.specs.acceptance.OperandDemands.{operands_fit}
+use Rattle.module_semantics.specs.acceptance.InfoSizes.{all_known, all_paired, entry_point_size_fits}
+use Rattle.module_semantics.specs.acceptance.InfoSizes.{function_size_fits, sizes_fit, type_is_fit}
+use Rattle.module_semantics.specs.acceptance.Initialisers.{constant_is_sound, global_is_sound}
+use Rattle.module_semantics.specs.acceptance.Initialisers.{override_is_sound}
+use Rattle.module_semantics.specs.acceptance.Numbers.{fits_16_bits, resource_fits_32_bits}
+use Rattle.module_semantics.specs.acceptance.Numbers.{workgroup_fits_32_bits}
+use Rattle.module_semantics.specs.acceptance.Ranges.{all_below, all_by_handle, constant_in_range}
+use Rattle.module_semantics.specs.acceptance.Ranges.{declarations_in_range, entry_point_in_range}
+use Rattle.module_semantics.specs.acceptance.Ranges.{expression_in_range, function_in_range}
+use Rattle.module_semantics.specs.acceptance.Ranges.{global_expression_in_range, global_in_range}
+use Rattle.module_semantics.specs.acceptance.Ranges.{initialiser_before, is_below, module_in_range}
+use Rattle.module_semantics.specs.acceptance.Ranges.{module_ranges_fit, names_in_range}
+use Rattle.module_semantics.specs.acceptance.Ranges.{override_in_range, resolution_fits}
+use Rattle.module_semantics.specs.acceptance.Ranges.{special_types_fit, types_in_range}
+use Rattle.module_semantics.proofs.Lists.{list_all_at}
 use Rattle.naga_info.proofs.Options.{map_some}
 use Rattle.naga_acceptance.specs.Faults.{ConstantFails, EntryPositionFails, EntryPointFails}
 use Rattle.naga_acceptance.specs.Faults.{FaultIs, FunctionFails, FunctionPositionFails}
@@ -301,22 +301,22 @@ module _ (m : Module) (info : ModuleInfo) (ranges : IsTrue (module_ranges_fit m 
   global_expression_told h fault.Unsatisfied of fails = absurd fails
   global_expression_told h _ of fails = absurd of
 
-  function_at_told : (h : ℕ) (place : FunctionPosition) (kind : Fault) → IsOfItem kind →
-      FunctionFails m info h place kind → Told kind (item.Function h place)
-  function_at_told h place kind of (f, at, fails) =
+  function_at_told : (h : ℕ) (position : FunctionPosition) (kind : Fault) → IsOfItem kind →
+      FunctionFails m info h position kind → Told kind (item.Function h position)
+  function_at_told h position kind of (f, at, fails) =
       let es = paired_at function_size_fits m.functions info.functions.items known_sizes.0 h f at in
       let known = known_of info.functions.items h in
       let sized : length f.expressions ≡ length known = eqb-true (length f.expressions) (length es.0) es.2
       ∙ sym (known_sized m info.functions.items known_fit.0 h es.0 es.1) in
-      some_then (λ f. function_reason m h f known kind place) (slice_get m.functions h) f at
+      some_then (λ f. function_reason m h f known kind position) (slice_get m.functions h) f at
       (function_told m f known h (omega (arith, slice_get_within m.functions h f at)) sized
       (placed (function_in_range m) m.functions h f functions_in_range.0 at)
-      (known_formed m info.functions.items known_fit.0 h es.0 es.1) (numbered.functions h f at) kind place of fails)
+      (known_formed m info.functions.items known_fit.0 h es.0 es.1) (numbered.functions h f at) kind position of fails)
 
   -- what is told of an entry point's function is told of the entry point
-  entry_fails : (p : EntryPoint) (known : List TypeResolution) (place : FunctionPosition) (kind : Fault) →
-      IsOfItem kind → EntryPositionFails m p known place kind →
-      FunctionPositionFails m (length m.functions) p.function known place kind
+  entry_fails : (p : EntryPoint) (known : List TypeResolution) (position : FunctionPosition) (kind : Fault) →
+      IsOfItem kind → EntryPositionFails m p known position kind →
+      FunctionPositionFails m (length m.functions) p.function known position kind
   entry_fails p known part.Whole fault.OtherType of fails = fails
   entry_fails p known part.Whole fault.OperandTypes of fails = fails
   entry_fails p known part.Whole fault.InitialiserType of fails = fails
@@ -326,29 +326,29 @@ module _ (m : Module) (info : ModuleInfo) (ranges : IsTrue (module_ranges_fit m 
   entry_fails p known (part.Expression h) kind of fails = fails
   entry_fails p known (part.Statement number) kind of fails = fails
 
-  entry_reason : (p : EntryPoint) (known : List TypeResolution) (place : FunctionPosition) (kind : Fault) →
+  entry_reason : (p : EntryPoint) (known : List TypeResolution) (position : FunctionPosition) (kind : Fault) →
       IsOfItem kind →
-      function_reason m (length m.functions) p.function known kind place ≡ entry_point_reason m p known kind place
-  entry_reason p known place fault.OtherType of = refl
-  entry_reason p known place fault.OperandTypes of = refl
-  entry_reason p known place fault.InitialiserType of = refl
-  entry_reason p known place fault.Unsatisfied of = refl
-  entry_reason p known place _ of = absurd of
+      function_reason m (length m.functions) p.function known kind position ≡ entry_point_reason m p known kind position
+  entry_reason p known position fault.OtherType of = refl
+  entry_reason p known position fault.OperandTypes of = refl
+  entry_reason p known position fault.InitialiserType of = refl
+  entry_reason p known position fault.Unsatisfied of = refl
+  entry_reason p known position _ of = absurd of
 
-  entry_point_told : (h : ℕ) (place : FunctionPosition) (kind : Fault) → IsOfItem kind →
-      EntryPointFails m info h place kind → Told kind (item.EntryPoint h place)
-  entry_point_told h place kind of (p, at, fails) =
+  entry_point_told : (h : ℕ) (position : FunctionPosition) (kind : Fault) → IsOfItem kind →
+      EntryPointFails m info h position kind → Told kind (item.EntryPoint h position)
+  entry_point_told h position kind of (p, at, fails) =
       let es = paired_at entry_point_size_fits m.entry_points.items info.entry_points.items known_sizes.1 h p at in
       let known = known_of info.entry_points.items h in
       let sized : length p.function.expressions ≡ length known =
       eqb-true (length p.function.expressions) (length es.0) es.2
       ∙ sym (known_sized m info.entry_points.items known_fit.1 h es.0 es.1) in
-      some_then (λ p. entry_point_reason m p known kind place) (slice_get m.entry_points.items h) p at
-      (sym (ap is_some (entry_reason p known place kind of)) ∙ function_told m p.function known
+      some_then (λ p. entry_point_reason m p known kind position) (slice_get m.entry_points.items h) p at
+      (sym (ap is_some (entry_reason p known position kind of)) ∙ function_told m p.function known
       (length m.functions) (omega arith) sized
       (in_range p (list_all_at (entry_point_in_range m) m.entry_points.items h p functions_in_range.1 at))
-      (known_formed m info.entry_points.items known_fit.1 h es.0 es.1) (numbered.entry_points h p at) kind place
-      of (entry_fails p known place kind of fails))
+      (known_formed m info.entry_points.items known_fit.1 h es.0 es.1) (numbered.entry_points h p at) kind position
+      of (entry_fails p known position kind of fails))
     where
       in_range : (p : EntryPoint) → entry_point_in_range m p ≡ true →
           function_in_range m (length m.functions) p.function ≡ true
@@ -368,8 +368,8 @@ module _ (m : Module) (info : ModuleInfo) (ranges : IsTrue (module_ranges_fit m 
   item_told (item.Override h) kind of fails = override_told h kind of fails
   item_told (item.GlobalVariable h) kind of fails = global_told h kind of fails
   item_told (item.GlobalExpression h) kind of fails = global_expression_told h kind of fails
-  item_told (item.Function h place) kind of fails = function_at_told h place kind of fails
-  item_told (item.EntryPoint h place) kind of fails = entry_point_told h place kind of fails
+  item_told (item.Function h position) kind of fails = function_at_told h position kind of fails
+  item_told (item.EntryPoint h position) kind of fails = entry_point_told h position kind of fails
 
   by_kind : (at : FaultPosition) (kind : Fault) → IsOfTypes kind → FaultIs m info at kind →
       IsSome (reason_at m info kind at)

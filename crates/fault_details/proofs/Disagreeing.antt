@@ -37,15 +37,15 @@ use Rattle.naga_acceptance.specs.Uses.{joined_below, use_in}
 use Rattle.naga_acceptance.specs.declared.faults.FaultPosition.{FaultPosition}
 use Rattle.naga_acceptance.proofs.Agreement.{agree_after, other_agrees, same_agrees}
 use Rattle.naga_acceptance.proofs.Groups.{all_uses, one_more}
-use Rattle.module_meaning.proofs.Lists.{in_row}
-use Rattle.module_meaning.specs.AlikeTypes.{are_alike, type_identity}
-use Rattle.module_meaning.specs.acceptance.AgreeingOperators.{Group, expression_use, function_group}
-use Rattle.module_meaning.specs.acceptance.AgreeingOperators.{function_groups, further_groups_of}
-use Rattle.module_meaning.specs.acceptance.AgreeingOperators.{groups_of, identity_at, operator_key}
-use Rattle.module_meaning.specs.acceptance.AgreeingOperators.{uses_of}
-use Rattle.module_meaning.specs.acceptance.InfoSizes.{all_paired, entry_point_size_fits}
-use Rattle.module_meaning.specs.acceptance.InfoSizes.{function_size_fits}
-use Rattle.module_meaning.specs.acceptance.Operations.{Operation, agrees, all_agree}
+use Rattle.module_semantics.proofs.Lists.{in_row}
+use Rattle.module_semantics.specs.AlikeTypes.{are_alike, type_identity}
+use Rattle.module_semantics.specs.acceptance.AgreeingOperators.{Group, expression_use, function_group}
+use Rattle.module_semantics.specs.acceptance.AgreeingOperators.{function_groups, further_groups_of}
+use Rattle.module_semantics.specs.acceptance.AgreeingOperators.{groups_of, identity_at, operator_key}
+use Rattle.module_semantics.specs.acceptance.AgreeingOperators.{uses_of}
+use Rattle.module_semantics.specs.acceptance.InfoSizes.{all_paired, entry_point_size_fits}
+use Rattle.module_semantics.specs.acceptance.InfoSizes.{function_size_fits}
+use Rattle.module_semantics.specs.acceptance.Operations.{Operation, agrees, all_agree}
 use Rattle.fault_details.specs.OtherUses.{IsBefore}
 use Rattle.fault_details.specs.Reasons.{use_reason}
 use Rattle.fault_details.proofs.Reasoning.{item_before, some_first, some_second, some_then}

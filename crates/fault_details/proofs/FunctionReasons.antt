@@ -29,28 +29,28 @@ use Rattle.naga_ir.specs.declared.types.TypeInner.{TypeInner}
 use Rattle.naga_ir.specs.declared.types.TypeInner.TheVariants as inner
 use Rattle.naga_ir.specs.declared.types.VectorSize.{VectorSize}
 use Rattle.naga_ir.specs.declared.expression.SwizzleComponent.{SwizzleComponent}
-use Rattle.module_meaning.specs.TypeIdentity.{component_count}
+use Rattle.module_semantics.specs.TypeIdentity.{component_count}
 use Rattle.naga_info.specs.Resolution.{inner_of}
 use Rattle.naga_info.specs.declared.info.TypeResolution.{TypeResolution}
 use Rattle.naga_info.specs.declared.info.TypeResolution.TheVariants.{Handle}
-use Rattle.module_meaning.specs.AlikeTypes.{are_alike}
-use Rattle.module_meaning.specs.acceptance.ExpressionTypes.{ExpectedType, LikeThis, Anything}
-use Rattle.module_meaning.specs.acceptance.ExpressionTypes.{Nothing, argument_type, binary_type}
-use Rattle.module_meaning.specs.acceptance.ExpressionTypes.{has_its_type, if_any, is_bool}
-use Rattle.module_meaning.specs.acceptance.ExpressionTypes.{is_expected, local_type, logical_type}
-use Rattle.module_meaning.specs.acceptance.ExpressionTypes.{only, vector_of, expected_type}
-use Rattle.module_meaning.specs.acceptance.OperandDemands.{is_scalar_or_vector, is_integer}
-use Rattle.module_meaning.specs.acceptance.OperandDemands.{operand_is, is_swizzled, operands_fit}
-use Rattle.module_meaning.specs.acceptance.Initialisers.{initialiser_fits, local_is_sound}
-use Rattle.module_meaning.specs.acceptance.Ranges.{all_below, block_in_range, expression_in_range}
-use Rattle.module_meaning.specs.acceptance.Ranges.{expressions_in_range, function_in_range}
-use Rattle.module_meaning.specs.acceptance.Ranges.{is_below, local_in_range, named_in_range}
-use Rattle.module_meaning.specs.acceptance.Ranges.{names_fit, names_in_range, signature_fits}
-use Rattle.module_meaning.specs.acceptance.StatementsFit.{are_passed, calls, is_answered}
-use Rattle.module_meaning.specs.acceptance.StatementsFit.{is_atomic_result, is_call, is_condition}
-use Rattle.module_meaning.specs.acceptance.StatementsFit.{is_result, is_result_if, is_result_of}
-use Rattle.module_meaning.specs.acceptance.StatementsFit.{simple_is_sound}
-use Rattle.module_meaning.proofs.Lists.{list_all_at, placed_at}
+use Rattle.module_semantics.specs.AlikeTypes.{are_alike}
+use Rattle.module_semantics.specs.acceptance.ExpressionTypes.{ExpectedType, LikeThis, Anything}
+use Rattle.module_semantics.specs.acceptance.ExpressionTypes.{Nothing, argument_type, binary_type}
+use Rattle.module_semantics.specs.acceptance.ExpressionTypes.{has_its_type, if_any, is_bool}
+use Rattle.module_semantics.specs.acceptance.ExpressionTypes.{is_expected, local_type, logical_type}
+use Rattle.module_semantics.specs.acceptance.ExpressionTypes.{only, vector_of, expected_type}
+use Rattle.module_semantics.specs.acceptance.OperandDemands.{is_scalar_or_vector, is_integer}
+use Rattle.module_semantics.specs.acceptance.OperandDemands.{operand_is, is_swizzled, operands_fit}
+use Rattle.module_semantics.specs.acceptance.Initialisers.{initialiser_fits, local_is_sound}
+use Rattle.module_semantics.specs.acceptance.Ranges.{all_below, block_in_range, expression_in_range}
+use Rattle.module_semantics.specs.acceptance.Ranges.{expressions_in_range, function_in_range}
+use Rattle.module_semantics.specs.acceptance.Ranges.{is_below, local_in_range, named_in_range}
+use Rattle.module_semantics.specs.acceptance.Ranges.{names_fit, names_in_range, signature_fits}
+use Rattle.module_semantics.specs.acceptance.StatementsFit.{are_passed, calls, is_answered}
+use Rattle.module_semantics.specs.acceptance.StatementsFit.{is_atomic_result, is_call, is_condition}
+use Rattle.module_semantics.specs.acceptance.StatementsFit.{is_result, is_result_if, is_result_of}
+use Rattle.module_semantics.specs.acceptance.StatementsFit.{simple_is_sound}
+use Rattle.module_semantics.proofs.Lists.{list_all_at, placed_at}
 use Rattle.naga_acceptance.specs.Faults.{FunctionPositionFails, UnfitStatement}
 use Rattle.naga_acceptance.specs.TextOrder.{is_in_range, is_sound, case_values_fit_32_bits}
 use Rattle.naga_acceptance.specs.TextOrder.{own_in_range, own_is_sound, text_order}
@@ -60,9 +60,9 @@ use Rattle.naga_acceptance.specs.declared.faults.FunctionPosition.{FunctionPosit
 use Rattle.naga_acceptance.specs.declared.faults.FunctionPosition.TheVariants as part
 use Rattle.naga_acceptance.proofs.Finding.{unfit_item}
 use Rattle.naga_acceptance.proofs.Walking.{block_range}
-use Rattle.module_meaning.specs.TypeParts.{component_scalar, has_computed_parts, is_part_number}
-use Rattle.module_meaning.specs.TypeParts.{known_inner, part_count, part_type, pointee_type}
-use Rattle.module_meaning.specs.TypeParts.{points_to_atomic, vector_scalar}
+use Rattle.module_semantics.specs.TypeParts.{component_scalar, has_computed_parts, is_part_number}
+use Rattle.module_semantics.specs.TypeParts.{known_inner, part_count, part_type, pointee_type}
+use Rattle.module_semantics.specs.TypeParts.{points_to_atomic, vector_scalar}
 use Rattle.fault_details.specs.Reasons.{LacksLetter, first_reason, has_letter, letter_reason}
 use Rattle.fault_details.specs.Reasons.{swizzle_reason, answer_reason, call_reason, class_reason}
 use Rattle.fault_details.specs.Reasons.{declared_reason, expression_reason, function_reason}
@@ -440,9 +440,9 @@ module _ (m : Module) (f : Function) (known : List TypeResolution) (callees : �
       and_parts (all_below h (expression_operands e))
       (names_in_range m (length f.arguments.items) (length f.local_variables) e) fits
 
-  pub function_told : (kind : Fault) (place : FunctionPosition) → IsOfItem kind →
-      FunctionPositionFails m callees f known place kind →
-      IsSome (function_reason m callees f known kind place)
+  pub function_told : (kind : Fault) (position : FunctionPosition) → IsOfItem kind →
+      FunctionPositionFails m callees f known position kind →
+      IsSome (function_reason m callees f known kind position)
   function_told fault.OtherType (part.Expression h) of fails =
       let e = unfit_item (has_its_type m (Some f) known h) f.expressions h fails in
       let fits = expression_ranges h e.0 e.1 in
@@ -481,4 +481,4 @@ module _ (m : Module) (f : Function) (known : List TypeResolution) (callees : �
   function_told fault.Unsatisfied part.Whole of fails = absurd fails
   function_told fault.Unsatisfied (part.Local h) of fails = absurd fails
   function_told fault.Unsatisfied (part.Expression h) of fails = absurd fails
-  function_told _ place of fails = absurd of
+  function_told _ position of fails = absurd of

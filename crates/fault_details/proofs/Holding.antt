@@ -27,11 +27,11 @@ use Rattle.naga_ir.specs.declared.types.ArraySize.TheVariants as size
 use Rattle.naga_ir.specs.declared.types.TypeInner.{TypeInner}
 use Rattle.naga_ir.specs.declared.types.TypeInner.TheVariants as inner
 use Rattle.naga_ir.specs.declared.expression.SwizzleComponent.{SwizzleComponent}
-use Rattle.module_meaning.specs.acceptance.StatementsFit.{components_pointer, has_case_value}
-use Rattle.module_meaning.specs.acceptance.StatementsFit.{is_result, is_result_of, is_signed}
-use Rattle.module_meaning.specs.acceptance.StatementsFit.{is_unsigned, case_values_differ}
-use Rattle.module_meaning.specs.acceptance.StatementsFit.{last_falls_through}
-use Rattle.module_meaning.specs.TypeIdentity.{component_count}
+use Rattle.module_semantics.specs.acceptance.StatementsFit.{components_pointer, has_case_value}
+use Rattle.module_semantics.specs.acceptance.StatementsFit.{is_result, is_result_of, is_signed}
+use Rattle.module_semantics.specs.acceptance.StatementsFit.{is_unsigned, case_values_differ}
+use Rattle.module_semantics.specs.acceptance.StatementsFit.{last_falls_through}
+use Rattle.module_semantics.specs.TypeIdentity.{component_count}
 use Rattle.naga_info.specs.declared.info.ModuleInfo.{ModuleInfo}
 use Rattle.naga_info.specs.declared.info.TypeResolution.{TypeResolution}
 use Rattle.naga_info.specs.declared.info.TypeResolution.TheVariants.{Handle, Value}
@@ -42,8 +42,8 @@ use Rattle.naga_acceptance.specs.FirstUses.{first_other_in, other_type, other_us
 use Rattle.naga_acceptance.specs.FirstUses.{placed_use, unless_alike}
 use Rattle.naga_acceptance.specs.Searching.{first_faulty, or_further}
 use Rattle.naga_acceptance.specs.Uses.{is_same_operator, use_in}
-use Rattle.module_meaning.specs.acceptance.AgreeingOperators.{Group, expression_use, groups_of}
-use Rattle.module_meaning.specs.acceptance.Operations.{Operation}
+use Rattle.module_semantics.specs.acceptance.AgreeingOperators.{Group, expression_use, groups_of}
+use Rattle.module_semantics.specs.acceptance.Operations.{Operation}
 use Rattle.naga_acceptance.specs.TextOrder.{PlacedStatement, text_order}
 use Rattle.naga_acceptance.specs.declared.faults.Fault.{Fault}
 use Rattle.naga_acceptance.specs.declared.faults.Fault.TheVariants as fault
@@ -51,10 +51,10 @@ use Rattle.naga_acceptance.specs.declared.faults.FaultPosition.{FaultPosition}
 use Rattle.naga_acceptance.specs.declared.faults.FaultPosition.TheVariants as item
 use Rattle.naga_acceptance.specs.declared.faults.FunctionPosition.{FunctionPosition}
 use Rattle.naga_acceptance.specs.declared.faults.FunctionPosition.TheVariants as part
-use Rattle.module_meaning.specs.AlikeTypes.{are_alike}
-use Rattle.module_meaning.specs.acceptance.ExpressionTypes.{ExpectedType, LikeThis, Anything}
-use Rattle.module_meaning.specs.acceptance.ExpressionTypes.{Nothing, expected_type}
-use Rattle.module_meaning.specs.TypeParts.{known_pointee}
+use Rattle.module_semantics.specs.AlikeTypes.{are_alike}
+use Rattle.module_semantics.specs.acceptance.ExpressionTypes.{ExpectedType, LikeThis, Anything}
+use Rattle.module_semantics.specs.acceptance.ExpressionTypes.{Nothing, expected_type}
+use Rattle.module_semantics.specs.TypeParts.{known_pointee}
 use Rattle.fault_details.specs.Holds.{IsReason, ReasonsHold}
 use Rattle.fault_details.specs.Reasons.{Reason, Absent, Later, OtherClass, OtherNumber, OtherType}
 use Rattle.fault_details.specs.Reasons.{KnownType, PastParts, LacksLetter, Unexpected, has_letter}

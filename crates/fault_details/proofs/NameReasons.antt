@@ -42,15 +42,15 @@ use Rattle.naga_acceptance.specs.declared.faults.FunctionPosition.TheVariants as
 use Rattle.naga_acceptance.specs.declared.faults.FaultPosition.{FaultPosition}
 use Rattle.naga_acceptance.specs.declared.faults.FaultPosition.TheVariants as item
 use Rattle.naga_acceptance.proofs.Finding.{unfit_item}
-use Rattle.module_meaning.proofs.Lists.{list_all_at}
-use Rattle.module_meaning.specs.acceptance.Numbers.{fits_16_bits, resource_fits_32_bits}
-use Rattle.module_meaning.specs.acceptance.Numbers.{signature_fits_32_bits, type_fits_32_bits}
-use Rattle.module_meaning.specs.acceptance.Numbers.{workgroup_fits_32_bits}
-use Rattle.module_meaning.specs.acceptance.Ranges.{all_below, constant_in_range, global_in_range}
-use Rattle.module_meaning.specs.acceptance.Ranges.{initialiser_before, is_below, local_in_range}
-use Rattle.module_meaning.specs.acceptance.Ranges.{named_in_range, numbers_in_range}
-use Rattle.module_meaning.specs.acceptance.Ranges.{override_in_range, parts_before, signature_types_fit}
-use Rattle.module_meaning.specs.TypeParts.{inner_at}
+use Rattle.module_semantics.proofs.Lists.{list_all_at}
+use Rattle.module_semantics.specs.acceptance.Numbers.{fits_16_bits, resource_fits_32_bits}
+use Rattle.module_semantics.specs.acceptance.Numbers.{signature_fits_32_bits, type_fits_32_bits}
+use Rattle.module_semantics.specs.acceptance.Numbers.{workgroup_fits_32_bits}
+use Rattle.module_semantics.specs.acceptance.Ranges.{all_below, constant_in_range, global_in_range}
+use Rattle.module_semantics.specs.acceptance.Ranges.{initialiser_before, is_below, local_in_range}
+use Rattle.module_semantics.specs.acceptance.Ranges.{named_in_range, numbers_in_range}
+use Rattle.module_semantics.specs.acceptance.Ranges.{override_in_range, parts_before, signature_types_fit}
+use Rattle.module_semantics.specs.TypeParts.{inner_at}
 use Rattle.fault_details.specs.Reasons.{Reason, Absent, Later, OtherNumber, absent}
 use Rattle.fault_details.specs.Reasons.{declared_reason, emitted_reason, entry_point_reason, expression_reason}
 use Rattle.fault_details.specs.Reasons.{first_reason, function_reason, global_reason}
@@ -288,7 +288,7 @@ signature_told types f fails =
 module _ (m : Module) (f : Function) (known : List TypeResolution) (callees : ℕ) (fit : HasItsNumbers f)
     (few : length (text_order f.body) ≤ 2 ^ 64) where
   abbrev Told : Fault → FunctionPosition → Type 0
-  Told kind place = IsSome (function_reason m callees f known kind place)
+  Told kind position = IsSome (function_reason m callees f known kind position)
 
   whole_told : (kind : Fault) → IsOfNames kind → FunctionPositionFails m callees f known part.Whole kind →
       Told kind part.Whole
@@ -341,8 +341,8 @@ module _ (m : Module) (f : Function) (known : List TypeResolution) (callees : �
   placed_told number fault.Unsatisfied of fails = absurd of
   placed_told number _ of fails = absurd fails
 
-  part_of_told : (place : FunctionPosition) (kind : Fault) → IsOfNames kind →
-      FunctionPositionFails m callees f known place kind → Told kind place
+  part_of_told : (position : FunctionPosition) (kind : Fault) → IsOfNames kind →
+      FunctionPositionFails m callees f known position kind → Told kind position
   part_of_told part.Whole kind of fails = whole_told kind of fails
   part_of_told (part.Local h) kind of fails = local_told h kind of fails
   part_of_told (part.Expression h) kind of fails = expression_told h kind of fails
@@ -457,12 +457,12 @@ module _ (m : Module) (info : ModuleInfo) (fit : AreOfTheirTypes m) (numbered : 
   global_told h fault.OperandTypes of fails = absurd of
   global_told h _ of fails = absurd fails
 
-  function_at_told : (h : ℕ) (place : FunctionPosition) (kind : Fault) → IsOfNames kind →
-      FunctionFails m info h place kind → ItemTold kind (item.Function h place)
-  function_at_told h place kind of (f, at, fails) =
-      some_then (λ f. function_reason m h f (known_of info.functions.items h) kind place) (slice_get m.functions h)
+  function_at_told : (h : ℕ) (position : FunctionPosition) (kind : Fault) → IsOfNames kind →
+      FunctionFails m info h position kind → ItemTold kind (item.Function h position)
+  function_at_told h position kind of (f, at, fails) =
+      some_then (λ f. function_reason m h f (known_of info.functions.items h) kind position) (slice_get m.functions h)
       f at (part_of_told m f (known_of info.functions.items h) h (fit.functions h f at) (numbered.functions h f at)
-      place kind of fails)
+      position kind of fails)
 
   -- the variables that an entry point names, without its workgroup's sizes
   variables_told : (p : EntryPoint) → workgroup_fits_32_bits p.workgroup_size ≡ true → entry_names_fit m p ≡ false →
@@ -485,8 +485,8 @@ module _ (m : Module) (info : ModuleInfo) (fit : AreOfTheirTypes m) (numbered : 
 
   entry_told : (p : EntryPoint) (known : List TypeResolution) →
       IsTrue (workgroup_fits_32_bits p.workgroup_size) × HasItsNumbers p.function →
-      length (text_order p.function.body) ≤ 2 ^ 64 → (place : FunctionPosition) (kind : Fault) → IsOfNames kind →
-      EntryPositionFails m p known place kind → IsSome (entry_point_reason m p known kind place)
+      length (text_order p.function.body) ≤ 2 ^ 64 → (position : FunctionPosition) (kind : Fault) → IsOfNames kind →
+      EntryPositionFails m p known position kind → IsSome (entry_point_reason m p known kind position)
   entry_told p known within few part.Whole fault.Names of fails = variables_told p within.0 fails
   entry_told p known within few (part.Local h) fault.Names of fails =
       part_of_told m p.function known (length m.functions) within.1 few (part.Local h) fault.Names of fails
@@ -494,16 +494,16 @@ module _ (m : Module) (info : ModuleInfo) (fit : AreOfTheirTypes m) (numbered : 
       part_of_told m p.function known (length m.functions) within.1 few (part.Expression h) fault.Names of fails
   entry_told p known within few (part.Statement number) fault.Names of fails =
       part_of_told m p.function known (length m.functions) within.1 few (part.Statement number) fault.Names of fails
-  entry_told p known within few place kind of fails =
-      part_of_told m p.function known (length m.functions) within.1 few place kind of fails
+  entry_told p known within few position kind of fails =
+      part_of_told m p.function known (length m.functions) within.1 few position kind of fails
 
-  entry_point_told : (h : ℕ) (place : FunctionPosition) (kind : Fault) → IsOfNames kind →
-      EntryPointFails m info h place kind → ItemTold kind (item.EntryPoint h place)
-  entry_point_told h place kind of (p, at, fails) =
-      some_then (λ p. entry_point_reason m p (known_of info.entry_points.items h) kind place)
+  entry_point_told : (h : ℕ) (position : FunctionPosition) (kind : Fault) → IsOfNames kind →
+      EntryPointFails m info h position kind → ItemTold kind (item.EntryPoint h position)
+  entry_point_told h position kind of (p, at, fails) =
+      some_then (λ p. entry_point_reason m p (known_of info.entry_points.items h) kind position)
       (slice_get m.entry_points.items h) p at
       (entry_told p (known_of info.entry_points.items h) (fit.entry_points h p at) (numbered.entry_points h p at)
-      place kind of fails)
+      position kind of fails)
 
   item_told : (at : FaultPosition) (kind : Fault) → IsOfNames kind → ItemFails m info at kind → ItemTold kind at
   item_told item.Module kind of fails = module_told kind of fails
@@ -512,8 +512,8 @@ module _ (m : Module) (info : ModuleInfo) (fit : AreOfTheirTypes m) (numbered : 
   item_told (item.Override h) kind of fails = override_told h kind of fails
   item_told (item.GlobalVariable h) kind of fails = variable_told h kind of fails
   item_told (item.GlobalExpression h) kind of fails = global_told h kind of fails
-  item_told (item.Function h place) kind of fails = function_at_told h place kind of fails
-  item_told (item.EntryPoint h place) kind of fails = entry_point_told h place kind of fails
+  item_told (item.Function h position) kind of fails = function_at_told h position kind of fails
+  item_told (item.EntryPoint h position) kind of fails = entry_point_told h position kind of fails
 
   by_kind : (at : FaultPosition) (kind : Fault) → IsOfNames kind → FaultIs m info at kind →
       IsSome (reason_at m info kind at)

@@ -22,16 +22,16 @@ use Rattle.naga_ir.specs.declared.types.TypeInner.TheVariants as inner
 use Rattle.naga_info.specs.Resolution.{inner_of}
 use Rattle.naga_info.specs.declared.info.TypeResolution.{TypeResolution}
 use Rattle.naga_info.specs.declared.info.TypeResolution.TheVariants.{Handle}
-use Rattle.module_meaning.specs.AlikeTypes.{are_alike}
-use Rattle.module_meaning.specs.acceptance.OperandDemands.{is_pointer, operand_is}
-use Rattle.module_meaning.specs.acceptance.Ranges.{all_below}
-use Rattle.module_meaning.specs.acceptance.StatementsFit.{are_passed, has_case_value, is_returned}
-use Rattle.module_meaning.specs.acceptance.StatementsFit.{is_selection, is_stored, case_value_is_of}
-use Rattle.module_meaning.specs.acceptance.StatementsFit.{case_values_are_of, case_values_differ}
-use Rattle.module_meaning.specs.acceptance.StatementsFit.{case_values_fit, last_falls_through}
-use Rattle.module_meaning.specs.acceptance.StatementsFit.{selection_fits, is_selector_type}
-use Rattle.module_meaning.specs.acceptance.StatementsFit.{value_has_type}
-use Rattle.module_meaning.specs.TypeParts.{known_inner, known_pointee, pointee_type}
+use Rattle.module_semantics.specs.AlikeTypes.{are_alike}
+use Rattle.module_semantics.specs.acceptance.OperandDemands.{is_pointer, operand_is}
+use Rattle.module_semantics.specs.acceptance.Ranges.{all_below}
+use Rattle.module_semantics.specs.acceptance.StatementsFit.{are_passed, has_case_value, is_returned}
+use Rattle.module_semantics.specs.acceptance.StatementsFit.{is_selection, is_stored, case_value_is_of}
+use Rattle.module_semantics.specs.acceptance.StatementsFit.{case_values_are_of, case_values_differ}
+use Rattle.module_semantics.specs.acceptance.StatementsFit.{case_values_fit, last_falls_through}
+use Rattle.module_semantics.specs.acceptance.StatementsFit.{selection_fits, is_selector_type}
+use Rattle.module_semantics.specs.acceptance.StatementsFit.{value_has_type}
+use Rattle.module_semantics.specs.TypeParts.{known_inner, known_pointee, pointee_type}
 use Rattle.fault_details.specs.Reasons.{Reason, OtherClass, OtherType, Unexpected, class_reason}
 use Rattle.fault_details.specs.Reasons.{is_in_class, case_value_reason, case_value_type_reason}
 use Rattle.fault_details.specs.Reasons.{case_value_types_reason, need_unless, number_reason}

@@ -10,9 +10,9 @@ use Rattle.naga_ir.specs.declared.types.Type_.{Type_}
 use Rattle.naga_ir.specs.declared.types.TypeInner.TheVariants as inner
 use Rattle.naga_info.specs.declared.info.TypeResolution.TheVariants.{Value}
 use Rattle.wgsl_words.specs.Words.{scalar_word}
-use Rattle.module_meaning.specs.AlikeTypes.{are_alike}
-use Rattle.module_meaning.specs.acceptance.StatementsFit.{is_signed, is_unsigned}
-use Rattle.module_meaning.specs.TypeIdentity.{kind_number, level}
+use Rattle.module_semantics.specs.AlikeTypes.{are_alike}
+use Rattle.module_semantics.specs.acceptance.StatementsFit.{is_signed, is_unsigned}
+use Rattle.module_semantics.specs.TypeIdentity.{kind_number, level}
 
 -- Numbers of scalars begin with 0 and the kind's, and those of a type without a form with another one.
 apart : (a b w : ℕ) (unspelled : List ℕ) → (a == b) ≡ false → (formed : Bool) →

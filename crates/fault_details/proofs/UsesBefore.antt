@@ -29,9 +29,9 @@ use Rattle.naga_acceptance.specs.declared.faults.FaultPosition.{FaultPosition}
 use Rattle.naga_acceptance.specs.declared.faults.FaultPosition.TheVariants as item
 use Rattle.naga_acceptance.specs.declared.faults.FunctionPosition.TheVariants as part
 use Rattle.naga_acceptance.proofs.Groups.{groups_within}
-use Rattle.module_meaning.specs.AlikeTypes.{are_alike}
-use Rattle.module_meaning.specs.acceptance.AgreeingOperators.{Group, expression_use, groups_of}
-use Rattle.module_meaning.specs.acceptance.Operations.{Operation, agrees, all_agree}
+use Rattle.module_semantics.specs.AlikeTypes.{are_alike}
+use Rattle.module_semantics.specs.acceptance.AgreeingOperators.{Group, expression_use, groups_of}
+use Rattle.module_semantics.specs.acceptance.Operations.{Operation, agrees, all_agree}
 use Rattle.fault_details.specs.OtherUses.{IsBefore, IsOtherUse, OtherUsesStandBefore}
 use Rattle.fault_details.proofs.Completing.{sizes_known}
 use Rattle.fault_details.proofs.Disagreeing.{IsSized, IsUse, groups_sized, other_expression, other_there}

@@ -11,7 +11,7 @@ use Rattle.naga_ir.specs.declared.module.Module.{Module}
 use Rattle.naga_info.specs.declared.info.ModuleInfo.{ModuleInfo}
 use Rattle.naga_info.specs.Resolution.{inner_of}
 use Rattle.naga_acceptance.specs.declared.faults.Unaccepted.{Unaccepted}
-use Rattle.module_meaning.specs.AlikeTypes.{are_alike}
+use Rattle.module_semantics.specs.AlikeTypes.{are_alike}
 use Rattle.fault_details.specs.Reasons.{Reason, OtherType, KnownType, OtherClass, NoValue}
 use Rattle.fault_details.specs.Reasons.{Unexpected, Absent, Later, OtherNumber, OtherUse, PastParts}
 use Rattle.fault_details.specs.Reasons.{LacksLetter, Needs}

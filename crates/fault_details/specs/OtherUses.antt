@@ -15,10 +15,10 @@ use Rattle.naga_acceptance.specs.Uses.{is_same_operator, use_in}
 use Rattle.naga_acceptance.specs.declared.faults.Fault.TheVariants as fault
 use Rattle.naga_acceptance.specs.declared.faults.FaultPosition.{FaultPosition}
 use Rattle.naga_acceptance.specs.declared.faults.Unaccepted.{Unaccepted}
-use Rattle.module_meaning.specs.AlikeTypes.{are_alike}
-use Rattle.module_meaning.specs.acceptance.AgreeingOperators.{Group, groups_of}
-use Rattle.module_meaning.specs.acceptance.Operations.{Operation}
-use Rattle.module_meaning.specs.acceptance.Ranges.{module_ranges_fit}
+use Rattle.module_semantics.specs.AlikeTypes.{are_alike}
+use Rattle.module_semantics.specs.acceptance.AgreeingOperators.{Group, groups_of}
+use Rattle.module_semantics.specs.acceptance.Operations.{Operation}
+use Rattle.module_semantics.specs.acceptance.Ranges.{module_ranges_fit}
 
 -- the use stands there, and has this type
 abbrev pub IsUseAt : Module → ModuleInfo → (site : ℕ × ℕ) → Operation → TypeResolution → Type 0

@@ -57,26 +57,26 @@ use Rattle.naga_acceptance.specs.declared.faults.FaultPosition.TheVariants as it
 use Rattle.naga_acceptance.specs.declared.faults.FunctionPosition.{FunctionPosition}
 use Rattle.naga_acceptance.specs.declared.faults.FunctionPosition.TheVariants as part
 use Rattle.naga_acceptance.specs.declared.faults.Unaccepted.{Unaccepted}
-use Rattle.module_meaning.specs.AlikeTypes.{are_alike}
-use Rattle.module_meaning.specs.acceptance.ExpressionTypes.{ExpectedType, LikeThis, Anything}
-use Rattle.module_meaning.specs.acceptance.ExpressionTypes.{Nothing}
-use Rattle.module_meaning.specs.acceptance.ExpressionTypes.{is_bool, expected_type}
-use Rattle.module_meaning.specs.acceptance.OperandDemands.{is_scalar_or_vector, is_integer}
-use Rattle.module_meaning.specs.acceptance.OperandDemands.{is_pointer}
-use Rattle.module_meaning.specs.acceptance.OperandDemands.{points_to_components}
-use Rattle.module_meaning.specs.acceptance.StatementsFit.{components_pointer, has_case_value}
-use Rattle.module_meaning.specs.acceptance.StatementsFit.{is_atomic_result}
-use Rattle.module_meaning.specs.acceptance.StatementsFit.{is_ballot_result}
-use Rattle.module_meaning.specs.acceptance.StatementsFit.{is_result, is_result_of}
-use Rattle.module_meaning.specs.acceptance.StatementsFit.{is_subgroup_result}
-use Rattle.module_meaning.specs.acceptance.StatementsFit.{is_signed, is_uniform_load_result}
-use Rattle.module_meaning.specs.acceptance.StatementsFit.{is_unsigned}
-use Rattle.module_meaning.specs.acceptance.StatementsFit.{case_values_differ, last_falls_through}
-use Rattle.module_meaning.specs.acceptance.StatementsFit.{is_selector_type}
-use Rattle.module_meaning.specs.TypeIdentity.{component_count}
-use Rattle.module_meaning.specs.TypeParts.{has_computed_parts, inner_at, known_inner}
-use Rattle.module_meaning.specs.TypeParts.{known_pointee, part_count, points_to_atomic}
-use Rattle.module_meaning.specs.TypeParts.{vector_scalar}
+use Rattle.module_semantics.specs.AlikeTypes.{are_alike}
+use Rattle.module_semantics.specs.acceptance.ExpressionTypes.{ExpectedType, LikeThis, Anything}
+use Rattle.module_semantics.specs.acceptance.ExpressionTypes.{Nothing}
+use Rattle.module_semantics.specs.acceptance.ExpressionTypes.{is_bool, expected_type}
+use Rattle.module_semantics.specs.acceptance.OperandDemands.{is_scalar_or_vector, is_integer}
+use Rattle.module_semantics.specs.acceptance.OperandDemands.{is_pointer}
+use Rattle.module_semantics.specs.acceptance.OperandDemands.{points_to_components}
+use Rattle.module_semantics.specs.acceptance.StatementsFit.{components_pointer, has_case_value}
+use Rattle.module_semantics.specs.acceptance.StatementsFit.{is_atomic_result}
+use Rattle.module_semantics.specs.acceptance.StatementsFit.{is_ballot_result}
+use Rattle.module_semantics.specs.acceptance.StatementsFit.{is_result, is_result_of}
+use Rattle.module_semantics.specs.acceptance.StatementsFit.{is_subgroup_result}
+use Rattle.module_semantics.specs.acceptance.StatementsFit.{is_signed, is_uniform_load_result}
+use Rattle.module_semantics.specs.acceptance.StatementsFit.{is_unsigned}
+use Rattle.module_semantics.specs.acceptance.StatementsFit.{case_values_differ, last_falls_through}
+use Rattle.module_semantics.specs.acceptance.StatementsFit.{is_selector_type}
+use Rattle.module_semantics.specs.TypeIdentity.{component_count}
+use Rattle.module_semantics.specs.TypeParts.{has_computed_parts, inner_at, known_inner}
+use Rattle.module_semantics.specs.TypeParts.{known_pointee, part_count, points_to_atomic}
+use Rattle.module_semantics.specs.TypeParts.{vector_scalar}
 use Rattle.fault_details.specs.declared.words.Counted.{Counted}
 use Rattle.fault_details.specs.declared.words.Counted.TheVariants as counted
 use Rattle.fault_details.specs.declared.words.ListName.{ListName}
@@ -550,8 +550,8 @@ abbrev pub entry_point_reason :
     Module → EntryPoint → (known : List TypeResolution) → Fault → FunctionPosition → Option Reason
 entry_point_reason m p known fault.Names part.Whole =
     variables_reason (length m.global_variables) p
-entry_point_reason m p known kind place =
-    function_reason m (length m.functions) p.function known kind place
+entry_point_reason m p known kind position =
+    function_reason m (length m.functions) p.function known kind position
 
 -- the module itself: not as many things are known as there are, or a special type is not there
 abbrev pub sizes_reason : Module → ModuleInfo → Option Reason
@@ -599,11 +599,11 @@ item_reason m info kind (item.GlobalVariable h) =
 item_reason m info kind (item.GlobalExpression h) =
     option_and_then (expression_reason m None info.const_expression_types.items kind h)
     (slice_get m.global_expressions h)
-item_reason m info kind (item.Function h place) =
-    option_and_then (λ f. function_reason m h f (known_of info.functions.items h) kind place)
+item_reason m info kind (item.Function h position) =
+    option_and_then (λ f. function_reason m h f (known_of info.functions.items h) kind position)
     (slice_get m.functions h)
-item_reason m info kind (item.EntryPoint h place) =
-    option_and_then (λ p. entry_point_reason m p (known_of info.entry_points.items h) kind place)
+item_reason m info kind (item.EntryPoint h position) =
+    option_and_then (λ p. entry_point_reason m p (known_of info.entry_points.items h) kind position)
     (slice_get m.entry_points.items h)
 
 -- the use of an operator that has another type

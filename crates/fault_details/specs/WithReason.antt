@@ -21,10 +21,10 @@ use Rattle.naga_acceptance.specs.TextOrder.{case_values_fit_32_bits, text_order}
 use Rattle.naga_acceptance.specs.declared.faults.Fault.{Fault}
 use Rattle.naga_acceptance.specs.declared.faults.Fault.TheVariants as fault
 use Rattle.naga_acceptance.specs.declared.faults.Unaccepted.{Unaccepted}
-use Rattle.module_meaning.specs.acceptance.Numbers.{fits_16_bits, fits_32_bits, pattern_is_whole}
-use Rattle.module_meaning.specs.acceptance.Numbers.{resource_fits_32_bits, signature_fits_32_bits}
-use Rattle.module_meaning.specs.acceptance.Numbers.{type_fits_32_bits, workgroup_fits_32_bits}
-use Rattle.module_meaning.specs.acceptance.Ranges.{module_ranges_fit}
+use Rattle.module_semantics.specs.acceptance.Numbers.{fits_16_bits, fits_32_bits, pattern_is_whole}
+use Rattle.module_semantics.specs.acceptance.Numbers.{resource_fits_32_bits, signature_fits_32_bits}
+use Rattle.module_semantics.specs.acceptance.Numbers.{type_fits_32_bits, workgroup_fits_32_bits}
+use Rattle.module_semantics.specs.acceptance.Ranges.{module_ranges_fit}
 use Rattle.fault_details.specs.Reasons.{fault_reason}
 
 -- Bodies have no more statements than there are numbers for them.

@@ -391,7 +391,7 @@ fn told_reason(alloc: Global, module: &Module, reason: &Reason<'_>) -> Result<Mi
 /// - Of a number, as of the arguments of a call: the one that is expected, and the one that is there.
 /// - Of an operator that does not agree: the first use of it in the module that is over operands of
 ///   types alike and has another type, and the types of both.
-/// - Of a statement that stands where it may not, or a switch whose labels do not fit: what it
+/// - Of a statement that stands where it may not, or a switch whose values do not fit: what it
 ///   needs.
 ///
 /// It looks at the position alone, or of an operator at its uses in the module, and goes through the

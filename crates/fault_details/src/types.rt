@@ -3,8 +3,8 @@
 ghost use Rattle.std.specs.Prelude.{◌≡◌, [], false, take};
 ghost use Rattle.std.specs.Option.{option_and_then, option_copied, option_map, option_map_or};
 ghost use Rattle.std.specs.Option.{option_or};
-ghost use Rattle.module_meaning.specs.TypeIdentity.{component_count};
-ghost use Rattle.module_meaning.specs.TypeParts.{known_inner, part_count};
+ghost use Rattle.module_semantics.specs.TypeIdentity.{component_count};
+ghost use Rattle.module_semantics.specs.TypeParts.{known_inner, part_count};
 ghost use Rattle.naga_acceptance.specs.KnownTypes.{inferred, known_types, allowed};
 ghost use Rattle.naga_info.specs.Resolution.{inner_of};
 ghost use Rattle.fault_details.specs.Reasons.{class_reason, first_reason, has_letter};
@@ -17,7 +17,7 @@ ghost use Rattle.fault_details.specs.Shown.{shown};
 
 use crate::reasons::Reason;
 use crate::words::TypeClass;
-use module_meaning::type_parts::inner_of;
+use module_semantics::type_parts::inner_of;
 use naga_acceptance::alike::is_like;
 use naga_acceptance::demands::{is_integer, is_pointer, is_scalar_or_vector, points_to_components};
 use naga_acceptance::expression_types::{AllowedType, expected_type, is_bool};

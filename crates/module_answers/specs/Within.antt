@@ -8,7 +8,7 @@ use Rattle.module_answers.specs.declared.within.NoOutcome.{NoOutcome}
 use Rattle.module_answers.specs.declared.within.NoOutcome.TheVariants as unwritten
 use Rattle.module_limits.specs.Nesting.{nested_past}
 use Rattle.module_limits.specs.declared.limits.Limits.{Limits}
-use Rattle.module_meaning.specs.acceptance.Accepted.{is_accepted}
+use Rattle.module_semantics.specs.acceptance.Accepted.{is_accepted}
 use Rattle.naga_acceptance.specs.FirstFaults.{IsFirstFault}
 use Rattle.naga_back.specs.declared.flags.WriterFlags.{WriterFlags}
 use Rattle.naga_info.specs.declared.info.ModuleInfo.{ModuleInfo}

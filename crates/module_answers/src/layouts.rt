@@ -2,8 +2,8 @@
 //! struct has no layout.
 
 ghost use Rattle.std.specs.Prelude.{IsTrue};
-ghost use Rattle.module_meaning.specs.acceptance.Accepted.{is_accepted};
-ghost use Rattle.module_meaning.specs.acceptance.Ranges.{parts_stand_before};
+ghost use Rattle.module_semantics.specs.acceptance.Accepted.{is_accepted};
+ghost use Rattle.module_semantics.specs.acceptance.Ranges.{parts_stand_before};
 ghost use Rattle.naga_names.specs.Keys.{names_in};
 ghost use Rattle.naga_words.specs.Contexts.{names_context};
 ghost use Rattle.naga_words.specs.Spelling.{IsInOrder};
@@ -25,7 +25,7 @@ use std::fmt::Display;
 
 /// The structs that a text declares, each with a line for each member, and the variables whose arrays
 /// don't keep their strides, under the names that a text has.
-#[tactic(auto, using(module_meaning::proofs::Layouts::accepted_in_order))]
+#[tactic(auto, using(module_semantics::proofs::Layouts::accepted_in_order))]
 pub fn layout_table(alloc: Global, module: &Module, info: &ModuleInfo) -> Result<String, Error>
     requires accepted { IsTrue (is_accepted «module».now info.now) }
 {

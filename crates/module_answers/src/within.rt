@@ -6,7 +6,7 @@ ghost use Rattle.std.specs.Prelude.{string_bytes};
 ghost use Rattle.module_answers.specs.Within.{IsUnwritten, TellsDepth};
 ghost use Rattle.module_answers.specs.WriteOutcomes.{AnswersWriting};
 ghost use Rattle.module_limits.specs.Nesting.{nested_past};
-ghost use Rattle.module_meaning.specs.acceptance.Accepted.{is_accepted};
+ghost use Rattle.module_semantics.specs.acceptance.Accepted.{is_accepted};
 ghost use Rattle.naga_wgsl_out.specs.Checked.{IsCounted};
 ghost use Rattle.naga_wgsl_out.specs.Within.{unfailed};
 ghost use Rattle.decimal_floats.specs.Decimals.{IsDecimalModule};

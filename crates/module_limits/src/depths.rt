@@ -73,10 +73,10 @@ pub(crate) fn types_are_within(
 }
 
 /// What the table tells of an item: 0 where it tells nothing.
-fn depth_at<M>(depths: &[usize], place: ItemIndex<M>) -> usize
-    ensures { result ≡ get_or depths.now place 0 }
+fn depth_at<M>(depths: &[usize], item: ItemIndex<M>) -> usize
+    ensures { result ≡ get_or depths.now item 0 }
 {
-    match depths.get(place.index()) {
+    match depths.get(item.index()) {
         Some(depth) => *depth,
         None => 0,
     }

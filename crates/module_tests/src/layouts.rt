@@ -1,7 +1,7 @@
 //! How types of a module stand in memory.
 
 ghost use Rattle.std.specs.Prelude.{IsTrue};
-ghost use Rattle.module_meaning.specs.acceptance.Ranges.{parts_stand_before};
+ghost use Rattle.module_semantics.specs.acceptance.Ranges.{parts_stand_before};
 
 use naga_acceptance::accepts;
 use naga_builder::ModuleBuilder;
@@ -122,7 +122,7 @@ fn label(ty: &Type_) -> &str {
 }
 
 /// Each of these types has its name, and its alignment and size.
-#[tactic(auto, using(module_meaning::proofs::Layouts::stand_in_order))]
+#[tactic(auto, using(module_semantics::proofs::Layouts::stand_in_order))]
 fn check_types(rt: &impl Abort, types: &UniqueArena<Type_>)
     requires ordered { IsTrue (parts_stand_before types.now) }
 {
@@ -168,7 +168,7 @@ fn pair(
 /// A struct of two structs, and so on, 29 deep: as large as 2^29 numbers, and as quick as 29
 /// structs.
 #[test]
-#[tactic(auto, using(module_meaning::proofs::Layouts::stand_in_order))]
+#[tactic(auto, using(module_semantics::proofs::Layouts::stand_in_order))]
 fn pairs_of_pairs_stand_in_memory(rt: HostRuntime) {
     let mut shader = ModuleBuilder::new(rt.alloc());
     let mut whole = shader.scalar(Scalar::F16).expect(&rt, "memory");

@@ -1,5 +1,5 @@
 //! Tests of modules and of what stands beside them: reading them from JSON, building them, their
-//! arenas, the helpers that tell what stands in one, which labels of a switch are accepted, layouts
+//! arenas, the helpers that tell what stands in one, which values of cases are accepted, layouts
 //! of types, and traits of public types.
 #![tactic(auto)]
 
@@ -10,7 +10,7 @@ mod builders;
 #[cfg(test)]
 mod ir;
 #[cfg(test)]
-mod labels;
+mod case_values;
 #[cfg(test)]
 mod layouts;
 #[cfg(test)]

@@ -1,6 +1,6 @@
 -- Uses any two of which agree: what one more changes, and what the first of its operator tells.
 --
--- Throughout, o, v, w and x are uses, os, xs and ys are several (vs too, or words), i and j are places
+-- Throughout, o, v, w and x are uses, os, xs and ys are several (vs too, or words), i and j are positions
 -- among them, and a, b, c and d are tests.
 use Rattle.std.proofs.Common.{◌≡◌, ℕ, zero, suc, Bool, true, false, ◌&&◌, List, [], ◌∷◌, ◌++◌}
 use Rattle.std.proofs.Common.{refl, ap, sym, ◌∙◌, Some, slice_get}
@@ -11,9 +11,9 @@ use Rattle.std.specs.Str.{bytes_eq}
 use Rattle.std.proofs.lemmas.Bool.{and_parts}
 use Rattle.std.proofs.lemmas.List.Folds.{list_all-append}
 use Rattle.std.proofs.lemmas.Slice.Eq.{bytes_eq-Decides}
-use Rattle.module_meaning.specs.acceptance.Operations.{Operation, are_same_words, agrees, all_agree}
-use Rattle.module_meaning.proofs.Lists.{list_all_at}
-use Rattle.module_meaning.proofs.Operations.{all_agree_at, alike_itself}
+use Rattle.module_semantics.specs.acceptance.Operations.{Operation, are_same_words, agrees, all_agree}
+use Rattle.module_semantics.proofs.Lists.{list_all_at}
+use Rattle.module_semantics.proofs.Operations.{all_agree_at, alike_itself}
 use Rattle.naga_acceptance.specs.Uses.{is_same_operator, first_answer}
 
 -- ---- tests

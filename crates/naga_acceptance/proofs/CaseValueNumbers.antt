@@ -24,8 +24,8 @@ use Rattle.naga_ir.specs.StatementTree.{CaseTrees, no_cases, case}
 use Rattle.naga_ir.specs.declared.statement.SwitchCase.{SwitchCase}
 use Rattle.naga_ir.specs.declared.statement.SwitchValue.{SwitchValue}
 use Rattle.naga_ir.specs.declared.statement.SwitchValue.TheVariants as switch_value
-use Rattle.module_meaning.specs.acceptance.StatementsFit.{has_case_value, is_same_case_value}
-use Rattle.module_meaning.specs.acceptance.StatementsFit.{case_values_differ}
+use Rattle.module_semantics.specs.acceptance.StatementsFit.{has_case_value, is_same_case_value}
+use Rattle.module_semantics.specs.acceptance.StatementsFit.{case_values_differ}
 use Rattle.naga_acceptance.specs.declared.case_value_numbers.TheConstants.{CELLS}
 use Rattle.naga_acceptance.specs.CaseValues.{number_of, numbers_of, times, has_common, IsTwice}
 use Rattle.naga_acceptance.specs.CaseValues.{AreApart, AreMarked, AreOnce}

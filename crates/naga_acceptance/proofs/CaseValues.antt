@@ -9,8 +9,8 @@ use Rattle.std.proofs.lemmas.Bool.Decides.{Decides-int_eq}
 use Rattle.naga_ir.specs.StatementTree.{CaseTrees, no_cases, case}
 use Rattle.naga_ir.specs.declared.statement.SwitchValue.{SwitchValue}
 use Rattle.naga_ir.specs.declared.statement.SwitchValue.TheVariants as switch_value
-use Rattle.module_meaning.specs.acceptance.StatementsFit.{has_case_value, is_same_case_value}
-use Rattle.module_meaning.specs.acceptance.StatementsFit.{case_values_differ}
+use Rattle.module_semantics.specs.acceptance.StatementsFit.{has_case_value, is_same_case_value}
+use Rattle.module_semantics.specs.acceptance.StatementsFit.{case_values_differ}
 use Rattle.naga_acceptance.specs.CaseValues.{is_before, case_values_ascend}
 
 -- ---- numbers

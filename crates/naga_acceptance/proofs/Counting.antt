@@ -1,4 +1,4 @@
--- Uses that are counted one by one add up to the number of places.
+-- Uses that are counted one by one add up to the number of positions.
 use Rattle.std.proofs.Common.{◌≡◌, ◌≢◌, ℕ, ◌+◌, ◌<◌, ◌≤◌, ◌==◌, zero, suc, min, List, [], ◌∷◌, ◌++◌}
 use Rattle.std.proofs.Common.{length, true, false, cond, drop, refl, ap, sym, ◌∙◌, arith, add-zero}
 use Rattle.std.proofs.Common.{zero-add, slice_index_or, slice_set, slice_get, Some, unwrap_or}
@@ -78,9 +78,9 @@ count_raised n handle =
     let here : (handle + 0 == handle) ≡ true = eq-eqb (handle + 0) handle (omega arith)
     in rw here (omega arith)
 
-count_kept : (n place k : ℕ) → place ≢ k → n ≡ cond (place == k) 1 0 + n
-count_kept n place k other =
-    let elsewhere : (place == k) ≡ false = ne_eqb place k other
+count_kept : (n position k : ℕ) → position ≢ k → n ≡ cond (position == k) 1 0 + n
+count_kept n position k other =
+    let elsewhere : (position == k) ≡ false = ne_eqb position k other
     in rw elsewhere (omega arith)
 
 with_use-with_counts_from : (c : ℕ → ℕ) (handle : ℕ) (es : List ExpressionInfo) (i : ℕ) →
@@ -103,8 +103,8 @@ use_counts-add : (p : ℕ) (ps : List ℕ) (k n : ℕ) → use_count ps k + (con
     ≡ use_count (p ∷ ps) k + n
 use_counts-add p ps k n = rw (zero-add p, use_count-cons p ps k) (omega arith)
 
-pub with_uses-with_counts_from : (c : ℕ → ℕ) (es : List ExpressionInfo) (places : List ℕ) →
-    with_uses (with_counts_from c 0 es) places ≡ with_counts_from (λ k. use_count places k + c k) 0 es
+pub with_uses-with_counts_from : (c : ℕ → ℕ) (es : List ExpressionInfo) (positions : List ℕ) →
+    with_uses (with_counts_from c 0 es) positions ≡ with_counts_from (λ k. use_count positions k + c k) 0 es
 with_uses-with_counts_from c es [] = with_counts_from-same c (λ k. use_count [] k + c k) 0 es (λ k h. omega arith)
 with_uses-with_counts_from c es (p ∷ ps) =
     ap (λ fs. with_uses fs ps) (with_use-with_counts_from c 0 es p)
@@ -122,7 +122,7 @@ pub operands_of_pairs : (n : ℕ) (xs : List Expression) →
 operands_of_pairs n [] = refl
 operands_of_pairs n (x ∷ xs) = ap (λ ys. expression_operands x ++ ys) (operands_of_pairs (n + 1) xs)
 
--- what the loops over a function's expressions and statements make is the count of its places
+-- what the loops over a function's expressions and statements make is the count of its positions
 pub counted_by_uses : (f : Function) (es : List ExpressionInfo)
     → with_uses (with_uses (without_uses es) (flat_map expression_operands f.expressions))
     (block_operands f.body) ≡ with_counts f es

@@ -1,13 +1,13 @@
 -- What is found among the uses below one bound, and so among those below a further one.
 --
 -- Throughout, f gives uses for each number, n and m are bounds, v is a use, types are a module's
--- types, gs its groups, of which g has this number, and index is a place in g.
+-- types, gs its groups, of which g has this number, and index is a position in g.
 use Rattle.std.proofs.Common.{◌≡◌, ℕ, suc, ◌<◌, true, false, List, [], ◌∷◌, ◌++◌}
 use Rattle.std.proofs.Common.{ap, sym, ◌∙◌, Some, None, Option, refl}
 use Rattle.std.specs.Option.{is_some, option_to_list}
 use Rattle.naga_ir.specs.declared.types.Type_.{Type_}
-use Rattle.module_meaning.specs.acceptance.AgreeingOperators.{Group}
-use Rattle.module_meaning.specs.acceptance.Operations.{Operation}
+use Rattle.module_semantics.specs.acceptance.AgreeingOperators.{Group}
+use Rattle.module_semantics.specs.acceptance.Operations.{Operation}
 use Rattle.naga_acceptance.specs.Uses.{joined_below, use_in, earlier_uses, first_answer}
 use Rattle.naga_acceptance.proofs.Agreement.{found_in_front, none_in_front}
 use Rattle.naga_acceptance.proofs.Groups.{joined_front, one_more}

@@ -36,15 +36,15 @@ use Rattle.naga_acceptance.specs.declared.faults.FaultPosition.TheVariants as it
 use Rattle.naga_acceptance.specs.declared.faults.FunctionPosition.{FunctionPosition}
 use Rattle.naga_acceptance.specs.declared.faults.FunctionPosition.TheVariants as part
 use Rattle.naga_acceptance.specs.declared.faults.Unaccepted.{Unaccepted}
-use Rattle.module_meaning.specs.acceptance.InfoSizes.{entry_point_size_fits, function_size_fits}
-use Rattle.module_meaning.specs.acceptance.InfoSizes.{type_is_fit}
-use Rattle.module_meaning.specs.acceptance.Ranges.{all_below, constant_in_range, global_in_range}
-use Rattle.module_meaning.specs.acceptance.Ranges.{initialiser_before, local_in_range}
-use Rattle.module_meaning.specs.acceptance.Ranges.{module_ranges_fit, names_fit, names_in_range}
-use Rattle.module_meaning.specs.acceptance.Ranges.{numbers_in_range, override_in_range}
-use Rattle.module_meaning.specs.acceptance.Ranges.{parts_before, resolution_fits, signature_fits}
-use Rattle.module_meaning.specs.acceptance.Ranges.{special_types_fit}
-use Rattle.module_meaning.specs.acceptance.Soundness.{module_is_sound}
+use Rattle.module_semantics.specs.acceptance.InfoSizes.{entry_point_size_fits, function_size_fits}
+use Rattle.module_semantics.specs.acceptance.InfoSizes.{type_is_fit}
+use Rattle.module_semantics.specs.acceptance.Ranges.{all_below, constant_in_range, global_in_range}
+use Rattle.module_semantics.specs.acceptance.Ranges.{initialiser_before, local_in_range}
+use Rattle.module_semantics.specs.acceptance.Ranges.{module_ranges_fit, names_fit, names_in_range}
+use Rattle.module_semantics.specs.acceptance.Ranges.{numbers_in_range, override_in_range}
+use Rattle.module_semantics.specs.acceptance.Ranges.{parts_before, resolution_fits, signature_fits}
+use Rattle.module_semantics.specs.acceptance.Ranges.{special_types_fit}
+use Rattle.module_semantics.specs.acceptance.Soundness.{module_is_sound}
 use Rattle.naga_acceptance.proofs.Finding.{Finds}
 use Rattle.naga_acceptance.proofs.FirstFaults.{ranges_found, sound_found}
 

@@ -1,5 +1,5 @@
 -- What a search for the first fault finds: nothing where all tests pass, and else a fault.
-use Rattle.module_meaning.proofs.Fitting.{list_all-pairs}
+use Rattle.module_semantics.proofs.Fitting.{list_all-pairs}
 use Rattle.std.proofs.Common.{◌≡◌, ℕ, suc, ◌+◌, ◌%◌, ◌^◌, Bool, true, false, ◌&&◌, not, List, [], ◌∷◌}
 use Rattle.std.proofs.Common.{refl, ap, sym, ◌∙◌, arith, slice_get, Option, Some, None}
 use Rattle.std.proofs.Common.{true≢false, unwrap_or}
@@ -62,7 +62,7 @@ finds_same same first = record { fits = first.fits ∙ same; fails = first.fails
 
 -- ---- lists
 
--- the item at this place fails the test
+-- the item at this position fails the test
 pub unfit_at : {X : Type 0} (test : X → Bool) (xs : List X) (h : ℕ) (x : X) → slice_get xs h ≡ Some x →
     test x ≡ false → Unfit test xs h
 unfit_at test xs h x here fails = ap (option_map test) here ∙ ap Some fails
@@ -125,7 +125,7 @@ stands_whole xs i =
     let same : i ≡ 0 + i = omega arith
     in ap (slice_get xs) same
 
--- the first item that fails, by tests that know its place
+-- the first item that fails, by tests that know its position
 pub finds_unfit : {X : Type 0} (test : ℕ → X → Bool) (xs : List X) →
     Finds (first_unfit test (enumerate_from 0 xs)) (list_all (λ p. test p.0 p.1) (enumerate_from 0 xs))
     (λ h. Unfit (test h) xs h)

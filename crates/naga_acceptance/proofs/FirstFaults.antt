@@ -1,6 +1,6 @@
 -- The first fault that is found in a module: there is none just where all is in range and sound, and
 -- else it fails there.
-use Rattle.module_meaning.proofs.SideBySide.{item_beside, zip_parts}
+use Rattle.module_semantics.proofs.SideBySide.{item_beside, zip_parts}
 use Rattle.std.proofs.Common.{◌≡◌, ℕ, Bool, true, false, ◌&&◌, ◌==◌, ◌+◌, List, [], ◌∷◌, length}
 use Rattle.std.proofs.Common.{map, refl, ap, sym, ◌∙◌, slice_get, Option, Some, None, subst}
 use Rattle.std.proofs.Common.{true≢false}
@@ -43,30 +43,30 @@ use Rattle.naga_acceptance.specs.declared.faults.FaultPosition.TheVariants as it
 use Rattle.naga_acceptance.specs.declared.faults.FunctionPosition.{FunctionPosition}
 use Rattle.naga_acceptance.specs.declared.faults.FunctionPosition.TheVariants as part
 use Rattle.naga_acceptance.specs.declared.faults.Unaccepted.{Unaccepted}
-use Rattle.module_meaning.specs.acceptance.Accepted.{is_accepted}
-use Rattle.module_meaning.specs.acceptance.AgreeingOperators.{module_operators_agree}
-use Rattle.module_meaning.specs.acceptance.ExpressionTypes.{has_its_type}
-use Rattle.module_meaning.specs.acceptance.InfoSizes.{all_known, all_paired, entry_point_size_fits}
-use Rattle.module_meaning.specs.acceptance.InfoSizes.{function_size_fits, sizes_fit, type_is_fit}
-use Rattle.module_meaning.specs.acceptance.Initialisers.{constant_is_sound, global_is_sound}
-use Rattle.module_meaning.specs.acceptance.Initialisers.{initialisers_fit, local_is_sound}
-use Rattle.module_meaning.specs.acceptance.Initialisers.{override_is_sound}
-use Rattle.module_meaning.specs.acceptance.OperandDemands.{operands_fit}
-use Rattle.module_meaning.specs.acceptance.Numbers.{workgroup_fits_32_bits}
-use Rattle.module_meaning.specs.acceptance.Ranges.{all_below, block_in_range, constant_in_range}
-use Rattle.module_meaning.specs.acceptance.Ranges.{declarations_in_range, entry_point_in_range}
-use Rattle.module_meaning.specs.acceptance.Ranges.{expression_in_range, expressions_in_range}
-use Rattle.module_meaning.specs.acceptance.Ranges.{function_in_range, global_expression_in_range}
-use Rattle.module_meaning.specs.acceptance.Ranges.{global_in_range, initialiser_before}
-use Rattle.module_meaning.specs.acceptance.Ranges.{local_in_range, is_below, module_in_range}
-use Rattle.module_meaning.specs.acceptance.Ranges.{module_ranges_fit, names_fit, names_in_range}
-use Rattle.module_meaning.specs.acceptance.Ranges.{numbers_in_range, override_in_range}
-use Rattle.module_meaning.specs.acceptance.Ranges.{parts_before, resolution_fits, signature_fits}
-use Rattle.module_meaning.specs.acceptance.Ranges.{special_types_fit, types_in_range}
-use Rattle.module_meaning.specs.acceptance.Soundness.{declarations_are_sound, entry_point_is_sound}
-use Rattle.module_meaning.specs.acceptance.Soundness.{function_is_sound, module_is_sound}
-use Rattle.module_meaning.specs.acceptance.Soundness.{typed_function_is_sound}
-use Rattle.module_meaning.specs.acceptance.StatementsFit.{body_is_sound}
+use Rattle.module_semantics.specs.acceptance.Accepted.{is_accepted}
+use Rattle.module_semantics.specs.acceptance.AgreeingOperators.{module_operators_agree}
+use Rattle.module_semantics.specs.acceptance.ExpressionTypes.{has_its_type}
+use Rattle.module_semantics.specs.acceptance.InfoSizes.{all_known, all_paired, entry_point_size_fits}
+use Rattle.module_semantics.specs.acceptance.InfoSizes.{function_size_fits, sizes_fit, type_is_fit}
+use Rattle.module_semantics.specs.acceptance.Initialisers.{constant_is_sound, global_is_sound}
+use Rattle.module_semantics.specs.acceptance.Initialisers.{initialisers_fit, local_is_sound}
+use Rattle.module_semantics.specs.acceptance.Initialisers.{override_is_sound}
+use Rattle.module_semantics.specs.acceptance.OperandDemands.{operands_fit}
+use Rattle.module_semantics.specs.acceptance.Numbers.{workgroup_fits_32_bits}
+use Rattle.module_semantics.specs.acceptance.Ranges.{all_below, block_in_range, constant_in_range}
+use Rattle.module_semantics.specs.acceptance.Ranges.{declarations_in_range, entry_point_in_range}
+use Rattle.module_semantics.specs.acceptance.Ranges.{expression_in_range, expressions_in_range}
+use Rattle.module_semantics.specs.acceptance.Ranges.{function_in_range, global_expression_in_range}
+use Rattle.module_semantics.specs.acceptance.Ranges.{global_in_range, initialiser_before}
+use Rattle.module_semantics.specs.acceptance.Ranges.{local_in_range, is_below, module_in_range}
+use Rattle.module_semantics.specs.acceptance.Ranges.{module_ranges_fit, names_fit, names_in_range}
+use Rattle.module_semantics.specs.acceptance.Ranges.{numbers_in_range, override_in_range}
+use Rattle.module_semantics.specs.acceptance.Ranges.{parts_before, resolution_fits, signature_fits}
+use Rattle.module_semantics.specs.acceptance.Ranges.{special_types_fit, types_in_range}
+use Rattle.module_semantics.specs.acceptance.Soundness.{declarations_are_sound, entry_point_is_sound}
+use Rattle.module_semantics.specs.acceptance.Soundness.{function_is_sound, module_is_sound}
+use Rattle.module_semantics.specs.acceptance.Soundness.{typed_function_is_sound}
+use Rattle.module_semantics.specs.acceptance.StatementsFit.{body_is_sound}
 use Rattle.naga_acceptance.proofs.Finding.{AtItem, Finds, finds_faulty, finds_map, finds_statement}
 use Rattle.naga_acceptance.proofs.Finding.{finds_or, finds_plain, finds_plain_faulty, finds_same}
 use Rattle.naga_acceptance.proofs.Finding.{finds_test, finds_unfit, finds_unless, finds_weaker}

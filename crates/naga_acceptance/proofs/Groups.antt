@@ -1,11 +1,11 @@
 -- The uses of groups of expressions, gathered number by number, and where the groups of a module
 -- stand.
 --
--- Throughout, f gives a list for each number, n and m are bounds, k is a place, xs and ys are lists,
+-- Throughout, f gives a list for each number, n and m are bounds, k is a position, xs and ys are lists,
 -- h gives a list for an item, e is an expression, types are a module's types, g is a group (gs are
 -- several), f is a function (fs are several), infos what is known of them, p an entry point, m a module
 -- and info what is known of it.
-use Rattle.module_meaning.proofs.SideBySide.{in_groups}
+use Rattle.module_semantics.proofs.SideBySide.{in_groups}
 use Rattle.std.proofs.Common.{◌≡◌, ℕ, zero, suc, ◌+◌, ◌-◌, ◌<◌, ◌≤◌, min, List, [], ◌∷◌, ◌++◌, map}
 use Rattle.std.proofs.Common.{length, refl, ap, sym, ◌∙◌, arith, Some, None, slice_get}
 use Rattle.std.proofs.Common.{append_assoc, append-nil, length-append}
@@ -20,9 +20,9 @@ use Rattle.naga_ir.specs.declared.module.Module.{Module}
 use Rattle.naga_ir.specs.declared.types.Type_.{Type_}
 use Rattle.naga_info.specs.declared.info.ExpressionInfo.{ExpressionInfo}
 use Rattle.naga_info.specs.declared.info.ModuleInfo.{ModuleInfo}
-use Rattle.module_meaning.specs.acceptance.AgreeingOperators.{Group, expression_use, uses_of}
-use Rattle.module_meaning.specs.acceptance.AgreeingOperators.{function_group, function_groups}
-use Rattle.module_meaning.specs.acceptance.AgreeingOperators.{further_groups_of, groups_of}
+use Rattle.module_semantics.specs.acceptance.AgreeingOperators.{Group, expression_use, uses_of}
+use Rattle.module_semantics.specs.acceptance.AgreeingOperators.{function_group, function_groups}
+use Rattle.module_semantics.specs.acceptance.AgreeingOperators.{further_groups_of, groups_of}
 use Rattle.naga_acceptance.specs.Uses.{joined_below, use_in, first_uses, group_uses, earlier_uses}
 
 -- ---- lists joined
@@ -56,7 +56,7 @@ joined_first f (suc n) =
     ap (λ l. l ++ f (suc n)) (joined_first f n)
     ∙ append_assoc (f 0) (joined_below (λ k. f (suc k)) n) (f (suc n))
 
--- the lists of all items, gathered by their places
+-- the lists of all items, gathered by their positions
 pub joined_items : {X Y : Type 0} (h : ℕ → X → List Y) (n : ℕ) (xs : List X) (f : ℕ → List Y)
     → ((k : ℕ) (x : X) → slice_get xs k ≡ Some x → f k ≡ h (n + k) x)
     → joined_below f (length xs) ≡ flat_map (λ p. h p.0 p.1) (enumerate_from n xs)
@@ -70,7 +70,7 @@ joined_items h n (x ∷ xs) f each =
     further : (k : ℕ) → n + suc k ≡ (n + 1) + k
     further k = omega arith
 
--- the same where the places don't matter
+-- the same where the positions don't matter
 pub all_joined : {X Y : Type 0} (h : X → List Y) (xs : List X) (f : ℕ → List Y)
     → ((k : ℕ) (x : X) → slice_get xs k ≡ Some x → f k ≡ h x)
     → joined_below f (length xs) ≡ flat_map h xs
@@ -127,14 +127,14 @@ in_front [] ys k within = absurd (omega (arith, within))
 in_front (x ∷ xs) ys zero within = refl
 in_front (x ∷ xs) ys (suc k) within = in_front xs ys k (omega (arith, within))
 
--- an item at a place after the front
+-- an item at a position after the front
 pub at_sum : {X : Type 0} (xs ys : List X) (k n : ℕ) → n ≡ length xs + k →
     slice_get (xs ++ ys) n ≡ slice_get ys k
 at_sum [] ys k n e = let same : n ≡ k = omega (arith, e) in ap (slice_get ys) same
 at_sum (x ∷ xs) ys k zero e = absurd (omega (arith, e))
 at_sum (x ∷ xs) ys k (suc n) e = at_sum xs ys k n (omega (arith, e))
 
--- the same by its place among all
+-- the same by its position among all
 pub following : {X : Type 0} (xs ys : List X) (n : ℕ) → length xs ≤ n →
     slice_get (xs ++ ys) n ≡ slice_get ys (n - length xs)
 following xs ys n past = at_sum xs ys (n - length xs) n (omega (arith, past))

@@ -3,8 +3,8 @@ use Rattle.std.proofs.Common.{◌≡◌, false, List, Some, None, ℕ, slice_get
 use Rattle.std.specs.Str.{bytes_eq}
 use Rattle.naga_ir.specs.declared.types.Type_.{Type_}
 use Rattle.naga_info.specs.declared.info.TypeResolution.{TypeResolution}
-use Rattle.module_meaning.proofs.AlikeTypes.{identity_some}
-use Rattle.module_meaning.specs.acceptance.AgreeingOperators.{identity_at}
+use Rattle.module_semantics.proofs.AlikeTypes.{identity_some}
+use Rattle.module_semantics.specs.acceptance.AgreeingOperators.{identity_at}
 
 module _ (types : List Type_) (known others : List TypeResolution) (h k : ℕ) (r : TypeResolution) where
   -- only the first of two types is known

@@ -3,7 +3,7 @@
 --
 -- Throughout, p, q and r are tests, o, v, w and x are uses (os are several), xs, ys and zs are lists,
 -- types are a module's types, gs its groups, g and h are among them, by the numbers n and m, i and j are
--- places in those, a and b places where uses stand, and share is a share with a remainder in its middle.
+-- positions in those, a and b positions where uses stand, and share is a share with a remainder in its middle.
 use Rattle.std.proofs.Common.{◌≡◌, ◌≢◌, ℕ, zero, suc, ◌+◌, ◌%◌, ◌<◌, ◌≤◌, Bool, true, false, ◌&&◌}
 use Rattle.std.proofs.Common.{◌==◌, List, [], ◌∷◌, ◌++◌, length, refl, ap, sym, ◌∙◌, subst, arith}
 use Rattle.std.proofs.Common.{Option, Some, None, slice_get, ◌⊎◌, inl, inr, append_assoc, leb, ltb}
@@ -17,8 +17,8 @@ use Rattle.std.proofs.lemmas.Bool.{true_from_ne_false, false_from_ne_true}
 use Rattle.std.proofs.lemmas.List.Elements.{filter-append}
 use Rattle.std.proofs.lemmas.Option.{same_Some, slice_get_within}
 use Rattle.naga_ir.specs.declared.types.Type_.{Type_}
-use Rattle.module_meaning.specs.acceptance.AgreeingOperators.{Group, uses_of}
-use Rattle.module_meaning.specs.acceptance.Operations.{Operation, agrees, all_agree}
+use Rattle.module_semantics.specs.acceptance.AgreeingOperators.{Group, uses_of}
+use Rattle.module_semantics.specs.acceptance.Operations.{Operation, agrees, all_agree}
 use Rattle.naga_acceptance.specs.declared.agreeing.Share.{Share}
 use Rattle.naga_acceptance.specs.declared.agreeing.TheConstants.{REMAINDERS}
 use Rattle.naga_acceptance.specs.declared.agreeing.UsePosition.{UsePosition}
@@ -254,7 +254,7 @@ module _ (types : List Type_) (gs : List Group) where
       (front_of_groups n m g i here within before)
       (joined_below (λ k. option_to_list (use_in types h k)) j, refl)
 
-  -- before a place that does not stand before this one
+  -- before a position that does not stand before this one
   front_of_use : (a b : UsePosition) (g h : Group) → slice_get gs a.group ≡ Some g →
       slice_get gs b.group ≡ Some h → a.index ≤ length g.expressions →
       (a.group < b.group) ⊎ ((a.group ≡ b.group) × (a.index ≤ b.index)) →
@@ -284,7 +284,7 @@ module _ (types : List Type_) (gs : List Group) where
     more_fail r p within (earlier_uses types gs a.group fails.0 (suc a.index)) fails.4,
   )
 
-  -- what two tests tell of a third is told by the earlier of their places
+  -- what two tests tell of a third is told by the earlier of their positions
   pub first_of_both : (r p q : Operation → Bool) → IsCovered r p q → IsCovered r q p
       → ((v : Operation) → p v ≡ true → r v ≡ true) → ((v : Operation) → q v ≡ true → r v ≡ true)
       → (a b : Option UsePosition) → IsFirstDisagreement types gs p a → IsFirstDisagreement types gs q b
@@ -304,7 +304,7 @@ module _ (types : List Type_) (gs : List Group) where
   first_of_both r p q one two in_p in_q (Some a) (Some b) fails_p fails_q =
       by_order (stands_before a b) refl
     where
-      -- the order of the places, by the test of it
+      -- the order of the positions, by the test of it
       before : stands_before a b ≡ true →
           (a.group < b.group) ⊎ ((a.group ≡ b.group) × (a.index ≤ b.index))
       before e = by_part (or_cases (ltb a.group b.group) ((a.group == b.group) && ltb a.index b.index) e)
@@ -496,23 +496,23 @@ module _ (types : List Type_) (gs : List Group) (share : Share) (all : (v : Oper
   pub all_or_first : (found : Option UsePosition) → IsFirstDisagreement types gs (is_in share) found →
       is_none found ≡ all_agree (flat_map (uses_of types) gs)
   all_or_first None agree = sym (sym whole ∙ agree)
-  all_or_first (Some place) fails =
-      let within = slice_get_within gs place.group fails.0 fails.1
+  all_or_first (Some position) fails =
+      let within = slice_get_within gs position.group fails.0 fails.1
       in let front =
-      front_of_groups types gs place.group (length gs) fails.0 (suc place.index) fails.1 fails.2 within
+      front_of_groups types gs position.group (length gs) fails.0 (suc position.index) fails.1 fails.2 within
       in sym (sym whole
-      ∙ more_after_fail (is_in share) (earlier_uses types gs place.group fails.0 (suc place.index))
+      ∙ more_after_fail (is_in share) (earlier_uses types gs position.group fails.0 (suc position.index))
       (group_uses types gs (length gs)) front fails.4)
 
   -- and those before that one do
   pub agree_before : (found : Option UsePosition) → IsFirstDisagreement types gs (is_in share) found →
-      IfSome found (λ place. (g : Group) × (slice_get gs place.group ≡ Some g)
-      × (all_agree (earlier_uses types gs place.group g place.index) ≡ true)
-      × (all_agree (earlier_uses types gs place.group g (suc place.index)) ≡ false))
+      IfSome found (λ position. (g : Group) × (slice_get gs position.group ≡ Some g)
+      × (all_agree (earlier_uses types gs position.group g position.index) ≡ true)
+      × (all_agree (earlier_uses types gs position.group g (suc position.index)) ≡ false))
   agree_before None agree = tt
-  agree_before (Some place) fails = (
+  agree_before (Some position) fails = (
     fails.0,
     fails.1,
-    sym (all_uses_of (earlier_uses types gs place.group fails.0 place.index)) ∙ fails.3,
-    sym (all_uses_of (earlier_uses types gs place.group fails.0 (suc place.index))) ∙ fails.4,
+    sym (all_uses_of (earlier_uses types gs position.group fails.0 position.index)) ∙ fails.3,
+    sym (all_uses_of (earlier_uses types gs position.group fails.0 (suc position.index))) ∙ fails.4,
   )

@@ -3,12 +3,12 @@ use Rattle.std.proofs.Common.{◌≡◌, ℕ, ◌+◌, ◌<◌, Bool, true, fals
 use Rattle.std.proofs.Common.{slice_index_or, slice_get, Option, Some, None}
 use Rattle.std.specs.List.{enumerate_from, list_all, zip}
 use Rattle.std.specs.Prelude.{◌&&◌}
-use Rattle.module_meaning.proofs.Fitting.{item_at}
+use Rattle.module_semantics.proofs.Fitting.{item_at}
 use Rattle.std.proofs.lemmas.List.{drop_more}
 use Rattle.naga_acceptance.specs.Searching.{first_faulty, first_unfit, or_further, unless}
 
 module _ {X Y : Type 0} (xs : List X) (ys : List Y) where
-  -- what is left of the two from this place on, with its numbers
+  -- what is left of the two from this position on, with its numbers
   abbrev pub left : ℕ → List (ℕ × (X × Y))
   left i = enumerate_from i (zip (drop i xs) (drop i ys))
 

@@ -5,7 +5,7 @@ use Rattle.naga_ir.specs.declared.module.FunctionArgument.{FunctionArgument}
 use Rattle.naga_ir.specs.declared.types.Type_.{Type_}
 use Rattle.naga_info.specs.declared.info.TypeResolution.{TypeResolution}
 use Rattle.naga_info.specs.declared.info.TypeResolution.TheVariants.{Handle}
-use Rattle.module_meaning.specs.acceptance.StatementsFit.{are_passed, value_has_type}
+use Rattle.module_semantics.specs.acceptance.StatementsFit.{are_passed, value_has_type}
 
 pub are_passed-unequal : (types : List Type_) (known : List TypeResolution) (wanted : List FunctionArgument)
     (xs : List ℕ) → length wanted ≢ length xs → are_passed types known wanted xs ≡ false

@@ -8,17 +8,17 @@ use Rattle.naga_ir.specs.declared.module.Module.{Module}
 use Rattle.naga_info.specs.declared.info.ExpressionInfo.{ExpressionInfo}
 use Rattle.naga_info.specs.declared.info.ModuleInfo.{ModuleInfo}
 use Rattle.naga_info.specs.declared.info.TypeResolution.{TypeResolution}
-use Rattle.module_meaning.specs.acceptance.Accepted.{is_accepted}
-use Rattle.module_meaning.specs.acceptance.AgreeingOperators.{function_groups}
-use Rattle.module_meaning.specs.acceptance.AgreeingOperators.{module_operators_agree, uses_of}
-use Rattle.module_meaning.specs.acceptance.InfoSizes.{all_known, all_paired, entry_point_size_fits}
-use Rattle.module_meaning.specs.acceptance.InfoSizes.{function_size_fits, sizes_fit, type_is_fit}
-use Rattle.module_meaning.specs.acceptance.Operations.{all_agree}
-use Rattle.module_meaning.specs.acceptance.Ranges.{module_in_range, module_ranges_fit}
-use Rattle.module_meaning.specs.acceptance.Ranges.{resolution_fits}
-use Rattle.module_meaning.specs.acceptance.Soundness.{declarations_are_sound, entry_point_is_sound}
-use Rattle.module_meaning.specs.acceptance.Soundness.{function_is_sound, module_is_sound}
-use Rattle.module_meaning.specs.acceptance.Soundness.{typed_function_is_sound}
+use Rattle.module_semantics.specs.acceptance.Accepted.{is_accepted}
+use Rattle.module_semantics.specs.acceptance.AgreeingOperators.{function_groups}
+use Rattle.module_semantics.specs.acceptance.AgreeingOperators.{module_operators_agree, uses_of}
+use Rattle.module_semantics.specs.acceptance.InfoSizes.{all_known, all_paired, entry_point_size_fits}
+use Rattle.module_semantics.specs.acceptance.InfoSizes.{function_size_fits, sizes_fit, type_is_fit}
+use Rattle.module_semantics.specs.acceptance.Operations.{all_agree}
+use Rattle.module_semantics.specs.acceptance.Ranges.{module_in_range, module_ranges_fit}
+use Rattle.module_semantics.specs.acceptance.Ranges.{resolution_fits}
+use Rattle.module_semantics.specs.acceptance.Soundness.{declarations_are_sound, entry_point_is_sound}
+use Rattle.module_semantics.specs.acceptance.Soundness.{function_is_sound, module_is_sound}
+use Rattle.module_semantics.specs.acceptance.Soundness.{typed_function_is_sound}
 use Rattle.naga_acceptance.specs.Counts.{all_with_counts, functions_of, operand_handles}
 use Rattle.naga_acceptance.specs.Counts.{use_count, with_counts, with_counts_from}
 use Rattle.naga_acceptance.proofs.Counting.{length-all_with_counts}

@@ -13,8 +13,8 @@ use Rattle.std.proofs.lemmas.Bool.{eqb-true, eqb-false, ltb-true, ltb-false, fal
 use Rattle.std.proofs.lemmas.List.{length-set, get_or-set_same, get_or-set_other, length-replicate}
 use Rattle.std.proofs.lemmas.Option.{slice_get_within, same_Some}
 use Rattle.naga_ir.specs.declared.types.Type_.{Type_}
-use Rattle.module_meaning.specs.acceptance.AgreeingOperators.{Group}
-use Rattle.module_meaning.specs.acceptance.Operations.{Operation, agrees, all_agree}
+use Rattle.module_semantics.specs.acceptance.AgreeingOperators.{Group}
+use Rattle.module_semantics.specs.acceptance.Operations.{Operation, agrees, all_agree}
 use Rattle.naga_acceptance.specs.declared.agreeing.Probe.TheVariants.{Empty, Seen, Full}
 use Rattle.naga_acceptance.specs.declared.agreeing.Site.{Site}
 use Rattle.naga_acceptance.specs.Uses.{is_same_operator, use_at, hash_of, slot_after, site_after}
@@ -249,8 +249,8 @@ pub entered_remembered : (types : List Type_) (gs : List Group) (os : List Opera
     Remembers types gs (os ++ v ∷ []) slots (slice_set table slot (Some site))
 entered_remembered types gs os slots table v slot site remembered probed there hashed = record {
   size = length-set table slot (Some site) ∙ remembered.size;
-  sites = λ place other at. site_at place other (among_at place other at);
-  hashed = λ place other at. hashed_at place other (among_at place other at);
+  sites = λ position other at. site_at position other (among_at position other at);
+  hashed = λ position other at. hashed_at position other (among_at position other at);
   found = λ w among. either w (among_either os v w among);
 }
   where
@@ -258,34 +258,34 @@ entered_remembered types gs os slots table v slot site remembered probed there h
     inside = omega (arith, remembered.size, slot_within types gs slots table v slot probed)
 
     -- what a slot has is the new site, or it was there
-    among_at : (place : ℕ) (other : Site) →
-        slice_index_or (slice_set table slot (Some site)) place None ≡ Some other →
-        (other ≡ site) ⊎ (slice_index_or table place None ≡ Some other)
-    among_at place other at = by_slot (place == slot) refl
+    among_at : (position : ℕ) (other : Site) →
+        slice_index_or (slice_set table slot (Some site)) position None ≡ Some other →
+        (other ≡ site) ⊎ (slice_index_or table position None ≡ Some other)
+    among_at position other at = by_slot (position == slot) refl
       where
-        by_slot : (b : Bool) → (place == slot) ≡ b →
-            (other ≡ site) ⊎ (slice_index_or table place None ≡ Some other)
+        by_slot : (b : Bool) → (position == slot) ≡ b →
+            (other ≡ site) ⊎ (slice_index_or table position None ≡ Some other)
         by_slot true e =
             inl (same_Some other site (sym at
-            ∙ at_own types gs slots table slot site inside probed.3 place (eqb-true place slot e)))
+            ∙ at_own types gs slots table slot site inside probed.3 position (eqb-true position slot e)))
         by_slot false e =
-            inr (sym (at_other types gs slots table slot site inside probed.3 place e) ∙ at)
+            inr (sym (at_other types gs slots table slot site inside probed.3 position e) ∙ at)
 
-    site_at : (place : ℕ) (other : Site) →
-        (other ≡ site) ⊎ (slice_index_or table place None ≡ Some other) →
+    site_at : (position : ℕ) (other : Site) →
+        (other ≡ site) ⊎ (slice_index_or table position None ≡ Some other) →
         IsSiteOf types gs (os ++ v ∷ []) other
-    site_at place other (inl same) =
+    site_at position other (inl same) =
         (v, ap (use_at types gs) same ∙ there, among_last os v)
-    site_at place other (inr before) =
-        site_of_more types gs os (v ∷ []) other (remembered.sites place other before)
+    site_at position other (inr before) =
+        site_of_more types gs os (v ∷ []) other (remembered.sites position other before)
 
-    hashed_at : (place : ℕ) (other : Site) →
-        (other ≡ site) ⊎ (slice_index_or table place None ≡ Some other) →
+    hashed_at : (position : ℕ) (other : Site) →
+        (other ≡ site) ⊎ (slice_index_or table position None ≡ Some other) →
         IsHashed types gs other
-    hashed_at place other (inl same) =
+    hashed_at position other (inl same) =
         λ w here. ap (λ (s : Site). s.hash) same ∙ hashed
         ∙ ap hash_of (same_Some v w (sym there ∙ ap (use_at types gs) (sym same) ∙ here))
-    hashed_at place other (inr before) = remembered.hashed place other before
+    hashed_at position other (inr before) = remembered.hashed position other before
 
     either : (w : Operation) → IsAmong w os ⊎ (w ≡ v) →
         IsFound types gs slots (slice_set table slot (Some site)) w

@@ -9,10 +9,10 @@ use Rattle.std.specs.Bool.{nat_eq}
 use Rattle.naga_ir.specs.declared.types.Type_.{Type_}
 use Rattle.naga_info.specs.declared.info.TypeResolution.{TypeResolution}
 use Rattle.naga_info.specs.declared.info.TypeResolution.TheVariants.{Handle}
-use Rattle.module_meaning.specs.AlikeTypes.{type_key, type_identity}
-use Rattle.module_meaning.specs.TypeIdentity.{identity, identity_at, identity_code, inner_code}
-use Rattle.module_meaning.specs.TypeIdentity.{StructAt, Itself}
-use Rattle.module_meaning.proofs.AlikeTypes.{begins_plain, key_plain, unsupported_at}
+use Rattle.module_semantics.specs.AlikeTypes.{type_key, type_identity}
+use Rattle.module_semantics.specs.TypeIdentity.{identity, identity_at, identity_code, inner_code}
+use Rattle.module_semantics.specs.TypeIdentity.{StructAt, Itself}
+use Rattle.module_semantics.proofs.AlikeTypes.{begins_plain, key_plain, unsupported_at}
 use Rattle.naga_acceptance.specs.declared.type_numbers.Level.{Level}
 use Rattle.naga_acceptance.specs.declared.alike.Identity.TheVariants.{Formed, Unsupported}
 use Rattle.naga_acceptance.specs.declared.alike.Over.{Over}

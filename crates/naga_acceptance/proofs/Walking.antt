@@ -17,12 +17,12 @@ use Rattle.naga_ir.specs.declared.module.Module.{Module}
 use Rattle.naga_ir.specs.declared.statement.Statement.{Statement}
 use Rattle.naga_ir.specs.declared.statement.SwitchCase.{SwitchCase}
 use Rattle.naga_info.specs.declared.info.TypeResolution.{TypeResolution}
-use Rattle.module_meaning.specs.acceptance.Numbers.{case_value_fits_32_bits}
-use Rattle.module_meaning.specs.acceptance.Ranges.{block_in_range, cases_in_range, is_below}
-use Rattle.module_meaning.specs.acceptance.Ranges.{statement_in_range}
-use Rattle.module_meaning.specs.acceptance.StatementsFit.{block_is_sound, body_is_sound}
-use Rattle.module_meaning.specs.acceptance.StatementsFit.{cases_are_sound}
-use Rattle.module_meaning.specs.acceptance.StatementsFit.{is_condition, statement_is_sound}
+use Rattle.module_semantics.specs.acceptance.Numbers.{case_value_fits_32_bits}
+use Rattle.module_semantics.specs.acceptance.Ranges.{block_in_range, cases_in_range, is_below}
+use Rattle.module_semantics.specs.acceptance.Ranges.{statement_in_range}
+use Rattle.module_semantics.specs.acceptance.StatementsFit.{block_is_sound, body_is_sound}
+use Rattle.module_semantics.specs.acceptance.StatementsFit.{cases_are_sound}
+use Rattle.module_semantics.specs.acceptance.StatementsFit.{is_condition, statement_is_sound}
 use Rattle.std.proofs.lemmas.List.{drop_more}
 use Rattle.naga_acceptance.specs.TextOrder.{PlacedStatement, case_statements, is_in_range, is_sound}
 use Rattle.naga_acceptance.specs.TextOrder.{case_values_fit_32_bits, numbered, own_in_range}

@@ -1,10 +1,10 @@
--- A loop that writes each place of a slice in turn.
+-- A loop that writes each position of a slice in turn.
 use Rattle.std.proofs.Common.{◌≡◌, ℕ, ◌+◌, ◌<◌, ◌≤◌, List, [], ◌∷◌, ◌++◌, length, take, drop, refl}
 use Rattle.std.proofs.Common.{ap, sym, ◌∙◌, arith, slice_index_or, slice_set}
 use Rattle.std.proofs.lemmas.List.{take_more_set, take_more, take_all, drop-set-lt, get_or-drop}
 use Rattle.std.proofs.lemmas.List.{length-set, drop_more, drop_all, append-nil}
 
--- the places before i are as in `target`, the others as they were at first
+-- the positions before i are as in `target`, the others as they were at first
 pub record IsWritten {X : Type 0} (target initial xs : List X) (i : ℕ) : Type 0 where
   pub done : take i xs ≡ take i target
   pub left : drop i xs ≡ drop i initial
@@ -43,7 +43,7 @@ IsWritten-more target initial xs i y h w is =
       kept_length = length-set xs i y ∙ w.kept_length;
     }
 
--- a place that stays as it was
+-- a position that stays as it was
 pub IsWritten-kept : {X : Type 0} (target initial xs : List X) (i : ℕ) (d : X) →
     i < length initial → IsWritten target initial xs i →
     slice_index_or initial i d ≡ slice_index_or target i d → IsWritten target initial xs (i + 1)

@@ -8,13 +8,13 @@ use Rattle.naga_info.specs.UseCounts.{greatest_count}
 use Rattle.naga_info.specs.declared.info.ExpressionInfo.{ExpressionInfo}
 use Rattle.naga_ir.specs.Operands.{expression_operands, block_operands}
 
--- the operand places of a function's expressions and statements
+-- the operand positions of a function's expressions and statements
 abbrev pub operand_handles : Function → List ℕ
 operand_handles f = flat_map expression_operands f.expressions ++ block_operands f.body
 
--- how many of the places hold the handle
+-- how many of the positions hold the handle
 abbrev pub use_count : List ℕ → ℕ → ℕ
-use_count places handle = count_by (λ held. held == handle) places
+use_count positions handle = count_by (λ held. held == handle) positions
 
 -- what is known of expressions, the first of which has the handle `handle`, with these counts
 abbrev pub with_counts_from : (ℕ → ℕ) → (handle : ℕ) → List ExpressionInfo → List ExpressionInfo
@@ -23,7 +23,7 @@ with_counts_from count handle (e ∷ es) =
     record e { ref_count = min (count handle) greatest_count } ∷
     with_counts_from count (handle + 1) es
 
--- what is known of a function's expressions, each with the number of operand places that hold it
+-- what is known of a function's expressions, each with the number of operand positions that hold it
 abbrev pub with_counts : Function → List ExpressionInfo → List ExpressionInfo
 with_counts f es = with_counts_from (use_count (operand_handles f)) 0 es
 

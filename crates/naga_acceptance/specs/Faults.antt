@@ -28,24 +28,24 @@ use Rattle.naga_acceptance.specs.declared.faults.FaultPosition.TheVariants as it
 use Rattle.naga_acceptance.specs.declared.faults.FunctionPosition.{FunctionPosition}
 use Rattle.naga_acceptance.specs.declared.faults.FunctionPosition.TheVariants as part
 use Rattle.naga_acceptance.specs.declared.faults.Unaccepted.{Unaccepted}
-use Rattle.module_meaning.specs.acceptance.AgreeingOperators.{Group, groups_of}
-use Rattle.module_meaning.specs.acceptance.ExpressionTypes.{has_its_type}
-use Rattle.module_meaning.specs.acceptance.InfoSizes.{type_is_fit}
-use Rattle.module_meaning.specs.acceptance.Initialisers.{constant_is_sound, global_is_sound}
-use Rattle.module_meaning.specs.acceptance.Initialisers.{local_is_sound}
-use Rattle.module_meaning.specs.acceptance.Initialisers.{override_is_sound}
-use Rattle.module_meaning.specs.Literals.{literal_is_within}
-use Rattle.module_meaning.specs.acceptance.OperandDemands.{operands_fit}
-use Rattle.module_meaning.specs.acceptance.Operations.{all_agree}
-use Rattle.module_meaning.specs.acceptance.Ranges.{all_below, constant_in_range, global_in_range}
-use Rattle.module_meaning.specs.acceptance.Numbers.{workgroup_fits_32_bits}
-use Rattle.module_meaning.specs.acceptance.Ranges.{initialiser_before, is_below, local_in_range}
-use Rattle.module_meaning.specs.acceptance.Ranges.{names_fit}
-use Rattle.module_meaning.specs.acceptance.Ranges.{names_in_range, numbers_in_range}
-use Rattle.module_meaning.specs.acceptance.Ranges.{override_in_range}
-use Rattle.module_meaning.specs.acceptance.Ranges.{parts_before}
-use Rattle.module_meaning.specs.acceptance.Ranges.{resolution_fits, signature_fits}
-use Rattle.module_meaning.specs.acceptance.Ranges.{special_types_fit}
+use Rattle.module_semantics.specs.acceptance.AgreeingOperators.{Group, groups_of}
+use Rattle.module_semantics.specs.acceptance.ExpressionTypes.{has_its_type}
+use Rattle.module_semantics.specs.acceptance.InfoSizes.{type_is_fit}
+use Rattle.module_semantics.specs.acceptance.Initialisers.{constant_is_sound, global_is_sound}
+use Rattle.module_semantics.specs.acceptance.Initialisers.{local_is_sound}
+use Rattle.module_semantics.specs.acceptance.Initialisers.{override_is_sound}
+use Rattle.module_semantics.specs.Literals.{literal_is_within}
+use Rattle.module_semantics.specs.acceptance.OperandDemands.{operands_fit}
+use Rattle.module_semantics.specs.acceptance.Operations.{all_agree}
+use Rattle.module_semantics.specs.acceptance.Ranges.{all_below, constant_in_range, global_in_range}
+use Rattle.module_semantics.specs.acceptance.Numbers.{workgroup_fits_32_bits}
+use Rattle.module_semantics.specs.acceptance.Ranges.{initialiser_before, is_below, local_in_range}
+use Rattle.module_semantics.specs.acceptance.Ranges.{names_fit}
+use Rattle.module_semantics.specs.acceptance.Ranges.{names_in_range, numbers_in_range}
+use Rattle.module_semantics.specs.acceptance.Ranges.{override_in_range}
+use Rattle.module_semantics.specs.acceptance.Ranges.{parts_before}
+use Rattle.module_semantics.specs.acceptance.Ranges.{resolution_fits, signature_fits}
+use Rattle.module_semantics.specs.acceptance.Ranges.{special_types_fit}
 
 -- ---- items
 

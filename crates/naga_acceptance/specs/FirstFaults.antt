@@ -34,22 +34,22 @@ use Rattle.naga_acceptance.specs.declared.faults.FaultPosition.TheVariants as it
 use Rattle.naga_acceptance.specs.declared.faults.FunctionPosition.{FunctionPosition}
 use Rattle.naga_acceptance.specs.declared.faults.FunctionPosition.TheVariants as part
 use Rattle.naga_acceptance.specs.declared.faults.Unaccepted.{Unaccepted}
-use Rattle.module_meaning.specs.acceptance.ExpressionTypes.{has_its_type}
-use Rattle.module_meaning.specs.acceptance.InfoSizes.{entry_point_size_fits, function_size_fits}
-use Rattle.module_meaning.specs.acceptance.InfoSizes.{type_is_fit}
-use Rattle.module_meaning.specs.acceptance.Initialisers.{constant_is_sound, global_is_sound}
-use Rattle.module_meaning.specs.acceptance.Initialisers.{local_is_sound}
-use Rattle.module_meaning.specs.acceptance.Initialisers.{override_is_sound}
-use Rattle.module_meaning.specs.acceptance.OperandDemands.{operands_fit}
-use Rattle.module_meaning.specs.acceptance.Ranges.{all_below, constant_in_range, global_in_range}
-use Rattle.module_meaning.specs.acceptance.Ranges.{initialiser_before, local_in_range}
-use Rattle.module_meaning.specs.acceptance.Ranges.{module_ranges_fit, names_fit}
-use Rattle.module_meaning.specs.acceptance.Ranges.{names_in_range, numbers_in_range}
-use Rattle.module_meaning.specs.acceptance.Ranges.{override_in_range}
-use Rattle.module_meaning.specs.acceptance.Ranges.{parts_before}
-use Rattle.module_meaning.specs.acceptance.Ranges.{resolution_fits, signature_fits}
-use Rattle.module_meaning.specs.acceptance.Ranges.{special_types_fit}
-use Rattle.module_meaning.specs.acceptance.Soundness.{module_is_sound}
+use Rattle.module_semantics.specs.acceptance.ExpressionTypes.{has_its_type}
+use Rattle.module_semantics.specs.acceptance.InfoSizes.{entry_point_size_fits, function_size_fits}
+use Rattle.module_semantics.specs.acceptance.InfoSizes.{type_is_fit}
+use Rattle.module_semantics.specs.acceptance.Initialisers.{constant_is_sound, global_is_sound}
+use Rattle.module_semantics.specs.acceptance.Initialisers.{local_is_sound}
+use Rattle.module_semantics.specs.acceptance.Initialisers.{override_is_sound}
+use Rattle.module_semantics.specs.acceptance.OperandDemands.{operands_fit}
+use Rattle.module_semantics.specs.acceptance.Ranges.{all_below, constant_in_range, global_in_range}
+use Rattle.module_semantics.specs.acceptance.Ranges.{initialiser_before, local_in_range}
+use Rattle.module_semantics.specs.acceptance.Ranges.{module_ranges_fit, names_fit}
+use Rattle.module_semantics.specs.acceptance.Ranges.{names_in_range, numbers_in_range}
+use Rattle.module_semantics.specs.acceptance.Ranges.{override_in_range}
+use Rattle.module_semantics.specs.acceptance.Ranges.{parts_before}
+use Rattle.module_semantics.specs.acceptance.Ranges.{resolution_fits, signature_fits}
+use Rattle.module_semantics.specs.acceptance.Ranges.{special_types_fit}
+use Rattle.module_semantics.specs.acceptance.Soundness.{module_is_sound}
 
 abbrev pub at : FaultPosition → Fault → Unaccepted
 at position kind = record { item = position; fault = kind }

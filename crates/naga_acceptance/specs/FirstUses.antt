@@ -21,9 +21,9 @@ use Rattle.naga_acceptance.specs.Uses.{is_same_operator, use_in}
 use Rattle.naga_acceptance.specs.declared.faults.FaultPosition.{FaultPosition}
 use Rattle.naga_acceptance.specs.declared.faults.FaultPosition.TheVariants as item
 use Rattle.naga_acceptance.specs.declared.faults.FunctionPosition.TheVariants as part
-use Rattle.module_meaning.specs.AlikeTypes.{are_alike}
-use Rattle.module_meaning.specs.acceptance.AgreeingOperators.{Group, expression_use, groups_of}
-use Rattle.module_meaning.specs.acceptance.Operations.{Operation}
+use Rattle.module_semantics.specs.AlikeTypes.{are_alike}
+use Rattle.module_semantics.specs.acceptance.AgreeingOperators.{Group, expression_use, groups_of}
+use Rattle.module_semantics.specs.acceptance.Operations.{Operation}
 
 -- the first of the numbers below a bound of which there is something, with it
 abbrev pub first_below : {F : Type 0} → (ℕ → Option F) → (bound : ℕ) → Option (ℕ × F)

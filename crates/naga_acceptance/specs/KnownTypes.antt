@@ -9,8 +9,8 @@ use Rattle.naga_acceptance.specs.declared.parts.Known.{Known}
 use Rattle.naga_acceptance.specs.declared.parts.Known.TheVariants as source
 use Rattle.naga_acceptance.specs.declared.expression_types.AllowedType.{AllowedType}
 use Rattle.naga_acceptance.specs.declared.expression_types.AllowedType.TheVariants as code
-use Rattle.module_meaning.specs.acceptance.ExpressionTypes.{ExpectedType, LikeThis, Anything}
-use Rattle.module_meaning.specs.acceptance.ExpressionTypes.{Nothing}
+use Rattle.module_semantics.specs.acceptance.ExpressionTypes.{ExpectedType, LikeThis, Anything}
+use Rattle.module_semantics.specs.acceptance.ExpressionTypes.{Nothing}
 
 -- a type that expressions are given
 abbrev pub inferred : InferredType → TypeResolution

@@ -9,8 +9,8 @@ use Rattle.naga_acceptance.specs.KnownTypes.{inferred}
 use Rattle.naga_acceptance.specs.Views.{numbers}
 use Rattle.naga_acceptance.specs.declared.operator_keys.Key.{Key}
 use Rattle.naga_acceptance.specs.declared.operator_keys.Key.TheVariants.{Called, Typed, Word}
-use Rattle.module_meaning.specs.acceptance.AgreeingOperators.{called_key, typed_key}
-use Rattle.module_meaning.specs.ExpressionOperators.{called_word}
+use Rattle.module_semantics.specs.acceptance.AgreeingOperators.{called_key, typed_key}
+use Rattle.module_semantics.specs.ExpressionOperators.{called_word}
 
 -- an operator, among a module's types
 abbrev pub key : List Type_ → Key → List ℕ

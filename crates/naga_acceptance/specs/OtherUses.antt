@@ -28,6 +28,6 @@ seen it = (it.index, it.ty.now)
 abbrev pub found_use : FoundUse → ℕ × (ℕ × TypeResolution)
 found_use found = (found.group, seen found.seen)
 
--- one by its place, with both types
+-- one by its position, with both types
 abbrev pub other : OtherUse → FaultPosition × (TypeResolution × TypeResolution)
 other it = (it.item, (it.there.now, it.here.now))

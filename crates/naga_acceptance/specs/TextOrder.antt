@@ -18,11 +18,11 @@ use Rattle.naga_info.specs.declared.info.TypeResolution.{TypeResolution}
 use Rattle.naga_acceptance.specs.KnownTypes.{known_types}
 use Rattle.naga_acceptance.specs.declared.walk.StatementTest.{StatementTest}
 use Rattle.naga_acceptance.specs.declared.walk.StatementTest.TheVariants as test
-use Rattle.module_meaning.specs.acceptance.Numbers.{case_value_fits_32_bits}
-use Rattle.module_meaning.specs.acceptance.Ranges.{is_below, simple_in_range}
-use Rattle.module_meaning.specs.acceptance.StatementsFit.{components_pointer, is_condition}
-use Rattle.module_meaning.specs.acceptance.StatementsFit.{is_selection}
-use Rattle.module_meaning.specs.acceptance.StatementsFit.{simple_is_sound}
+use Rattle.module_semantics.specs.acceptance.Numbers.{case_value_fits_32_bits}
+use Rattle.module_semantics.specs.acceptance.Ranges.{is_below, simple_in_range}
+use Rattle.module_semantics.specs.acceptance.StatementsFit.{components_pointer, is_condition}
+use Rattle.module_semantics.specs.acceptance.StatementsFit.{is_selection}
+use Rattle.module_semantics.specs.acceptance.StatementsFit.{simple_is_sound}
 
 -- a statement where it stands
 pub record PlacedStatement : Type 0 where

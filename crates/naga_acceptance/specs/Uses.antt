@@ -24,9 +24,9 @@ use Rattle.naga_acceptance.specs.declared.agreeing.Site.{Site}
 use Rattle.naga_acceptance.specs.declared.agreeing.TheConstants.{REMAINDERS}
 use Rattle.naga_acceptance.specs.declared.agreeing.UsePosition.{UsePosition}
 use Rattle.naga_acceptance.specs.declared.uses.Use.{Use}
-use Rattle.module_meaning.specs.acceptance.AgreeingOperators.{Group, expression_use, identity_at}
-use Rattle.module_meaning.specs.acceptance.AgreeingOperators.{uses_of}
-use Rattle.module_meaning.specs.acceptance.Operations.{Operation, all_agree, are_same_words}
+use Rattle.module_semantics.specs.acceptance.AgreeingOperators.{Group, expression_use, identity_at}
+use Rattle.module_semantics.specs.acceptance.AgreeingOperators.{uses_of}
+use Rattle.module_semantics.specs.acceptance.Operations.{Operation, all_agree, are_same_words}
 
 -- expressions that stand together
 abbrev pub group_of : Expressions → Group

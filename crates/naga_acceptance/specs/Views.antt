@@ -14,8 +14,8 @@ use Rattle.naga_acceptance.specs.declared.alike.Over.TheVariants.{Value as Value
 use Rattle.naga_acceptance.specs.declared.alike.Top.{Top}
 use Rattle.naga_acceptance.specs.declared.alike.Identity.{Identity}
 use Rattle.naga_acceptance.specs.declared.alike.Identity.TheVariants.{Formed, Unsupported}
-use Rattle.module_meaning.specs.AlikeTypes.{key_within, handle_key, value_key}
-use Rattle.module_meaning.specs.TypeIdentity.{level}
+use Rattle.module_semantics.specs.AlikeTypes.{key_within, handle_key, value_key}
+use Rattle.module_semantics.specs.TypeIdentity.{level}
 
 -- the six numbers of a level
 abbrev pub numbers : Level → List ℕ

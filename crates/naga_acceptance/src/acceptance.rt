@@ -3,8 +3,8 @@
 ghost use Rattle.std.specs.Prelude.{◌≡◌, IsTrue};
 ghost use Rattle.std.specs.Option.{IfSome, is_none};
 ghost use Rattle.naga_acceptance.specs.FirstFaults.{IsFirstFault};
-ghost use Rattle.module_meaning.specs.acceptance.Accepted.{is_accepted};
-ghost use Rattle.module_meaning.specs.acceptance.Ranges.{parts_stand_before};
+ghost use Rattle.module_semantics.specs.acceptance.Accepted.{is_accepted};
+ghost use Rattle.module_semantics.specs.acceptance.Ranges.{parts_stand_before};
 
 use crate::agreeing::operators_fault;
 use crate::faults::Unaccepted;

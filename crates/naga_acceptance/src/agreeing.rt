@@ -20,12 +20,12 @@ ghost use Rattle.naga_acceptance.specs.Uses.{IsHashed, Probes, Remembers, earlie
 ghost use Rattle.naga_acceptance.specs.Uses.{first_answer, first_uses, group_of, group_uses};
 ghost use Rattle.naga_acceptance.specs.Uses.{has_hash, hash_of, is_in, operation, share_uses};
 ghost use Rattle.naga_acceptance.specs.Uses.{site_answer, stands_before, use_at, use_in};
-ghost use Rattle.module_meaning.specs.acceptance.AgreeingOperators.{function_group};
-ghost use Rattle.module_meaning.specs.acceptance.AgreeingOperators.{further_groups_of};
-ghost use Rattle.module_meaning.specs.acceptance.AgreeingOperators.{groups_of};
-ghost use Rattle.module_meaning.specs.acceptance.AgreeingOperators.{module_operators_agree};
-ghost use Rattle.module_meaning.specs.acceptance.AgreeingOperators.{uses_of};
-ghost use Rattle.module_meaning.specs.acceptance.Operations.{all_agree};
+ghost use Rattle.module_semantics.specs.acceptance.AgreeingOperators.{function_group};
+ghost use Rattle.module_semantics.specs.acceptance.AgreeingOperators.{further_groups_of};
+ghost use Rattle.module_semantics.specs.acceptance.AgreeingOperators.{groups_of};
+ghost use Rattle.module_semantics.specs.acceptance.AgreeingOperators.{module_operators_agree};
+ghost use Rattle.module_semantics.specs.acceptance.AgreeingOperators.{uses_of};
+ghost use Rattle.module_semantics.specs.acceptance.Operations.{all_agree};
 
 use crate::faults::{Fault, FaultPosition, FunctionPosition, Unaccepted, at};
 use crate::parts::Known;
@@ -254,8 +254,8 @@ fn groups_answer(module: &Module, info: &ModuleInfo, number: u128, used: &Use<'_
         (group_uses «module».now.types (groups_of «module».now info.now) number)
         (operation «module».now.types used.now) }
 {
-    for place in 0..number {
-        let found = group_answer(module, info, place, used);
+    for position in 0..number {
+        let found = group_answer(module, info, position, used);
         if found.is_some() {
             return found;
         }

@@ -5,14 +5,14 @@ ghost use Rattle.std.specs.Prelude.{◌≡◌, ◌≤◌, ◌&&◌, ◌++◌, �
 ghost use Rattle.std.specs.Prelude.{None};
 ghost use Rattle.std.specs.Option.{IfSome, is_some, option_and_then, option_map};
 ghost use Rattle.std.specs.Str.{bytes_eq};
-ghost use Rattle.module_meaning.specs.AlikeTypes.{are_alike as types_alike, key_within};
-ghost use Rattle.module_meaning.specs.AlikeTypes.{handle_key, has_type_form, image_key};
-ghost use Rattle.module_meaning.specs.AlikeTypes.{access_number, inner_key_by, over_scalar};
-ghost use Rattle.module_meaning.specs.AlikeTypes.{type_key, type_identity, value_key};
-ghost use Rattle.module_meaning.specs.AlikeTypes.{value_pointer_key};
-ghost use Rattle.module_meaning.specs.TypeIdentity.{identity, identity_code, image_code};
-ghost use Rattle.module_meaning.specs.TypeIdentity.{inner_code, length_kind, length_number, level};
-ghost use Rattle.module_meaning.specs.TypeIdentity.{space_number};
+ghost use Rattle.module_semantics.specs.AlikeTypes.{are_alike as types_alike, key_within};
+ghost use Rattle.module_semantics.specs.AlikeTypes.{handle_key, has_type_form, image_key};
+ghost use Rattle.module_semantics.specs.AlikeTypes.{access_number, inner_key_by, over_scalar};
+ghost use Rattle.module_semantics.specs.AlikeTypes.{type_key, type_identity, value_key};
+ghost use Rattle.module_semantics.specs.AlikeTypes.{value_pointer_key};
+ghost use Rattle.module_semantics.specs.TypeIdentity.{identity, identity_code, image_code};
+ghost use Rattle.module_semantics.specs.TypeIdentity.{inner_code, length_kind, length_number, level};
+ghost use Rattle.module_semantics.specs.TypeIdentity.{space_number};
 ghost use Rattle.naga_acceptance.specs.KnownTypes.{inferred};
 ghost use Rattle.naga_acceptance.specs.Views.{bases, depth, unsupported_code, is_whole, next_key};
 ghost use Rattle.naga_acceptance.specs.Views.{numbers, over_key, rank, identity_numbers, top_key};
@@ -107,7 +107,7 @@ fn value_top(size: Option<VectorSize>, scalar: Scalar) -> Option<Top>
 }
 
 /// The type that a type is over: whole, or at most `within` levels deep.
-#[tactic(auto, unfolding(module_meaning::specs::AlikeTypes::handle_key))]
+#[tactic(auto, unfolding(module_semantics::specs::AlikeTypes::handle_key))]
 fn over_base(base: Handle<Type_>, within: Option<usize>) -> Option<Over>
     ensures form { (types : List ir_type.Type_) →
         option_and_then (over_key types) result ≡ bases types within base }
@@ -298,7 +298,7 @@ fn type_top(types: &UniqueArena<Type_>, handle: Handle<Type_>, deeper: usize) ->
     }
 }
 
-#[tactic(auto, unfolding(module_meaning::specs::AlikeTypes::handle_key))]
+#[tactic(auto, unfolding(module_semantics::specs::AlikeTypes::handle_key))]
 fn inferred_top(types: &UniqueArena<Type_>, ty: &InferredType) -> Option<Top>
     ensures { top_key types.now result ≡ type_key types.now (inferred ty.now) }
 {
@@ -328,7 +328,7 @@ fn inferred_top(types: &UniqueArena<Type_>, ty: &InferredType) -> Option<Top>
     }
 }
 
-#[tactic(auto, unfolding(module_meaning::specs::AlikeTypes::handle_key))]
+#[tactic(auto, unfolding(module_semantics::specs::AlikeTypes::handle_key))]
 fn resolution_top(types: &UniqueArena<Type_>, ty: &TypeResolution) -> Option<Top>
     ensures { top_key types.now result ≡ type_key types.now ty.now }
 {

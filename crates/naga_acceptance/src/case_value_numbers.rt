@@ -5,7 +5,7 @@ ghost use Rattle.std.specs.Prelude.{◌≡◌, ◌<◌, ◌≤◌, ◌%◌, ◌+
 ghost use Rattle.std.specs.Prelude.{false};
 ghost use Rattle.std.specs.List.Sorted.{IsNonDecreasing};
 ghost use Rattle.naga_ir.specs.StatementViews.{cases_of};
-ghost use Rattle.module_meaning.specs.acceptance.StatementsFit.{case_values_differ};
+ghost use Rattle.module_semantics.specs.acceptance.StatementsFit.{case_values_differ};
 ghost use Rattle.naga_acceptance.specs.CaseValues.{AreApart, AreMarked, AreOnce, IsTwice};
 ghost use Rattle.naga_acceptance.specs.CaseValues.{number_of};
 ghost use Rattle.naga_acceptance.specs.CaseValues.{numbers_of, has_common, times};

@@ -6,7 +6,7 @@ ghost use Rattle.std.specs.List.{flat_map};
 ghost use Rattle.naga_ir.specs.StatementViews.{tree_of, cases_of};
 ghost use Rattle.naga_ir.specs.Operands.{block_operands, cases_operands, expression_operands};
 ghost use Rattle.naga_ir.specs.Operands.{own_operands, statement_operands};
-ghost use Rattle.module_meaning.specs.acceptance.Accepted.{is_accepted};
+ghost use Rattle.module_semantics.specs.acceptance.Accepted.{is_accepted};
 ghost use Rattle.naga_acceptance.specs.Counts.{with_counts, all_with_counts, functions_of};
 ghost use Rattle.naga_acceptance.specs.Counts.{with_use, with_uses, without_uses};
 
@@ -152,12 +152,12 @@ fn count_entry_points(infos: &mut [FunctionInfo], entry_points: &[EntryPoint])
     }
 }
 
-/// Sets each `ref_count` to the number of operand places in its function's expressions and
+/// Sets each `ref_count` to the number of operand positions in its function's expressions and
 /// statements that hold the expression's handle, at most the greatest `usize`. The results of
-/// statements and the initialisers of locals are no operand places. Nothing else changes; it takes
+/// statements and the initialisers of locals are no operand positions. Nothing else changes; it takes
 /// no memory and always succeeds. A module that was accepted before is accepted afterwards.
 ///
-/// Where the module has no function or entry point at some place of the info, what stands there
+/// Where the module has no function or entry point at some position of the info, what stands there
 /// stays as it was, and a handle outside the info counts for nothing.
 ///
 /// The writer binds by a `let` what is used twice, so it asks for these counts. They are told so:

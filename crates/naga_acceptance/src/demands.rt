@@ -3,17 +3,17 @@
 ghost use Rattle.std.specs.Prelude.{◌≡◌, ◌&&◌};
 ghost use Rattle.std.specs.Option.{is_some, option_map_or};
 ghost use Rattle.naga_acceptance.specs.KnownTypes.{known_types};
-ghost use Rattle.module_meaning.specs.acceptance.OperandDemands.{is_scalar_or_vector, is_integer};
-ghost use Rattle.module_meaning.specs.acceptance.OperandDemands.{is_pointer, is_swizzled};
-ghost use Rattle.module_meaning.specs.acceptance.OperandDemands.{letters_fit};
-ghost use Rattle.module_meaning.specs.acceptance.OperandDemands.{operand_is, operands_fit};
-ghost use Rattle.module_meaning.specs.acceptance.OperandDemands.{points_to_components};
-ghost use Rattle.module_meaning.specs.TypeParts.{has_computed_parts, is_part_number};
+ghost use Rattle.module_semantics.specs.acceptance.OperandDemands.{is_scalar_or_vector, is_integer};
+ghost use Rattle.module_semantics.specs.acceptance.OperandDemands.{is_pointer, is_swizzled};
+ghost use Rattle.module_semantics.specs.acceptance.OperandDemands.{letters_fit};
+ghost use Rattle.module_semantics.specs.acceptance.OperandDemands.{operand_is, operands_fit};
+ghost use Rattle.module_semantics.specs.acceptance.OperandDemands.{points_to_components};
+ghost use Rattle.module_semantics.specs.TypeParts.{has_computed_parts, is_part_number};
 
 use crate::parts::{
     Known, component_count, has_computed_parts, is_part_number, known_inner, pointee_type,
 };
-use module_meaning::type_parts::inner_at;
+use module_semantics::type_parts::inner_at;
 use naga_ir::{
     Expression, Handle, ScalarKind, SwizzleComponent, Type_, TypeInner, UniqueArena, VectorSize,
 };

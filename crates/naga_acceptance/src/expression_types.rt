@@ -3,16 +3,16 @@
 ghost use Rattle.std.specs.Prelude.{◌≡◌, Option};
 ghost use Rattle.std.specs.Option.{option_and_then, option_copied, option_map};
 ghost use Rattle.naga_acceptance.specs.KnownTypes.{inferred, known_types, allowed};
-ghost use Rattle.module_meaning.specs.acceptance.ExpressionTypes.{argument_type, binary_type};
-ghost use Rattle.module_meaning.specs.acceptance.ExpressionTypes.{constant_type};
-ghost use Rattle.module_meaning.specs.acceptance.ExpressionTypes.{global_type, has_its_type};
-ghost use Rattle.module_meaning.specs.acceptance.ExpressionTypes.{if_any, is_bool, is_expected};
-ghost use Rattle.module_meaning.specs.acceptance.ExpressionTypes.{local_type, logical_type};
-ghost use Rattle.module_meaning.specs.acceptance.ExpressionTypes.{only, override_type, result_type};
-ghost use Rattle.module_meaning.specs.acceptance.ExpressionTypes.{splat_type, swizzle_type};
-ghost use Rattle.module_meaning.specs.acceptance.ExpressionTypes.{variable_type};
-ghost use Rattle.module_meaning.specs.acceptance.ExpressionTypes.{expected_type};
-ghost use Rattle.module_meaning.specs.TypeParts.{known_inner, known_pointee, part_type};
+ghost use Rattle.module_semantics.specs.acceptance.ExpressionTypes.{argument_type, binary_type};
+ghost use Rattle.module_semantics.specs.acceptance.ExpressionTypes.{constant_type};
+ghost use Rattle.module_semantics.specs.acceptance.ExpressionTypes.{global_type, has_its_type};
+ghost use Rattle.module_semantics.specs.acceptance.ExpressionTypes.{if_any, is_bool, is_expected};
+ghost use Rattle.module_semantics.specs.acceptance.ExpressionTypes.{local_type, logical_type};
+ghost use Rattle.module_semantics.specs.acceptance.ExpressionTypes.{only, override_type, result_type};
+ghost use Rattle.module_semantics.specs.acceptance.ExpressionTypes.{splat_type, swizzle_type};
+ghost use Rattle.module_semantics.specs.acceptance.ExpressionTypes.{variable_type};
+ghost use Rattle.module_semantics.specs.acceptance.ExpressionTypes.{expected_type};
+ghost use Rattle.module_semantics.specs.TypeParts.{known_inner, known_pointee, part_type};
 
 use crate::alike::is_like;
 use crate::parts::{

@@ -5,10 +5,10 @@ ghost use Rattle.std.specs.List.{enumerate_from};
 ghost use Rattle.naga_acceptance.specs.FirstFaults.{initialisers_fault};
 ghost use Rattle.naga_acceptance.specs.KnownTypes.{known_types};
 ghost use Rattle.naga_acceptance.specs.Searching.{first_unfit};
-ghost use Rattle.module_meaning.specs.acceptance.Initialisers.{constant_is_sound, global_is_sound};
-ghost use Rattle.module_meaning.specs.acceptance.Initialisers.{initialiser_fits};
-ghost use Rattle.module_meaning.specs.acceptance.Initialisers.{local_is_sound};
-ghost use Rattle.module_meaning.specs.acceptance.Initialisers.{override_is_sound};
+ghost use Rattle.module_semantics.specs.acceptance.Initialisers.{constant_is_sound, global_is_sound};
+ghost use Rattle.module_semantics.specs.acceptance.Initialisers.{initialiser_fits};
+ghost use Rattle.module_semantics.specs.acceptance.Initialisers.{local_is_sound};
+ghost use Rattle.module_semantics.specs.acceptance.Initialisers.{override_is_sound};
 
 use crate::faults::{Fault, FaultPosition, Unaccepted, at};
 use crate::parts::{InferredType, Known};

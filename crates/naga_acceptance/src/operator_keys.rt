@@ -8,21 +8,21 @@ ghost use Rattle.naga_acceptance.specs.OperatorKeys.{is_pure, key, told_by_word}
 ghost use Rattle.naga_ir.specs.declared.types.Type_ as ir_type;
 ghost use Rattle.naga_ir.specs.declared.types.TypeInner as ir_inner;
 ghost use Rattle.naga_info.specs.declared.info.TypeResolution.TheVariants.{Value};
-ghost use Rattle.module_meaning.specs.acceptance.AgreeingOperators.{constructor_key};
-ghost use Rattle.module_meaning.specs.acceptance.AgreeingOperators.{conversion_key};
-ghost use Rattle.module_meaning.specs.acceptance.AgreeingOperators.{unsupported_key, letter_number};
-ghost use Rattle.module_meaning.specs.acceptance.AgreeingOperators.{one_key};
-ghost use Rattle.module_meaning.specs.acceptance.AgreeingOperators.{operator_key, swizzle_key};
-ghost use Rattle.module_meaning.specs.acceptance.AgreeingOperators.{target_key};
-ghost use Rattle.module_meaning.specs.acceptance.AgreeingOperators.{typed_key, width_number};
-ghost use Rattle.module_meaning.specs.acceptance.AgreeingOperators.{word_key};
-ghost use Rattle.module_meaning.specs.Conversions.{conversion_target, keeps_bits};
+ghost use Rattle.module_semantics.specs.acceptance.AgreeingOperators.{constructor_key};
+ghost use Rattle.module_semantics.specs.acceptance.AgreeingOperators.{conversion_key};
+ghost use Rattle.module_semantics.specs.acceptance.AgreeingOperators.{unsupported_key, letter_number};
+ghost use Rattle.module_semantics.specs.acceptance.AgreeingOperators.{one_key};
+ghost use Rattle.module_semantics.specs.acceptance.AgreeingOperators.{operator_key, swizzle_key};
+ghost use Rattle.module_semantics.specs.acceptance.AgreeingOperators.{target_key};
+ghost use Rattle.module_semantics.specs.acceptance.AgreeingOperators.{typed_key, width_number};
+ghost use Rattle.module_semantics.specs.acceptance.AgreeingOperators.{word_key};
+ghost use Rattle.module_semantics.specs.Conversions.{conversion_target, keeps_bits};
 
 use crate::alike::{are_alike, inferred_has_type_form, inferred_identity};
 use crate::parts::{InferredType, Known, component_count, known_inner};
 use crate::type_numbers::{Level, is_same_level, kind_number, level_of, truth_number};
-use module_meaning::called_str;
-use module_meaning::type_parts::converted_scalar;
+use module_semantics::called_str;
+use module_semantics::type_parts::converted_scalar;
 use naga_ir::{
     Expression, ExpressionKind, Handle, Scalar, ScalarKind, SwizzleComponent, Type_, TypeInner,
     UniqueArena, VectorSize,

@@ -7,7 +7,7 @@ ghost use Rattle.naga_acceptance.specs.FirstUses.{first_other, first_other_in, o
 ghost use Rattle.naga_acceptance.specs.FirstUses.{other_use, other_use_in};
 ghost use Rattle.naga_acceptance.specs.OtherUses.{found_use, other, seen, site_in, sited};
 ghost use Rattle.naga_acceptance.specs.Uses.{group_of, operation};
-ghost use Rattle.module_meaning.specs.acceptance.AgreeingOperators.{groups_of};
+ghost use Rattle.module_semantics.specs.acceptance.AgreeingOperators.{groups_of};
 
 use crate::agreeing::{Expressions, group_at, use_in, use_item};
 use crate::alike::are_known_alike;

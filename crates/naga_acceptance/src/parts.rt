@@ -3,16 +3,16 @@
 ghost use Rattle.std.specs.Prelude.{◌≡◌, slice_get};
 ghost use Rattle.std.specs.Option.{is_some, option_copied, option_map};
 ghost use Rattle.naga_acceptance.specs.KnownTypes.{inferred, known_types};
-ghost use Rattle.module_meaning.specs.TypeIdentity.{component_count};
-ghost use Rattle.module_meaning.specs.TypeParts.{component_pointer, component_scalar};
-ghost use Rattle.module_meaning.specs.TypeParts.{element_count};
-ghost use Rattle.module_meaning.specs.TypeParts.{has_computed_parts, is_part_number};
-ghost use Rattle.module_meaning.specs.TypeParts.{known_inner, member_type, part_count};
-ghost use Rattle.module_meaning.specs.TypeParts.{part_type, pointed_part, pointee_type};
-ghost use Rattle.module_meaning.specs.TypeParts.{stored_type, value_part, value_part_count};
-ghost use Rattle.module_meaning.specs.TypeParts.{vector_scalar};
+ghost use Rattle.module_semantics.specs.TypeIdentity.{component_count};
+ghost use Rattle.module_semantics.specs.TypeParts.{component_pointer, component_scalar};
+ghost use Rattle.module_semantics.specs.TypeParts.{element_count};
+ghost use Rattle.module_semantics.specs.TypeParts.{has_computed_parts, is_part_number};
+ghost use Rattle.module_semantics.specs.TypeParts.{known_inner, member_type, part_count};
+ghost use Rattle.module_semantics.specs.TypeParts.{part_type, pointed_part, pointee_type};
+ghost use Rattle.module_semantics.specs.TypeParts.{stored_type, value_part, value_part_count};
+ghost use Rattle.module_semantics.specs.TypeParts.{vector_scalar};
 
-use module_meaning::type_parts::{inner_at, inner_of};
+use module_semantics::type_parts::{inner_at, inner_of};
 use naga_info::{ExpressionInfo, TypeResolution};
 use naga_ir::{
     AddressSpace, ArraySize, Expression, Handle, Scalar, StructMember, Type_, TypeInner,

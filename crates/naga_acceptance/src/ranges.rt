@@ -13,13 +13,13 @@ ghost use Rattle.naga_acceptance.specs.FirstFaults.{functions_range_fault, info_
 ghost use Rattle.naga_acceptance.specs.FirstFaults.{items_range_fault, module_range_fault};
 ghost use Rattle.naga_acceptance.specs.FirstFaults.{ranges_fault};
 ghost use Rattle.naga_acceptance.specs.Searching.{first_unfit};
-ghost use Rattle.module_meaning.specs.acceptance.Ranges.{constant_in_range, global_in_range};
-ghost use Rattle.module_meaning.specs.acceptance.Ranges.{is_below};
-ghost use Rattle.module_meaning.specs.acceptance.Ranges.{local_in_range, module_ranges_fit};
-ghost use Rattle.module_meaning.specs.acceptance.Ranges.{names_fit};
-ghost use Rattle.module_meaning.specs.acceptance.Ranges.{override_in_range, resolution_fits};
-ghost use Rattle.module_meaning.specs.acceptance.Ranges.{signature_fits};
-ghost use Rattle.module_meaning.specs.acceptance.Ranges.{signature_types_fit, special_types_fit};
+ghost use Rattle.module_semantics.specs.acceptance.Ranges.{constant_in_range, global_in_range};
+ghost use Rattle.module_semantics.specs.acceptance.Ranges.{is_below};
+ghost use Rattle.module_semantics.specs.acceptance.Ranges.{local_in_range, module_ranges_fit};
+ghost use Rattle.module_semantics.specs.acceptance.Ranges.{names_fit};
+ghost use Rattle.module_semantics.specs.acceptance.Ranges.{override_in_range, resolution_fits};
+ghost use Rattle.module_semantics.specs.acceptance.Ranges.{signature_fits};
+ghost use Rattle.module_semantics.specs.acceptance.Ranges.{signature_types_fit, special_types_fit};
 
 pub(crate) mod expressions;
 pub(crate) mod numbers;

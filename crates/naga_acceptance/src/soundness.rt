@@ -9,7 +9,7 @@ ghost use Rattle.naga_acceptance.specs.FirstFaults.{expressions_sound_fault};
 ghost use Rattle.naga_acceptance.specs.FirstFaults.{function_sound_fault, functions_sound_fault};
 ghost use Rattle.naga_acceptance.specs.FirstFaults.{sound_fault};
 ghost use Rattle.naga_acceptance.specs.KnownTypes.{known_types};
-ghost use Rattle.module_meaning.specs.acceptance.Soundness.{module_is_sound};
+ghost use Rattle.module_semantics.specs.acceptance.Soundness.{module_is_sound};
 
 use crate::demands::operands_fit;
 use crate::expression_types::has_its_type;

@@ -2,12 +2,12 @@
 
 ghost use Rattle.std.specs.Prelude.{◌≡◌};
 ghost use Rattle.std.specs.Str.{bytes_eq};
-ghost use Rattle.module_meaning.specs.AlikeTypes.{access_number, buffer_access_number};
-ghost use Rattle.module_meaning.specs.AlikeTypes.{image_access_number};
-ghost use Rattle.module_meaning.specs.TypeIdentity.{components_number, cooperative_number};
-ghost use Rattle.module_meaning.specs.TypeIdentity.{dimension_number, kind_number, length_kind};
-ghost use Rattle.module_meaning.specs.TypeIdentity.{length_number, level, matrix_role_number, space_bits};
-ghost use Rattle.module_meaning.specs.TypeIdentity.{space_number, truth_number};
+ghost use Rattle.module_semantics.specs.AlikeTypes.{access_number, buffer_access_number};
+ghost use Rattle.module_semantics.specs.AlikeTypes.{image_access_number};
+ghost use Rattle.module_semantics.specs.TypeIdentity.{components_number, cooperative_number};
+ghost use Rattle.module_semantics.specs.TypeIdentity.{dimension_number, kind_number, length_kind};
+ghost use Rattle.module_semantics.specs.TypeIdentity.{length_number, level, matrix_role_number, space_bits};
+ghost use Rattle.module_semantics.specs.TypeIdentity.{space_number, truth_number};
 ghost use Rattle.naga_acceptance.specs.Views.{numbers};
 
 use crate::parts::component_count;

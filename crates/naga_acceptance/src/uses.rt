@@ -7,8 +7,8 @@ ghost use Rattle.naga_acceptance.specs.KnownTypes.{known_types};
 ghost use Rattle.naga_acceptance.specs.OperatorKeys.{key};
 ghost use Rattle.naga_acceptance.specs.Uses.{all_mixed, hash_of, is_same_operator, operation};
 ghost use Rattle.naga_ir.specs.Operands.{expression_operands};
-ghost use Rattle.module_meaning.specs.acceptance.AgreeingOperators.{expression_use, identity_at};
-ghost use Rattle.module_meaning.specs.acceptance.Operations.{are_same_words};
+ghost use Rattle.module_semantics.specs.acceptance.AgreeingOperators.{expression_use, identity_at};
+ghost use Rattle.module_semantics.specs.acceptance.Operations.{are_same_words};
 
 use crate::alike::{are_known_alike, identity_of, inferred_identity};
 use crate::operator_keys::{Key, is_same_key, operator_key};

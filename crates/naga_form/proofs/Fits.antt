@@ -21,14 +21,14 @@ use Rattle.shader_runs.specs.Program as shapes
 use Rattle.shader_runs.specs.Program.{is_named, from}
 use Rattle.shader_runs.specs.Scope.{named_by_all, named_by_cases, named_after}
 use Rattle.shader_runs.specs.Scope.{named_after_all, named_by}
-use Rattle.module_meaning.specs.ExpressionOperators.{ExpressionContext, is_atomic_pointer}
-use Rattle.module_meaning.specs.FunctionShapes.{function_shape, statement_shape, statements_shape}
-use Rattle.module_meaning.specs.FunctionShapes.{cases_shape}
-use Rattle.module_meaning.specs.ExpressionLabels.{block_labels, cases_labels, label_of, labels_in}
-use Rattle.module_meaning.specs.ExpressionLabels.{labels_of_each}
-use Rattle.module_meaning.specs.Shapes.{named_from}
-use Rattle.module_meaning.specs.StatementShapes.{store_shape}
-use Rattle.module_meaning.specs.ExpressionContexts.{declared, types_known}
+use Rattle.module_semantics.specs.ExpressionOperators.{ExpressionContext, is_atomic_pointer}
+use Rattle.module_semantics.specs.FunctionShapes.{function_shape, statement_shape, statements_shape}
+use Rattle.module_semantics.specs.FunctionShapes.{cases_shape}
+use Rattle.module_semantics.specs.ExpressionLabels.{block_labels, cases_labels, label_of, labels_in}
+use Rattle.module_semantics.specs.ExpressionLabels.{labels_of_each}
+use Rattle.module_semantics.specs.Shapes.{named_from}
+use Rattle.module_semantics.specs.StatementShapes.{store_shape}
+use Rattle.module_semantics.specs.ExpressionContexts.{declared, types_known}
 use Rattle.indexmap.specs.IndexMap.{get, keys}
 
 -- what stands at an index of a list made from other things

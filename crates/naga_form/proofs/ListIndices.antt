@@ -12,7 +12,7 @@ use Rattle.std.proofs.lemmas.Bool.{false_from_ne_true}
 use Rattle.std.proofs.lemmas.Option.{same_Some, slice_get-map}
 use Rattle.std.proofs.lemmas.Slice.Eq.{bytes_eq-Decides}
 use Rattle.naga_info.proofs.Options.{map_some}
-use Rattle.text_meaning.specs.Resolution.{index_among}
+use Rattle.text_semantics.specs.Resolution.{index_among}
 
 -- ---- words
 -- what is found after a word

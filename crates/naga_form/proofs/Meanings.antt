@@ -11,15 +11,15 @@ use Rattle.shader_runs.specs.Correct.{KeepsTypes}
 use Rattle.shader_runs.specs.Progress.{IsNotStuck}
 use Rattle.shader_runs.proofs.Progress.{runs_are_not_stuck}
 use Rattle.shader_runs.specs.World.{Vocabulary}
-use Rattle.text_meaning.specs.Abstraction.{program_read}
-use Rattle.module_meaning.specs.acceptance.Accepted.{is_accepted}
-use Rattle.module_meaning.specs.Meanings.{IsNeverStuck}
-use Rattle.module_meaning.specs.ModuleShapes.{module_shape}
-use Rattle.module_meaning.specs.Names.{AreLabelNames, function_name, LabelNames, module_names}
-use Rattle.module_meaning.specs.DeclarationForms.{DeclarationsHaveForms}
-use Rattle.module_meaning.specs.Premises.{ScopesHold}
-use Rattle.module_meaning.specs.Namings.{namings_under, outer_names}
-use Rattle.module_meaning.specs.Written.{AllWrittenHaveForms}
+use Rattle.text_semantics.specs.Abstraction.{program_read}
+use Rattle.module_semantics.specs.acceptance.Accepted.{is_accepted}
+use Rattle.module_semantics.specs.Meanings.{IsNeverStuck}
+use Rattle.module_semantics.specs.ModuleShapes.{module_shape}
+use Rattle.module_semantics.specs.Names.{AreLabelNames, function_name, LabelNames, module_names}
+use Rattle.module_semantics.specs.DeclarationForms.{DeclarationsHaveForms}
+use Rattle.module_semantics.specs.Premises.{ScopesHold}
+use Rattle.module_semantics.specs.Namings.{namings_under, outer_names}
+use Rattle.module_semantics.specs.Written.{AllWrittenHaveForms}
 use Rattle.naga_form.proofs.names.DeclaredNames.{one_vocabulary}
 use Rattle.naga_form.proofs.ModuleFits.{module_fits_under}
 use Rattle.naga_form.proofs.Runs.{reads_as_shapes_under}

@@ -8,13 +8,13 @@ use Rattle.std.proofs.lemmas.List.{length-reverse}
 use Rattle.std.proofs.lemmas.Bool.{and_from, and_parts}
 use Rattle.naga_ir.specs.declared.module.Function as ir_function
 use Rattle.naga_ir.specs.declared.module.Module.{Module}
-use Rattle.module_meaning.specs.ModuleShapes.{module_shape, variable_shape}
+use Rattle.module_semantics.specs.ModuleShapes.{module_shape, variable_shape}
 use Rattle.naga_info.specs.declared.info.ExpressionInfo.{ExpressionInfo}
 use Rattle.naga_info.specs.declared.info.ModuleInfo.{ModuleInfo}
-use Rattle.module_meaning.proofs.SideBySide.{zip_parts}
+use Rattle.module_semantics.proofs.SideBySide.{zip_parts}
 use Rattle.naga_form.proofs.names.DistinguishedItems.{types_are_distinguished}
 use Rattle.naga_form.proofs.names.Names.{one_function}
-use Rattle.module_meaning.specs.FunctionNumbers.{all_functions, all_infos}
+use Rattle.module_semantics.specs.FunctionNumbers.{all_functions, all_infos}
 use Rattle.naga_names.proofs.Refusal.{element}
 use Rattle.shader_runs.specs.Program as shapes
 use Rattle.shader_runs.specs.Scope.{Naming, fits_function, ModuleNames}
@@ -24,12 +24,12 @@ use Rattle.shader_runs.specs.Premises.{ModuleNamesAreDistinct, OperatesOutside}
 use Rattle.shader_runs.specs.Correct.{ModuleFits}
 use Rattle.shader_runs.proofs.Names.{length-functions_of}
 use Rattle.shader_runs.proofs.Update.{and_left, and_right}
-use Rattle.module_meaning.specs.Premises.{scope_holds_under}
-use Rattle.module_meaning.specs.Names.{AreLabelNames, LabelNames, module_names}
-use Rattle.module_meaning.specs.FunctionShapes.{function_shapes}
-use Rattle.module_meaning.specs.Namings.{function_naming, namings_from, namings_under, outer_names}
-use Rattle.module_meaning.specs.StatementForms.{block_has_forms}
-use Rattle.module_meaning.specs.Written.{AllWrittenHaveForms}
+use Rattle.module_semantics.specs.Premises.{scope_holds_under}
+use Rattle.module_semantics.specs.Names.{AreLabelNames, LabelNames, module_names}
+use Rattle.module_semantics.specs.FunctionShapes.{function_shapes}
+use Rattle.module_semantics.specs.Namings.{function_naming, namings_from, namings_under, outer_names}
+use Rattle.module_semantics.specs.StatementForms.{block_has_forms}
+use Rattle.module_semantics.specs.Written.{AllWrittenHaveForms}
 use Rattle.naga_form.proofs.Facts.{further, from_start}
 use Rattle.naga_form.proofs.statements.EmptyCases.{no_case_falls}
 use Rattle.naga_form.proofs.names.NamedFits.{is_free}
@@ -37,10 +37,10 @@ use Rattle.naga_form.proofs.declarations.ConstantsFit.{constants_are_typed, cons
 use Rattle.naga_form.proofs.statements.FunctionsFit.{IsFree, AllAfter, all_fit_freely}
 use Rattle.naga_form.proofs.statements.AcceptedFunctions.{all_counted, functions_known, group_at}
 use Rattle.naga_form.proofs.operators.Leaves.{ConstantsAreTyped}
-use Rattle.module_meaning.specs.acceptance.Accepted.{is_accepted}
+use Rattle.module_semantics.specs.acceptance.Accepted.{is_accepted}
 use Rattle.naga_form.proofs.declarations.AcceptedGroups.{types_are_fit}
 use Rattle.naga_form.proofs.statements.ScopeRules.{same_functions}
-use Rattle.module_meaning.specs.ExpressionContexts.{declared, global_tree, types_known}
+use Rattle.module_semantics.specs.ExpressionContexts.{declared, global_tree, types_known}
 use Rattle.shader_runs.specs.Program.{ConstantTree}
 use Rattle.naga_form.proofs.declarations.ConstantInitialisers.{initialiser_of}
 use Rattle.naga_form.proofs.operators.ConstantTrees.{global_tree_in_range}

@@ -1,6 +1,6 @@
 -- Where each function of the program of shapes of an accepted module comes from, and what stands at
 -- its handles: the shapes of the expressions, and the types of their values.
-use Rattle.module_meaning.specs.Names.{TypesAreDistinguished}
+use Rattle.module_semantics.specs.Names.{TypesAreDistinguished}
 use Rattle.std.proofs.Common.{◌≡◌, ℕ, zero, suc, ◌+◌, List, [], ◌∷◌, refl, sym, ap, ◌∙◌, map}
 use Rattle.std.proofs.Common.{length, Some, None, slice_get, arith, ◌⊎◌, inl, inr}
 use Rattle.std.specs.Prelude.{IsTrue, reverse}
@@ -12,13 +12,13 @@ use Rattle.naga_ir.specs.declared.module.Function as ir_function
 use Rattle.naga_ir.specs.declared.module.Module as ir_module
 use Rattle.naga_info.specs.declared.info.ExpressionInfo.{ExpressionInfo}
 use Rattle.naga_info.specs.declared.info.ModuleInfo.{ModuleInfo}
-use Rattle.module_meaning.specs.acceptance.Accepted.{is_accepted}
-use Rattle.module_meaning.specs.acceptance.AgreeingOperators.{function_group}
-use Rattle.module_meaning.specs.ExpressionShapes.{ModuleDeclarations, shape_of}
-use Rattle.module_meaning.specs.FunctionShapes.{function_shape, shapes_from}
-use Rattle.module_meaning.specs.ModuleShapes.{module_shape}
-use Rattle.module_meaning.specs.ExpressionContexts.{declared, types_known}
-use Rattle.module_meaning.specs.Types.{type_of_values}
+use Rattle.module_semantics.specs.acceptance.Accepted.{is_accepted}
+use Rattle.module_semantics.specs.acceptance.AgreeingOperators.{function_group}
+use Rattle.module_semantics.specs.ExpressionShapes.{ModuleDeclarations, shape_of}
+use Rattle.module_semantics.specs.FunctionShapes.{function_shape, shapes_from}
+use Rattle.module_semantics.specs.ModuleShapes.{module_shape}
+use Rattle.module_semantics.specs.ExpressionContexts.{declared, types_known}
+use Rattle.module_semantics.specs.Types.{type_of_values}
 use Rattle.shader_runs.specs.Premises.{handle_types}
 use Rattle.shader_runs.specs.Program.{Function, expression_of, handle_type}
 use Rattle.shader_runs.specs.Value.{type_at}

@@ -1,14 +1,14 @@
 -- What is written for a module is a program of the grammar.
-use Rattle.module_meaning.specs.acceptance.Accepted.{is_accepted}
-use Rattle.module_meaning.specs.Enables.{Extension, extensions, is_enabled}
-use Rattle.module_meaning.specs.DeclarationForms.{DeclarationsHaveForms}
-use Rattle.module_meaning.specs.acceptance.ExpressionTypes.{have_their_types}
-use Rattle.module_meaning.specs.acceptance.Numbers.{binding_fits_32_bits}
-use Rattle.module_meaning.specs.acceptance.OperandDemands.{are_operands_fit}
-use Rattle.module_meaning.specs.ExpressionForms.{constant_has_form}
-use Rattle.module_meaning.specs.acceptance.Ranges.{function_in_range, local_in_range, is_below}
-use Rattle.module_meaning.proofs.Lists.{list_all_at}
-use Rattle.module_meaning.proofs.ExpressionForms.{type_form_of_spellable}
+use Rattle.module_semantics.specs.acceptance.Accepted.{is_accepted}
+use Rattle.module_semantics.specs.Enables.{Extension, extensions, is_enabled}
+use Rattle.module_semantics.specs.DeclarationForms.{DeclarationsHaveForms}
+use Rattle.module_semantics.specs.acceptance.ExpressionTypes.{have_their_types}
+use Rattle.module_semantics.specs.acceptance.Numbers.{binding_fits_32_bits}
+use Rattle.module_semantics.specs.acceptance.OperandDemands.{are_operands_fit}
+use Rattle.module_semantics.specs.ExpressionForms.{constant_has_form}
+use Rattle.module_semantics.specs.acceptance.Ranges.{function_in_range, local_in_range, is_below}
+use Rattle.module_semantics.proofs.Lists.{list_all_at}
+use Rattle.module_semantics.proofs.ExpressionForms.{type_form_of_spellable}
 use Rattle.naga_form.proofs.statements.AcceptedFunctions.{bindings_are_in_range, entry_info_among}
 use Rattle.naga_form.proofs.statements.AcceptedFunctions.{locals_are_in_range, of_number}
 use Rattle.naga_form.proofs.statements.AcceptedFunctions.{ranges_are, soundness_is}
@@ -30,7 +30,7 @@ use Rattle.naga_ir.specs.declared.module.FunctionResult.{FunctionResult}
 use Rattle.naga_ir.specs.declared.module.Module.{Module}
 use Rattle.naga_info.specs.declared.info.ExpressionInfo.{ExpressionInfo}
 use Rattle.naga_info.specs.declared.info.ModuleInfo.{ModuleInfo}
-use Rattle.module_meaning.specs.Undeclared.{is_spellable}
+use Rattle.module_semantics.specs.Undeclared.{is_spellable}
 use Rattle.wgsl_text.specs.Words.{IsIdentifier}
 use Rattle.wgsl_text.specs.Declarations.{IsEnable, IsProgram}
 use Rattle.wgsl_text.specs.Expressions.{IsExpression}
@@ -42,37 +42,37 @@ use Rattle.naga_form.specs.Expressions.{plain_form, value_form, unnamed_form, So
 use Rattle.naga_form.specs.Expressions.{function_source}
 use Rattle.naga_form.specs.Functions.{locals_form, parameters_form, result_form, function_form}
 use Rattle.naga_form.specs.Functions.{functions_under}
-use Rattle.module_meaning.specs.Premises.{handles_are_counted}
-use Rattle.module_meaning.specs.Names.{AreLabelNames, expression_name, function_name, LabelNames}
-use Rattle.module_meaning.specs.Names.{module_names, numbered_name}
-use Rattle.module_meaning.specs.Types.{type_names}
+use Rattle.module_semantics.specs.Premises.{handles_are_counted}
+use Rattle.module_semantics.specs.Names.{AreLabelNames, expression_name, function_name, LabelNames}
+use Rattle.module_semantics.specs.Names.{module_names, numbered_name}
+use Rattle.module_semantics.specs.Types.{type_names}
 use Rattle.naga_form.specs.Types.{annotated_type}
 use Rattle.naga_form.proofs.declarations.AcceptedGroups.{known_fits, types_are_fit}
 use Rattle.naga_form.proofs.types.SameValues.{IsFit, TypesAreFit}
 use Rattle.naga_form.proofs.types.WrittenTypes.{is_type_at, distinguished_is}
-use Rattle.module_meaning.specs.ExpressionShapes.{ModuleDeclarations}
+use Rattle.module_semantics.specs.ExpressionShapes.{ModuleDeclarations}
 use Rattle.naga_form.specs.ConstantForms.{written_constant_form}
 use Rattle.naga_form.proofs.statements.Abstraction.{AreWritten}
-use Rattle.module_meaning.specs.FunctionShapes.{function_shape}
+use Rattle.module_semantics.specs.FunctionShapes.{function_shape}
 use Rattle.naga_form.proofs.statements.WrittenHandles.{AreClosed, written_are_closed}
-use Rattle.module_meaning.specs.Written.{AllWrittenHaveForms, IsSpelledIn, IsWrittenIn, OfArgument}
-use Rattle.module_meaning.specs.Written.{OfLocal, OfResult, WrittenHaveForms}
+use Rattle.module_semantics.specs.Written.{AllWrittenHaveForms, IsSpelledIn, IsWrittenIn, OfArgument}
+use Rattle.module_semantics.specs.Written.{OfLocal, OfResult, WrittenHaveForms}
 use Rattle.naga_info.specs.declared.info.TypeResolution.TheVariants.{Handle}
 use Rattle.naga_info.specs.declared.info.TypeResolution.{TypeResolution}
 use Rattle.naga_form.proofs.Facts.{further, from_start}
 use Rattle.naga_form.proofs.names.Names.{item_is_identifier, function_item, argument_item}
 use Rattle.naga_form.proofs.names.Names.{function_there, argument_there, local_item, local_there}
 use Rattle.naga_form.proofs.names.NumberedNames.{numbered_is}
-use Rattle.module_meaning.proofs.FunctionNumbers.{entry_point_among, function_among, info_among}
-use Rattle.module_meaning.specs.FunctionNumbers.{all_functions, all_infos}
+use Rattle.module_semantics.proofs.FunctionNumbers.{entry_point_among, function_among, info_among}
+use Rattle.module_semantics.specs.FunctionNumbers.{all_functions, all_infos}
 use Rattle.naga_ir.specs.declared.module.LocalVariable.{LocalVariable}
 use Rattle.shader_runs.specs.Program.{binds}
 use Rattle.shader_runs.specs.Scope.{Handles, Naming, at_start}
-use Rattle.module_meaning.specs.Namings.{function_naming}
+use Rattle.module_semantics.specs.Namings.{function_naming}
 use Rattle.naga_form.proofs.names.ExpressionNames.{expression_names_are}
-use Rattle.module_meaning.specs.ExpressionLabels.{expression_labels}
-use Rattle.module_meaning.specs.StatementForms.{block_has_forms}
-use Rattle.module_meaning.specs.acceptance.StatementsFit.{body_is_sound}
+use Rattle.module_semantics.specs.ExpressionLabels.{expression_labels}
+use Rattle.module_semantics.specs.StatementForms.{block_has_forms}
+use Rattle.module_semantics.specs.acceptance.StatementsFit.{body_is_sound}
 use Rattle.naga_form.proofs.statements.FittingStatements.{body_fits}
 use Rattle.naga_form.proofs.operators.PlainForms.{IsPlainForm, NamesAre, plain_is, unnamed_is}
 use Rattle.naga_form.proofs.operators.PlainForms.{value_is_one}

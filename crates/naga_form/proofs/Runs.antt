@@ -15,19 +15,19 @@ use Rattle.shader_runs.specs.Text.{TextModule}
 use Rattle.shader_runs.specs.Constants.{follow_module}
 use Rattle.shader_runs.specs.Form.{form_function, form_functions, form_module}
 use Rattle.shader_runs.proofs.OneRun.{runs_alike}
-use Rattle.text_meaning.specs.Abstraction.{function_read, functions_of, program_read}
-use Rattle.module_meaning.specs.acceptance.Accepted.{is_accepted}
-use Rattle.module_meaning.specs.DeclarationForms.{DeclarationsHaveForms}
-use Rattle.module_meaning.proofs.DeclarationForms.{items_have_forms}
-use Rattle.module_meaning.specs.Faithful.{RunsAs}
-use Rattle.module_meaning.specs.FunctionNumbers.{all_functions, all_infos}
-use Rattle.module_meaning.specs.FunctionShapes.{function_shapes}
-use Rattle.module_meaning.specs.ModuleShapes.{module_shape}
-use Rattle.module_meaning.specs.Names.{AreLabelNames, expression_name, function_name, LabelNames}
-use Rattle.module_meaning.specs.Names.{module_names}
-use Rattle.module_meaning.specs.Namings.{namings_from, namings_under, outer_names}
-use Rattle.module_meaning.specs.Premises.{ScopesHold}
-use Rattle.module_meaning.specs.Written.{AllWrittenHaveForms, WrittenHaveForms}
+use Rattle.text_semantics.specs.Abstraction.{function_read, functions_of, program_read}
+use Rattle.module_semantics.specs.acceptance.Accepted.{is_accepted}
+use Rattle.module_semantics.specs.DeclarationForms.{DeclarationsHaveForms}
+use Rattle.module_semantics.proofs.DeclarationForms.{items_have_forms}
+use Rattle.module_semantics.specs.Faithful.{RunsAs}
+use Rattle.module_semantics.specs.FunctionNumbers.{all_functions, all_infos}
+use Rattle.module_semantics.specs.FunctionShapes.{function_shapes}
+use Rattle.module_semantics.specs.ModuleShapes.{module_shape}
+use Rattle.module_semantics.specs.Names.{AreLabelNames, expression_name, function_name, LabelNames}
+use Rattle.module_semantics.specs.Names.{module_names}
+use Rattle.module_semantics.specs.Namings.{namings_from, namings_under, outer_names}
+use Rattle.module_semantics.specs.Premises.{ScopesHold}
+use Rattle.module_semantics.specs.Written.{AllWrittenHaveForms, WrittenHaveForms}
 use Rattle.naga_form.specs.Declarations.{program_under, written_program}
 use Rattle.naga_form.specs.Functions.{functions_under}
 use Rattle.naga_form.proofs.statements.Abstraction.{function_reads}

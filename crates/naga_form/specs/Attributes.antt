@@ -28,8 +28,8 @@ use Rattle.wgsl_text.specs.Attributes.{Vertex, Fragment, Compute, Task, RayGener
 use Rattle.wgsl_text.specs.Attributes.{ClosestHit, Miss, BlendSource, Id, Group, Size, Builtin}
 use Rattle.wgsl_text.specs.Attributes.{Interpolate, Mesh, Payload, IncomingPayload}
 use Rattle.wgsl_text.specs.Attributes as attribute
-use Rattle.module_meaning.specs.Names.{global_name}
-use Rattle.module_meaning.specs.StageBindings.{is_coherent_memory, is_invariant, is_volatile_memory}
+use Rattle.module_semantics.specs.Names.{global_name}
+use Rattle.module_semantics.specs.StageBindings.{is_coherent_memory, is_invariant, is_volatile_memory}
 
 -- this attribute, where a test passes, and one for what is there
 abbrev pub attribute_if : Attribute → Bool → List Attribute

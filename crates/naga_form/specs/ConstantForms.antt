@@ -6,10 +6,10 @@
 use Rattle.std.specs.Prelude.{ℕ, zero, suc, false, List, [], ◌∷◌, length, map, slice_get, None}
 use Rattle.std.specs.Prelude.{if◌then◌else◌}
 use Rattle.std.specs.Option.{is_some, option_map_or}
-use Rattle.module_meaning.specs.ExpressionOperators.{ExpressionContext, constructor}
-use Rattle.module_meaning.specs.Names.{constant_name, module_names}
-use Rattle.module_meaning.specs.OperatorTable.{Splat}
-use Rattle.module_meaning.specs.ExpressionContexts.{expression_context}
+use Rattle.module_semantics.specs.ExpressionOperators.{ExpressionContext, constructor}
+use Rattle.module_semantics.specs.Names.{constant_name, module_names}
+use Rattle.module_semantics.specs.OperatorTable.{Splat}
+use Rattle.module_semantics.specs.ExpressionContexts.{expression_context}
 use Rattle.naga_form.specs.Literals.{literal_form}
 use Rattle.naga_form.specs.Operators.{applied_form, notation}
 use Rattle.naga_form.specs.TypeTrees.{type_tree}

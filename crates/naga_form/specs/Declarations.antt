@@ -27,12 +27,12 @@ use Rattle.wgsl_text.specs.Declarations.{NamedConstant, Override, Global, Space,
 use Rattle.wgsl_text.specs.Declarations.{SpaceAlone, SpaceAndAccess}
 use Rattle.wgsl_text.specs.Functions.{EntryPoint}
 use Rattle.wgsl_words.specs.Words.{space_word, space_access_word}
-use Rattle.module_meaning.specs.Enables.{written_enables}
-use Rattle.module_meaning.specs.Layouts.{written_size}
-use Rattle.module_meaning.specs.Names.{module_names, name_in, constant_name, expression_name}
-use Rattle.module_meaning.specs.Names.{global_name, LabelNames, override_name}
-use Rattle.module_meaning.specs.Types.{type_names}
-use Rattle.module_meaning.specs.Undeclared.{is_declared}
+use Rattle.module_semantics.specs.Enables.{written_enables}
+use Rattle.module_semantics.specs.Layouts.{written_size}
+use Rattle.module_semantics.specs.Names.{module_names, name_in, constant_name, expression_name}
+use Rattle.module_semantics.specs.Names.{global_name, LabelNames, override_name}
+use Rattle.module_semantics.specs.Types.{type_names}
+use Rattle.module_semantics.specs.Undeclared.{is_declared}
 use Rattle.naga_form.specs.Attributes.{global_attributes, id_attributes, member_attributes}
 use Rattle.naga_form.specs.Attributes.{stage_attributes}
 use Rattle.naga_form.specs.ConstantForms.{global_form}

@@ -24,16 +24,16 @@ use Rattle.wgsl_text.specs.Literals.{Truth}
 use Rattle.naga_form.specs.Literals.{literal_form}
 use Rattle.shader_runs.specs.Scope.{Availability, Bound, Handles, Naming}
 use Rattle.shader_runs.specs.Value.{Selector, MemberNamed, ElementAt}
-use Rattle.module_meaning.specs.Conversions.{conversion_target, keeps_bits}
-use Rattle.module_meaning.specs.ExpressionOperators.{ExpressionContext, applied_operator}
-use Rattle.module_meaning.specs.ExpressionOperators.{constructor, is_depth_image, level_of}
-use Rattle.module_meaning.specs.ExpressionOperators.{load_operator, pointee_scalar, type_known}
-use Rattle.module_meaning.specs.ExpressionShapes.{ModuleDeclarations, part_selector, swizzle_letters}
-use Rattle.module_meaning.specs.OperatorTable.{Operator, WithoutForm, PartAt, is_zero_by_name}
-use Rattle.module_meaning.specs.OperatorTable.{zero_is_written}
-use Rattle.module_meaning.specs.ExpressionContexts.{declared, types_known}
-pub use Rattle.module_meaning.specs.ExpressionContexts.{is_handle_variable}
-use Rattle.module_meaning.specs.Types.{type_names}
+use Rattle.module_semantics.specs.Conversions.{conversion_target, keeps_bits}
+use Rattle.module_semantics.specs.ExpressionOperators.{ExpressionContext, applied_operator}
+use Rattle.module_semantics.specs.ExpressionOperators.{constructor, is_depth_image, level_of}
+use Rattle.module_semantics.specs.ExpressionOperators.{load_operator, pointee_scalar, type_known}
+use Rattle.module_semantics.specs.ExpressionShapes.{ModuleDeclarations, part_selector, swizzle_letters}
+use Rattle.module_semantics.specs.OperatorTable.{Operator, WithoutForm, PartAt, is_zero_by_name}
+use Rattle.module_semantics.specs.OperatorTable.{zero_is_written}
+use Rattle.module_semantics.specs.ExpressionContexts.{declared, types_known}
+pub use Rattle.module_semantics.specs.ExpressionContexts.{is_handle_variable}
+use Rattle.module_semantics.specs.Types.{type_names}
 use Rattle.naga_words.specs.Contexts.{Names as TypeNames}
 use Rattle.wgsl_text.specs.Types.{TypeSpecifier, of_one}
 use Rattle.naga_form.specs.TypeTrees.{inner_tree, type_tree}

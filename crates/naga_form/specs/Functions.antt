@@ -11,7 +11,7 @@ use Rattle.naga_ir.specs.declared.module.FunctionResult.{FunctionResult}
 use Rattle.naga_ir.specs.declared.module.Module.{Module}
 use Rattle.naga_names.specs.Keys.{NameMap}
 use Rattle.wgsl_text.specs.Functions.{Parameter, Result, NoResult, ResultOf, Local, Function}
-use Rattle.module_meaning.specs.Names.{function_name, argument_name, expression_name, LabelNames}
+use Rattle.module_semantics.specs.Names.{function_name, argument_name, expression_name, LabelNames}
 use Rattle.naga_words.specs.Contexts.{names_of, Names as TypeNames}
 use Rattle.naga_form.specs.Attributes.{passing_attributes}
 use Rattle.naga_form.specs.Types.{type_form, annotated_type}
@@ -19,7 +19,7 @@ use Rattle.naga_ir.specs.declared.module.LocalVariable.{LocalVariable}
 use Rattle.naga_info.specs.declared.info.ExpressionInfo.{ExpressionInfo}
 use Rattle.naga_info.specs.declared.info.ModuleInfo.{ModuleInfo}
 use Rattle.shader_runs.specs.Scope.{Naming, at_start}
-use Rattle.module_meaning.specs.Namings.{function_naming}
+use Rattle.module_semantics.specs.Namings.{function_naming}
 use Rattle.naga_form.specs.Expressions.{Source, function_source, value_form}
 use Rattle.naga_form.specs.Statements.{lines_form}
 use Rattle.naga_back.specs.declared.flags.WriterFlags.{WriterFlags}

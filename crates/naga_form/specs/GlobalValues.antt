@@ -8,11 +8,11 @@ use Rattle.shader_runs.specs.Constants.{text_initialiser_value}
 use Rattle.shader_runs.specs.Premises.{IsTyped, SettingsFit}
 use Rattle.shader_runs.specs.Value.{Value}
 use Rattle.shader_runs.specs.World.{Meaning, Settings, World}
-use Rattle.text_meaning.specs.Abstraction.{expression_read, program_read}
-use Rattle.text_meaning.specs.Vocabulary.{vocabulary_read}
-use Rattle.module_meaning.specs.DeclarationForms.{ConstantsHaveForms}
-use Rattle.module_meaning.specs.Interface.{global_expression_value}
-use Rattle.module_meaning.specs.ModuleShapes.{module_shape}
+use Rattle.text_semantics.specs.Abstraction.{expression_read, program_read}
+use Rattle.text_semantics.specs.Vocabulary.{vocabulary_read}
+use Rattle.module_semantics.specs.DeclarationForms.{ConstantsHaveForms}
+use Rattle.module_semantics.specs.Interface.{global_expression_value}
+use Rattle.module_semantics.specs.ModuleShapes.{module_shape}
 
 -- The expression has the value of the module's own one with this handle, where it stands in the
 -- program as an initialiser. Under all values of overrides of their types and every typed meaning

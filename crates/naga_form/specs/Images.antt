@@ -3,7 +3,7 @@
 --
 -- Throughout, op is an operator, and es are the forms of operands.
 use Rattle.std.specs.Prelude.{ℕ, Bool, true, false, List, [], ◌∷◌, ◌++◌, codes, Option, Some, None}
-use Rattle.module_meaning.specs.OperatorTable.{Operator, Gather, if_word, run_word}
+use Rattle.module_semantics.specs.OperatorTable.{Operator, Gather, if_word, run_word}
 use Rattle.naga_ir.specs.declared.expression.SwizzleComponent.{SwizzleComponent}
 use Rattle.naga_ir.specs.declared.expression.SwizzleComponent.TheVariants as component
 use Rattle.wgsl_text.specs.Expressions.{Expression, Arguments, Argument, NumberArgument}

@@ -24,7 +24,7 @@ use Rattle.wgsl_text.specs.Types.{TypeSpecifier, IsType}
 use Rattle.naga_form.specs.Functions.{function_form}
 use Rattle.wgsl_text.specs.Declarations.{Program, IsProgram}
 use Rattle.naga_form.specs.Declarations.{program_under}
-use Rattle.wgsl_text.specs.Reading.{HasOneReading, ReadsType, type_layout}
+use Rattle.wgsl_text.specs.Reading.{HasOneReading, ReadsType, printed_type}
 use Rattle.wgsl_text.specs.Requests.{is_request}
 use Rattle.shader_runs.specs.Form.{form_function, form_module}
 use Rattle.shader_runs.specs.Points.{PointsAgreeIn}
@@ -33,38 +33,38 @@ use Rattle.shader_runs.specs.Results.{ResultsAreReturnedIn}
 use Rattle.shader_runs.specs.Scope.{Naming}
 use Rattle.shader_runs.specs.Value.{Value}
 use Rattle.shader_runs.specs.World.{Meaning, Settings}
-use Rattle.text_meaning.specs.Abstraction.{function_read, program_read}
-use Rattle.module_meaning.specs.acceptance.Accepted.{is_accepted}
-use Rattle.module_meaning.specs.AlikeTypes.{are_alike}
-use Rattle.module_meaning.specs.FunctionLets.{BindsAt, BindsUnder}
-use Rattle.module_meaning.specs.DeclarationForms.{DeclarationsHaveForms, IsInitialiser}
-use Rattle.module_meaning.specs.DeclarationForms.{ItemsHaveForms}
-use Rattle.module_meaning.specs.ExpressionForms.{global_has_form}
-use Rattle.module_meaning.specs.Faithful.{HasInterfaceOf, RunsAs, RunsAt}
-use Rattle.module_meaning.specs.FunctionNumbers.{callee_count, function_type}
-use Rattle.module_meaning.specs.Written.{AllWrittenHaveForms, WrittenHaveForms}
-use Rattle.module_meaning.specs.Written.{WrittenHaveFormsAt, WrittenHaveFormsBefore}
-use Rattle.module_meaning.specs.acceptance.InfoSizes.{type_is_fit, resolution_is_fit}
-use Rattle.module_meaning.specs.Interface.{global_expression_value}
-use Rattle.module_meaning.specs.Layouts.{KeepsLayouts, TellsLayouts}
-use Rattle.module_meaning.specs.Literals.{literal_value, with_bits}
-use Rattle.module_meaning.specs.Meanings.{OperatorsAreConsistent, HasTypedMeaning, HasTypedWorld}
-use Rattle.module_meaning.specs.Meanings.{IsNeverStuck, NoRunIsStuck}
-use Rattle.module_meaning.specs.ExpressionLabels.{name_of_label}
-use Rattle.module_meaning.specs.Names.{AreLabelNames, expression_name, item_labels, LabelNames}
-use Rattle.module_meaning.specs.Names.{ItemsAreDistinguished, labels_named_in, module_names}
-use Rattle.module_meaning.specs.Names.{named_apart, wgsl_names}
-use Rattle.module_meaning.specs.acceptance.Ranges.{resolution_fits}
-use Rattle.module_meaning.specs.Premises.{handles_are_counted, scope_holds, ScopeHoldsIn}
-use Rattle.module_meaning.specs.Premises.{ScopesHold, ScopesHoldBefore}
-use Rattle.module_meaning.specs.Resolution.{ResolvesAt, ResolvesUnder}
-use Rattle.module_meaning.specs.ModuleShapes.{module_shape}
-use Rattle.module_meaning.specs.Namings.{function_naming, namings_under, outer_names}
-use Rattle.module_meaning.specs.TypeIdentity.{identity}
-use Rattle.module_meaning.specs.Types.{spelled_resolution, type_names, type_of_values}
-use Rattle.module_meaning.specs.OperatorTable.{Operator, TypeIsSound, asks, is_distinguished}
-use Rattle.module_meaning.specs.OperatorTable.{one_word}
-use Rattle.module_meaning.specs.OperatorTable.{operand_count, operator_word, run_word}
+use Rattle.text_semantics.specs.Abstraction.{function_read, program_read}
+use Rattle.module_semantics.specs.acceptance.Accepted.{is_accepted}
+use Rattle.module_semantics.specs.AlikeTypes.{are_alike}
+use Rattle.module_semantics.specs.FunctionLets.{BindsAt, BindsUnder}
+use Rattle.module_semantics.specs.DeclarationForms.{DeclarationsHaveForms, IsInitialiser}
+use Rattle.module_semantics.specs.DeclarationForms.{ItemsHaveForms}
+use Rattle.module_semantics.specs.ExpressionForms.{global_has_form}
+use Rattle.module_semantics.specs.Faithful.{HasInterfaceOf, RunsAs, RunsAt}
+use Rattle.module_semantics.specs.FunctionNumbers.{callee_count, function_type}
+use Rattle.module_semantics.specs.Written.{AllWrittenHaveForms, WrittenHaveForms}
+use Rattle.module_semantics.specs.Written.{WrittenHaveFormsAt, WrittenHaveFormsBefore}
+use Rattle.module_semantics.specs.acceptance.InfoSizes.{type_is_fit, resolution_is_fit}
+use Rattle.module_semantics.specs.Interface.{global_expression_value}
+use Rattle.module_semantics.specs.Layouts.{KeepsLayouts, TellsLayouts}
+use Rattle.module_semantics.specs.Literals.{literal_value, with_bits}
+use Rattle.module_semantics.specs.Meanings.{OperatorsAreConsistent, HasTypedMeaning, HasTypedWorld}
+use Rattle.module_semantics.specs.Meanings.{IsNeverStuck, NoRunIsStuck}
+use Rattle.module_semantics.specs.ExpressionLabels.{name_of_label}
+use Rattle.module_semantics.specs.Names.{AreLabelNames, expression_name, item_labels, LabelNames}
+use Rattle.module_semantics.specs.Names.{ItemsAreDistinguished, labels_named_in, module_names}
+use Rattle.module_semantics.specs.Names.{named_apart, wgsl_names}
+use Rattle.module_semantics.specs.acceptance.Ranges.{resolution_fits}
+use Rattle.module_semantics.specs.Premises.{handles_are_counted, scope_holds, ScopeHoldsIn}
+use Rattle.module_semantics.specs.Premises.{ScopesHold, ScopesHoldBefore}
+use Rattle.module_semantics.specs.Resolution.{ResolvesAt, ResolvesUnder}
+use Rattle.module_semantics.specs.ModuleShapes.{module_shape}
+use Rattle.module_semantics.specs.Namings.{function_naming, namings_under, outer_names}
+use Rattle.module_semantics.specs.TypeIdentity.{identity}
+use Rattle.module_semantics.specs.Types.{spelled_resolution, type_names, type_of_values}
+use Rattle.module_semantics.specs.OperatorTable.{Operator, TypeIsSound, asks, is_distinguished}
+use Rattle.module_semantics.specs.OperatorTable.{one_word}
+use Rattle.module_semantics.specs.OperatorTable.{operand_count, operator_word, run_word}
 use Rattle.naga_form.specs.ConstantForms.{global_form}
 use Rattle.naga_form.specs.GlobalValues.{HasValueOf}
 use Rattle.naga_form.specs.Readable.{AreAlike, AreNamed, ResolutionIsWithin, handle_names}
@@ -331,17 +331,17 @@ RequestsAreDistinguished =
 
 -- ---- types
 
--- the text of a type that has a form is the layout of its tree, at a handle and by itself
+-- the text of a type that has a form is its tree as printed, at a handle and by itself
 abbrev pub TextOfAHandle : Type 0
 TextOfAHandle =
     (n : Names) (knows : ℕ → Bool) (handle : ℕ) →
     known_text (type_segments (writer_context n knows) handle)
-    ≡ option_map type_layout (type_tree n handle)
+    ≡ option_map printed_type (type_tree n handle)
 
 abbrev pub TextOfAnInner : Type 0
 TextOfAnInner =
     (n : Names) (knows : ℕ → Bool) (it : TypeInner) →
-    known_text (inner_segments (writer_context n knows) it) ≡ option_map type_layout
+    known_text (inner_segments (writer_context n knows) it) ≡ option_map printed_type
     (inner_tree n it)
 
 -- what has parts of a known text has that text alone
@@ -368,7 +368,7 @@ FormsAreTypes = OfTrees IsType
 
 -- and its text is read as it, and as no other
 abbrev pub FormsAreRead : Type 0
-FormsAreRead = OfTrees (λ t. HasOneReading ReadsType (type_layout t) t)
+FormsAreRead = OfTrees (λ t. HasOneReading ReadsType (printed_type t) t)
 
 -- being alike is an equivalence
 abbrev pub AlikeItself : Type 0

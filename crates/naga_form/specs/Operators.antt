@@ -4,7 +4,7 @@ use Rattle.naga_ir.specs.declared.operators.BinaryOperator as ir
 use Rattle.naga_ir.specs.declared.operators.BinaryOperator.TheVariants as operator
 use Rattle.naga_ir.specs.declared.operators.UnaryOperator as ir_unary
 use Rattle.naga_ir.specs.declared.operators.UnaryOperator.TheVariants as unary
-use Rattle.module_meaning.specs.OperatorTable.{Operator, BinarySign, UnarySign, run_word}
+use Rattle.module_semantics.specs.OperatorTable.{Operator, BinarySign, UnarySign, run_word}
 use Rattle.wgsl_text.specs.Types.{TypeSpecifier, Named}
 use Rattle.wgsl_text.specs.Expressions.{BinaryOperator, Add, Subtract, Multiply, Divide, Modulo}
 use Rattle.wgsl_text.specs.Expressions.{Equal, NotEqual, Less, LessEqual, Greater, GreaterEqual}

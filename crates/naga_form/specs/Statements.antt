@@ -28,8 +28,8 @@ use Rattle.shader_runs.specs.Program.{binds, from}
 use Rattle.shader_runs.specs.ProgramRun.{barrier_words}
 use Rattle.shader_runs.specs.Scope.{Handles, Naming, bound_name, named_after, named_by}
 use Rattle.shader_runs.specs.Scope.{named_by_all, after_one, after, after_all}
-use Rattle.module_meaning.specs.FunctionShapes.{statement_shape, statements_shape}
-use Rattle.module_meaning.specs.StatementShapes.{simple_shape}
+use Rattle.module_semantics.specs.FunctionShapes.{statement_shape, statements_shape}
+use Rattle.module_semantics.specs.StatementShapes.{simple_shape}
 use Rattle.naga_form.specs.Expressions.{Source, as_value, as_reference, plain_form}
 use Rattle.naga_form.specs.Expressions.{value_form, value_forms}
 use Rattle.naga_form.specs.Expressions.{unnamed_form}
@@ -120,14 +120,14 @@ abbrev pub loop_form : Statements → BlockTree → Statements → Option Expres
 loop_form body b continuing None = Loop body (optional_form b continuing)
 loop_form body b continuing (Some e) = LoopBreakIf body continuing e
 
--- the label of a case
+-- the value of a case
 abbrev pub case_value_form : SwitchValue → CaseValue
 case_value_form (switch_value.I32 (pos n)) = SignedCase false n
 case_value_form (switch_value.I32 (negsuc n)) = SignedCase true (suc n)
 case_value_form (switch_value.U32 n) = UnsignedCase n
 case_value_form switch_value.Default = DefaultCase
 
--- the labels of a group: these, and after them its own
+-- the values of a group: these, and after them its own
 abbrev pub case_values_form : List CaseValue → CaseValue → CaseValues
 case_values_form [] own = LastCaseValue own
 case_values_form (l ∷ ls) own = MoreCaseValues l (case_values_form ls own)
@@ -167,16 +167,16 @@ abbrev mutual
       line_form n annotated source k st s
       (lines_form n annotated source following b (after n k shape s))
 
-  -- a case that falls through has no lines, and gives its label to the next one: these wait for one
+  -- a case that falls through has no lines, and gives its value to the next one: these wait for one
   pub cases_form :
       Naming → (annotated : ℕ → Option TypeSpecifier) → Source → ℕ → List CaseValue → CaseTrees →
       Handles → Cases
-  cases_form n annotated source k labels no_cases s = NoCases
-  cases_form n annotated source k labels (case value body true cases) s =
+  cases_form n annotated source k case_values no_cases s = NoCases
+  cases_form n annotated source k case_values (case value body true cases) s =
       let following = named_by_all n.function (statements_shape source.declared.context body) k in
-      cases_form n annotated source following (labels ++ case_value_form value ∷ []) cases s
-  cases_form n annotated source k labels (case value body false cases) s =
+      cases_form n annotated source following (case_values ++ case_value_form value ∷ []) cases s
+  cases_form n annotated source k case_values (case value body false cases) s =
       let following = named_by_all n.function (statements_shape source.declared.context body) k in
-      Case (case_values_form labels (case_value_form value))
+      Case (case_values_form case_values (case_value_form value))
       (lines_form n annotated source k body s)
       (cases_form n annotated source following [] cases s)

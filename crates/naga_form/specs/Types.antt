@@ -4,7 +4,7 @@ use Rattle.std.specs.Prelude.{unwrap_or, if◌then◌else◌}
 use Rattle.std.specs.Option.{option_and_then}
 use Rattle.naga_ir.specs.declared.module.LocalVariable.{LocalVariable}
 use Rattle.naga_ir.specs.declared.module.Module.{Module}
-use Rattle.module_meaning.specs.Undeclared.{names_undeclared}
+use Rattle.module_semantics.specs.Undeclared.{names_undeclared}
 use Rattle.naga_info.specs.declared.info.ExpressionInfo.{ExpressionInfo}
 use Rattle.naga_words.specs.Contexts.{Names as TypeNames}
 use Rattle.naga_form.specs.TypeTrees.{type_tree, resolution_tree}

@@ -6,7 +6,7 @@ ghost use Rattle.naga_form.specs.Laws.{AlikeThrough, AlikeButStride, AlikeByNumb
 
 use wgsl_text::{one_reading_of_a_type, text_of_appended};
 
-/// Where a type has a form, its text under these names is the layout of its tree, and no other
+/// Where a type has a form, its text under these names is its tree as printed, and no other
 /// text; and nothing of it is refused.
 pub fn text_of_a_form()
     ensures type_ { TextOfAHandle }

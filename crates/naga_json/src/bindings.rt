@@ -116,27 +116,27 @@ impl Variants for BuiltIn {
     fn from_payload(
         alloc: Global,
         variant: BuiltInName,
-        content: &Value,
+        payload: &Value,
     ) -> Result<BuiltIn, ReadError> {
         match variant {
-            BuiltInName::Unit(builtin) => unit(alloc, content, builtin),
-            BuiltInName::Position => builtin_position(alloc, content),
-            BuiltInName::Barycentric => builtin_barycentric(alloc, content),
+            BuiltInName::Unit(builtin) => unit(alloc, payload, builtin),
+            BuiltInName::Position => builtin_position(alloc, payload),
+            BuiltInName::Barycentric => builtin_barycentric(alloc, payload),
         }
     }
 }
 
-fn builtin_position(alloc: Global, content: &Value) -> Result<BuiltIn, ReadError> {
-    expect_members(alloc, content, &["invariant"])?;
+fn builtin_position(alloc: Global, payload: &Value) -> Result<BuiltIn, ReadError> {
+    expect_members(alloc, payload, &["invariant"])?;
     Ok(BuiltIn::Position {
-        invariant: member(alloc, content, "invariant")?,
+        invariant: member(alloc, payload, "invariant")?,
     })
 }
 
-fn builtin_barycentric(alloc: Global, content: &Value) -> Result<BuiltIn, ReadError> {
-    expect_members(alloc, content, &["perspective"])?;
+fn builtin_barycentric(alloc: Global, payload: &Value) -> Result<BuiltIn, ReadError> {
+    expect_members(alloc, payload, &["perspective"])?;
     Ok(BuiltIn::Barycentric {
-        perspective: member(alloc, content, "perspective")?,
+        perspective: member(alloc, payload, "perspective")?,
     })
 }
 
@@ -198,19 +198,19 @@ impl Variants for Binding {
     fn from_payload(
         alloc: Global,
         variant: BindingName,
-        content: &Value,
+        payload: &Value,
     ) -> Result<Binding, ReadError> {
         match variant {
-            BindingName::BuiltIn => Ok(Binding::BuiltIn(FromJson::from_json(alloc, content)?)),
-            BindingName::Location => location_binding(alloc, content),
+            BindingName::BuiltIn => Ok(Binding::BuiltIn(FromJson::from_json(alloc, payload)?)),
+            BindingName::Location => location_binding(alloc, payload),
         }
     }
 }
 
-fn location_binding(alloc: Global, content: &Value) -> Result<Binding, ReadError> {
+fn location_binding(alloc: Global, payload: &Value) -> Result<Binding, ReadError> {
     expect_members(
         alloc,
-        content,
+        payload,
         &[
             "location",
             "interpolation",
@@ -220,20 +220,20 @@ fn location_binding(alloc: Global, content: &Value) -> Result<Binding, ReadError
         ],
     )?;
     Ok(Binding::Location {
-        location: member(alloc, content, "location")?,
-        interpolation: member(alloc, content, "interpolation")?,
-        sampling: member(alloc, content, "sampling")?,
-        blend_src: member(alloc, content, "blend_src")?,
-        per_primitive: member(alloc, content, "per_primitive")?,
+        location: member(alloc, payload, "location")?,
+        interpolation: member(alloc, payload, "interpolation")?,
+        sampling: member(alloc, payload, "sampling")?,
+        blend_src: member(alloc, payload, "blend_src")?,
+        per_primitive: member(alloc, payload, "per_primitive")?,
     })
 }
 
 impl FromJson for ResourceBinding {
-    fn from_json(alloc: Global, content: &Value) -> Result<ResourceBinding, ReadError> {
-        expect_members(alloc, content, &["group", "binding"])?;
+    fn from_json(alloc: Global, payload: &Value) -> Result<ResourceBinding, ReadError> {
+        expect_members(alloc, payload, &["group", "binding"])?;
         Ok(ResourceBinding {
-            group: member(alloc, content, "group")?,
-            binding: member(alloc, content, "binding")?,
+            group: member(alloc, payload, "group")?,
+            binding: member(alloc, payload, "binding")?,
         })
     }
 }

@@ -36,33 +36,33 @@ impl FromJson for ShaderStage {
 }
 
 impl FromJson for Constant {
-    fn from_json(alloc: Global, content: &Value) -> Result<Constant, ReadError> {
-        expect_members(alloc, content, &["name", "ty", "init"])?;
+    fn from_json(alloc: Global, payload: &Value) -> Result<Constant, ReadError> {
+        expect_members(alloc, payload, &["name", "ty", "init"])?;
         Ok(Constant {
-            name: member(alloc, content, "name")?,
-            ty: member(alloc, content, "ty")?,
-            init: member(alloc, content, "init")?,
+            name: member(alloc, payload, "name")?,
+            ty: member(alloc, payload, "ty")?,
+            init: member(alloc, payload, "init")?,
         })
     }
 }
 
 impl FromJson for Override {
-    fn from_json(alloc: Global, content: &Value) -> Result<Override, ReadError> {
-        expect_members(alloc, content, &["name", "id", "ty", "init"])?;
+    fn from_json(alloc: Global, payload: &Value) -> Result<Override, ReadError> {
+        expect_members(alloc, payload, &["name", "id", "ty", "init"])?;
         Ok(Override {
-            name: member(alloc, content, "name")?,
-            id: member(alloc, content, "id")?,
-            ty: member(alloc, content, "ty")?,
-            init: member(alloc, content, "init")?,
+            name: member(alloc, payload, "name")?,
+            id: member(alloc, payload, "id")?,
+            ty: member(alloc, payload, "ty")?,
+            init: member(alloc, payload, "init")?,
         })
     }
 }
 
 impl FromJson for GlobalVariable {
-    fn from_json(alloc: Global, content: &Value) -> Result<GlobalVariable, ReadError> {
+    fn from_json(alloc: Global, payload: &Value) -> Result<GlobalVariable, ReadError> {
         expect_members(
             alloc,
-            content,
+            payload,
             &[
                 "name",
                 "space",
@@ -73,53 +73,53 @@ impl FromJson for GlobalVariable {
             ],
         )?;
         Ok(GlobalVariable {
-            name: member(alloc, content, "name")?,
-            space: member(alloc, content, "space")?,
-            binding: member(alloc, content, "binding")?,
-            ty: member(alloc, content, "ty")?,
-            init: member(alloc, content, "init")?,
-            memory_decorations: member(alloc, content, "memory_decorations")?,
+            name: member(alloc, payload, "name")?,
+            space: member(alloc, payload, "space")?,
+            binding: member(alloc, payload, "binding")?,
+            ty: member(alloc, payload, "ty")?,
+            init: member(alloc, payload, "init")?,
+            memory_decorations: member(alloc, payload, "memory_decorations")?,
         })
     }
 }
 
 impl FromJson for LocalVariable {
-    fn from_json(alloc: Global, content: &Value) -> Result<LocalVariable, ReadError> {
-        expect_members(alloc, content, &["name", "ty", "init"])?;
+    fn from_json(alloc: Global, payload: &Value) -> Result<LocalVariable, ReadError> {
+        expect_members(alloc, payload, &["name", "ty", "init"])?;
         Ok(LocalVariable {
-            name: member(alloc, content, "name")?,
-            ty: member(alloc, content, "ty")?,
-            init: member(alloc, content, "init")?,
+            name: member(alloc, payload, "name")?,
+            ty: member(alloc, payload, "ty")?,
+            init: member(alloc, payload, "init")?,
         })
     }
 }
 
 impl FromJson for FunctionArgument {
-    fn from_json(alloc: Global, content: &Value) -> Result<FunctionArgument, ReadError> {
-        expect_members(alloc, content, &["name", "ty", "binding"])?;
+    fn from_json(alloc: Global, payload: &Value) -> Result<FunctionArgument, ReadError> {
+        expect_members(alloc, payload, &["name", "ty", "binding"])?;
         Ok(FunctionArgument {
-            name: member(alloc, content, "name")?,
-            ty: member(alloc, content, "ty")?,
-            binding: member(alloc, content, "binding")?,
+            name: member(alloc, payload, "name")?,
+            ty: member(alloc, payload, "ty")?,
+            binding: member(alloc, payload, "binding")?,
         })
     }
 }
 
 impl FromJson for FunctionResult {
-    fn from_json(alloc: Global, content: &Value) -> Result<FunctionResult, ReadError> {
-        expect_members(alloc, content, &["ty", "binding"])?;
+    fn from_json(alloc: Global, payload: &Value) -> Result<FunctionResult, ReadError> {
+        expect_members(alloc, payload, &["ty", "binding"])?;
         Ok(FunctionResult {
-            ty: member(alloc, content, "ty")?,
-            binding: member(alloc, content, "binding")?,
+            ty: member(alloc, payload, "ty")?,
+            binding: member(alloc, payload, "binding")?,
         })
     }
 }
 
 impl FromJson for MeshStageInfo {
-    fn from_json(alloc: Global, content: &Value) -> Result<MeshStageInfo, ReadError> {
-        expect_members_beside(alloc, content, &["output_variable"], let_be::OF_MESH_INFO)?;
+    fn from_json(alloc: Global, payload: &Value) -> Result<MeshStageInfo, ReadError> {
+        expect_members_beside(alloc, payload, &["output_variable"], let_be::OF_MESH_INFO)?;
         Ok(MeshStageInfo {
-            output_variable: member(alloc, content, "output_variable")?,
+            output_variable: member(alloc, payload, "output_variable")?,
         })
     }
 }
@@ -138,12 +138,12 @@ const ENTRY_POINT_MEMBERS: &[&str] = &[
 ];
 
 impl FromJson for EntryPoint {
-    fn from_json(alloc: Global, content: &Value) -> Result<EntryPoint, ReadError> {
-        expect_members(alloc, content, ENTRY_POINT_MEMBERS)?;
-        if let Some(test) = content.get("early_depth_test") {
+    fn from_json(alloc: Global, payload: &Value) -> Result<EntryPoint, ReadError> {
+        expect_members(alloc, payload, ENTRY_POINT_MEMBERS)?;
+        if let Some(test) = payload.get("early_depth_test") {
             in_member(alloc, "early_depth_test", expect_null(alloc, test))?;
         }
-        if let Some(sizes) = content.get("workgroup_size_overrides") {
+        if let Some(sizes) = payload.get("workgroup_size_overrides") {
             in_member(
                 alloc,
                 "workgroup_size_overrides",
@@ -151,13 +151,13 @@ impl FromJson for EntryPoint {
             )?;
         }
         Ok(EntryPoint {
-            name: member(alloc, content, "name")?,
-            stage: member(alloc, content, "stage")?,
-            workgroup_size: member(alloc, content, "workgroup_size")?,
-            function: member(alloc, content, "function")?,
-            mesh_info: member(alloc, content, "mesh_info")?,
-            task_payload: member(alloc, content, "task_payload")?,
-            incoming_ray_payload: member(alloc, content, "incoming_ray_payload")?,
+            name: member(alloc, payload, "name")?,
+            stage: member(alloc, payload, "stage")?,
+            workgroup_size: member(alloc, payload, "workgroup_size")?,
+            function: member(alloc, payload, "function")?,
+            mesh_info: member(alloc, payload, "mesh_info")?,
+            task_payload: member(alloc, payload, "task_payload")?,
+            incoming_ray_payload: member(alloc, payload, "incoming_ray_payload")?,
         })
     }
 }
@@ -301,20 +301,20 @@ const SPECIAL_TYPES_MEMBERS: &[&str] = &[
 ];
 
 impl FromJson for SpecialTypes {
-    fn from_json(alloc: Global, content: &Value) -> Result<SpecialTypes, ReadError> {
+    fn from_json(alloc: Global, payload: &Value) -> Result<SpecialTypes, ReadError> {
         expect_members_beside(
             alloc,
-            content,
+            payload,
             SPECIAL_TYPES_MEMBERS,
             let_be::OF_SPECIAL_TYPES,
         )?;
         let mut predeclared_types = IndexMap::new(alloc);
-        fill(alloc, content, "predeclared_types", &mut predeclared_types)?;
+        fill(alloc, payload, "predeclared_types", &mut predeclared_types)?;
         Ok(SpecialTypes {
-            external_texture_params: member(alloc, content, "external_texture_params")?,
+            external_texture_params: member(alloc, payload, "external_texture_params")?,
             external_texture_transfer_function: member(
                 alloc,
-                content,
+                payload,
                 "external_texture_transfer_function",
             )?,
             predeclared_types,

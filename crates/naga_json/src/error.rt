@@ -23,7 +23,7 @@ pub enum JsonKind {
     Variant,
     /// The type of an expression: a handle, or a variant.
     Resolution,
-    /// Nothing, which `null` tells too: the content of a variant that has none.
+    /// Nothing, which `null` tells too: the payload of a variant that has none.
     Null,
 }
 

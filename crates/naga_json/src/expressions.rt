@@ -61,23 +61,23 @@ impl Variants for SampleLevel {
     fn from_payload(
         alloc: Global,
         variant: SampleLevelName,
-        content: &Value,
+        payload: &Value,
     ) -> Result<SampleLevel, ReadError> {
         match variant {
-            SampleLevelName::Auto => unit(alloc, content, SampleLevel::Auto),
-            SampleLevelName::Zero => unit(alloc, content, SampleLevel::Zero),
-            SampleLevelName::Exact => Ok(SampleLevel::Exact(FromJson::from_json(alloc, content)?)),
-            SampleLevelName::Bias => Ok(SampleLevel::Bias(FromJson::from_json(alloc, content)?)),
-            SampleLevelName::Gradient => level_gradient(alloc, content),
+            SampleLevelName::Auto => unit(alloc, payload, SampleLevel::Auto),
+            SampleLevelName::Zero => unit(alloc, payload, SampleLevel::Zero),
+            SampleLevelName::Exact => Ok(SampleLevel::Exact(FromJson::from_json(alloc, payload)?)),
+            SampleLevelName::Bias => Ok(SampleLevel::Bias(FromJson::from_json(alloc, payload)?)),
+            SampleLevelName::Gradient => level_gradient(alloc, payload),
         }
     }
 }
 
-fn level_gradient(alloc: Global, content: &Value) -> Result<SampleLevel, ReadError> {
-    expect_members(alloc, content, &["x", "y"])?;
+fn level_gradient(alloc: Global, payload: &Value) -> Result<SampleLevel, ReadError> {
+    expect_members(alloc, payload, &["x", "y"])?;
     Ok(SampleLevel::Gradient {
-        x: member(alloc, content, "x")?,
-        y: member(alloc, content, "y")?,
+        x: member(alloc, payload, "x")?,
+        y: member(alloc, payload, "y")?,
     })
 }
 
@@ -114,36 +114,36 @@ impl Variants for ImageQuery {
     fn from_payload(
         alloc: Global,
         variant: ImageQueryName,
-        content: &Value,
+        payload: &Value,
     ) -> Result<ImageQuery, ReadError> {
         match variant {
-            ImageQueryName::Size => query_size(alloc, content),
-            ImageQueryName::NumLevels => unit(alloc, content, ImageQuery::NumLevels),
-            ImageQueryName::NumLayers => unit(alloc, content, ImageQuery::NumLayers),
-            ImageQueryName::NumSamples => unit(alloc, content, ImageQuery::NumSamples),
+            ImageQueryName::Size => query_size(alloc, payload),
+            ImageQueryName::NumLevels => unit(alloc, payload, ImageQuery::NumLevels),
+            ImageQueryName::NumLayers => unit(alloc, payload, ImageQuery::NumLayers),
+            ImageQueryName::NumSamples => unit(alloc, payload, ImageQuery::NumSamples),
         }
     }
 }
 
-fn query_size(alloc: Global, content: &Value) -> Result<ImageQuery, ReadError> {
-    expect_members(alloc, content, &["level"])?;
+fn query_size(alloc: Global, payload: &Value) -> Result<ImageQuery, ReadError> {
+    expect_members(alloc, payload, &["level"])?;
     Ok(ImageQuery::Size {
-        level: member(alloc, content, "level")?,
+        level: member(alloc, payload, "level")?,
     })
 }
 
 impl FromJson for CooperativeData {
-    fn from_json(alloc: Global, content: &Value) -> Result<CooperativeData, ReadError> {
-        expect_members(alloc, content, &["pointer", "stride", "row_major"])?;
+    fn from_json(alloc: Global, payload: &Value) -> Result<CooperativeData, ReadError> {
+        expect_members(alloc, payload, &["pointer", "stride", "row_major"])?;
         Ok(CooperativeData {
-            pointer: member(alloc, content, "pointer")?,
-            stride: member(alloc, content, "stride")?,
-            row_major: member(alloc, content, "row_major")?,
+            pointer: member(alloc, payload, "pointer")?,
+            stride: member(alloc, payload, "stride")?,
+            row_major: member(alloc, payload, "row_major")?,
         })
     }
 }
 
-/// The variants of [`Expression`] with content.
+/// The variants of [`Expression`] with payload.
 #[derive(Clone, Copy)]
 pub(crate) enum ExpressionName {
     Literal,
@@ -254,135 +254,135 @@ impl Variants for Expression {
     fn from_payload(
         alloc: Global,
         variant: ExpressionName,
-        content: &Value,
+        payload: &Value,
     ) -> Result<Expression, ReadError> {
         match variant {
             ExpressionName::Literal => Ok(Expression::Literal(FromJson::from_json(
-                alloc, content,
+                alloc, payload,
             )?)),
             ExpressionName::Constant => Ok(Expression::Constant(FromJson::from_json(
-                alloc, content,
+                alloc, payload,
             )?)),
             ExpressionName::Override => Ok(Expression::Override(FromJson::from_json(
-                alloc, content,
+                alloc, payload,
             )?)),
             ExpressionName::ZeroValue => Ok(Expression::ZeroValue(FromJson::from_json(
-                alloc, content,
+                alloc, payload,
             )?)),
-            ExpressionName::Compose => compose_expression(alloc, content),
-            ExpressionName::Access => access_expression(alloc, content),
-            ExpressionName::AccessIndex => access_index_expression(alloc, content),
-            ExpressionName::Splat => splat_expression(alloc, content),
-            ExpressionName::Swizzle => swizzle_expression(alloc, content),
+            ExpressionName::Compose => compose_expression(alloc, payload),
+            ExpressionName::Access => access_expression(alloc, payload),
+            ExpressionName::AccessIndex => access_index_expression(alloc, payload),
+            ExpressionName::Splat => splat_expression(alloc, payload),
+            ExpressionName::Swizzle => swizzle_expression(alloc, payload),
             ExpressionName::FunctionArgument => Ok(Expression::FunctionArgument(FromJson::from_json(
-                alloc, content,
+                alloc, payload,
             )?)),
             ExpressionName::GlobalVariable => Ok(Expression::GlobalVariable(FromJson::from_json(
-                alloc, content,
+                alloc, payload,
             )?)),
             ExpressionName::LocalVariable => Ok(Expression::LocalVariable(FromJson::from_json(
-                alloc, content,
+                alloc, payload,
             )?)),
-            ExpressionName::Load => load_expression(alloc, content),
-            ExpressionName::ImageSample => image_sample_expression(alloc, content),
-            ExpressionName::ImageLoad => image_load_expression(alloc, content),
-            ExpressionName::ImageQuery => image_query_expression(alloc, content),
-            ExpressionName::Unary => unary_expression(alloc, content),
-            ExpressionName::Binary => binary_expression(alloc, content),
-            ExpressionName::Select => select_expression(alloc, content),
-            ExpressionName::Derivative => derivative_expression(alloc, content),
-            ExpressionName::Relational => relational_expression(alloc, content),
-            ExpressionName::Math => math_expression(alloc, content),
-            ExpressionName::As => as_of_expression(alloc, content),
+            ExpressionName::Load => load_expression(alloc, payload),
+            ExpressionName::ImageSample => image_sample_expression(alloc, payload),
+            ExpressionName::ImageLoad => image_load_expression(alloc, payload),
+            ExpressionName::ImageQuery => image_query_expression(alloc, payload),
+            ExpressionName::Unary => unary_expression(alloc, payload),
+            ExpressionName::Binary => binary_expression(alloc, payload),
+            ExpressionName::Select => select_expression(alloc, payload),
+            ExpressionName::Derivative => derivative_expression(alloc, payload),
+            ExpressionName::Relational => relational_expression(alloc, payload),
+            ExpressionName::Math => math_expression(alloc, payload),
+            ExpressionName::As => as_of_expression(alloc, payload),
             ExpressionName::CallResult => Ok(Expression::CallResult(FromJson::from_json(
-                alloc, content,
+                alloc, payload,
             )?)),
-            ExpressionName::AtomicResult => atomic_result_expression(alloc, content),
+            ExpressionName::AtomicResult => atomic_result_expression(alloc, payload),
             ExpressionName::WorkGroupUniformLoadResult => work_group_uniform_load_result_expression(
-                alloc, content,
+                alloc, payload,
             ),
             ExpressionName::ArrayLength => Ok(Expression::ArrayLength(FromJson::from_json(
-                alloc, content,
+                alloc, payload,
             )?)),
             ExpressionName::RayQueryProceedResult => unit(
                 alloc,
-                content,
+                payload,
                 Expression::RayQueryProceedResult,
             ),
             ExpressionName::RayQueryGetIntersection => ray_query_get_intersection_expression(
-                alloc, content,
+                alloc, payload,
             ),
             ExpressionName::RayQueryVertexPositions => ray_query_vertex_positions_expression(
-                alloc, content,
+                alloc, payload,
             ),
             ExpressionName::SubgroupBallotResult => unit(
                 alloc,
-                content,
+                payload,
                 Expression::SubgroupBallotResult,
             ),
             ExpressionName::SubgroupOperationResult => subgroup_operation_result_expression(
-                alloc, content,
+                alloc, payload,
             ),
-            ExpressionName::CooperativeLoad => cooperative_load_expression(alloc, content),
+            ExpressionName::CooperativeLoad => cooperative_load_expression(alloc, payload),
             ExpressionName::CooperativeMultiplyAdd => cooperative_multiply_add_expression(
-                alloc, content,
+                alloc, payload,
             ),
         }
     }
 }
 
-fn compose_expression(alloc: Global, content: &Value) -> Result<Expression, ReadError> {
-    expect_members(alloc, content, &["ty", "components"])?;
+fn compose_expression(alloc: Global, payload: &Value) -> Result<Expression, ReadError> {
+    expect_members(alloc, payload, &["ty", "components"])?;
     Ok(Expression::Compose {
-        ty: member(alloc, content, "ty")?,
-        components: member(alloc, content, "components")?,
+        ty: member(alloc, payload, "ty")?,
+        components: member(alloc, payload, "components")?,
     })
 }
 
-fn access_expression(alloc: Global, content: &Value) -> Result<Expression, ReadError> {
-    expect_members(alloc, content, &["base", "index"])?;
+fn access_expression(alloc: Global, payload: &Value) -> Result<Expression, ReadError> {
+    expect_members(alloc, payload, &["base", "index"])?;
     Ok(Expression::Access {
-        base: member(alloc, content, "base")?,
-        index: member(alloc, content, "index")?,
+        base: member(alloc, payload, "base")?,
+        index: member(alloc, payload, "index")?,
     })
 }
 
-fn access_index_expression(alloc: Global, content: &Value) -> Result<Expression, ReadError> {
-    expect_members(alloc, content, &["base", "index"])?;
+fn access_index_expression(alloc: Global, payload: &Value) -> Result<Expression, ReadError> {
+    expect_members(alloc, payload, &["base", "index"])?;
     Ok(Expression::AccessIndex {
-        base: member(alloc, content, "base")?,
-        index: member(alloc, content, "index")?,
+        base: member(alloc, payload, "base")?,
+        index: member(alloc, payload, "index")?,
     })
 }
 
-fn splat_expression(alloc: Global, content: &Value) -> Result<Expression, ReadError> {
-    expect_members(alloc, content, &["size", "value"])?;
+fn splat_expression(alloc: Global, payload: &Value) -> Result<Expression, ReadError> {
+    expect_members(alloc, payload, &["size", "value"])?;
     Ok(Expression::Splat {
-        size: member(alloc, content, "size")?,
-        value: member(alloc, content, "value")?,
+        size: member(alloc, payload, "size")?,
+        value: member(alloc, payload, "value")?,
     })
 }
 
-fn swizzle_expression(alloc: Global, content: &Value) -> Result<Expression, ReadError> {
-    expect_members(alloc, content, &["size", "vector", "pattern"])?;
+fn swizzle_expression(alloc: Global, payload: &Value) -> Result<Expression, ReadError> {
+    expect_members(alloc, payload, &["size", "vector", "pattern"])?;
     Ok(Expression::Swizzle {
-        size: member(alloc, content, "size")?,
-        vector: member(alloc, content, "vector")?,
-        pattern: member(alloc, content, "pattern")?,
+        size: member(alloc, payload, "size")?,
+        vector: member(alloc, payload, "vector")?,
+        pattern: member(alloc, payload, "pattern")?,
     })
 }
 
-fn load_expression(alloc: Global, content: &Value) -> Result<Expression, ReadError> {
-    expect_members(alloc, content, &["pointer"])?;
+fn load_expression(alloc: Global, payload: &Value) -> Result<Expression, ReadError> {
+    expect_members(alloc, payload, &["pointer"])?;
     Ok(Expression::Load {
-        pointer: member(alloc, content, "pointer")?,
+        pointer: member(alloc, payload, "pointer")?,
     })
 }
 
-fn image_sample_expression(alloc: Global, content: &Value) -> Result<Expression, ReadError> {
+fn image_sample_expression(alloc: Global, payload: &Value) -> Result<Expression, ReadError> {
     expect_members(
         alloc,
-        content,
+        payload,
         &[
             "image",
             "sampler",
@@ -396,173 +396,173 @@ fn image_sample_expression(alloc: Global, content: &Value) -> Result<Expression,
         ],
     )?;
     Ok(Expression::ImageSample {
-        image: member(alloc, content, "image")?,
-        sampler: member(alloc, content, "sampler")?,
-        gather: member(alloc, content, "gather")?,
-        coordinate: member(alloc, content, "coordinate")?,
-        array_index: member(alloc, content, "array_index")?,
-        offset: member(alloc, content, "offset")?,
-        level: member(alloc, content, "level")?,
-        depth_ref: member(alloc, content, "depth_ref")?,
-        clamp_to_edge: member(alloc, content, "clamp_to_edge")?,
+        image: member(alloc, payload, "image")?,
+        sampler: member(alloc, payload, "sampler")?,
+        gather: member(alloc, payload, "gather")?,
+        coordinate: member(alloc, payload, "coordinate")?,
+        array_index: member(alloc, payload, "array_index")?,
+        offset: member(alloc, payload, "offset")?,
+        level: member(alloc, payload, "level")?,
+        depth_ref: member(alloc, payload, "depth_ref")?,
+        clamp_to_edge: member(alloc, payload, "clamp_to_edge")?,
     })
 }
 
-fn image_load_expression(alloc: Global, content: &Value) -> Result<Expression, ReadError> {
+fn image_load_expression(alloc: Global, payload: &Value) -> Result<Expression, ReadError> {
     expect_members(
         alloc,
-        content,
+        payload,
         &["image", "coordinate", "array_index", "sample", "level"],
     )?;
     Ok(Expression::ImageLoad {
-        image: member(alloc, content, "image")?,
-        coordinate: member(alloc, content, "coordinate")?,
-        array_index: member(alloc, content, "array_index")?,
-        sample: member(alloc, content, "sample")?,
-        level: member(alloc, content, "level")?,
+        image: member(alloc, payload, "image")?,
+        coordinate: member(alloc, payload, "coordinate")?,
+        array_index: member(alloc, payload, "array_index")?,
+        sample: member(alloc, payload, "sample")?,
+        level: member(alloc, payload, "level")?,
     })
 }
 
-fn image_query_expression(alloc: Global, content: &Value) -> Result<Expression, ReadError> {
-    expect_members(alloc, content, &["image", "query"])?;
+fn image_query_expression(alloc: Global, payload: &Value) -> Result<Expression, ReadError> {
+    expect_members(alloc, payload, &["image", "query"])?;
     Ok(Expression::ImageQuery {
-        image: member(alloc, content, "image")?,
-        query: member(alloc, content, "query")?,
+        image: member(alloc, payload, "image")?,
+        query: member(alloc, payload, "query")?,
     })
 }
 
-fn unary_expression(alloc: Global, content: &Value) -> Result<Expression, ReadError> {
-    expect_members(alloc, content, &["op", "expr"])?;
+fn unary_expression(alloc: Global, payload: &Value) -> Result<Expression, ReadError> {
+    expect_members(alloc, payload, &["op", "expr"])?;
     Ok(Expression::Unary {
-        op: member(alloc, content, "op")?,
-        expr: member(alloc, content, "expr")?,
+        op: member(alloc, payload, "op")?,
+        expr: member(alloc, payload, "expr")?,
     })
 }
 
-fn binary_expression(alloc: Global, content: &Value) -> Result<Expression, ReadError> {
-    expect_members(alloc, content, &["op", "left", "right"])?;
+fn binary_expression(alloc: Global, payload: &Value) -> Result<Expression, ReadError> {
+    expect_members(alloc, payload, &["op", "left", "right"])?;
     Ok(Expression::Binary {
-        op: member(alloc, content, "op")?,
-        left: member(alloc, content, "left")?,
-        right: member(alloc, content, "right")?,
+        op: member(alloc, payload, "op")?,
+        left: member(alloc, payload, "left")?,
+        right: member(alloc, payload, "right")?,
     })
 }
 
-fn select_expression(alloc: Global, content: &Value) -> Result<Expression, ReadError> {
-    expect_members(alloc, content, &["condition", "accept", "reject"])?;
+fn select_expression(alloc: Global, payload: &Value) -> Result<Expression, ReadError> {
+    expect_members(alloc, payload, &["condition", "accept", "reject"])?;
     Ok(Expression::Select {
-        condition: member(alloc, content, "condition")?,
-        accept: member(alloc, content, "accept")?,
-        reject: member(alloc, content, "reject")?,
+        condition: member(alloc, payload, "condition")?,
+        accept: member(alloc, payload, "accept")?,
+        reject: member(alloc, payload, "reject")?,
     })
 }
 
-fn derivative_expression(alloc: Global, content: &Value) -> Result<Expression, ReadError> {
-    expect_members(alloc, content, &["axis", "ctrl", "expr"])?;
+fn derivative_expression(alloc: Global, payload: &Value) -> Result<Expression, ReadError> {
+    expect_members(alloc, payload, &["axis", "ctrl", "expr"])?;
     Ok(Expression::Derivative {
-        axis: member(alloc, content, "axis")?,
-        ctrl: member(alloc, content, "ctrl")?,
-        expr: member(alloc, content, "expr")?,
+        axis: member(alloc, payload, "axis")?,
+        ctrl: member(alloc, payload, "ctrl")?,
+        expr: member(alloc, payload, "expr")?,
     })
 }
 
-fn relational_expression(alloc: Global, content: &Value) -> Result<Expression, ReadError> {
-    expect_members(alloc, content, &["fun", "argument"])?;
+fn relational_expression(alloc: Global, payload: &Value) -> Result<Expression, ReadError> {
+    expect_members(alloc, payload, &["fun", "argument"])?;
     Ok(Expression::Relational {
-        fun: member(alloc, content, "fun")?,
-        argument: member(alloc, content, "argument")?,
+        fun: member(alloc, payload, "fun")?,
+        argument: member(alloc, payload, "argument")?,
     })
 }
 
-fn math_expression(alloc: Global, content: &Value) -> Result<Expression, ReadError> {
-    expect_members(alloc, content, &["fun", "arg", "arg1", "arg2", "arg3"])?;
+fn math_expression(alloc: Global, payload: &Value) -> Result<Expression, ReadError> {
+    expect_members(alloc, payload, &["fun", "arg", "arg1", "arg2", "arg3"])?;
     Ok(Expression::Math {
-        fun: member(alloc, content, "fun")?,
-        arg: member(alloc, content, "arg")?,
-        arg1: member(alloc, content, "arg1")?,
-        arg2: member(alloc, content, "arg2")?,
-        arg3: member(alloc, content, "arg3")?,
+        fun: member(alloc, payload, "fun")?,
+        arg: member(alloc, payload, "arg")?,
+        arg1: member(alloc, payload, "arg1")?,
+        arg2: member(alloc, payload, "arg2")?,
+        arg3: member(alloc, payload, "arg3")?,
     })
 }
 
-fn as_of_expression(alloc: Global, content: &Value) -> Result<Expression, ReadError> {
-    expect_members(alloc, content, &["expr", "kind", "convert"])?;
+fn as_of_expression(alloc: Global, payload: &Value) -> Result<Expression, ReadError> {
+    expect_members(alloc, payload, &["expr", "kind", "convert"])?;
     Ok(Expression::As {
-        expr: member(alloc, content, "expr")?,
-        kind: member(alloc, content, "kind")?,
-        convert: member(alloc, content, "convert")?,
+        expr: member(alloc, payload, "expr")?,
+        kind: member(alloc, payload, "kind")?,
+        convert: member(alloc, payload, "convert")?,
     })
 }
 
-fn atomic_result_expression(alloc: Global, content: &Value) -> Result<Expression, ReadError> {
-    expect_members(alloc, content, &["ty", "comparison"])?;
+fn atomic_result_expression(alloc: Global, payload: &Value) -> Result<Expression, ReadError> {
+    expect_members(alloc, payload, &["ty", "comparison"])?;
     Ok(Expression::AtomicResult {
-        ty: member(alloc, content, "ty")?,
-        comparison: member(alloc, content, "comparison")?,
+        ty: member(alloc, payload, "ty")?,
+        comparison: member(alloc, payload, "comparison")?,
     })
 }
 
 fn work_group_uniform_load_result_expression(
     alloc: Global,
-    content: &Value,
+    payload: &Value,
 ) -> Result<Expression, ReadError> {
-    expect_members(alloc, content, &["ty"])?;
+    expect_members(alloc, payload, &["ty"])?;
     Ok(Expression::WorkGroupUniformLoadResult {
-        ty: member(alloc, content, "ty")?,
+        ty: member(alloc, payload, "ty")?,
     })
 }
 
 fn ray_query_get_intersection_expression(
     alloc: Global,
-    content: &Value,
+    payload: &Value,
 ) -> Result<Expression, ReadError> {
-    expect_members(alloc, content, &["query", "committed"])?;
+    expect_members(alloc, payload, &["query", "committed"])?;
     Ok(Expression::RayQueryGetIntersection {
-        query: member(alloc, content, "query")?,
-        committed: member(alloc, content, "committed")?,
+        query: member(alloc, payload, "query")?,
+        committed: member(alloc, payload, "committed")?,
     })
 }
 
 fn ray_query_vertex_positions_expression(
     alloc: Global,
-    content: &Value,
+    payload: &Value,
 ) -> Result<Expression, ReadError> {
-    expect_members(alloc, content, &["query", "committed"])?;
+    expect_members(alloc, payload, &["query", "committed"])?;
     Ok(Expression::RayQueryVertexPositions {
-        query: member(alloc, content, "query")?,
-        committed: member(alloc, content, "committed")?,
+        query: member(alloc, payload, "query")?,
+        committed: member(alloc, payload, "committed")?,
     })
 }
 
 fn subgroup_operation_result_expression(
     alloc: Global,
-    content: &Value,
+    payload: &Value,
 ) -> Result<Expression, ReadError> {
-    expect_members(alloc, content, &["ty"])?;
+    expect_members(alloc, payload, &["ty"])?;
     Ok(Expression::SubgroupOperationResult {
-        ty: member(alloc, content, "ty")?,
+        ty: member(alloc, payload, "ty")?,
     })
 }
 
-fn cooperative_load_expression(alloc: Global, content: &Value) -> Result<Expression, ReadError> {
-    expect_members(alloc, content, &["columns", "rows", "role", "data"])?;
+fn cooperative_load_expression(alloc: Global, payload: &Value) -> Result<Expression, ReadError> {
+    expect_members(alloc, payload, &["columns", "rows", "role", "data"])?;
     Ok(Expression::CooperativeLoad {
-        columns: member(alloc, content, "columns")?,
-        rows: member(alloc, content, "rows")?,
-        role: member(alloc, content, "role")?,
-        data_: member(alloc, content, "data")?,
+        columns: member(alloc, payload, "columns")?,
+        rows: member(alloc, payload, "rows")?,
+        role: member(alloc, payload, "role")?,
+        data_: member(alloc, payload, "data")?,
     })
 }
 
 fn cooperative_multiply_add_expression(
     alloc: Global,
-    content: &Value,
+    payload: &Value,
 ) -> Result<Expression, ReadError> {
-    expect_members(alloc, content, &["a", "b", "c"])?;
+    expect_members(alloc, payload, &["a", "b", "c"])?;
     Ok(Expression::CooperativeMultiplyAdd {
-        a: member(alloc, content, "a")?,
-        b: member(alloc, content, "b")?,
-        c: member(alloc, content, "c")?,
+        a: member(alloc, payload, "a")?,
+        b: member(alloc, payload, "b")?,
+        c: member(alloc, payload, "c")?,
     })
 }
 
@@ -621,32 +621,32 @@ impl Variants for Literal {
     fn from_payload(
         alloc: Global,
         variant: LiteralName,
-        content: &Value,
+        payload: &Value,
     ) -> Result<Literal, ReadError> {
         match variant {
-            LiteralName::F64 => Ok(Literal::F64(double_bits(alloc, content)?)),
-            LiteralName::F32 => Ok(Literal::F32(single_bits(alloc, content)?)),
-            LiteralName::F16 => Ok(Literal::F16(half_bits(alloc, content)?)),
+            LiteralName::F64 => Ok(Literal::F64(double_bits(alloc, payload)?)),
+            LiteralName::F32 => Ok(Literal::F32(single_bits(alloc, payload)?)),
+            LiteralName::F16 => Ok(Literal::F16(half_bits(alloc, payload)?)),
             LiteralName::DecimalF64 => Ok(Literal::DecimalF64(FromJson::from_json(
-                alloc, content,
+                alloc, payload,
             )?)),
             LiteralName::DecimalF32 => Ok(Literal::DecimalF32(FromJson::from_json(
-                alloc, content,
+                alloc, payload,
             )?)),
             LiteralName::DecimalF16 => Ok(Literal::DecimalF16(FromJson::from_json(
-                alloc, content,
+                alloc, payload,
             )?)),
-            LiteralName::U16 => Ok(Literal::U16(FromJson::from_json(alloc, content)?)),
-            LiteralName::I16 => Ok(Literal::I16(FromJson::from_json(alloc, content)?)),
-            LiteralName::U32 => Ok(Literal::U32(FromJson::from_json(alloc, content)?)),
-            LiteralName::I32 => Ok(Literal::I32(FromJson::from_json(alloc, content)?)),
-            LiteralName::U64 => Ok(Literal::U64(FromJson::from_json(alloc, content)?)),
-            LiteralName::I64 => Ok(Literal::I64(FromJson::from_json(alloc, content)?)),
-            LiteralName::Bool => Ok(Literal::Bool(FromJson::from_json(alloc, content)?)),
+            LiteralName::U16 => Ok(Literal::U16(FromJson::from_json(alloc, payload)?)),
+            LiteralName::I16 => Ok(Literal::I16(FromJson::from_json(alloc, payload)?)),
+            LiteralName::U32 => Ok(Literal::U32(FromJson::from_json(alloc, payload)?)),
+            LiteralName::I32 => Ok(Literal::I32(FromJson::from_json(alloc, payload)?)),
+            LiteralName::U64 => Ok(Literal::U64(FromJson::from_json(alloc, payload)?)),
+            LiteralName::I64 => Ok(Literal::I64(FromJson::from_json(alloc, payload)?)),
+            LiteralName::Bool => Ok(Literal::Bool(FromJson::from_json(alloc, payload)?)),
             LiteralName::AbstractInt => Ok(Literal::AbstractInt(FromJson::from_json(
-                alloc, content,
+                alloc, payload,
             )?)),
-            LiteralName::AbstractFloat => Ok(Literal::AbstractFloat(double_bits(alloc, content)?)),
+            LiteralName::AbstractFloat => Ok(Literal::AbstractFloat(double_bits(alloc, payload)?)),
         }
     }
 }

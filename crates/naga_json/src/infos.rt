@@ -41,14 +41,14 @@ impl Variants for TypeResolution {
     fn from_payload(
         alloc: Global,
         variant: TypeResolutionName,
-        content: &Value,
+        payload: &Value,
     ) -> Result<TypeResolution, ReadError> {
         match variant {
             TypeResolutionName::Handle => Ok(TypeResolution::Handle(FromJson::from_json(
-                alloc, content,
+                alloc, payload,
             )?)),
             TypeResolutionName::Value => Ok(TypeResolution::Value(FromJson::from_json(
-                alloc, content,
+                alloc, payload,
             )?)),
         }
     }

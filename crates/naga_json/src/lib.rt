@@ -10,8 +10,8 @@
 //!   does hangs on it, as on comments: `let_be.rt` lists those. An early depth test, and a
 //!   workgroup's size that an override sets, are refused unless null: they have no place in a
 //!   [`naga_ir::Module`]. Of an info only some members are read, and the others let be.
-//! - An enum is the name of a variant, or an object whose one member is the variant's content, as
-//!   `"Break"` and `{"Load": {"pointer": 2}}`. The content of a variant that has none is null:
+//! - An enum is the name of a variant, or an object whose one member is the variant's payload, as
+//!   `"Break"` and `{"Load": {"pointer": 2}}`. The payload of a variant that has none is null:
 //!   `{"Break": null}`.
 //! - An arena is a list, and a handle a place in it, counted from zero. No two types are equal.
 //! - An `Emit` is `{"start": 3, "end": 5}`, from the first place to after the last.

@@ -224,7 +224,7 @@ impl FromJson for SubgroupOperation {
     }
 }
 
-/// The variants of [`AtomicFunction`] with content.
+/// The variants of [`AtomicFunction`] with payload.
 #[derive(Clone, Copy)]
 pub(crate) enum AtomicFunctionName {
     Add,
@@ -265,29 +265,29 @@ impl Variants for AtomicFunction {
     fn from_payload(
         alloc: Global,
         variant: AtomicFunctionName,
-        content: &Value,
+        payload: &Value,
     ) -> Result<AtomicFunction, ReadError> {
         match variant {
-            AtomicFunctionName::Add => unit(alloc, content, AtomicFunction::Add),
-            AtomicFunctionName::Subtract => unit(alloc, content, AtomicFunction::Subtract),
-            AtomicFunctionName::And => unit(alloc, content, AtomicFunction::And),
-            AtomicFunctionName::ExclusiveOr => unit(alloc, content, AtomicFunction::ExclusiveOr),
-            AtomicFunctionName::InclusiveOr => unit(alloc, content, AtomicFunction::InclusiveOr),
-            AtomicFunctionName::Min => unit(alloc, content, AtomicFunction::Min),
-            AtomicFunctionName::Max => unit(alloc, content, AtomicFunction::Max),
-            AtomicFunctionName::Exchange => atomic_exchange(alloc, content),
+            AtomicFunctionName::Add => unit(alloc, payload, AtomicFunction::Add),
+            AtomicFunctionName::Subtract => unit(alloc, payload, AtomicFunction::Subtract),
+            AtomicFunctionName::And => unit(alloc, payload, AtomicFunction::And),
+            AtomicFunctionName::ExclusiveOr => unit(alloc, payload, AtomicFunction::ExclusiveOr),
+            AtomicFunctionName::InclusiveOr => unit(alloc, payload, AtomicFunction::InclusiveOr),
+            AtomicFunctionName::Min => unit(alloc, payload, AtomicFunction::Min),
+            AtomicFunctionName::Max => unit(alloc, payload, AtomicFunction::Max),
+            AtomicFunctionName::Exchange => atomic_exchange(alloc, payload),
         }
     }
 }
 
-fn atomic_exchange(alloc: Global, content: &Value) -> Result<AtomicFunction, ReadError> {
-    expect_members(alloc, content, &["compare"])?;
+fn atomic_exchange(alloc: Global, payload: &Value) -> Result<AtomicFunction, ReadError> {
+    expect_members(alloc, payload, &["compare"])?;
     Ok(AtomicFunction::Exchange {
-        compare: member(alloc, content, "compare")?,
+        compare: member(alloc, payload, "compare")?,
     })
 }
 
-/// The variants of [`GatherMode`] with content.
+/// The variants of [`GatherMode`] with payload.
 #[derive(Clone, Copy)]
 pub(crate) enum GatherModeName {
     BroadcastFirst,
@@ -328,30 +328,30 @@ impl Variants for GatherMode {
     fn from_payload(
         alloc: Global,
         variant: GatherModeName,
-        content: &Value,
+        payload: &Value,
     ) -> Result<GatherMode, ReadError> {
         match variant {
-            GatherModeName::BroadcastFirst => unit(alloc, content, GatherMode::BroadcastFirst),
+            GatherModeName::BroadcastFirst => unit(alloc, payload, GatherMode::BroadcastFirst),
             GatherModeName::Broadcast => Ok(GatherMode::Broadcast(FromJson::from_json(
-                alloc, content,
+                alloc, payload,
             )?)),
             GatherModeName::Shuffle => Ok(GatherMode::Shuffle(FromJson::from_json(
-                alloc, content,
+                alloc, payload,
             )?)),
             GatherModeName::ShuffleDown => Ok(GatherMode::ShuffleDown(FromJson::from_json(
-                alloc, content,
+                alloc, payload,
             )?)),
             GatherModeName::ShuffleUp => Ok(GatherMode::ShuffleUp(FromJson::from_json(
-                alloc, content,
+                alloc, payload,
             )?)),
             GatherModeName::ShuffleXor => Ok(GatherMode::ShuffleXor(FromJson::from_json(
-                alloc, content,
+                alloc, payload,
             )?)),
             GatherModeName::QuadBroadcast => Ok(GatherMode::QuadBroadcast(FromJson::from_json(
-                alloc, content,
+                alloc, payload,
             )?)),
             GatherModeName::QuadSwap => Ok(GatherMode::QuadSwap(FromJson::from_json(
-                alloc, content,
+                alloc, payload,
             )?)),
         }
     }

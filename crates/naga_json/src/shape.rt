@@ -17,7 +17,7 @@ pub(crate) trait FromJson: Sized + Drop {
     }
 }
 
-/// An enum of which some variant has content.
+/// An enum of which some variant has payload.
 pub(crate) trait Variants: Sized + Drop {
     /// Which variant it is.
     type Name: Copy + 'static;
@@ -25,8 +25,8 @@ pub(crate) trait Variants: Sized + Drop {
     /// What each name stands for.
     fn names() -> &'static [(&'static str, Self::Name)];
 
-    /// Reads the content of this variant. For a variant without content it is null.
-    fn from_payload(alloc: Global, variant: Self::Name, content: &Value) -> Result<Self, ReadError>;
+    /// Reads the payload of this variant. For a variant without payload it is null.
+    fn from_payload(alloc: Global, variant: Self::Name, payload: &Value) -> Result<Self, ReadError>;
 }
 
 /// The error of a value that is something else than is wanted.
@@ -188,16 +188,16 @@ pub(crate) fn members_of<'v, 'a>(
     }
 }
 
-/// The variant of an enum: its name, and its content where it has some.
+/// The variant of an enum: its name, and its payload where it has some.
 #[derive(Clone, Copy)]
 pub(crate) struct Variant<'v, 'a> {
     /// Its name.
     pub name: &'a str,
-    /// Its content; where there is only a name, null.
-    pub content: &'v Value<'a>,
+    /// Its payload; where there is only a name, null.
+    pub payload: &'v Value<'a>,
 }
 
-/// The variant that a value names; where there is only a name, with null for its content.
+/// The variant that a value names; where there is only a name, with null for its payload.
 pub(crate) fn named_variant<'v, 'a>(
     value: &'v Value<'a>,
     null: &'v Value<'a>,
@@ -205,7 +205,7 @@ pub(crate) fn named_variant<'v, 'a>(
     match value {
         Value::String(name) => Some(Variant {
             name: *name,
-            content: null,
+            payload: null,
         }),
         Value::Object(members) => only_member(members),
         _ => None,
@@ -222,7 +222,7 @@ fn only_member<'v, 'a>(members: &'v Vec<Member<'a>>) -> Option<Variant<'v, 'a>> 
     }
     Some(Variant {
         name: last.0,
-        content: &last.1,
+        payload: &last.1,
     })
 }
 
@@ -239,20 +239,20 @@ pub(crate) fn read_variant<T: Variants + 'static>(
     in_member(
         alloc,
         found.name,
-        T::from_payload(alloc, which, found.content),
+        T::from_payload(alloc, which, found.payload),
     )
 }
 
-/// The variant, which has no content.
-pub(crate) fn unit<T: Drop>(alloc: Global, content: &Value, variant: T) -> Result<T, ReadError> {
-    if content.is_null() {
+/// The variant, which has no payload.
+pub(crate) fn unit<T: Drop>(alloc: Global, payload: &Value, variant: T) -> Result<T, ReadError> {
+    if payload.is_null() {
         Ok(variant)
     } else {
         Err(mistyped(alloc, JsonKind::Null))
     }
 }
 
-/// What the variant stands for in a table of an enum whose variants have no content.
+/// What the variant stands for in a table of an enum whose variants have no payload.
 pub(crate) fn word<T: Copy + Drop>(
     alloc: Global,
     value: &Value,
@@ -263,7 +263,7 @@ pub(crate) fn word<T: Copy + Drop>(
         return Err(mistyped(alloc, JsonKind::Variant));
     };
     let which = entry_named(alloc, found.name, words)?;
-    in_member(alloc, found.name, unit(alloc, found.content, which))
+    in_member(alloc, found.name, unit(alloc, found.payload, which))
 }
 
 /// What the name stands for in a table.

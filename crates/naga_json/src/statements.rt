@@ -41,12 +41,12 @@ impl Variants for SwitchValue {
     fn from_payload(
         alloc: Global,
         variant: SwitchValueName,
-        content: &Value,
+        payload: &Value,
     ) -> Result<SwitchValue, ReadError> {
         match variant {
-            SwitchValueName::I32 => Ok(SwitchValue::I32(FromJson::from_json(alloc, content)?)),
-            SwitchValueName::U32 => Ok(SwitchValue::U32(FromJson::from_json(alloc, content)?)),
-            SwitchValueName::Default => unit(alloc, content, SwitchValue::Default),
+            SwitchValueName::I32 => Ok(SwitchValue::I32(FromJson::from_json(alloc, payload)?)),
+            SwitchValueName::U32 => Ok(SwitchValue::U32(FromJson::from_json(alloc, payload)?)),
+            SwitchValueName::Default => unit(alloc, payload, SwitchValue::Default),
         }
     }
 }
@@ -79,24 +79,24 @@ impl Variants for RayPipelineFunction {
     fn from_payload(
         alloc: Global,
         variant: RayPipelineFunctionName,
-        content: &Value,
+        payload: &Value,
     ) -> Result<RayPipelineFunction, ReadError> {
         match variant {
-            RayPipelineFunctionName::TraceRay => trace_ray(alloc, content),
+            RayPipelineFunctionName::TraceRay => trace_ray(alloc, payload),
         }
     }
 }
 
-fn trace_ray(alloc: Global, content: &Value) -> Result<RayPipelineFunction, ReadError> {
+fn trace_ray(alloc: Global, payload: &Value) -> Result<RayPipelineFunction, ReadError> {
     expect_members(
         alloc,
-        content,
+        payload,
         &["acceleration_structure", "descriptor", "payload"],
     )?;
     Ok(RayPipelineFunction::TraceRay {
-        acceleration_structure: member(alloc, content, "acceleration_structure")?,
-        descriptor: member(alloc, content, "descriptor")?,
-        payload: member(alloc, content, "payload")?,
+        acceleration_structure: member(alloc, payload, "acceleration_structure")?,
+        descriptor: member(alloc, payload, "descriptor")?,
+        payload: member(alloc, payload, "payload")?,
     })
 }
 
@@ -189,153 +189,153 @@ const STATEMENT_NAMES: &[(&str, StatementName)] = &[
 ];
 
 /// A statement without blocks.
-fn simple(alloc: Global, name: SimpleName, content: &Value) -> Result<Statement, ReadError> {
+fn simple(alloc: Global, name: SimpleName, payload: &Value) -> Result<Statement, ReadError> {
     match name {
-        SimpleName::Emit => Ok(Statement::Emit(FromJson::from_json(alloc, content)?)),
-        SimpleName::Break => unit(alloc, content, Statement::Break),
-        SimpleName::Continue => unit(alloc, content, Statement::Continue),
-        SimpleName::Return => return_of(alloc, content),
-        SimpleName::Kill => unit(alloc, content, Statement::Kill),
+        SimpleName::Emit => Ok(Statement::Emit(FromJson::from_json(alloc, payload)?)),
+        SimpleName::Break => unit(alloc, payload, Statement::Break),
+        SimpleName::Continue => unit(alloc, payload, Statement::Continue),
+        SimpleName::Return => return_of(alloc, payload),
+        SimpleName::Kill => unit(alloc, payload, Statement::Kill),
         SimpleName::ControlBarrier => Ok(Statement::ControlBarrier(FromJson::from_json(
-            alloc, content,
+            alloc, payload,
         )?)),
         SimpleName::MemoryBarrier => Ok(Statement::MemoryBarrier(FromJson::from_json(
-            alloc, content,
+            alloc, payload,
         )?)),
-        SimpleName::Store => store(alloc, content),
-        SimpleName::ImageStore => image_store(alloc, content),
-        SimpleName::Atomic => atomic(alloc, content),
-        SimpleName::ImageAtomic => image_atomic(alloc, content),
-        SimpleName::WorkGroupUniformLoad => work_group_uniform_load(alloc, content),
-        SimpleName::Call => call(alloc, content),
-        SimpleName::RayQuery => ray_query(alloc, content),
-        SimpleName::SubgroupBallot => subgroup_ballot(alloc, content),
-        SimpleName::SubgroupGather => subgroup_gather(alloc, content),
-        SimpleName::SubgroupCollectiveOperation => subgroup_collective_operation(alloc, content),
-        SimpleName::CooperativeStore => cooperative_store(alloc, content),
+        SimpleName::Store => store(alloc, payload),
+        SimpleName::ImageStore => image_store(alloc, payload),
+        SimpleName::Atomic => atomic(alloc, payload),
+        SimpleName::ImageAtomic => image_atomic(alloc, payload),
+        SimpleName::WorkGroupUniformLoad => work_group_uniform_load(alloc, payload),
+        SimpleName::Call => call(alloc, payload),
+        SimpleName::RayQuery => ray_query(alloc, payload),
+        SimpleName::SubgroupBallot => subgroup_ballot(alloc, payload),
+        SimpleName::SubgroupGather => subgroup_gather(alloc, payload),
+        SimpleName::SubgroupCollectiveOperation => subgroup_collective_operation(alloc, payload),
+        SimpleName::CooperativeStore => cooperative_store(alloc, payload),
         SimpleName::RayPipelineFunction => Ok(Statement::RayPipelineFunction(FromJson::from_json(
-            alloc, content,
+            alloc, payload,
         )?)),
     }
 }
 
-fn return_of(alloc: Global, content: &Value) -> Result<Statement, ReadError> {
-    if content.is_null() {
+fn return_of(alloc: Global, payload: &Value) -> Result<Statement, ReadError> {
+    if payload.is_null() {
         return Ok(Statement::Return { value: None });
     }
-    expect_members(alloc, content, &["value"])?;
+    expect_members(alloc, payload, &["value"])?;
     Ok(Statement::Return {
-        value: member(alloc, content, "value")?,
+        value: member(alloc, payload, "value")?,
     })
 }
 
-fn store(alloc: Global, content: &Value) -> Result<Statement, ReadError> {
-    expect_members(alloc, content, &["pointer", "value"])?;
+fn store(alloc: Global, payload: &Value) -> Result<Statement, ReadError> {
+    expect_members(alloc, payload, &["pointer", "value"])?;
     Ok(Statement::Store {
-        pointer: member(alloc, content, "pointer")?,
-        value: member(alloc, content, "value")?,
+        pointer: member(alloc, payload, "pointer")?,
+        value: member(alloc, payload, "value")?,
     })
 }
 
-fn image_store(alloc: Global, content: &Value) -> Result<Statement, ReadError> {
+fn image_store(alloc: Global, payload: &Value) -> Result<Statement, ReadError> {
     expect_members(
         alloc,
-        content,
+        payload,
         &["image", "coordinate", "array_index", "value"],
     )?;
     Ok(Statement::ImageStore {
-        image: member(alloc, content, "image")?,
-        coordinate: member(alloc, content, "coordinate")?,
-        array_index: member(alloc, content, "array_index")?,
-        value: member(alloc, content, "value")?,
+        image: member(alloc, payload, "image")?,
+        coordinate: member(alloc, payload, "coordinate")?,
+        array_index: member(alloc, payload, "array_index")?,
+        value: member(alloc, payload, "value")?,
     })
 }
 
-fn atomic(alloc: Global, content: &Value) -> Result<Statement, ReadError> {
-    expect_members(alloc, content, &["pointer", "fun", "value", "result"])?;
+fn atomic(alloc: Global, payload: &Value) -> Result<Statement, ReadError> {
+    expect_members(alloc, payload, &["pointer", "fun", "value", "result"])?;
     Ok(Statement::Atomic {
-        pointer: member(alloc, content, "pointer")?,
-        fun: member(alloc, content, "fun")?,
-        value: member(alloc, content, "value")?,
-        result: member(alloc, content, "result")?,
+        pointer: member(alloc, payload, "pointer")?,
+        fun: member(alloc, payload, "fun")?,
+        value: member(alloc, payload, "value")?,
+        result: member(alloc, payload, "result")?,
     })
 }
 
-fn image_atomic(alloc: Global, content: &Value) -> Result<Statement, ReadError> {
+fn image_atomic(alloc: Global, payload: &Value) -> Result<Statement, ReadError> {
     expect_members(
         alloc,
-        content,
+        payload,
         &["image", "coordinate", "array_index", "fun", "value"],
     )?;
     Ok(Statement::ImageAtomic {
-        image: member(alloc, content, "image")?,
-        coordinate: member(alloc, content, "coordinate")?,
-        array_index: member(alloc, content, "array_index")?,
-        fun: member(alloc, content, "fun")?,
-        value: member(alloc, content, "value")?,
+        image: member(alloc, payload, "image")?,
+        coordinate: member(alloc, payload, "coordinate")?,
+        array_index: member(alloc, payload, "array_index")?,
+        fun: member(alloc, payload, "fun")?,
+        value: member(alloc, payload, "value")?,
     })
 }
 
-fn work_group_uniform_load(alloc: Global, content: &Value) -> Result<Statement, ReadError> {
-    expect_members(alloc, content, &["pointer", "result"])?;
+fn work_group_uniform_load(alloc: Global, payload: &Value) -> Result<Statement, ReadError> {
+    expect_members(alloc, payload, &["pointer", "result"])?;
     Ok(Statement::WorkGroupUniformLoad {
-        pointer: member(alloc, content, "pointer")?,
-        result: member(alloc, content, "result")?,
+        pointer: member(alloc, payload, "pointer")?,
+        result: member(alloc, payload, "result")?,
     })
 }
 
-fn call(alloc: Global, content: &Value) -> Result<Statement, ReadError> {
-    expect_members(alloc, content, &["function", "arguments", "result"])?;
+fn call(alloc: Global, payload: &Value) -> Result<Statement, ReadError> {
+    expect_members(alloc, payload, &["function", "arguments", "result"])?;
     Ok(Statement::Call {
-        function: member(alloc, content, "function")?,
-        arguments: member(alloc, content, "arguments")?,
-        result: member(alloc, content, "result")?,
+        function: member(alloc, payload, "function")?,
+        arguments: member(alloc, payload, "arguments")?,
+        result: member(alloc, payload, "result")?,
     })
 }
 
-fn ray_query(alloc: Global, content: &Value) -> Result<Statement, ReadError> {
-    expect_members_beside(alloc, content, &["query"], let_be::OF_RAY_QUERY)?;
+fn ray_query(alloc: Global, payload: &Value) -> Result<Statement, ReadError> {
+    expect_members_beside(alloc, payload, &["query"], let_be::OF_RAY_QUERY)?;
     Ok(Statement::RayQuery {
-        query: member(alloc, content, "query")?,
+        query: member(alloc, payload, "query")?,
     })
 }
 
-fn subgroup_ballot(alloc: Global, content: &Value) -> Result<Statement, ReadError> {
-    expect_members(alloc, content, &["result", "predicate"])?;
+fn subgroup_ballot(alloc: Global, payload: &Value) -> Result<Statement, ReadError> {
+    expect_members(alloc, payload, &["result", "predicate"])?;
     Ok(Statement::SubgroupBallot {
-        result: member(alloc, content, "result")?,
-        predicate: member(alloc, content, "predicate")?,
+        result: member(alloc, payload, "result")?,
+        predicate: member(alloc, payload, "predicate")?,
     })
 }
 
-fn subgroup_gather(alloc: Global, content: &Value) -> Result<Statement, ReadError> {
-    expect_members(alloc, content, &["mode", "argument", "result"])?;
+fn subgroup_gather(alloc: Global, payload: &Value) -> Result<Statement, ReadError> {
+    expect_members(alloc, payload, &["mode", "argument", "result"])?;
     Ok(Statement::SubgroupGather {
-        mode: member(alloc, content, "mode")?,
-        argument: member(alloc, content, "argument")?,
-        result: member(alloc, content, "result")?,
+        mode: member(alloc, payload, "mode")?,
+        argument: member(alloc, payload, "argument")?,
+        result: member(alloc, payload, "result")?,
     })
 }
 
-fn subgroup_collective_operation(alloc: Global, content: &Value) -> Result<Statement, ReadError> {
+fn subgroup_collective_operation(alloc: Global, payload: &Value) -> Result<Statement, ReadError> {
     expect_members(
         alloc,
-        content,
+        payload,
         &["op", "collective_op", "argument", "result"],
     )?;
     Ok(Statement::SubgroupCollectiveOperation {
-        op: member(alloc, content, "op")?,
-        collective_op: member(alloc, content, "collective_op")?,
-        argument: member(alloc, content, "argument")?,
-        result: member(alloc, content, "result")?,
+        op: member(alloc, payload, "op")?,
+        collective_op: member(alloc, payload, "collective_op")?,
+        argument: member(alloc, payload, "argument")?,
+        result: member(alloc, payload, "result")?,
     })
 }
 
-fn cooperative_store(alloc: Global, content: &Value) -> Result<Statement, ReadError> {
-    expect_members(alloc, content, &["target", "data"])?;
+fn cooperative_store(alloc: Global, payload: &Value) -> Result<Statement, ReadError> {
+    expect_members(alloc, payload, &["target", "data"])?;
     Ok(Statement::CooperativeStore {
-        target: member(alloc, content, "target")?,
-        data_: member(alloc, content, "data")?,
+        target: member(alloc, payload, "target")?,
+        data_: member(alloc, payload, "data")?,
     })
 }
 
@@ -382,7 +382,7 @@ fn statement(alloc: Global, value: &Value, levels: u32) -> Result<Statement, Rea
     in_member(
         alloc,
         found.name,
-        named_statement(alloc, name, found.content, levels),
+        named_statement(alloc, name, found.payload, levels),
     )
 }
 
@@ -390,15 +390,15 @@ fn statement(alloc: Global, value: &Value, levels: u32) -> Result<Statement, Rea
 fn named_statement(
     alloc: Global,
     name: StatementName,
-    content: &Value,
+    payload: &Value,
     levels: u32,
 ) -> Result<Statement, ReadError> {
     match name {
-        StatementName::Block => Ok(Statement::Block(block(alloc, content, levels)?)),
-        StatementName::If => if_else(alloc, content, levels),
-        StatementName::Switch => switch(alloc, content, levels),
-        StatementName::Loop => loop_of(alloc, content, levels),
-        StatementName::Simple(name) => simple(alloc, name, content),
+        StatementName::Block => Ok(Statement::Block(block(alloc, payload, levels)?)),
+        StatementName::If => if_else(alloc, payload, levels),
+        StatementName::Switch => switch(alloc, payload, levels),
+        StatementName::Loop => loop_of(alloc, payload, levels),
+        StatementName::Simple(name) => simple(alloc, name, payload),
     }
 }
 
@@ -406,11 +406,11 @@ fn named_statement(
 #[cycle(statements)]
 fn member_block(
     alloc: Global,
-    content: &Value,
+    payload: &Value,
     name: &str,
     levels: u32,
 ) -> Result<Block, ReadError> {
-    match content.get(name) {
+    match payload.get(name) {
         Some(found) => in_member(alloc, name, block(alloc, found, levels)),
         None => in_member(alloc, name, Err(missing(alloc))),
     }
@@ -420,22 +420,22 @@ fn member_block(
 #[cycle(statements)]
 fn block_if_told(
     alloc: Global,
-    content: &Value,
+    payload: &Value,
     name: &str,
     levels: u32,
 ) -> Result<Block, ReadError> {
-    match content.get(name) {
+    match payload.get(name) {
         Some(found) => in_member(alloc, name, block(alloc, found, levels)),
         None => Ok(Block::new(alloc)),
     }
 }
 
 #[cycle(statements)]
-fn if_else(alloc: Global, content: &Value, levels: u32) -> Result<Statement, ReadError> {
-    expect_members(alloc, content, &["condition", "accept", "reject"])?;
-    let condition = member(alloc, content, "condition")?;
-    let accept = member_block(alloc, content, "accept", levels)?;
-    let reject = block_if_told(alloc, content, "reject", levels)?;
+fn if_else(alloc: Global, payload: &Value, levels: u32) -> Result<Statement, ReadError> {
+    expect_members(alloc, payload, &["condition", "accept", "reject"])?;
+    let condition = member(alloc, payload, "condition")?;
+    let accept = member_block(alloc, payload, "accept", levels)?;
+    let reject = block_if_told(alloc, payload, "reject", levels)?;
     Ok(Statement::If {
         condition,
         accept,
@@ -444,11 +444,11 @@ fn if_else(alloc: Global, content: &Value, levels: u32) -> Result<Statement, Rea
 }
 
 #[cycle(statements)]
-fn loop_of(alloc: Global, content: &Value, levels: u32) -> Result<Statement, ReadError> {
-    expect_members(alloc, content, &["break_if", "body", "continuing"])?;
-    let break_if = member(alloc, content, "break_if")?;
-    let body = member_block(alloc, content, "body", levels)?;
-    let continuing = block_if_told(alloc, content, "continuing", levels)?;
+fn loop_of(alloc: Global, payload: &Value, levels: u32) -> Result<Statement, ReadError> {
+    expect_members(alloc, payload, &["break_if", "body", "continuing"])?;
+    let break_if = member(alloc, payload, "break_if")?;
+    let body = member_block(alloc, payload, "body", levels)?;
+    let continuing = block_if_told(alloc, payload, "continuing", levels)?;
     Ok(Statement::Loop {
         body,
         continuing,
@@ -457,10 +457,10 @@ fn loop_of(alloc: Global, content: &Value, levels: u32) -> Result<Statement, Rea
 }
 
 #[cycle(statements)]
-fn switch(alloc: Global, content: &Value, levels: u32) -> Result<Statement, ReadError> {
-    expect_members(alloc, content, &["selector", "cases"])?;
-    let selector = member(alloc, content, "selector")?;
-    let cases = match content.get("cases") {
+fn switch(alloc: Global, payload: &Value, levels: u32) -> Result<Statement, ReadError> {
+    expect_members(alloc, payload, &["selector", "cases"])?;
+    let selector = member(alloc, payload, "selector")?;
+    let cases = match payload.get("cases") {
         Some(listed) => cases_of(alloc, listed, levels),
         None => Err(missing(alloc)),
     };
@@ -481,11 +481,11 @@ fn cases_of(alloc: Global, value: &Value, levels: u32) -> Result<Vec<SwitchCase>
 }
 
 #[cycle(statements)]
-fn case_of(alloc: Global, content: &Value, levels: u32) -> Result<SwitchCase, ReadError> {
-    expect_members(alloc, content, &["value", "fall_through", "body"])?;
-    let value = member(alloc, content, "value")?;
-    let fall_through = member(alloc, content, "fall_through")?;
-    let body = member_block(alloc, content, "body", levels)?;
+fn case_of(alloc: Global, payload: &Value, levels: u32) -> Result<SwitchCase, ReadError> {
+    expect_members(alloc, payload, &["value", "fall_through", "body"])?;
+    let value = member(alloc, payload, "value")?;
+    let fall_through = member(alloc, payload, "fall_through")?;
+    let body = member_block(alloc, payload, "body", levels)?;
     Ok(SwitchCase {
         value,
         body,

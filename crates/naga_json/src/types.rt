@@ -70,11 +70,11 @@ impl FromJson for ScalarKind {
 }
 
 impl FromJson for Scalar {
-    fn from_json(alloc: Global, content: &Value) -> Result<Scalar, ReadError> {
-        expect_members(alloc, content, &["kind", "width"])?;
+    fn from_json(alloc: Global, payload: &Value) -> Result<Scalar, ReadError> {
+        expect_members(alloc, payload, &["kind", "width"])?;
         Ok(Scalar {
-            kind: member(alloc, content, "kind")?,
-            width: member(alloc, content, "width")?,
+            kind: member(alloc, payload, "kind")?,
+            width: member(alloc, payload, "width")?,
         })
     }
 }
@@ -125,19 +125,19 @@ impl Variants for AddressSpace {
     fn from_payload(
         alloc: Global,
         variant: AddressSpaceName,
-        content: &Value,
+        payload: &Value,
     ) -> Result<AddressSpace, ReadError> {
         match variant {
-            AddressSpaceName::Unit(space) => unit(alloc, content, space),
-            AddressSpaceName::Storage => space_storage(alloc, content),
+            AddressSpaceName::Unit(space) => unit(alloc, payload, space),
+            AddressSpaceName::Storage => space_storage(alloc, payload),
         }
     }
 }
 
-fn space_storage(alloc: Global, content: &Value) -> Result<AddressSpace, ReadError> {
-    expect_members(alloc, content, &["access"])?;
+fn space_storage(alloc: Global, payload: &Value) -> Result<AddressSpace, ReadError> {
+    expect_members(alloc, payload, &["access"])?;
     Ok(AddressSpace::Storage {
-        access: member(alloc, content, "access")?,
+        access: member(alloc, payload, "access")?,
     })
 }
 
@@ -175,49 +175,49 @@ impl Variants for PredeclaredType {
     fn from_payload(
         alloc: Global,
         variant: PredeclaredTypeName,
-        content: &Value,
+        payload: &Value,
     ) -> Result<PredeclaredType, ReadError> {
         match variant {
             PredeclaredTypeName::AtomicCompareExchangeWeakResult => Ok(
                 PredeclaredType::AtomicCompareExchangeWeakResult(FromJson::from_json(
-                    alloc, content,
+                    alloc, payload,
                 )?),
             ),
-            PredeclaredTypeName::ModfResult => predeclared_modf_result(alloc, content),
-            PredeclaredTypeName::FrexpResult => predeclared_frexp_result(alloc, content),
+            PredeclaredTypeName::ModfResult => predeclared_modf_result(alloc, payload),
+            PredeclaredTypeName::FrexpResult => predeclared_frexp_result(alloc, payload),
         }
     }
 }
 
-fn predeclared_modf_result(alloc: Global, content: &Value) -> Result<PredeclaredType, ReadError> {
-    expect_members(alloc, content, &["size", "scalar"])?;
+fn predeclared_modf_result(alloc: Global, payload: &Value) -> Result<PredeclaredType, ReadError> {
+    expect_members(alloc, payload, &["size", "scalar"])?;
     Ok(PredeclaredType::ModfResult {
-        size: member(alloc, content, "size")?,
-        scalar: member(alloc, content, "scalar")?,
+        size: member(alloc, payload, "size")?,
+        scalar: member(alloc, payload, "scalar")?,
     })
 }
 
-fn predeclared_frexp_result(alloc: Global, content: &Value) -> Result<PredeclaredType, ReadError> {
-    expect_members(alloc, content, &["size", "scalar"])?;
+fn predeclared_frexp_result(alloc: Global, payload: &Value) -> Result<PredeclaredType, ReadError> {
+    expect_members(alloc, payload, &["size", "scalar"])?;
     Ok(PredeclaredType::FrexpResult {
-        size: member(alloc, content, "size")?,
-        scalar: member(alloc, content, "scalar")?,
+        size: member(alloc, payload, "size")?,
+        scalar: member(alloc, payload, "scalar")?,
     })
 }
 
 impl FromJson for StructMember {
-    fn from_json(alloc: Global, content: &Value) -> Result<StructMember, ReadError> {
-        expect_members(alloc, content, &["name", "ty", "binding", "offset"])?;
+    fn from_json(alloc: Global, payload: &Value) -> Result<StructMember, ReadError> {
+        expect_members(alloc, payload, &["name", "ty", "binding", "offset"])?;
         Ok(StructMember {
-            name: member(alloc, content, "name")?,
-            ty: member(alloc, content, "ty")?,
-            binding: member(alloc, content, "binding")?,
-            offset: member(alloc, content, "offset")?,
+            name: member(alloc, payload, "name")?,
+            ty: member(alloc, payload, "ty")?,
+            binding: member(alloc, payload, "binding")?,
+            offset: member(alloc, payload, "offset")?,
         })
     }
 }
 
-/// The variants of [`TypeInner`] with content.
+/// The variants of [`TypeInner`] with payload.
 #[derive(Clone, Copy)]
 pub(crate) enum TypeInnerName {
     Scalar,
@@ -273,132 +273,132 @@ impl Variants for TypeInner {
     fn from_payload(
         alloc: Global,
         variant: TypeInnerName,
-        content: &Value,
+        payload: &Value,
     ) -> Result<TypeInner, ReadError> {
         match variant {
-            TypeInnerName::Scalar => Ok(TypeInner::Scalar(FromJson::from_json(alloc, content)?)),
-            TypeInnerName::Vector => vector_type(alloc, content),
-            TypeInnerName::Matrix => matrix_type(alloc, content),
-            TypeInnerName::CooperativeMatrix => cooperative_matrix_type(alloc, content),
-            TypeInnerName::Atomic => Ok(TypeInner::Atomic(FromJson::from_json(alloc, content)?)),
-            TypeInnerName::Pointer => pointer_type(alloc, content),
-            TypeInnerName::ValuePointer => value_pointer_type(alloc, content),
-            TypeInnerName::Array => array_of_type(alloc, content),
-            TypeInnerName::Struct => struct_type(alloc, content),
-            TypeInnerName::Image => image_type(alloc, content),
-            TypeInnerName::Sampler => sampler_type(alloc, content),
-            TypeInnerName::AccelerationStructure => acceleration_structure_type(alloc, content),
-            TypeInnerName::RayQuery => ray_query_type(alloc, content),
-            TypeInnerName::BindingArray => binding_array_type(alloc, content),
+            TypeInnerName::Scalar => Ok(TypeInner::Scalar(FromJson::from_json(alloc, payload)?)),
+            TypeInnerName::Vector => vector_type(alloc, payload),
+            TypeInnerName::Matrix => matrix_type(alloc, payload),
+            TypeInnerName::CooperativeMatrix => cooperative_matrix_type(alloc, payload),
+            TypeInnerName::Atomic => Ok(TypeInner::Atomic(FromJson::from_json(alloc, payload)?)),
+            TypeInnerName::Pointer => pointer_type(alloc, payload),
+            TypeInnerName::ValuePointer => value_pointer_type(alloc, payload),
+            TypeInnerName::Array => array_of_type(alloc, payload),
+            TypeInnerName::Struct => struct_type(alloc, payload),
+            TypeInnerName::Image => image_type(alloc, payload),
+            TypeInnerName::Sampler => sampler_type(alloc, payload),
+            TypeInnerName::AccelerationStructure => acceleration_structure_type(alloc, payload),
+            TypeInnerName::RayQuery => ray_query_type(alloc, payload),
+            TypeInnerName::BindingArray => binding_array_type(alloc, payload),
         }
     }
 }
 
-fn vector_type(alloc: Global, content: &Value) -> Result<TypeInner, ReadError> {
-    expect_members(alloc, content, &["size", "scalar"])?;
+fn vector_type(alloc: Global, payload: &Value) -> Result<TypeInner, ReadError> {
+    expect_members(alloc, payload, &["size", "scalar"])?;
     Ok(TypeInner::Vector {
-        size: member(alloc, content, "size")?,
-        scalar: member(alloc, content, "scalar")?,
+        size: member(alloc, payload, "size")?,
+        scalar: member(alloc, payload, "scalar")?,
     })
 }
 
-fn matrix_type(alloc: Global, content: &Value) -> Result<TypeInner, ReadError> {
-    expect_members(alloc, content, &["columns", "rows", "scalar"])?;
+fn matrix_type(alloc: Global, payload: &Value) -> Result<TypeInner, ReadError> {
+    expect_members(alloc, payload, &["columns", "rows", "scalar"])?;
     Ok(TypeInner::Matrix {
-        columns: member(alloc, content, "columns")?,
-        rows: member(alloc, content, "rows")?,
-        scalar: member(alloc, content, "scalar")?,
+        columns: member(alloc, payload, "columns")?,
+        rows: member(alloc, payload, "rows")?,
+        scalar: member(alloc, payload, "scalar")?,
     })
 }
 
-fn cooperative_matrix_type(alloc: Global, content: &Value) -> Result<TypeInner, ReadError> {
-    expect_members(alloc, content, &["columns", "rows", "scalar", "role"])?;
+fn cooperative_matrix_type(alloc: Global, payload: &Value) -> Result<TypeInner, ReadError> {
+    expect_members(alloc, payload, &["columns", "rows", "scalar", "role"])?;
     Ok(TypeInner::CooperativeMatrix {
-        columns: member(alloc, content, "columns")?,
-        rows: member(alloc, content, "rows")?,
-        scalar: member(alloc, content, "scalar")?,
-        role: member(alloc, content, "role")?,
+        columns: member(alloc, payload, "columns")?,
+        rows: member(alloc, payload, "rows")?,
+        scalar: member(alloc, payload, "scalar")?,
+        role: member(alloc, payload, "role")?,
     })
 }
 
-fn pointer_type(alloc: Global, content: &Value) -> Result<TypeInner, ReadError> {
-    expect_members(alloc, content, &["base", "space"])?;
+fn pointer_type(alloc: Global, payload: &Value) -> Result<TypeInner, ReadError> {
+    expect_members(alloc, payload, &["base", "space"])?;
     Ok(TypeInner::Pointer {
-        base: member(alloc, content, "base")?,
-        space: member(alloc, content, "space")?,
+        base: member(alloc, payload, "base")?,
+        space: member(alloc, payload, "space")?,
     })
 }
 
-fn value_pointer_type(alloc: Global, content: &Value) -> Result<TypeInner, ReadError> {
-    expect_members(alloc, content, &["size", "scalar", "space"])?;
+fn value_pointer_type(alloc: Global, payload: &Value) -> Result<TypeInner, ReadError> {
+    expect_members(alloc, payload, &["size", "scalar", "space"])?;
     Ok(TypeInner::ValuePointer {
-        size: member(alloc, content, "size")?,
-        scalar: member(alloc, content, "scalar")?,
-        space: member(alloc, content, "space")?,
+        size: member(alloc, payload, "size")?,
+        scalar: member(alloc, payload, "scalar")?,
+        space: member(alloc, payload, "space")?,
     })
 }
 
-fn array_of_type(alloc: Global, content: &Value) -> Result<TypeInner, ReadError> {
-    expect_members(alloc, content, &["base", "size", "stride"])?;
+fn array_of_type(alloc: Global, payload: &Value) -> Result<TypeInner, ReadError> {
+    expect_members(alloc, payload, &["base", "size", "stride"])?;
     Ok(TypeInner::Array {
-        base: member(alloc, content, "base")?,
-        size: member(alloc, content, "size")?,
-        stride: member(alloc, content, "stride")?,
+        base: member(alloc, payload, "base")?,
+        size: member(alloc, payload, "size")?,
+        stride: member(alloc, payload, "stride")?,
     })
 }
 
-fn struct_type(alloc: Global, content: &Value) -> Result<TypeInner, ReadError> {
-    expect_members(alloc, content, &["members", "span"])?;
+fn struct_type(alloc: Global, payload: &Value) -> Result<TypeInner, ReadError> {
+    expect_members(alloc, payload, &["members", "span"])?;
     Ok(TypeInner::Struct {
-        members: member(alloc, content, "members")?,
-        span: member(alloc, content, "span")?,
+        members: member(alloc, payload, "members")?,
+        span: member(alloc, payload, "span")?,
     })
 }
 
-fn image_type(alloc: Global, content: &Value) -> Result<TypeInner, ReadError> {
-    expect_members(alloc, content, &["dim", "arrayed", "class"])?;
+fn image_type(alloc: Global, payload: &Value) -> Result<TypeInner, ReadError> {
+    expect_members(alloc, payload, &["dim", "arrayed", "class"])?;
     Ok(TypeInner::Image {
-        dim: member(alloc, content, "dim")?,
-        arrayed: member(alloc, content, "arrayed")?,
-        class: member(alloc, content, "class")?,
+        dim: member(alloc, payload, "dim")?,
+        arrayed: member(alloc, payload, "arrayed")?,
+        class: member(alloc, payload, "class")?,
     })
 }
 
-fn sampler_type(alloc: Global, content: &Value) -> Result<TypeInner, ReadError> {
-    expect_members(alloc, content, &["comparison"])?;
+fn sampler_type(alloc: Global, payload: &Value) -> Result<TypeInner, ReadError> {
+    expect_members(alloc, payload, &["comparison"])?;
     Ok(TypeInner::Sampler {
-        comparison: member(alloc, content, "comparison")?,
+        comparison: member(alloc, payload, "comparison")?,
     })
 }
 
-fn acceleration_structure_type(alloc: Global, content: &Value) -> Result<TypeInner, ReadError> {
-    expect_members(alloc, content, &["vertex_return"])?;
+fn acceleration_structure_type(alloc: Global, payload: &Value) -> Result<TypeInner, ReadError> {
+    expect_members(alloc, payload, &["vertex_return"])?;
     Ok(TypeInner::AccelerationStructure {
-        vertex_return: member(alloc, content, "vertex_return")?,
+        vertex_return: member(alloc, payload, "vertex_return")?,
     })
 }
 
-fn ray_query_type(alloc: Global, content: &Value) -> Result<TypeInner, ReadError> {
-    expect_members(alloc, content, &["vertex_return"])?;
+fn ray_query_type(alloc: Global, payload: &Value) -> Result<TypeInner, ReadError> {
+    expect_members(alloc, payload, &["vertex_return"])?;
     Ok(TypeInner::RayQuery {
-        vertex_return: member(alloc, content, "vertex_return")?,
+        vertex_return: member(alloc, payload, "vertex_return")?,
     })
 }
 
-fn binding_array_type(alloc: Global, content: &Value) -> Result<TypeInner, ReadError> {
-    expect_members(alloc, content, &["base", "size"])?;
+fn binding_array_type(alloc: Global, payload: &Value) -> Result<TypeInner, ReadError> {
+    expect_members(alloc, payload, &["base", "size"])?;
     Ok(TypeInner::BindingArray {
-        base: member(alloc, content, "base")?,
-        size: member(alloc, content, "size")?,
+        base: member(alloc, payload, "base")?,
+        size: member(alloc, payload, "size")?,
     })
 }
 
 impl FromJson for Type_ {
-    fn from_json(alloc: Global, content: &Value) -> Result<Type_, ReadError> {
-        expect_members(alloc, content, &["name", "inner"])?;
+    fn from_json(alloc: Global, payload: &Value) -> Result<Type_, ReadError> {
+        expect_members(alloc, payload, &["name", "inner"])?;
         Ok(Type_ {
-            name: member(alloc, content, "name")?,
-            inner: member(alloc, content, "inner")?,
+            name: member(alloc, payload, "name")?,
+            inner: member(alloc, payload, "inner")?,
         })
     }
 }
@@ -450,37 +450,37 @@ impl Variants for ImageClass {
     fn from_payload(
         alloc: Global,
         variant: ImageClassName,
-        content: &Value,
+        payload: &Value,
     ) -> Result<ImageClass, ReadError> {
         match variant {
-            ImageClassName::Sampled => class_sampled(alloc, content),
-            ImageClassName::Depth => class_depth(alloc, content),
-            ImageClassName::External => unit(alloc, content, ImageClass::External),
-            ImageClassName::Storage => class_storage(alloc, content),
+            ImageClassName::Sampled => class_sampled(alloc, payload),
+            ImageClassName::Depth => class_depth(alloc, payload),
+            ImageClassName::External => unit(alloc, payload, ImageClass::External),
+            ImageClassName::Storage => class_storage(alloc, payload),
         }
     }
 }
 
-fn class_sampled(alloc: Global, content: &Value) -> Result<ImageClass, ReadError> {
-    expect_members(alloc, content, &["kind", "multi"])?;
+fn class_sampled(alloc: Global, payload: &Value) -> Result<ImageClass, ReadError> {
+    expect_members(alloc, payload, &["kind", "multi"])?;
     Ok(ImageClass::Sampled {
-        kind: member(alloc, content, "kind")?,
-        multi: member(alloc, content, "multi")?,
+        kind: member(alloc, payload, "kind")?,
+        multi: member(alloc, payload, "multi")?,
     })
 }
 
-fn class_depth(alloc: Global, content: &Value) -> Result<ImageClass, ReadError> {
-    expect_members(alloc, content, &["multi"])?;
+fn class_depth(alloc: Global, payload: &Value) -> Result<ImageClass, ReadError> {
+    expect_members(alloc, payload, &["multi"])?;
     Ok(ImageClass::Depth {
-        multi: member(alloc, content, "multi")?,
+        multi: member(alloc, payload, "multi")?,
     })
 }
 
-fn class_storage(alloc: Global, content: &Value) -> Result<ImageClass, ReadError> {
-    expect_members(alloc, content, &["format", "access"])?;
+fn class_storage(alloc: Global, payload: &Value) -> Result<ImageClass, ReadError> {
+    expect_members(alloc, payload, &["format", "access"])?;
     Ok(ImageClass::Storage {
-        format: member(alloc, content, "format")?,
-        access: member(alloc, content, "access")?,
+        format: member(alloc, payload, "format")?,
+        access: member(alloc, payload, "access")?,
     })
 }
 
@@ -566,18 +566,18 @@ impl Variants for ArraySize {
     fn from_payload(
         alloc: Global,
         variant: ArraySizeName,
-        content: &Value,
+        payload: &Value,
     ) -> Result<ArraySize, ReadError> {
         match variant {
-            ArraySizeName::Constant => constant_size(alloc, content),
-            ArraySizeName::Pending => Ok(ArraySize::Pending(FromJson::from_json(alloc, content)?)),
-            ArraySizeName::Dynamic => unit(alloc, content, ArraySize::Dynamic),
+            ArraySizeName::Constant => constant_size(alloc, payload),
+            ArraySizeName::Pending => Ok(ArraySize::Pending(FromJson::from_json(alloc, payload)?)),
+            ArraySizeName::Dynamic => unit(alloc, payload, ArraySize::Dynamic),
         }
     }
 }
 
-fn constant_size(alloc: Global, content: &Value) -> Result<ArraySize, ReadError> {
-    match NonZeroU32::new(u32::from_json(alloc, content)?) {
+fn constant_size(alloc: Global, payload: &Value) -> Result<ArraySize, ReadError> {
+    match NonZeroU32::new(u32::from_json(alloc, payload)?) {
         Some(count) => Ok(ArraySize::Constant(count)),
         None => Err(ReadError::at(alloc, Problem::OutOfRange)),
     }

@@ -1,4 +1,4 @@
--- How a ascii_of grows at its end, one character after another, and what every base looks like: a
+-- How a ascii_of grows at its end, one character after another, and what every stem looks like: a
 -- word that ends in no `_`.
 use Rattle.std.proofs.Common.{◌≡◌, ℕ, ◌<◌, suc, Bool, true, false, cond, not, ◌&&◌, List, []}
 use Rattle.std.proofs.Common.{◌∷◌, ◌++◌, length, take, drop, refl, sym, ap, subst, ◌∙◌}
@@ -29,7 +29,7 @@ use Rattle.naga_names.specs.Label.{is_numeric, after_numerics, is_mark, is_forei
 use Rattle.naga_names.specs.Label.{by_number, character_ascii, begins_separated}
 use Rattle.naga_names.specs.Label.{without_repeated_underscores, begins_foreign}
 use Rattle.naga_names.specs.Label.{ascii_of, ends_separated, with_separator, kept_before}
-use Rattle.naga_names.specs.Label.{without_last_separators, or_unnamed, set_apart, base_of, IsPlain}
+use Rattle.naga_names.specs.Label.{without_last_separators, or_unnamed, set_apart, stem_of, IsPlain}
 use Rattle.naga_names.specs.Label.{StaysSame}
 use Rattle.naga_names.specs.Naming.{digits_of}
 
@@ -418,11 +418,11 @@ alike-separator cs c is so_far lone = (
   ends_separated-push cs c ∙ ap (λ d. d == 95) is,
 )
 
-base_of-front : (prefixes : List (List ℕ)) (c : ℕ) (cs rest : List ℕ) → is_numeric c ≡ false
+stem_of-front : (prefixes : List (List ℕ)) (c : ℕ) (cs rest : List ℕ) → is_numeric c ≡ false
     → list_any (starts_with nat_eq (c ∷ cs)) prefixes ≡ false → StaysSame (c ∷ rest)
-    → without_last_separators (c ∷ rest) ≡ c ∷ cs → base_of prefixes (chars (c ∷ rest)) ≡ c ∷ cs
-unfolding base_of
-base_of-front prefixes c cs rest first free alike done =
+    → without_last_separators (c ∷ rest) ≡ c ∷ cs → stem_of prefixes (chars (c ∷ rest)) ≡ c ∷ cs
+unfolding stem_of
+stem_of-front prefixes c cs rest first free alike done =
     ap (λ text.
     set_apart prefixes (or_unnamed (without_last_separators (ascii_of (after_numerics text)))))
     (chars-IsAscii (c ∷ rest) alike.ascii)
@@ -434,19 +434,19 @@ base_of-front prefixes c cs rest first free alike done =
     (ap without_last_separators alike.alike ∙ done)
     ∙ ap (λ b. cond b (codes "gen_" ++ c ∷ cs) (c ∷ cs)) free
 
--- a plain text is the base of itself, also where a `_` follows it
-pub base_of-plain : (prefixes : List (List ℕ)) (text label : List ℕ) → IsPlain text
+-- a plain text is the stem of itself, also where a `_` follows it
+pub stem_of-plain : (prefixes : List (List ℕ)) (text label : List ℕ) → IsPlain text
     → (label ≡ text) ⊎ (label ≡ text ++ 95 ∷ [])
-    → list_any (starts_with nat_eq text) prefixes ≡ false → base_of prefixes (chars label) ≡ text
-base_of-plain prefixes [] label plain either free =
+    → list_any (starts_with nat_eq text) prefixes ≡ false → stem_of prefixes (chars label) ≡ text
+stem_of-plain prefixes [] label plain either free =
     let some = plain.some in absurd (omega (arith, some))
-base_of-plain prefixes (c ∷ cs) label plain (inl same) free =
-    ap (λ text. base_of prefixes (chars text)) same
-    ∙ base_of-front prefixes c cs cs plain.first free plain.alike
+stem_of-plain prefixes (c ∷ cs) label plain (inl same) free =
+    ap (λ text. stem_of prefixes (chars text)) same
+    ∙ stem_of-front prefixes c cs cs plain.first free plain.alike
     (without_last-done (c ∷ cs) plain.last)
-base_of-plain prefixes (c ∷ cs) label plain (inr more) free =
-    ap (λ text. base_of prefixes (chars text)) more
-    ∙ base_of-front prefixes c cs (cs ++ 95 ∷ []) plain.first free
+stem_of-plain prefixes (c ∷ cs) label plain (inr more) free =
+    ap (λ text. stem_of prefixes (chars text)) more
+    ∙ stem_of-front prefixes c cs (cs ++ 95 ∷ []) plain.first free
     (alike-separator (c ∷ cs) 95 refl plain.alike plain.last).0
     (without_last-push (c ∷ cs) ∙ without_last-done (c ∷ cs) plain.last)
 
@@ -522,23 +522,23 @@ without_last-pop text shorter n long last split cut =
     ap without_last_separators front ∙ sym (ap without_last_separators split
     ∙ without_last-push (take (length text - 1) text))
 
--- What every base looks like.
+-- What every stem looks like.
 
 -- ---- digits
-module _ (p : ℕ → Bool) (base : ℕ) (each : (n : ℕ) → p (digit_glyph false (n % base)) ≡ true) where
+module _ (p : ℕ → Bool) (stem : ℕ) (each : (n : ℕ) → p (digit_glyph false (n % stem)) ≡ true) where
   pub all_digits_onto : (k n : ℕ) (following : List ℕ) → list_all p following ≡ true →
-      list_all p (digits_onto k base false n following) ≡ true
+      list_all p (digits_onto k stem false n following) ≡ true
   all_digits_onto zero n following e = e
   all_digits_onto (suc k) n following e =
-      more (n / base == 0) (ap (λ b. b && list_all p following) (each n) ∙ e)
-      (all_digits_onto k (n / base) (digit_glyph false (n % base) ∷ following))
+      more (n / stem == 0) (ap (λ b. b && list_all p following) (each n) ∙ e)
+      (all_digits_onto k (n / stem) (digit_glyph false (n % stem) ∷ following))
     where
-      more : (b : Bool) → list_all p (digit_glyph false (n % base) ∷ following) ≡ true →
-          (list_all p (digit_glyph false (n % base) ∷ following) ≡ true →
-          list_all p (digits_onto k base false (n / base) (digit_glyph false (n % base) ∷ following)) ≡
+      more : (b : Bool) → list_all p (digit_glyph false (n % stem) ∷ following) ≡ true →
+          (list_all p (digit_glyph false (n % stem) ∷ following) ≡ true →
+          list_all p (digits_onto k stem false (n / stem) (digit_glyph false (n % stem) ∷ following)) ≡
           true) → list_all p
-          (cond b (digit_glyph false (n % base) ∷ following)
-          (digits_onto k base false (n / base) (digit_glyph false (n % base) ∷ following))) ≡ true
+          (cond b (digit_glyph false (n % stem) ∷ following)
+          (digits_onto k stem false (n / stem) (digit_glyph false (n % stem) ∷ following))) ≡ true
       more true one rest = one
       more false one rest = rest one
 

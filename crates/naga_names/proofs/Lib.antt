@@ -1,5 +1,5 @@
 pub mod Label
-pub mod Bases
+pub mod Stems
 pub mod Refusal
 mod Examples
 pub mod Assigned

@@ -22,7 +22,7 @@ use Rattle.naga_names.specs.declared.key.NameKey.TheVariants as key
 use Rattle.std.specs.FinMap as finite
 use Rattle.std.specs.FinSet as set
 use Rattle.naga_keywords.specs.Words.{Words}
-use Rattle.naga_names.specs.Naming.{name_after, Uses, Names, label_base, labels_with_base, HasNamed}
+use Rattle.naga_names.specs.Naming.{name_after, Uses, Names, label_stem, labels_with_stem, HasNamed}
 use Rattle.naga_names.specs.Naming.{IsFull}
 use Rattle.naga_names.specs.Keys.{NameMap, same_key}
 use Rattle.naga_names.specs.Reset.{LabelledItem, labelled_items, labels_of, named_items, PutsInto}
@@ -267,11 +267,11 @@ module _ (start : Names) (before : NameMap) (t : ℕ) where
   no_full : (members : List StructMember) (names : Names) (label : List ℕ) → length members < 2 ^ 32 →
       HasNamed names (map member_label members) → IsFull names label → ⊥
   no_full members names label small has full =
-      let base : List ℕ = label_base names label in
-      let used : labels_with_base names (map member_label members) base ≡ 2 ^ 32 = sym (has.uses_are base) ∙ full in
-      let few : labels_with_base names (map member_label members) base ≤ length
+      let stem : List ℕ = label_stem names label in
+      let used : labels_with_stem names (map member_label members) stem ≡ 2 ^ 32 = sym (has.uses_are stem) ∙ full in
+      let few : labels_with_stem names (map member_label members) stem ≤ length
       (map member_label members) =
-      count_by-le-length (λ label. bytes_eq (label_base names label) base)
+      count_by-le-length (λ label. bytes_eq (label_stem names label) stem)
       (map member_label members) in
       let long : length (map member_label members) ≡ length members = length-map members member_label in
       omega (arith, used, few, long, small)

@@ -17,7 +17,7 @@ use Rattle.std.specs.FinMap as finite
 use Rattle.naga_keywords.specs.Words.{Words}
 use Rattle.naga_names.specs.declared.key.NameKey.{NameKey}
 use Rattle.naga_names.specs.declared.key.NameKey.TheVariants as key
-use Rattle.naga_names.specs.Naming.{name_after, Uses, Names, label_base, with_use, labels_with_base}
+use Rattle.naga_names.specs.Naming.{name_after, Uses, Names, label_stem, with_use, labels_with_stem}
 use Rattle.naga_names.specs.Naming.{HasNamed, new_names}
 use Rattle.naga_names.specs.Keys.{NameMap, same_key, names_in}
 use Rattle.naga_names.specs.Reset.{LabelledItem, labels_of, named_items, output_label, output_word}
@@ -201,8 +201,8 @@ refuses_one old before now key label error outside refused = record {
       all = refl;
       outside = outside;
       full =
-          sym (ap (λ (n : Names). labels_with_base n (labels_of earlier) (label_base n label)) has.words)
-          ∙ sym (has.labels.uses_are (label_base old label)) ∙ full;
+          sym (ap (λ (n : Names). labels_with_stem n (labels_of earlier) (label_stem n label)) has.words)
+          ∙ sym (has.labels.uses_are (label_stem old label)) ∙ full;
     }
     reason KeyFull never start first earlier has = absurd never
     reason (Memory e) full start first earlier has = tt
@@ -219,21 +219,21 @@ or_not_this true b e = e
 or_not_this false b e = refl
 
 -- an item whose key can't be told
--- where all items got their names, none met a full base
+-- where all items got their names, none met a full stem
 pub none_full : (start : Names) (before : NameMap) (items : List LabelledItem) (names : Names) (now : NameMap) →
     HasNamedItems start before items names now → SomeNameIsFull start items → ⊥
 none_full start before items names now has full =
-    let base : List ℕ = label_base start full.item.1 in
+    let stem : List ℕ = label_stem start full.item.1 in
     let all : labels_of items ≡ labels_of full.named ++ full.item.1 ∷ labels_of full.left =
     ap labels_of full.all ∙ labels_of-around full.named full.item full.left full.outside in
-    let few : labels_with_base start (labels_of items) base ≤ 2 ^ 32 =
-    subst (λ n. n ≤ 2 ^ 32) (ap (λ (n : Names). labels_with_base n (labels_of items) base) has.words)
-    (has.labels.few base) in
-    let count : labels_with_base start (labels_of items) base
-    ≡ labels_with_base start (labels_of full.named) base + (1 + labels_with_base start (labels_of full.left) base) =
-    ap (λ labels. labels_with_base start labels base) all
-    ∙ counted_more start (labels_of full.named) full.item.1 (labels_of full.left) base refl in
-    let met : labels_with_base start (labels_of full.named) base ≡ 2 ^ 32 = full.full in
+    let few : labels_with_stem start (labels_of items) stem ≤ 2 ^ 32 =
+    subst (λ n. n ≤ 2 ^ 32) (ap (λ (n : Names). labels_with_stem n (labels_of items) stem) has.words)
+    (has.labels.few stem) in
+    let count : labels_with_stem start (labels_of items) stem
+    ≡ labels_with_stem start (labels_of full.named) stem + (1 + labels_with_stem start (labels_of full.left) stem) =
+    ap (λ labels. labels_with_stem start labels stem) all
+    ∙ counted_more start (labels_of full.named) full.item.1 (labels_of full.left) stem refl in
+    let met : labels_with_stem start (labels_of full.named) stem ≡ 2 ^ 32 = full.full in
     omega (arith, few, count, met)
 
 -- what a map says after `insert`, by the names that it has

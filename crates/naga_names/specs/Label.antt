@@ -1,4 +1,4 @@
--- The base of a label: the part of an identifier that comes from the label alone.
+-- The stem of a label: the part of an identifier that comes from the label alone.
 --
 -- Throughout, c is a character (cs are several), d the next one, and n a number.
 use Rattle.std.specs.Prelude.{◌≡◌, ℕ, ◌-◌, Bool, false, not, ◌||◌, ◌&&◌, ◌==◌, if◌then◌else◌, List}
@@ -109,7 +109,7 @@ pub record IsPlain (text : List ℕ) : Type 0 where
   pub alike : StaysSame text
   pub last : ends_separated text ≡ false
 
--- the base of a label, of which these are the characters, where identifiers keep off these prefixes
-unfoldable pub base_of : List (List ℕ) → List ℕ → List ℕ
-base_of prefixes characters =
+-- the stem of a label, of which these are the characters, where identifiers keep off these prefixes
+unfoldable pub stem_of : List (List ℕ) → List ℕ → List ℕ
+stem_of prefixes characters =
     set_apart prefixes (or_unnamed (without_last_separators (ascii_of (after_numerics characters))))

@@ -8,7 +8,7 @@ use Rattle.std.specs.List.{starts_with}
 use Rattle.std.specs.FinSet as set
 use Rattle.naga_keywords.specs.Plain.{is_identifier, HasPlainEnds}
 use Rattle.naga_keywords.specs.Words.{in_lower_case}
-use Rattle.naga_names.specs.Naming.{Names, uses_of, name_of, name_of_base, name_after}
+use Rattle.naga_names.specs.Naming.{Names, uses_of, name_of, name_of_stem, name_after}
 use Rattle.naga_names.specs.Naming.{HasNamed}
 use Rattle.naga_names.specs.Keys.{NameMap}
 use Rattle.naga_names.specs.Reset.{LabelledItem, is_member, members_of, member_label, member_names}
@@ -123,12 +123,12 @@ pub record WasAssigned (start : Names) (labels : List (List ℕ)) (word : List �
   pub there : slice_get labels index ≡ Some label
   pub is : word ≡ name_after start (take index labels) label
 
--- a base that was used n times gave its first form and the numbers below n
+-- a stem that was used n times gave its first form and the numbers below n
 pub record FollowsFromUses (names : Names) (word : List ℕ) : Type 0 where
-  pub base : List ℕ
+  pub stem : List ℕ
   pub number : ℕ
-  pub used : number < uses_of names.uses base
-  pub is : word ≡ name_of_base names base number
+  pub used : number < uses_of names.uses stem
+  pub is : word ≡ name_of_stem names stem number
 
 -- the identifiers given so far are those that the uses tell
 abbrev pub AssignedNamesFollow : Type 0

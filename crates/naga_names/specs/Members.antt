@@ -41,7 +41,7 @@ pub record HasNamedMembers (start : Names) (before : NameMap) (t : ℕ) (members
   pub keys : keys_fit (labelled_members t members) ≡ true
   pub put : PutsInto before (named_members start t members) now
 
--- `KeyFull` comes only where a member has an index that can't be told, and `Full` never: no base is
+-- `KeyFull` comes only where a member has an index that can't be told, and `Full` never: no stem is
 -- used so often by members whose indexes can be told
 abbrev pub IsRefusalOfMembers : List LabelledItem → NamerError → Type 0
 IsRefusalOfMembers items Full = ⊥

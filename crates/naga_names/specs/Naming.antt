@@ -16,15 +16,15 @@ use Rattle.std.specs.Fmt.{digits_onto}
 use Rattle.std.specs.FinSet as set
 use Rattle.std.specs.Ordering.{nat_cmp}
 use Rattle.std.specs.Str.{bytes_eq, chars}
-use Rattle.naga_names.specs.Label.{base_of}
+use Rattle.naga_names.specs.Label.{stem_of}
 use Rattle.naga_keywords.specs.Words.{Words, in_lower_case}
 
--- how often each base was used; a base that was never used isn't there
+-- how often each stem was used; a stem that was never used isn't there
 abbrev pub Uses : Type 0
 Uses = map.FinMap (slice_cmp nat_cmp) ℕ
 
 abbrev pub uses_of : Uses → List ℕ → ℕ
-uses_of uses base = unwrap_or (map.get uses base) 0
+uses_of uses stem = unwrap_or (map.get uses stem) 0
 
 abbrev pub words_code : Coded Words
 words_code = set.code (coded_list coded_ℕ)
@@ -84,9 +84,9 @@ new_names keywords builtins caseless prefixes =
 abbrev pub label_or : {Y : Type 0} → Option (String Y) → List ℕ → List ℕ
 label_or label fallback = option_map_or string_bytes label fallback
 
--- the base of a label that has these bytes
-abbrev pub label_base : Names → List ℕ → List ℕ
-label_base names label = base_of names.reserved_prefixes (chars label)
+-- the stem of a label that has these bytes
+abbrev pub label_stem : Names → List ℕ → List ℕ
+label_stem names label = stem_of names.reserved_prefixes (chars label)
 
 -- the word is in one of the three sets
 abbrev pub is_taken : Names → List ℕ → Bool
@@ -97,11 +97,11 @@ is_taken names word =
 abbrev pub ends_in_digit : List ℕ → Bool
 ends_in_digit text = is_ascii_digit (slice_index text (length text - 1))
 
--- the first name of a base has a `_` after it where
--- the base ends in a digit or is in one of the sets
+-- the first name of a stem has a `_` after it where
+-- the stem ends in a digit or is in one of the sets
 abbrev pub first_name : Names → List ℕ → List ℕ
-first_name names base =
-    if ends_in_digit base || is_taken names base then base ++ codes "_" else base
+first_name names stem =
+    if ends_in_digit stem || is_taken names stem then stem ++ codes "_" else stem
 
 -- a number in decimal, however great it is: it has no more digits than it counts, and one
 abbrev pub digits_of : ℕ → List ℕ
@@ -109,50 +109,50 @@ digits_of n = digits_onto (suc n) 10 false n []
 
 -- a later one has `_` and the number of earlier uses after it
 abbrev pub later_name : List ℕ → ℕ → List ℕ
-later_name base uses = base ++ codes "_" ++ digits_of uses
+later_name stem uses = stem ++ codes "_" ++ digits_of uses
 
--- the name of a base that was used so often before
-abbrev pub name_of_base : Names → List ℕ → ℕ → List ℕ
-name_of_base names base uses = if uses == 0 then first_name names base else later_name base uses
+-- the name of a stem that was used so often before
+abbrev pub name_of_stem : Names → List ℕ → ℕ → List ℕ
+name_of_stem names stem uses = if uses == 0 then first_name names stem else later_name stem uses
 
--- the name of a label, by the uses of its base so far
+-- the name of a label, by the uses of its stem so far
 unfoldable pub name_of : Names → List ℕ → List ℕ
 name_of names label =
-    let base = label_base names label in name_of_base names base (uses_of names.uses base)
+    let stem = label_stem names label in name_of_stem names stem (uses_of names.uses stem)
 
--- one more use of the base, and nothing else
-abbrev pub with_use_of_base : Names → List ℕ → Names
-with_use_of_base names base =
-    record names { uses = map.insert names.uses base (uses_of names.uses base + 1) }
+-- one more use of the stem, and nothing else
+abbrev pub with_use_of_stem : Names → List ℕ → Names
+with_use_of_stem names stem =
+    record names { uses = map.insert names.uses stem (uses_of names.uses stem + 1) }
 
--- one more use of the label's base
+-- one more use of the label's stem
 unfoldable pub with_use : Names → List ℕ → Names
-with_use names label = with_use_of_base names (label_base names label)
+with_use names label = with_use_of_stem names (label_stem names label)
 
--- a base that was used before has got its next name and one more use; any other one has got none
+-- a stem that was used before has got its next name and one more use; any other one has got none
 abbrev pub GivesLaterName : Uses → List ℕ → Option (List ℕ) → Uses → Type 0
-GivesLaterName before base None after = (uses_of before base ≡ 0) × (after ≡ before)
-GivesLaterName before base (Some name) after =
-    let uses = uses_of before base in
-    (0 < uses) × (uses < 2 ^ 32) × (name ≡ later_name base uses)
-    × (after ≡ map.insert before base (uses + 1))
+GivesLaterName before stem None after = (uses_of before stem ≡ 0) × (after ≡ before)
+GivesLaterName before stem (Some name) after =
+    let uses = uses_of before stem in
+    (0 < uses) × (uses < 2 ^ 32) × (name ≡ later_name stem uses)
+    × (after ≡ map.insert before stem (uses + 1))
 
--- the base has been used so often that there is no next name: its counter is at the greatest `u32`
+-- the stem has been used so often that there is no next name: its counter is at the greatest `u32`
 abbrev pub IsFull : Names → List ℕ → Type 0
-IsFull names label = uses_of names.uses (label_base names label) ≡ 2 ^ 32
+IsFull names label = uses_of names.uses (label_stem names label) ≡ 2 ^ 32
 
--- how many of these labels have this base
-abbrev pub labels_with_base : Names → List (List ℕ) → List ℕ → ℕ
-labels_with_base names labels base =
-    count_by (λ label. bytes_eq (label_base names label) base) labels
+-- how many of these labels have this stem
+abbrev pub labels_with_stem : Names → List (List ℕ) → List ℕ → ℕ
+labels_with_stem names labels stem =
+    count_by (λ label. bytes_eq (label_stem names label) stem) labels
 
 -- the name of a label after these earlier ones
 abbrev pub name_after : Names → List (List ℕ) → List ℕ → List ℕ
 name_after names earlier label =
-    let base = label_base names label in
-    name_of_base names base (labels_with_base names earlier base)
+    let stem = label_stem names label in
+    name_of_stem names stem (labels_with_stem names earlier stem)
 
 -- the uses so far are those of these labels, and none of them are more than can be counted
 pub record HasNamed (names : Names) (labels : List (List ℕ)) : Type 0 where
-  pub uses_are : (base : List ℕ) → uses_of names.uses base ≡ labels_with_base names labels base
-  pub few : (base : List ℕ) → labels_with_base names labels base ≤ 2 ^ 32
+  pub uses_are : (stem : List ℕ) → uses_of names.uses stem ≡ labels_with_stem names labels stem
+  pub few : (stem : List ℕ) → labels_with_stem names labels stem ≤ 2 ^ 32

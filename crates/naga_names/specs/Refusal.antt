@@ -7,23 +7,23 @@ use Rattle.naga_ir.specs.declared.module.Module.{Module}
 use Rattle.naga_ir.specs.declared.types.Type_.{Type_}
 use Rattle.naga_names.specs.declared.error.NamerError.{NamerError}
 use Rattle.naga_names.specs.declared.error.NamerError.TheVariants.{Full, KeyFull, Memory}
-use Rattle.naga_names.specs.Naming.{Names, Uses, uses_of, label_base, labels_with_base, no_names}
+use Rattle.naga_names.specs.Naming.{Names, Uses, uses_of, label_stem, labels_with_stem, no_names}
 use Rattle.naga_names.specs.Keys.{NameMap}
 use Rattle.naga_names.specs.Reset.{LabelledItem, members_of, is_member, labels_of, keys_fit}
 use Rattle.naga_names.specs.Reset.{labelled_items, HasNamedItems, PutsBeginning}
 
--- `Full` comes only where the base is full,
+-- `Full` comes only where the stem is full,
 -- `KeyFull` never, and `Memory` may come at any time
-abbrev pub IsRefusalOfBase : Uses → List ℕ → NamerError → Type 0
-IsRefusalOfBase uses base Full = uses_of uses base ≡ 2 ^ 32
-IsRefusalOfBase uses base KeyFull = ⊥
-IsRefusalOfBase uses base (Memory e) = ⊤
+abbrev pub IsRefusalOfStem : Uses → List ℕ → NamerError → Type 0
+IsRefusalOfStem uses stem Full = uses_of uses stem ≡ 2 ^ 32
+IsRefusalOfStem uses stem KeyFull = ⊥
+IsRefusalOfStem uses stem (Memory e) = ⊤
 
--- the same of the label's base
+-- the same of the label's stem
 abbrev pub IsRefusalOf : Names → List ℕ → NamerError → Type 0
-IsRefusalOf names label error = IsRefusalOfBase names.uses (label_base names label) error
+IsRefusalOf names label error = IsRefusalOfStem names.uses (label_stem names label) error
 
--- at one of these items, which is no member of a struct, the label's base is full: the labels
+-- at one of these items, which is no member of a struct, the label's stem is full: the labels
 -- before it used it so often that there is no next name
 pub record SomeNameIsFull (start : Names) (items : List LabelledItem) : Type 0 where
   pub named : List LabelledItem
@@ -31,7 +31,7 @@ pub record SomeNameIsFull (start : Names) (items : List LabelledItem) : Type 0 w
   pub left : List LabelledItem
   pub all : items ≡ named ++ item ∷ left
   pub outside : is_member item.0 ≡ false
-  pub full : labels_with_base start (labels_of named) (label_base start item.1) ≡ 2 ^ 32
+  pub full : labels_with_stem start (labels_of named) (label_stem start item.1) ≡ 2 ^ 32
 
 -- some item has a key that can't be told: an entry point after the first 65,536, or a member or an
 -- argument whose index is no `u32`
@@ -66,7 +66,7 @@ KeysRunOut module_ =
     (2 ^ 16 < length module_.entry_points.items)
     ⊎ (HasLongStruct module_ ⊎ (HasLongFunction module_ ⊎ HasLongEntryPoint module_))
 
--- `Full` comes only where one of the items meets a full base, `KeyFull` only where one has a key
+-- `Full` comes only where one of the items meets a full stem, `KeyFull` only where one has a key
 -- that can't be told, and `Memory` may come at any time
 abbrev pub IsRefusalOfItems : Names → List LabelledItem → NamerError → Type 0
 IsRefusalOfItems start items Full = SomeNameIsFull start items

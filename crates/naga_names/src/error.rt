@@ -9,7 +9,7 @@ use thiserror::Error;
 /// Why a name could not be given.
 #[derive(Debug, Drop, PartialEq, Eq, Error)]
 pub enum NamerError {
-    /// A base has been used so often that no further name can be counted: 4,294,967,295 times after
+    /// A stem has been used so often that no further name can be counted: 4,294,967,295 times after
     /// its first use.
     #[error("namer is full")]
     Full,

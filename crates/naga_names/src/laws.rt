@@ -52,7 +52,7 @@ pub fn names_differ()
 {}
 
 /// The identifiers given since a `Namer` began or was last reset, but to members of structs, follow
-/// from the uses: a base with n uses gave its first form and the numbers below n. The next call
+/// from the uses: a stem with n uses gave its first form and the numbers below n. The next call
 /// gives a new one.
 pub fn names_follow_from_uses()
     ensures assigned { AssignedNamesFollow }

@@ -5,10 +5,10 @@ ghost use Rattle.std.specs.FinSet as set;
 ghost use Rattle.naga_names.specs.Starts.{start_of};
 ghost use Rattle.naga_names.specs.Naming.{Names, names_code, new_names, no_names, label_or};
 ghost use Rattle.naga_names.specs.Naming.{first_name};
-ghost use Rattle.naga_names.specs.Naming.{is_taken, name_of, name_of_base, uses_of, with_use};
-ghost use Rattle.naga_names.specs.Naming.{with_use_of_base, IsFull, HasNamed, name_after};
+ghost use Rattle.naga_names.specs.Naming.{is_taken, name_of, name_of_stem, uses_of, with_use};
+ghost use Rattle.naga_names.specs.Naming.{with_use_of_stem, IsFull, HasNamed, name_after};
 ghost use Rattle.naga_names.specs.Members.{PutsName, PutsNoName, HasNamedMembers, RefusesMembers};
-ghost use Rattle.naga_names.specs.Refusal.{IsRefusalOf, IsRefusalOfBase, IsReset, RefusesItems};
+ghost use Rattle.naga_names.specs.Refusal.{IsRefusalOf, IsRefusalOfStem, IsReset, RefusesItems};
 ghost use Rattle.naga_names.specs.Keys.{names_in};
 ghost use Rattle.naga_names.specs.Reset.{labelled_members, NamesItems};
 
@@ -32,11 +32,11 @@ mod uses;
 
 /// Gives each label an identifier that it has given to no other label.
 ///
-/// An identifier has ASCII letters, digits and `_` alone. It begins with the label's *base*, which is
-/// made of the label alone. The first label with a base gets the base as it is; but a `_` follows where
-/// the base ends in a digit or is a word that the namer keeps off. A later one gets the base, a `_` and
-/// the number of labels with this base before it. Contracts see a `Namer` as its words, its prefixes
-/// and the number of uses of each base.
+/// An identifier has ASCII letters, digits and `_` alone. It begins with the label's *stem*, which is
+/// made of the label alone. The first label with a stem gets the stem as it is; but a `_` follows where
+/// the stem ends in a digit or is a word that the namer keeps off. A later one gets the stem, a `_` and
+/// the number of labels with this stem before it. Contracts see a `Namer` as its words, its prefixes
+/// and the number of uses of each stem.
 ///
 /// One that keeps off WGSL's words names the labels of `crates/example_names` so:
 ///
@@ -106,10 +106,10 @@ impl Namer {
         })
     }
 
-    /// The identifier of the label, and one more use of the label's base.
+    /// The identifier of the label, and one more use of the label's stem.
     ///
     /// A second `x` is `x_1`, and `x1` is `x1_`. The answer is `NamerError::Full` only where the
-    /// base was used 4,294,967,295 times after its first use, and `NamerError::Memory` where memory
+    /// stem was used 4,294,967,295 times after its first use, and `NamerError::Memory` where memory
     /// runs out. A refused call changes nothing.
     pub fn call(&mut self, label: &str) -> Result<String, NamerError>
         ensures name { IfOk result (λ name. string_bytes name ≡ name_of self.old label.now) }
@@ -126,29 +126,29 @@ impl Namer {
         ensures reason { IfErr result (IsRefusalOf self.old label.now) }
         ensures full { IsFull self.old label.now → IsErr result }
     {
-        if let Some(base) = label::own_base(&self.reserved_prefixes, label) {
-            return self.name_of_base(base);
+        if let Some(stem) = label::own_stem(&self.reserved_prefixes, label) {
+            return self.name_of_stem(stem);
         }
-        let base = label::base(self.alloc, &self.reserved_prefixes, label)?;
-        self.name_of_base(base.as_str())
+        let stem = label::stem(self.alloc, &self.reserved_prefixes, label)?;
+        self.name_of_stem(stem.as_str())
     }
 
-    /// The next identifier of the base, and one more use of it. A refused call changes nothing.
-    fn name_of_base(&mut self, base: &str) -> Result<String, NamerError>
+    /// The next identifier of the stem, and one more use of it. A refused call changes nothing.
+    fn name_of_stem(&mut self, stem: &str) -> Result<String, NamerError>
         ensures name { IfOk result (λ name. string_bytes name
-            ≡ name_of_base self.old base.now (uses_of self.old.uses base.now)) }
-        ensures used { OnOk result (self.new ≡ with_use_of_base self.old base.now) }
-        ensures room { OnOk result (uses_of self.old.uses base.now < 2 ^ 32) }
+            ≡ name_of_stem self.old stem.now (uses_of self.old.uses stem.now)) }
+        ensures used { OnOk result (self.new ≡ with_use_of_stem self.old stem.now) }
+        ensures room { OnOk result (uses_of self.old.uses stem.now < 2 ^ 32) }
         ensures err { OnErr result (self.new ≡ self.old) }
-        ensures reason { IfErr result (IsRefusalOfBase self.old.uses base.now) }
-        ensures full { uses_of self.old.uses base.now ≡ 2 ^ 32 → IsErr result }
+        ensures reason { IfErr result (IsRefusalOfStem self.old.uses stem.now) }
+        ensures full { uses_of self.old.uses stem.now ≡ 2 ^ 32 → IsErr result }
     {
-        if let Some(name) = self.uses.later_name(self.alloc, base)? {
+        if let Some(name) = self.uses.later_name(self.alloc, stem)? {
             return Ok(name);
         }
-        let name = self.first_name(base)?;
-        let base = String::from_str(self.alloc, base)?;
-        self.uses.begin(base)?;
+        let name = self.first_name(stem)?;
+        let stem = String::from_str(self.alloc, stem)?;
+        self.uses.begin(stem)?;
         Ok(name)
     }
 
@@ -184,7 +184,7 @@ impl Namer {
     /// that is an external image has four names more, for its planes and its parameters.
     ///
     /// The map keeps its other keys. The answer is `NamerError::Full` only where a label comes
-    /// whose base the labels before it used up, and `NamerError::KeyFull` only where there are more
+    /// whose stem the labels before it used up, and `NamerError::KeyFull` only where there are more
     /// entry points than an `EntryPointIndex` can tell apart, or more members or arguments than a
     /// `u32` can count; such a module is always refused. After a refusal the `Namer` is as a new
     /// one, and the names of some first items stand in the map.
@@ -295,11 +295,11 @@ impl Namer {
         Ok(())
     }
 
-    fn first_name(&self, base: &str) -> Result<String, AllocError>
-        ensures { IfOk result (λ name. string_bytes name ≡ first_name self.now base.now) }
+    fn first_name(&self, stem: &str) -> Result<String, AllocError>
+        ensures { IfOk result (λ name. string_bytes name ≡ first_name self.now stem.now) }
     {
-        let mut name = String::from_str(self.alloc, base)?;
-        if label::ends_in_digit(base) || self.is_taken(base) {
+        let mut name = String::from_str(self.alloc, stem)?;
+        if label::ends_in_digit(stem) || self.is_taken(stem) {
             name.push('_')?;
         }
         Ok(name)

@@ -9,7 +9,7 @@ use Rattle.std.proofs.lemmas.Option.{same_Some}
 use Rattle.std.specs.Option.{option_to_list}
 use Rattle.naga_ir.specs.StatementTree.{StatementTree, simple, block, branch, switch, loop, BlockTree}
 use Rattle.naga_ir.specs.StatementTree.{no_statements, statement, CaseTrees, no_cases, case}
-use Rattle.module_meaning.proofs.FunctionNumbers.{in_append}
+use Rattle.module_semantics.proofs.FunctionNumbers.{in_append}
 use Rattle.naga_scope.proofs.LineWrites.{In, in_either, in_left, in_right, of_line, on_line}
 use Rattle.naga_scope.specs.FirstLines.{block_breaks, case_breaks, statement_breaks, writes_at}
 use Rattle.naga_ir.specs.InOrder.{case_trees, trees_in, trees_inside}

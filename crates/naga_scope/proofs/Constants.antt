@@ -21,10 +21,10 @@ use Rattle.shader_runs.specs.Program.{Function, expression_of, operands_of, is_p
 use Rattle.shader_runs.specs.Scope.{all_constant, constant_test, is_constant_below}
 use Rattle.shader_runs.specs.Scope.{start_availability, at_start}
 use Rattle.shader_runs.specs.Premises.{AllBelow}
-use Rattle.module_meaning.specs.FunctionShapes.{function_shape}
-use Rattle.module_meaning.specs.Names.{numbered_name}
-use Rattle.module_meaning.specs.Premises.{OperandsStandBefore}
-use Rattle.module_meaning.specs.ExpressionContexts.{declared, types_known}
+use Rattle.module_semantics.specs.FunctionShapes.{function_shape}
+use Rattle.module_semantics.specs.Names.{numbered_name}
+use Rattle.module_semantics.specs.Premises.{OperandsStandBefore}
+use Rattle.module_semantics.specs.ExpressionContexts.{declared, types_known}
 use Rattle.naga_form.proofs.ModuleIndices.{no_expression_at, shapes_length}
 use Rattle.naga_scope.specs.declared.points.Availability.{Availability}
 use Rattle.naga_scope.specs.declared.points.Availability.TheVariants.{Absent}

@@ -6,7 +6,7 @@ use Rattle.std.proofs.lemmas.Bool.{and_parts, false≢true, not-true, or_cases, 
 use Rattle.std.proofs.Math.Bool.{or-false}
 use Rattle.std.proofs.lemmas.Option.{same_Some, slice_get_within}
 use Rattle.std.specs.Prelude.{IsFalse, IsSomeAnd, IsTrue, get_or, if◌then◌else◌, not}
-use Rattle.module_meaning.specs.Written.{IsWritten}
+use Rattle.module_semantics.specs.Written.{IsWritten}
 use Rattle.naga_ir.specs.Operands.{expression_operands}
 use Rattle.naga_ir.specs.declared.expression.Expression.{Expression}
 use Rattle.naga_scope.proofs.FirstLines.{handles_beyond, handles_there, marked_is, marks_size}

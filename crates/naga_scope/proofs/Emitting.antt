@@ -10,8 +10,8 @@ use mathlib.Core.Logic.{inl, inr}
 use Rattle.std.proofs.lemmas.List.{get_or-set_other, set-get_or}
 use Rattle.std.proofs.lemmas.Grind.{get_or-set_at}
 use Rattle.std.proofs.lemmas.Option.{slice_get_past}
-use Rattle.module_meaning.specs.FunctionShapes.{function_shape}
-use Rattle.module_meaning.specs.Namings.{function_naming}
+use Rattle.module_semantics.specs.FunctionShapes.{function_shape}
+use Rattle.module_semantics.specs.Namings.{function_naming}
 use Rattle.naga_ir.specs.declared.module.Function as ir_function
 use Rattle.naga_ir.specs.declared.module.Module.{Module}
 use Rattle.naga_info.specs.declared.info.ExpressionInfo.{ExpressionInfo}
@@ -23,8 +23,8 @@ use Rattle.shader_runs.specs.Program.{is_pure, is_emittable}
 use Rattle.shader_runs.specs.Scope as runs
 use Rattle.shader_runs.specs.Scope.{Naming, Handles, is_new, usable_all, with_emitted_handle}
 use Rattle.shader_runs.specs.Scope.{after_one}
-use Rattle.module_meaning.specs.ExpressionLabels.{label_of}
-use Rattle.module_meaning.specs.Names.{numbered_name}
+use Rattle.module_semantics.specs.ExpressionLabels.{label_of}
+use Rattle.module_semantics.specs.Names.{numbered_name}
 use Rattle.naga_form.proofs.Fits.{named_is}
 use Rattle.naga_form.proofs.ModuleIndices.{no_expression_at}
 use Rattle.naga_scope.specs.declared.points.BoundName.{BoundName}
@@ -40,7 +40,7 @@ use Rattle.naga_scope.specs.declared.scope_faults.ScopeFault.TheVariants.{Introd
 use Rattle.naga_scope.specs.declared.scope_faults.ScopeFault.TheVariants.{NeedsNoEmit}
 use Rattle.naga_scope.proofs.Offsets.{checked_operands}
 use Rattle.naga_scope.proofs.ShapeKinds.{emittable_at}
-use Rattle.module_meaning.specs.Premises.{OperandsStandBefore}
+use Rattle.module_semantics.specs.Premises.{OperandsStandBefore}
 
 -- ---- a table with another cell
 -- there is none past its end

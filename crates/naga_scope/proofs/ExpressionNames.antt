@@ -2,9 +2,9 @@
 use Rattle.std.proofs.Common.{◌≡◌, ◌≤◌, ◌^◌, ◌++◌, ◌∙◌, ℕ, List, [], ◌∷◌, append-nil, append_assoc}
 use Rattle.std.proofs.Common.{ap, refl, arith, length-append, subst, sym}
 use Rattle.std.specs.Prelude.{Err, Ok, OnOk, Result}
-use Rattle.module_meaning.specs.ExpressionLabels.{SomeLabelIsFull}
+use Rattle.module_semantics.specs.ExpressionLabels.{SomeLabelIsFull}
 use Rattle.naga_names.proofs.NameShapes.{counted_more}
-use Rattle.naga_names.specs.Naming.{HasNamed, Names, Uses, label_base, labels_with_base, name_after}
+use Rattle.naga_names.specs.Naming.{HasNamed, Names, Uses, label_stem, labels_with_stem, name_after}
 use Rattle.naga_names.specs.Naming.{with_use}
 use Rattle.naga_names.specs.Refusal.{IsRefusalOf}
 use Rattle.naga_names.specs.declared.error.NamerError.{NamerError}
@@ -88,15 +88,15 @@ names_one old new held label name used is more = record {
 
 -- where labels are counted, none of them is full
 pub counted_none_full : (start : Names) (earlier labels : List (List ℕ)) →
-    ((base : List ℕ) → labels_with_base start (earlier ++ labels) base ≤ 2 ^ 32) →
+    ((stem : List ℕ) → labels_with_stem start (earlier ++ labels) stem ≤ 2 ^ 32) →
     SomeLabelIsFull start earlier labels → ⊥
 counted_none_full start earlier labels few s =
-    let base : List ℕ = label_base start s.label in
+    let stem : List ℕ = label_stem start s.label in
     let split = ap (λ ls. earlier ++ ls) s.all ∙ sym (append_assoc earlier s.named (s.label ∷ s.left)) in
-    let more = ap (λ ls. labels_with_base start ls base) split
-    ∙ counted_more start (earlier ++ s.named) s.label s.left base refl in
+    let more = ap (λ ls. labels_with_stem start ls stem) split
+    ∙ counted_more start (earlier ++ s.named) s.label s.left stem refl in
     let full = s.full in
-    omega (arith, few base, more, full)
+    omega (arith, few stem, more, full)
 
 -- so it is with labels that are named
 pub none_full : {old new : Names} {held labels now : List (List ℕ)} →
@@ -105,10 +105,10 @@ pub none_full : {old new : Names} {held labels now : List (List ℕ)} →
 none_full {old} {new} {held} {labels} {now} n earlier has full =
     let counted = n.labels_named earlier has in
     counted_none_full old earlier labels
-    (λ base. subst (λ k. labels_with_base k (earlier ++ labels) base ≤ 2 ^ 32) n.words (counted.few base)) full
+    (λ stem. subst (λ k. labels_with_stem k (earlier ++ labels) stem ≤ 2 ^ 32) n.words (counted.few stem)) full
 
 -- ---- labels that are refused
--- a base that is full among some is so among more
+-- a stem that is full among some is so among more
 more_full : (start : Names) (earlier xs ys : List (List ℕ)) → SomeLabelIsFull start earlier xs →
     SomeLabelIsFull start earlier (xs ++ ys)
 more_full start earlier xs ys s = record {
@@ -127,9 +127,9 @@ later_full old mid words earlier xs ys s = record {
   left = s.left;
   all = ap (λ ls. xs ++ ls) s.all ∙ sym (append_assoc xs s.named (s.label ∷ s.left));
   full =
-      ap (λ ls. labels_with_base old ls (label_base old s.label))
+      ap (λ ls. labels_with_stem old ls (label_stem old s.label))
       (sym (append_assoc earlier xs s.named))
-      ∙ (sym (ap (λ (n : Names). labels_with_base n ((earlier ++ xs) ++ s.named) (label_base n s.label)) words)
+      ∙ (sym (ap (λ (n : Names). labels_with_stem n ((earlier ++ xs) ++ s.named) (label_stem n s.label)) words)
       ∙ s.full);
 }
 
@@ -198,8 +198,8 @@ refused_one old new label e same why = record {
       label = label;
       left = [];
       all = refl;
-      full = ap (λ ls. labels_with_base old ls (label_base old label)) (append-nil earlier)
-          ∙ (sym (has.uses_are (label_base old label)) ∙ full);
+      full = ap (λ ls. labels_with_stem old ls (label_stem old label)) (append-nil earlier)
+          ∙ (sym (has.uses_are (label_stem old label)) ∙ full);
     }
     by earlier has KeyFull never = never
     by earlier has (Memory m) want = tt

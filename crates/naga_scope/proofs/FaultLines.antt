@@ -5,7 +5,7 @@ use Rattle.std.proofs.Common.{arith, length-append}
 use Rattle.std.proofs.lemmas.Bool.{false≢true, leb-true, ltb-true}
 use Rattle.std.proofs.lemmas.Option.{same_Some}
 use Rattle.std.specs.Prelude.{IsTrue, IsFalse, slice_get}
-use Rattle.module_meaning.proofs.FunctionNumbers.{in_append}
+use Rattle.module_semantics.proofs.FunctionNumbers.{in_append}
 use Rattle.naga_scope.specs.Earliest.{line_of_fault}
 use Rattle.naga_scope.specs.Lines.{is_before}
 use Rattle.naga_scope.specs.declared.lines.Line.{Line}

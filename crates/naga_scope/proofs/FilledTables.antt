@@ -13,16 +13,16 @@ use Rattle.std.proofs.lemmas.List.{get_or-set_other, length-replicate, length-se
 use Rattle.std.proofs.lemmas.List.Folds.{list_any-append}
 use Rattle.std.proofs.lemmas.Option.{same_Some, slice_get_past, slice_get_within}
 use Rattle.indexmap.specs.IndexMap.{values}
-use Rattle.module_meaning.specs.acceptance.Accepted.{is_accepted}
-use Rattle.module_meaning.specs.AlikeTypes.{found_key_by, handle_key, inner_key_by, has_type_form}
-use Rattle.module_meaning.specs.AlikeTypes.{key_within, value_key}
-use Rattle.module_meaning.specs.LackingScalars.{base_type, wordless}
-use Rattle.module_meaning.specs.acceptance.Ranges.{is_below, parts_before, parts_stand_before}
-use Rattle.module_meaning.specs.acceptance.Ranges.{special_types_fit, types_in_range}
-use Rattle.module_meaning.specs.TypeIdentity.{level}
-use Rattle.module_meaning.specs.Undeclared.{handle_names_undeclared, is_undeclared}
-use Rattle.module_meaning.specs.Undeclared.{names_undeclared, names_undeclared_by}
-use Rattle.module_meaning.specs.Undeclared.{names_undeclared_within}
+use Rattle.module_semantics.specs.acceptance.Accepted.{is_accepted}
+use Rattle.module_semantics.specs.AlikeTypes.{found_key_by, handle_key, inner_key_by, has_type_form}
+use Rattle.module_semantics.specs.AlikeTypes.{key_within, value_key}
+use Rattle.module_semantics.specs.LackingScalars.{base_type, wordless}
+use Rattle.module_semantics.specs.acceptance.Ranges.{is_below, parts_before, parts_stand_before}
+use Rattle.module_semantics.specs.acceptance.Ranges.{special_types_fit, types_in_range}
+use Rattle.module_semantics.specs.TypeIdentity.{level}
+use Rattle.module_semantics.specs.Undeclared.{handle_names_undeclared, is_undeclared}
+use Rattle.module_semantics.specs.Undeclared.{names_undeclared, names_undeclared_by}
+use Rattle.module_semantics.specs.Undeclared.{names_undeclared_within}
 use Rattle.naga_form.proofs.declarations.AcceptedGroups.{types_range}
 use Rattle.naga_form.proofs.types.AlikeParts.{at_depth, parts_stand}
 use Rattle.naga_form.proofs.declarations.OwnExpressions.{declared_in_range}

@@ -4,10 +4,10 @@ use Rattle.std.proofs.Common.{Some, None, refl, sym, ap, ◌∙◌, arith, lengt
 use Rattle.std.proofs.lemmas.Bool.{cases_lt, false≢true, ltb-true}
 use Rattle.std.specs.Option.{option_map}
 use Rattle.std.specs.Prelude.{Err, IsFalse, IsSomeAnd, Ok, Result, if◌then◌else◌, not}
-use Rattle.module_meaning.specs.ExpressionForms.{expression_has_form}
-use Rattle.module_meaning.specs.FunctionShapes.{function_shape}
-use Rattle.module_meaning.specs.Premises.{OperandsStandBefore}
-use Rattle.module_meaning.specs.Written.{ExpressionsHaveForms, WrittenHaveForms}
+use Rattle.module_semantics.specs.ExpressionForms.{expression_has_form}
+use Rattle.module_semantics.specs.FunctionShapes.{function_shape}
+use Rattle.module_semantics.specs.Premises.{OperandsStandBefore}
+use Rattle.module_semantics.specs.Written.{ExpressionsHaveForms, WrittenHaveForms}
 use Rattle.naga_info.specs.declared.info.ExpressionInfo.{ExpressionInfo}
 use Rattle.naga_info.specs.declared.info.ModuleInfo.{ModuleInfo}
 use Rattle.naga_ir.specs.StatementTree.{StatementTree}

@@ -17,12 +17,12 @@ use Rattle.shader_runs.specs.Program.{Expression, Function, Load, local_count}
 use Rattle.shader_runs.specs.Scope.{Availability, Handles, usable_as, usable_if, at_start}
 use Rattle.shader_runs.specs.Scope.{before_local, is_present}
 use Rattle.shader_runs.proofs.Update.{and_left, and_right, and_both}
-use Rattle.module_meaning.specs.ExpressionOperators.{is_atomic_pointer}
-use Rattle.module_meaning.specs.ExpressionShapes.{ModuleDeclarations, shape_of, applied_or, applied_shape}
-use Rattle.module_meaning.specs.ExpressionShapes.{part_selector, part_shape}
-use Rattle.module_meaning.specs.FunctionShapes.{function_shape}
-use Rattle.module_meaning.specs.OperatorTable.{Operator as TableOperator, AtomicLoad, BinarySign}
-use Rattle.module_meaning.specs.ExpressionContexts.{declared, types_known}
+use Rattle.module_semantics.specs.ExpressionOperators.{is_atomic_pointer}
+use Rattle.module_semantics.specs.ExpressionShapes.{ModuleDeclarations, shape_of, applied_or, applied_shape}
+use Rattle.module_semantics.specs.ExpressionShapes.{part_selector, part_shape}
+use Rattle.module_semantics.specs.FunctionShapes.{function_shape}
+use Rattle.module_semantics.specs.OperatorTable.{Operator as TableOperator, AtomicLoad, BinarySign}
+use Rattle.module_semantics.specs.ExpressionContexts.{declared, types_known}
 use Rattle.naga_form.proofs.ModuleIndices.{expression_at, no_expression_at}
 use Rattle.naga_form.proofs.statements.WellFormed.{applied_any}
 use Rattle.naga_info.specs.declared.info.ModuleInfo.{ModuleInfo}

@@ -3,10 +3,10 @@ use Rattle.std.proofs.Common.{◌≡◌, ◌⊎◌, inl, inr, ℕ, zero, suc, Bo
 use Rattle.std.proofs.Common.{Option, Some, None, ◌&&◌, ◌||◌, refl, sym, ap, ◌∙◌, arith, slice_get}
 use Rattle.std.specs.Prelude.{IsTrue, IsFalse, not}
 use Rattle.std.specs.Option.{is_none, is_some, option_or}
-use Rattle.module_meaning.specs.OperatorTable.{collective_word, texel_change_word}
-use Rattle.module_meaning.specs.StatementForms.{block_has_forms, cases_have_forms, simple_has_form}
-use Rattle.module_meaning.specs.StatementForms.{statement_has_form}
-use Rattle.module_meaning.specs.StatementShapes.{change_of}
+use Rattle.module_semantics.specs.OperatorTable.{collective_word, texel_change_word}
+use Rattle.module_semantics.specs.StatementForms.{block_has_forms, cases_have_forms, simple_has_form}
+use Rattle.module_semantics.specs.StatementForms.{statement_has_form}
+use Rattle.module_semantics.specs.StatementShapes.{change_of}
 use Rattle.naga_ir.specs.StatementTree.{SimpleStatement, image_atomic, ray_query}
 use Rattle.naga_ir.specs.StatementTree.{subgroup_collective_operation, StatementTree, simple}
 use Rattle.naga_ir.specs.StatementTree.{switch, BlockTree, CaseTrees, no_cases, case}

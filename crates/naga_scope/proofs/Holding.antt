@@ -4,9 +4,9 @@ use Rattle.std.proofs.Common.{length, refl, sym}
 use Rattle.std.specs.Prelude.{Result, Ok, Err}
 use Rattle.std.specs.Result.{result_and}
 use Rattle.std.specs.Option.{option_to_list}
-use Rattle.module_meaning.specs.ExpressionOperators.{ExpressionContext, is_atomic_pointer}
-use Rattle.module_meaning.specs.StatementShapes.{simple_shape, store_shape}
-use Rattle.module_meaning.specs.Written.{simple_handles}
+use Rattle.module_semantics.specs.ExpressionOperators.{ExpressionContext, is_atomic_pointer}
+use Rattle.module_semantics.specs.StatementShapes.{simple_shape, store_shape}
+use Rattle.module_semantics.specs.Written.{simple_handles}
 use Rattle.naga_ir.specs.Operands.{simple_operands, simple_result}
 use Rattle.naga_ir.specs.StatementTree.{SimpleStatement, emit, return, simple, store}
 use Rattle.naga_ir.specs.StatementViews.{tree_of}

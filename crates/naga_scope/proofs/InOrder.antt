@@ -12,9 +12,9 @@ use Rattle.std.specs.List.{flat_map}
 use Rattle.std.specs.Option.{option_to_list}
 use Rattle.std.specs.Prelude.{nat_eq, sum_by}
 use Rattle.naga_ir.proofs.Listed.{drop_first}
-use Rattle.module_meaning.specs.ExpressionLabels.{block_labels, cases_labels, labels_in}
-use Rattle.module_meaning.specs.Written.{block_lets, block_handles, cases_lets, cases_handles}
-use Rattle.module_meaning.specs.Written.{function_handles, statement_lets, statement_handles}
+use Rattle.module_semantics.specs.ExpressionLabels.{block_labels, cases_labels, labels_in}
+use Rattle.module_semantics.specs.Written.{block_lets, block_handles, cases_lets, cases_handles}
+use Rattle.module_semantics.specs.Written.{function_handles, statement_lets, statement_handles}
 use Rattle.naga_ir.specs.StatementTree.{SimpleStatement, emit, StatementTree, simple, block, branch}
 use Rattle.naga_ir.specs.StatementTree.{switch, loop, BlockTree, no_statements, statement}
 use Rattle.naga_ir.specs.StatementTree.{CaseTrees, no_cases, case}

@@ -1,7 +1,7 @@
 -- Points of a function that follow one another.
 use Rattle.std.proofs.Common.{◌≡◌, ℕ, true, List, [], get_or, refl, ap, ◌∙◌, length}
 use Rattle.std.specs.Prelude.{IsTrue}
-use Rattle.module_meaning.specs.Names.{numbered_name}
+use Rattle.module_semantics.specs.Names.{numbered_name}
 use Rattle.naga_scope.specs.Availabilities.{TextPoint, availability_of}
 use Rattle.naga_scope.specs.KnownFunctions.{IsPointOf, handles_at}
 use Rattle.naga_scope.specs.Log.{Extends, grows}

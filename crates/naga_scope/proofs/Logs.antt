@@ -19,7 +19,7 @@ use Rattle.naga_scope.specs.declared.points.Availability.{Availability}
 use Rattle.naga_scope.specs.declared.points.BoundName.{BoundName}
 use Rattle.naga_scope.specs.declared.points.Availability.TheVariants.{Absent, Barred, Everywhere}
 use Rattle.naga_scope.specs.declared.points.Availability.TheVariants.{Inline, Bound}
-use Rattle.module_meaning.specs.Names.{numbered_name}
+use Rattle.module_semantics.specs.Names.{numbered_name}
 use Rattle.shader_runs.specs.Scope as runs
 
 -- what a table says of a cell

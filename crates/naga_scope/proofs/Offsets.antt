@@ -6,14 +6,14 @@ use Rattle.std.specs.Option.{is_some, option_and_then, option_map_or, option_to_
 use Rattle.std.specs.Prelude.{if◌then◌else◌}
 use Rattle.std.specs.Result.{result_and}
 use Rattle.std.proofs.lemmas.Option.{slice_get_within}
-use Rattle.module_meaning.proofs.ExpressionShapes.{shape_operands}
-use Rattle.module_meaning.specs.ExpressionOperators.{constructor}
-use Rattle.module_meaning.specs.ExpressionShapes.{ModuleDeclarations, built, constant_tree, shape_of}
-use Rattle.module_meaning.specs.ExpressionShapes.{tree_over, tree_then, tree_within, trees_of}
-use Rattle.module_meaning.specs.FunctionShapes.{function_shape}
-use Rattle.module_meaning.specs.OperatorTable.{Operator, Splat}
-use Rattle.module_meaning.specs.Premises.{OperandsStandBefore}
-use Rattle.module_meaning.specs.ExpressionContexts.{declared, types_known}
+use Rattle.module_semantics.proofs.ExpressionShapes.{shape_operands}
+use Rattle.module_semantics.specs.ExpressionOperators.{constructor}
+use Rattle.module_semantics.specs.ExpressionShapes.{ModuleDeclarations, built, constant_tree, shape_of}
+use Rattle.module_semantics.specs.ExpressionShapes.{tree_over, tree_then, tree_within, trees_of}
+use Rattle.module_semantics.specs.FunctionShapes.{function_shape}
+use Rattle.module_semantics.specs.OperatorTable.{Operator, Splat}
+use Rattle.module_semantics.specs.Premises.{OperandsStandBefore}
+use Rattle.module_semantics.specs.ExpressionContexts.{declared, types_known}
 use Rattle.naga_form.proofs.ModuleIndices.{expression_at, no_expression_at}
 use Rattle.naga_info.specs.declared.info.ExpressionInfo.{ExpressionInfo}
 use Rattle.naga_info.specs.declared.info.ModuleInfo.{ModuleInfo}

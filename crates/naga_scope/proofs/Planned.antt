@@ -14,11 +14,11 @@ use Rattle.shader_runs.specs.Scope.{Naming}
 use Rattle.naga_scope.specs.ScopeFaults.{standing}
 use Rattle.shader_runs.specs.ScopeRules.{ScopeHolds, start_state}
 use Rattle.shader_runs.proofs.ScopeRules.{scope_check_is_the_rules}
-use Rattle.module_meaning.specs.FunctionNumbers.{all_functions, all_infos}
-use Rattle.module_meaning.specs.FunctionShapes.{function_shape, function_shapes}
-use Rattle.module_meaning.specs.Namings.{function_naming}
-use Rattle.module_meaning.specs.Premises.{OperandsStandBefore}
-use Rattle.module_meaning.specs.ExpressionContexts.{declared, types_known}
+use Rattle.module_semantics.specs.FunctionNumbers.{all_functions, all_infos}
+use Rattle.module_semantics.specs.FunctionShapes.{function_shape, function_shapes}
+use Rattle.module_semantics.specs.Namings.{function_naming}
+use Rattle.module_semantics.specs.Premises.{OperandsStandBefore}
+use Rattle.module_semantics.specs.ExpressionContexts.{declared, types_known}
 use Rattle.naga_form.proofs.operators.Ordered.{shape_ordered}
 use Rattle.naga_form.proofs.statements.WellFormed.{any_shape}
 use Rattle.naga_scope.specs.Plans.{IsPlan, IsPlanOf, Planned}
@@ -28,7 +28,7 @@ use Rattle.naga_scope.proofs.FoundFaults.{FirstFault, check_finds}
 use Rattle.naga_scope.proofs.ScopeChecks.{function_ok}
 use Rattle.naga_scope.proofs.StandingCounts.{standing_count}
 use Rattle.naga_ir.specs.InOrder.{trees_in}
-use Rattle.module_meaning.specs.Written.{OfFunctionAt}
+use Rattle.module_semantics.specs.Written.{OfFunctionAt}
 
 module _ (m : Module) (info : ModuleInfo) (f : ir_function.Function) (es : List ExpressionInfo)
     (ordered : OperandsStandBefore f.expressions) where

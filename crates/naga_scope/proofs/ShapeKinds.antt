@@ -20,20 +20,20 @@ use Rattle.shader_runs.specs.Program.{binds, is_emittable, is_pure}
 use Rattle.shader_runs.specs.Scope.{Handles, Availability, is_present, is_constant_leaf, usable}
 use Rattle.shader_runs.specs.Scope.{usable_as}
 use Rattle.shader_runs.specs.Value.{Selector}
-use Rattle.module_meaning.specs.ExpressionOperators.{ExpressionContext, is_atomic_pointer}
-use Rattle.module_meaning.specs.ExpressionShapes.{ModuleDeclarations, shape_of, applied_or, applied_shape}
-use Rattle.module_meaning.specs.ExpressionShapes.{part_selector, part_shape}
-use Rattle.module_meaning.specs.LetCounts.{is_bound_by_uses, uses_of}
-use Rattle.module_meaning.specs.FunctionShapes.{function_shape}
-use Rattle.module_meaning.proofs.LetCounts.{bound_by_uses_at}
-use Rattle.module_meaning.specs.OperatorTable.{Operator as TableOperator, AtomicLoad, BinarySign}
-use Rattle.module_meaning.specs.OperatorTable.{CooperativeLoad}
-use Rattle.module_meaning.specs.ShapeKinds.{shape_kind}
-use Rattle.module_meaning.specs.ExpressionContexts.{declared, types_known}
-use Rattle.module_meaning.specs.Types.{declared_type}
-use Rattle.module_meaning.proofs.ExpressionShapes.{kind_shaped, shape_kinds, shape_operands}
+use Rattle.module_semantics.specs.ExpressionOperators.{ExpressionContext, is_atomic_pointer}
+use Rattle.module_semantics.specs.ExpressionShapes.{ModuleDeclarations, shape_of, applied_or, applied_shape}
+use Rattle.module_semantics.specs.ExpressionShapes.{part_selector, part_shape}
+use Rattle.module_semantics.specs.LetCounts.{is_bound_by_uses, uses_of}
+use Rattle.module_semantics.specs.FunctionShapes.{function_shape}
+use Rattle.module_semantics.proofs.LetCounts.{bound_by_uses_at}
+use Rattle.module_semantics.specs.OperatorTable.{Operator as TableOperator, AtomicLoad, BinarySign}
+use Rattle.module_semantics.specs.OperatorTable.{CooperativeLoad}
+use Rattle.module_semantics.specs.ShapeKinds.{shape_kind}
+use Rattle.module_semantics.specs.ExpressionContexts.{declared, types_known}
+use Rattle.module_semantics.specs.Types.{declared_type}
+use Rattle.module_semantics.proofs.ExpressionShapes.{kind_shaped, shape_kinds, shape_operands}
 use Rattle.naga_form.proofs.Fits.{named_is, mapped_length}
-use Rattle.module_meaning.specs.ExpressionLabels.{label_of}
+use Rattle.module_semantics.specs.ExpressionLabels.{label_of}
 use Rattle.naga_form.proofs.ModuleIndices.{expression_at, no_expression_at}
 use Rattle.naga_form.proofs.statements.WellFormed.{applied_any}
 use Rattle.naga_scope.specs.Availabilities.{kind_at, operands_at, is_pure_kind, is_constant_kind}

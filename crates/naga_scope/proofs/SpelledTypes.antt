@@ -9,11 +9,11 @@ use Rattle.std.specs.Option.{option_map, option_map_or, option_or}
 use Rattle.std.proofs.lemmas.Bool.{and_parts, ltb-true, not-false, not-true, or_cases, or_left, or_right}
 use Rattle.std.proofs.lemmas.List.Folds.{find-append, list_any-append}
 use Rattle.naga_ir.proofs.Listed.{drop_first}
-use Rattle.module_meaning.specs.AlikeTypes.{has_type_form}
-use Rattle.module_meaning.specs.Undeclared.{is_spellable, names_undeclared}
-use Rattle.module_meaning.specs.FunctionShapes.{function_shape}
-use Rattle.module_meaning.specs.Written.{IsSpelledIn, OfArgument, OfLet, OfLocal, OfResult}
-use Rattle.module_meaning.specs.Written.{block_lets}
+use Rattle.module_semantics.specs.AlikeTypes.{has_type_form}
+use Rattle.module_semantics.specs.Undeclared.{is_spellable, names_undeclared}
+use Rattle.module_semantics.specs.FunctionShapes.{function_shape}
+use Rattle.module_semantics.specs.Written.{IsSpelledIn, OfArgument, OfLet, OfLocal, OfResult}
+use Rattle.module_semantics.specs.Written.{block_lets}
 use Rattle.naga_info.proofs.Options.{map_some}
 use Rattle.naga_info.specs.declared.info.ExpressionInfo.{ExpressionInfo}
 use Rattle.naga_info.specs.declared.info.ModuleInfo.{ModuleInfo}

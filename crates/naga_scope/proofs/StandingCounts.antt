@@ -1,10 +1,10 @@
 -- The shape of a body has as many statements as the body.
 use Rattle.std.proofs.Common.{◌≡◌, ℕ, suc, Bool, true, false, List, refl, ap, ap₂, sym, ◌∙◌}
 use Rattle.std.proofs.Common.{◌+◌, length, length-append}
-use Rattle.module_meaning.specs.ExpressionOperators.{ExpressionContext, is_atomic_pointer}
-use Rattle.module_meaning.specs.ExpressionContexts.{declared, types_known}
-use Rattle.module_meaning.specs.FunctionShapes.{cases_shape, function_shape, statement_shape, statements_shape}
-use Rattle.module_meaning.specs.StatementShapes.{simple_shape, store_shape}
+use Rattle.module_semantics.specs.ExpressionOperators.{ExpressionContext, is_atomic_pointer}
+use Rattle.module_semantics.specs.ExpressionContexts.{declared, types_known}
+use Rattle.module_semantics.specs.FunctionShapes.{cases_shape, function_shape, statement_shape, statements_shape}
+use Rattle.module_semantics.specs.StatementShapes.{simple_shape, store_shape}
 use Rattle.naga_info.specs.declared.info.ExpressionInfo.{ExpressionInfo}
 use Rattle.naga_info.specs.declared.info.ModuleInfo.{ModuleInfo}
 use Rattle.naga_ir.specs.StatementTree.{SimpleStatement, store, StatementTree, simple, block, branch, switch}

@@ -6,7 +6,7 @@ use Rattle.std.specs.List.{IsAmong}
 use Rattle.std.proofs.lemmas.Bool.{and_parts, cases_order, eqb-false, false≢true, lt-ltb}
 use Rattle.std.proofs.lemmas.Bool.{or_cases, or_left, or_right}
 use Rattle.std.proofs.lemmas.Option.{same_Some, slice_get_within}
-use Rattle.module_meaning.specs.Written.{IsWritten, OperandOf, Root}
+use Rattle.module_semantics.specs.Written.{IsWritten, OperandOf, Root}
 use Rattle.naga_ir.specs.Operands.{expression_operands}
 use Rattle.naga_ir.specs.declared.expression.Expression.{Expression}
 use Rattle.naga_scope.specs.Marks.{MarksJust, is_marked, is_one_of, marked_with}

@@ -3,9 +3,9 @@ use Rattle.std.proofs.Common.{◌≡◌, ℕ, suc, ◌+◌, ◌≤◌, Bool, tru
 use Rattle.std.proofs.Common.{length, take, drop, Option, Some, None, nat_eq, eqb-true, refl, sym}
 use Rattle.std.proofs.Common.{ap, ◌∙◌, arith, add-one, subst}
 use Rattle.std.specs.Prelude.{cond, Result, Ok, Err}
-use Rattle.module_meaning.specs.ExpressionOperators.{ExpressionContext, is_atomic_pointer}
-use Rattle.module_meaning.specs.FunctionShapes.{cases_shape, statement_shape, statements_shape}
-use Rattle.module_meaning.specs.StatementShapes.{store_shape}
+use Rattle.module_semantics.specs.ExpressionOperators.{ExpressionContext, is_atomic_pointer}
+use Rattle.module_semantics.specs.FunctionShapes.{cases_shape, statement_shape, statements_shape}
+use Rattle.module_semantics.specs.StatementShapes.{store_shape}
 use Rattle.naga_ir.specs.StatementTree.{continue, store, StatementTree, simple, block, branch}
 use Rattle.naga_ir.specs.StatementTree.{switch, loop, BlockTree, no_statements, statement}
 use Rattle.naga_ir.specs.StatementTree.{CaseTrees, no_cases, case, statement_size, block_size}

@@ -6,25 +6,25 @@ use Rattle.std.specs.Prelude.{IfNone, IfSome, IsTrue, if◌then◌else◌}
 use Rattle.std.specs.Option.{is_some, option_and_then}
 use Rattle.std.proofs.lemmas.Bool.{false≢true, le-ltb, lt-ltb}
 use Rattle.std.proofs.lemmas.Option.{slice_get_within}
-use Rattle.module_meaning.proofs.FunctionNumbers.{entry_point_among, function_among, which_function}
-use Rattle.module_meaning.proofs.FunctionNumbers.{IsNumbered, OfEntryPoint, OfFunction}
-use Rattle.module_meaning.specs.DeclarationForms.{DeclarationsHaveForms, HeadHasForm}
-use Rattle.module_meaning.specs.DeclarationForms.{IsDeclaredType, IsInitialiser, IsMemberBinding}
-use Rattle.module_meaning.specs.DeclarationForms.{IsIoBinding, binding_has_form, entry_point_numbered}
-use Rattle.module_meaning.specs.DeclarationForms.{stage_has_form}
-use Rattle.module_meaning.specs.DeclarationForms.IsDeclaredType.{OfConstant as ConstantType}
-use Rattle.module_meaning.specs.DeclarationForms.IsDeclaredType.{OfMember as MemberType}
-use Rattle.module_meaning.specs.DeclarationForms.IsDeclaredType.{OfOverride as OverrideType}
-use Rattle.module_meaning.specs.DeclarationForms.IsDeclaredType.{OfVariable as VariableType}
-use Rattle.module_meaning.specs.DeclarationForms.IsInitialiser.{OfConstant as ConstantInitialiser}
-use Rattle.module_meaning.specs.DeclarationForms.IsInitialiser.{OfOverride as OverrideInitialiser}
-use Rattle.module_meaning.specs.DeclarationForms.IsInitialiser.{OfVariable as VariableInitialiser}
-use Rattle.module_meaning.specs.DeclarationForms.IsMemberBinding.{OfMember as MemberBinding}
-use Rattle.module_meaning.specs.DeclarationForms.IsIoBinding.{OfArgument, OfResult}
-use Rattle.module_meaning.specs.Layouts.{HasOtherStride, IsMisplaced, concerned_members}
-use Rattle.module_meaning.specs.Layouts.{concerned_of, concerned_only, layout_in, module_rule}
-use Rattle.module_meaning.specs.Undeclared.{is_declared, is_spellable, is_undeclared}
-use Rattle.module_meaning.specs.ExpressionForms.{global_has_form}
+use Rattle.module_semantics.proofs.FunctionNumbers.{entry_point_among, function_among, which_function}
+use Rattle.module_semantics.proofs.FunctionNumbers.{IsNumbered, OfEntryPoint, OfFunction}
+use Rattle.module_semantics.specs.DeclarationForms.{DeclarationsHaveForms, HeadHasForm}
+use Rattle.module_semantics.specs.DeclarationForms.{IsDeclaredType, IsInitialiser, IsMemberBinding}
+use Rattle.module_semantics.specs.DeclarationForms.{IsIoBinding, binding_has_form, entry_point_numbered}
+use Rattle.module_semantics.specs.DeclarationForms.{stage_has_form}
+use Rattle.module_semantics.specs.DeclarationForms.IsDeclaredType.{OfConstant as ConstantType}
+use Rattle.module_semantics.specs.DeclarationForms.IsDeclaredType.{OfMember as MemberType}
+use Rattle.module_semantics.specs.DeclarationForms.IsDeclaredType.{OfOverride as OverrideType}
+use Rattle.module_semantics.specs.DeclarationForms.IsDeclaredType.{OfVariable as VariableType}
+use Rattle.module_semantics.specs.DeclarationForms.IsInitialiser.{OfConstant as ConstantInitialiser}
+use Rattle.module_semantics.specs.DeclarationForms.IsInitialiser.{OfOverride as OverrideInitialiser}
+use Rattle.module_semantics.specs.DeclarationForms.IsInitialiser.{OfVariable as VariableInitialiser}
+use Rattle.module_semantics.specs.DeclarationForms.IsMemberBinding.{OfMember as MemberBinding}
+use Rattle.module_semantics.specs.DeclarationForms.IsIoBinding.{OfArgument, OfResult}
+use Rattle.module_semantics.specs.Layouts.{HasOtherStride, IsMisplaced, concerned_members}
+use Rattle.module_semantics.specs.Layouts.{concerned_of, concerned_only, layout_in, module_rule}
+use Rattle.module_semantics.specs.Undeclared.{is_declared, is_spellable, is_undeclared}
+use Rattle.module_semantics.specs.ExpressionForms.{global_has_form}
 use Rattle.naga_info.specs.declared.info.TypeResolution.TheVariants.{Handle}
 use Rattle.naga_ir.specs.declared.binding.Binding.{Binding}
 use Rattle.naga_ir.specs.declared.binding.Binding.TheVariants as binding
@@ -238,15 +238,15 @@ module _ (m : Module) where
   -- what is found, where it stands, and that it is the first
   pub record IsFound (found : DeclarationPosition × UnsupportedDeclaration) : Type 0 where
     pub some : IsUnsupportedDeclaration m found.1
-    pub place : IsUnsupportedIn m found.0 found.1
+    pub stands : IsUnsupportedIn m found.0 found.1
     pub first : HaveFormsBefore m found.0
 
-  -- what is said of a place is said of one that is the same
+  -- what is said of a declaration is said of one that is the same
   at_one : (at here : DeclarationPosition) (it : UnsupportedDeclaration) → at ≡ here → IsUnsupportedDeclaration m it →
       IsUnsupportedIn m here it → HaveFormsBefore m here → IsFound (at, it)
   at_one at here it same some stands first = record {
     some = some;
-    place = subst (λ at. IsUnsupportedIn m at it) (sym same) stands;
+    stands = subst (λ at. IsUnsupportedIn m at it) (sym same) stands;
     first = subst (HaveFormsBefore m) (sym same) first;
   }
 

@@ -10,19 +10,19 @@ use Rattle.std.proofs.lemmas.Bool.{ltb-false, ltb-true}
 use Rattle.std.proofs.lemmas.Grind.{get_or-set_at}
 use Rattle.std.proofs.lemmas.List.{get_or-set_other, get_or_past, length-set}
 use Rattle.std.proofs.lemmas.Option.{slice_get_past, slice_get_within}
-use Rattle.module_meaning.proofs.Stepwise.{by_those_before}
-use Rattle.module_meaning.specs.acceptance.Accepted.{is_accepted}
+use Rattle.module_semantics.proofs.Stepwise.{by_those_before}
+use Rattle.module_semantics.specs.acceptance.Accepted.{is_accepted}
 use Rattle.naga_form.proofs.operators.Ordered.{each_below}
 use Rattle.naga_form.proofs.declarations.OwnExpressions.{Own, constant_named}
 use Rattle.naga_form.proofs.declarations.OwnExpressions.{initialiser_stands_before}
 use Rattle.naga_form.proofs.declarations.OwnExpressions.{initialiser_within, own_is}
 use Rattle.naga_info.specs.declared.info.ModuleInfo.{ModuleInfo}
-use Rattle.module_meaning.specs.Undeclared.{is_spellable}
-use Rattle.module_meaning.specs.ExpressionForms.{constant_has_form, constant_has_form_over}
-use Rattle.module_meaning.specs.ExpressionForms.{global_has_form, global_has_form_over}
-use Rattle.module_meaning.specs.ExpressionForms.{global_has_form_within}
-use Rattle.module_meaning.specs.Premises.{OperandsStandBefore}
-use Rattle.module_meaning.specs.WrittenOut.{is_written_out, written_out_over, written_out_within}
+use Rattle.module_semantics.specs.Undeclared.{is_spellable}
+use Rattle.module_semantics.specs.ExpressionForms.{constant_has_form, constant_has_form_over}
+use Rattle.module_semantics.specs.ExpressionForms.{global_has_form, global_has_form_over}
+use Rattle.module_semantics.specs.ExpressionForms.{global_has_form_within}
+use Rattle.module_semantics.specs.Premises.{OperandsStandBefore}
+use Rattle.module_semantics.specs.WrittenOut.{is_written_out, written_out_over, written_out_within}
 use Rattle.naga_ir.specs.Operands.{expression_operands}
 use Rattle.naga_ir.specs.declared.expression.Expression.{Expression}
 use Rattle.naga_ir.specs.declared.expression.Expression.TheVariants as expression

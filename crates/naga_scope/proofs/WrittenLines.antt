@@ -8,7 +8,7 @@ use Rattle.std.proofs.lemmas.List.Folds.{list_any-append}
 use Rattle.std.specs.List.{filter, flat_map}
 use Rattle.std.specs.Option.{option_and_then, option_map_or, option_to_list}
 use Rattle.std.specs.Prelude.{if◌then◌else◌, map}
-use Rattle.module_meaning.specs.Written.{IsWritten, OperandOf, Root, function_handles}
+use Rattle.module_semantics.specs.Written.{IsWritten, OperandOf, Root, function_handles}
 use Rattle.naga_ir.specs.StatementTree.{StatementTree, simple, block, branch, switch, loop}
 use Rattle.naga_ir.specs.declared.expression.Expression.{Expression}
 use Rattle.naga_ir.specs.declared.module.Function.{Function}

@@ -14,7 +14,7 @@ use Rattle.naga_ir.specs.declared.kind.ExpressionKind.TheVariants as kind
 use Rattle.naga_ir.specs.declared.module.Function.{Function}
 use Rattle.shader_runs.specs.Program.{Function as Shape}
 use Rattle.shader_runs.specs.Scope as runs
-use Rattle.module_meaning.specs.Names.{numbered_name}
+use Rattle.module_semantics.specs.Names.{numbered_name}
 use Rattle.naga_scope.specs.declared.points.BoundName.{BoundName}
 use Rattle.naga_scope.specs.declared.points.BoundName.TheVariants.{Numbered, Named}
 use Rattle.naga_scope.specs.declared.points.Availability.{Availability}

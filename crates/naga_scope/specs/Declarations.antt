@@ -3,20 +3,20 @@
 --
 -- Throughout, m is a module, number is that of a function or an entry point, f is a function, p an
 -- entry point, b a binding, v a built-in value, ty is the handle of a type, h that of an
--- expression, s a member, c a constant, o an override, g a variable, a an argument, i is the place
+-- expression, s a member, c a constant, o an override, g a variable, a an argument, i is the index
 -- of an item in its list, fault is why members can't stay where they are, ks are the members of a
 -- struct as the module places them, and it is what is found.
 use Rattle.std.specs.Prelude.{◌≡◌, ◌<◌, ◌⊎◌, ℕ, zero, suc, Option, Some, None, IsFalse, IsTrue}
 use Rattle.std.specs.Prelude.{List, slice_get}
 use Rattle.std.specs.Option.{is_some, option_and_then}
-use Rattle.module_meaning.specs.DeclarationForms.{IsDeclaredType, IsInitialiser, IsMemberBinding}
-use Rattle.module_meaning.specs.DeclarationForms.{IsIoBinding, binding_has_form, entry_point_numbered}
-use Rattle.module_meaning.specs.DeclarationForms.{stage_has_form}
-use Rattle.module_meaning.specs.FunctionNumbers.{all_functions}
-use Rattle.module_meaning.specs.Layouts.{HasOtherStride, IsMisplaced, concerned_only, layout_in}
-use Rattle.module_meaning.specs.Layouts.{module_rule}
-use Rattle.module_meaning.specs.Undeclared.{is_declared, is_spellable}
-use Rattle.module_meaning.specs.ExpressionForms.{global_has_form}
+use Rattle.module_semantics.specs.DeclarationForms.{IsDeclaredType, IsInitialiser, IsMemberBinding}
+use Rattle.module_semantics.specs.DeclarationForms.{IsIoBinding, binding_has_form, entry_point_numbered}
+use Rattle.module_semantics.specs.DeclarationForms.{stage_has_form}
+use Rattle.module_semantics.specs.FunctionNumbers.{all_functions}
+use Rattle.module_semantics.specs.Layouts.{HasOtherStride, IsMisplaced, concerned_only, layout_in}
+use Rattle.module_semantics.specs.Layouts.{module_rule}
+use Rattle.module_semantics.specs.Undeclared.{is_declared, is_spellable}
+use Rattle.module_semantics.specs.ExpressionForms.{global_has_form}
 use Rattle.naga_info.specs.declared.info.TypeResolution.TheVariants.{Handle}
 use Rattle.naga_ir.specs.declared.binding.Binding.{Binding}
 use Rattle.naga_ir.specs.declared.binding.Binding.TheVariants as binding
@@ -68,7 +68,7 @@ IsUnsupportedDeclaration m (declaration.Stride found) = (ty : ℕ) × HasOtherSt
 abbrev pub Each : {X : Type 0} → List X → (HasForm : (i : ℕ) → X → Type 0) → Type 0
 Each {X} xs HasForm = (i : ℕ) (x : X) → slice_get xs i ≡ Some x → HasForm i x
 
--- each in front of this place has one
+-- each in front of this index has one
 abbrev pub EachBefore : {X : Type 0} → List X → (n : ℕ) → (HasForm : (i : ℕ) → X → Type 0) → Type 0
 EachBefore {X} xs n HasForm = (i : ℕ) (x : X) → i < n → slice_get xs i ≡ Some x → HasForm i x
 
@@ -156,8 +156,8 @@ FindsStride m members =
     Finds members (λ i s. IsTrue (arrays_are_kept (module_rule m) m.types s.ty))
     (λ i s. IsOtherStride m s)
 
--- the member in front of this place, if there is one
-abbrev pub placed_before : List Placed → (place : ℕ) → Option Placed
+-- the member in front of this index, if there is one
+abbrev pub placed_before : List Placed → (index : ℕ) → Option Placed
 placed_before ks zero = None
 placed_before ks (suc i) = slice_get ks i
 

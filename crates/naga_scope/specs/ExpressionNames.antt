@@ -1,6 +1,6 @@
 -- How the names are taken that front ends gave in a function.
 use Rattle.std.specs.Prelude.{◌≡◌, ⊤, ℕ, ◌+◌, List, [], ◌∷◌, ◌++◌, length}
-use Rattle.module_meaning.specs.ExpressionLabels.{SomeLabelIsFull}
+use Rattle.module_semantics.specs.ExpressionLabels.{SomeLabelIsFull}
 use Rattle.naga_names.specs.Naming.{HasNamed, Names, name_after}
 use Rattle.naga_names.specs.declared.error.NamerError.{NamerError}
 use Rattle.naga_names.specs.declared.error.NamerError.TheVariants.{Full, KeyFull, Memory}
@@ -33,7 +33,7 @@ pub record HasNamedSome (new : Names) (earlier labels : List (List ℕ)) : Type 
   pub all : labels ≡ named ++ left
   pub has : HasNamed new (earlier ++ named)
 
--- why one of these labels gets no name: its base is full, or memory ran out
+-- why one of these labels gets no name: its stem is full, or memory ran out
 abbrev pub IsRefusalOfLabels : Names → (earlier labels : List (List ℕ)) → NamerError → Type 0
 IsRefusalOfLabels start earlier labels Full = SomeLabelIsFull start earlier labels
 IsRefusalOfLabels start earlier labels KeyFull = ⊥

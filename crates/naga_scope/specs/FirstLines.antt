@@ -8,7 +8,7 @@ use Rattle.std.specs.Prelude.{length, slice_get}
 use Rattle.std.specs.Prelude.{Option, Some, None, IsFalse, IsSomeAnd, IsTrue, if◌then◌else◌}
 use Rattle.std.specs.List.{enumerate_from, filter, flat_map}
 use Rattle.std.specs.Option.{option_to_list}
-use Rattle.module_meaning.specs.Written.{IsWritten}
+use Rattle.module_semantics.specs.Written.{IsWritten}
 use Rattle.naga_ir.specs.StatementTree.{StatementTree, simple, block, branch, switch, loop, BlockTree}
 use Rattle.naga_ir.specs.StatementTree.{no_statements, statement, CaseTrees, no_cases, case}
 use Rattle.naga_ir.specs.declared.expression.Expression.{Expression}

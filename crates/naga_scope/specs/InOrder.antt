@@ -5,8 +5,8 @@
 use Rattle.std.specs.Prelude.{ℕ, ◌-◌, Bool, List, [], ◌++◌}
 use Rattle.std.specs.List.{flat_map}
 use Rattle.std.specs.Option.{option_to_list}
-use Rattle.module_meaning.specs.ExpressionLabels.{labels_of_each}
-use Rattle.module_meaning.specs.Written.{simple_lets, simple_handles}
+use Rattle.module_semantics.specs.ExpressionLabels.{labels_of_each}
+use Rattle.module_semantics.specs.Written.{simple_lets, simple_handles}
 use Rattle.naga_ir.specs.Operands.{own_operands}
 use Rattle.naga_ir.specs.StatementTree.{emit, loop, StatementTree, simple}
 use Rattle.naga_ir.specs.declared.module.Function.{Function}

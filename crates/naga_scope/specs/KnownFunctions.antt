@@ -2,13 +2,13 @@
 --
 -- Throughout, k is such a function.
 use Rattle.std.specs.Prelude.{◌≡◌, ℕ, Bool, List, [], None, length}
-use Rattle.module_meaning.specs.ExpressionContexts.{declared, types_known}
-use Rattle.module_meaning.specs.ExpressionOperators.{ExpressionContext}
-use Rattle.module_meaning.specs.FunctionShapes.{cases_shape, function_shape, statement_shape}
-use Rattle.module_meaning.specs.FunctionShapes.{statements_shape}
-use Rattle.module_meaning.specs.Namings.{function_naming}
-use Rattle.module_meaning.specs.Premises.{OperandsStandBefore}
-use Rattle.module_meaning.specs.ExpressionForms.{expression_has_form}
+use Rattle.module_semantics.specs.ExpressionContexts.{declared, types_known}
+use Rattle.module_semantics.specs.ExpressionOperators.{ExpressionContext}
+use Rattle.module_semantics.specs.FunctionShapes.{cases_shape, function_shape, statement_shape}
+use Rattle.module_semantics.specs.FunctionShapes.{statements_shape}
+use Rattle.module_semantics.specs.Namings.{function_naming}
+use Rattle.module_semantics.specs.Premises.{OperandsStandBefore}
+use Rattle.module_semantics.specs.ExpressionForms.{expression_has_form}
 use Rattle.naga_ir.specs.StatementTree.{BlockTree, CaseTrees, StatementTree}
 use Rattle.naga_ir.specs.declared.expression.Expression.{Expression}
 use Rattle.naga_scope.specs.Availabilities.{KeepsStart, TextPoint, handles_of}

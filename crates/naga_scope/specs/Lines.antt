@@ -7,8 +7,8 @@
 use Rattle.std.specs.Prelude.{ℕ, Bool, true, false, List, [], nat_eq, nat_le, nat_lt, not, Option}
 use Rattle.std.specs.Prelude.{slice_get, suc, ◌+◌, ◌&&◌, ◌||◌, length, if◌then◌else◌}
 use Rattle.std.specs.Option.{option_and_then, option_map, option_map_or, option_to_list}
-use Rattle.module_meaning.specs.FunctionShapes.{function_shape}
-use Rattle.module_meaning.specs.Written.{IsWritten}
+use Rattle.module_semantics.specs.FunctionShapes.{function_shape}
+use Rattle.module_semantics.specs.Written.{IsWritten}
 use Rattle.naga_info.specs.declared.info.ExpressionInfo.{ExpressionInfo}
 use Rattle.naga_info.specs.declared.info.ModuleInfo.{ModuleInfo}
 use Rattle.naga_ir.specs.declared.module.Function.{Function}

@@ -2,9 +2,9 @@
 use Rattle.std.specs.Prelude.{◌≡◌, ◌<◌, ℕ, Bool, false, List, ◌&&◌, ◌||◌, get_or, length, nat_eq}
 use Rattle.std.specs.Prelude.{nat_lt, Some, slice_get}
 use Rattle.std.specs.List.{list_any}
-use Rattle.module_meaning.specs.ExpressionForms.{global_has_form}
-use Rattle.module_meaning.specs.Premises.{OperandsStandBefore}
-use Rattle.module_meaning.specs.WrittenOut.{is_written_out}
+use Rattle.module_semantics.specs.ExpressionForms.{global_has_form}
+use Rattle.module_semantics.specs.Premises.{OperandsStandBefore}
+use Rattle.module_semantics.specs.WrittenOut.{is_written_out}
 use Rattle.naga_ir.specs.declared.expression.Expression.{Expression}
 use Rattle.naga_ir.specs.declared.expression.Expression.TheVariants as expression
 use Rattle.naga_ir.specs.declared.module.Constant.{Constant}

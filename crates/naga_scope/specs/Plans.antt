@@ -8,10 +8,10 @@ use Rattle.std.specs.List.{IsAmong}
 use Rattle.naga_ir.specs.declared.expression.Expression.{Expression}
 use Rattle.naga_ir.specs.declared.module.Function as ir
 use Rattle.naga_info.specs.declared.info.ExpressionInfo.{ExpressionInfo}
-use Rattle.module_meaning.specs.ExpressionForms.{expression_has_form}
-use Rattle.module_meaning.specs.Namings.{function_naming}
-use Rattle.module_meaning.specs.Undeclared.{is_spellable}
-use Rattle.module_meaning.specs.Written.{IsSpelledIn, OfFunctionAt, WrittenHaveForms}
+use Rattle.module_semantics.specs.ExpressionForms.{expression_has_form}
+use Rattle.module_semantics.specs.Namings.{function_naming}
+use Rattle.module_semantics.specs.Undeclared.{is_spellable}
+use Rattle.module_semantics.specs.Written.{IsSpelledIn, OfFunctionAt, WrittenHaveForms}
 use Rattle.naga_ir.specs.declared.module.Module.{Module}
 use Rattle.naga_info.specs.declared.info.ModuleInfo.{ModuleInfo}
 use Rattle.naga_info.specs.declared.info.TypeResolution.TheVariants.{Handle}
@@ -19,10 +19,10 @@ use Rattle.shader_runs.specs.Program.{Function, binds}
 use Rattle.shader_runs.specs.Scope.{at_start}
 use Rattle.shader_runs.specs.ScopeRules.{ScopeHolds}
 use Rattle.shader_runs.specs.ScopeFaults.{HasScopeFault}
-use Rattle.module_meaning.specs.FunctionShapes.{function_shape}
-use Rattle.module_meaning.specs.Premises.{function_shape_at}
-use Rattle.module_meaning.specs.ExpressionLabels.{SomeLabelIsFull, expression_labels}
-use Rattle.module_meaning.specs.Names.{expression_name}
+use Rattle.module_semantics.specs.FunctionShapes.{function_shape}
+use Rattle.module_semantics.specs.Premises.{function_shape_at}
+use Rattle.module_semantics.specs.ExpressionLabels.{SomeLabelIsFull, expression_labels}
+use Rattle.module_semantics.specs.Names.{expression_name}
 use Rattle.naga_names.specs.Naming.{HasNamed, Names}
 use Rattle.naga_scope.specs.ExpressionNames.{IsRefusalOfLabels}
 use Rattle.naga_scope.specs.Availabilities.{TextPoint, handles_of}
@@ -47,7 +47,7 @@ use Rattle.naga_scope.specs.declared.plan.PlanError.TheVariants.{OutOfScope, Wit
 use Rattle.naga_scope.specs.declared.plan.PlanError.TheVariants.{TypeWithoutForm, LetWithoutForm}
 use Rattle.naga_scope.specs.declared.plan.PlanError.TheVariants.{StatementWithoutForm, Memory}
 
--- there is a function with this number, and it breaks a rule of scope at some place
+-- there is a function with this number, and it breaks a rule of scope somewhere
 abbrev pub HasScopeFaultIn : Module → ModuleInfo → (number : ℕ) → Type 0
 HasScopeFaultIn m info number = IsSomeAnd (function_shape_at m info number) HasScopeFault
 

@@ -1,7 +1,7 @@
 -- The results of statements, those of the statements in their blocks too, are among so many
 -- expressions.
 use Rattle.std.specs.Prelude.{ℕ, IsTrue}
-use Rattle.module_meaning.specs.acceptance.Ranges.{is_below}
+use Rattle.module_semantics.specs.acceptance.Ranges.{is_below}
 use Rattle.naga_ir.specs.Operands.{simple_result}
 use Rattle.naga_ir.specs.StatementTree.{StatementTree, simple, block, branch, switch, loop}
 use Rattle.naga_ir.specs.StatementTree.{BlockTree, no_statements, statement, CaseTrees, no_cases}

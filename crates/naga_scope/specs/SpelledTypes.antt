@@ -8,8 +8,8 @@ use Rattle.std.specs.Prelude.{◌≡◌, ℕ, Bool, false, List, ◌&&◌, ◌++
 use Rattle.std.specs.Prelude.{if◌then◌else◌, not, slice_get}
 use Rattle.std.specs.List.{enumerate_from, find}
 use Rattle.std.specs.Option.{option_map, option_map_or, option_to_list}
-use Rattle.module_meaning.specs.AlikeTypes.{has_type_form}
-use Rattle.module_meaning.specs.Undeclared.{is_spellable, names_undeclared}
+use Rattle.module_semantics.specs.AlikeTypes.{has_type_form}
+use Rattle.module_semantics.specs.Undeclared.{is_spellable, names_undeclared}
 use Rattle.naga_info.specs.declared.info.ExpressionInfo.{ExpressionInfo}
 use Rattle.naga_info.specs.declared.info.TypeResolution.{TypeResolution}
 use Rattle.naga_info.specs.declared.info.TypeResolution.TheVariants.{Handle}

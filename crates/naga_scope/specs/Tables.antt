@@ -8,11 +8,11 @@ use Rattle.std.specs.Prelude.{IsTrue, get_or, if◌then◌else◌, length, slice
 use Rattle.std.specs.Option.{is_none, is_some, option_and_then, option_map, option_map_or}
 use Rattle.std.specs.Option.{option_to_list}
 use Rattle.indexmap.specs.IndexMap.{values}
-use Rattle.module_meaning.specs.AlikeTypes.{has_type_form}
-use Rattle.module_meaning.specs.LackingScalars.{base_type, own_unwritable_scalar}
-use Rattle.module_meaning.specs.Layouts.{layout_in, module_rule}
-use Rattle.module_meaning.specs.acceptance.Ranges.{parts_stand_before, special_types_fit}
-use Rattle.module_meaning.specs.Undeclared.{handle_names_undeclared, is_undeclared}
+use Rattle.module_semantics.specs.AlikeTypes.{has_type_form}
+use Rattle.module_semantics.specs.LackingScalars.{base_type, own_unwritable_scalar}
+use Rattle.module_semantics.specs.Layouts.{layout_in, module_rule}
+use Rattle.module_semantics.specs.acceptance.Ranges.{parts_stand_before, special_types_fit}
+use Rattle.module_semantics.specs.Undeclared.{handle_names_undeclared, is_undeclared}
 use Rattle.naga_info.specs.declared.info.TypeResolution.{TypeResolution}
 use Rattle.naga_info.specs.declared.info.TypeResolution.TheVariants.{Handle, Value}
 use Rattle.naga_ir.specs.declared.expression.Expression.{Expression}

@@ -5,8 +5,8 @@
 use Rattle.std.specs.Prelude.{◌≡◌, ℕ, ◌⊎◌, Bool, true, false, List, [], ◌∷◌, Option}
 use Rattle.std.specs.Prelude.{Some, None, slice_get}
 use Rattle.std.specs.Option.{is_some, option_or}
-use Rattle.module_meaning.specs.OperatorTable.{texel_change_word, collective_word}
-use Rattle.module_meaning.specs.StatementShapes.{change_of}
+use Rattle.module_semantics.specs.OperatorTable.{texel_change_word, collective_word}
+use Rattle.module_semantics.specs.StatementShapes.{change_of}
 use Rattle.naga_ir.specs.StatementTree.{SimpleStatement, image_atomic, ray_query}
 use Rattle.naga_ir.specs.StatementTree.{subgroup_collective_operation}
 use Rattle.naga_ir.specs.StatementTree.{StatementTree, simple, switch, BlockTree}

@@ -3,9 +3,9 @@
 ghost use Rattle.std.specs.Prelude.{◌≡◌, ◌-◌, ◌&&◌, ◌∷◌, ℕ, List, [], IsTrue, length};
 ghost use Rattle.std.specs.Option.{option_to_list};
 ghost use Rattle.std.specs.Result.{is_ok, result_and};
-ghost use Rattle.module_meaning.specs.FunctionShapes.{function_shape};
-ghost use Rattle.module_meaning.specs.Namings.{inner_names};
-ghost use Rattle.module_meaning.specs.acceptance.Ranges.{is_below};
+ghost use Rattle.module_semantics.specs.FunctionShapes.{function_shape};
+ghost use Rattle.module_semantics.specs.Namings.{inner_names};
+ghost use Rattle.module_semantics.specs.acceptance.Ranges.{is_below};
 ghost use Rattle.naga_info.specs.declared.info.ExpressionInfo.{ExpressionInfo};
 ghost use Rattle.naga_info.specs.declared.info.ModuleInfo.{ModuleInfo};
 ghost use Rattle.naga_ir.specs.Operands.{expression_operands, own_operands, own_result};

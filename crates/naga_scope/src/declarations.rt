@@ -1,9 +1,9 @@
 //! Which declaration of a module no text has a form for.
 
 ghost use Rattle.std.specs.Prelude.{◌≡◌, IfNone, IfSome, MatchOption};
-ghost use Rattle.module_meaning.specs.DeclarationForms.{DeclarationsHaveForms, HeadHasForm};
-ghost use Rattle.module_meaning.specs.DeclarationForms.{stage_has_form};
-ghost use Rattle.module_meaning.specs.FunctionNumbers.{IsFunctionOf, function_number};
+ghost use Rattle.module_semantics.specs.DeclarationForms.{DeclarationsHaveForms, HeadHasForm};
+ghost use Rattle.module_semantics.specs.DeclarationForms.{stage_has_form};
+ghost use Rattle.module_semantics.specs.FunctionNumbers.{IsFunctionOf, function_number};
 ghost use Rattle.naga_scope.specs.Declarations.{BindingHasForm, ConstantHasForm};
 ghost use Rattle.naga_scope.specs.Declarations.{EntryPointHasForm, Finds, FindsFirst, FindsMember};
 ghost use Rattle.naga_scope.specs.Declarations.{FindsStride, HaveFormsBefore};
@@ -99,7 +99,7 @@ pub fn unsupported_declaration(
     requires tables { AreTablesOf «module».now tables.now }
     ensures none { IfNone result (DeclarationsHaveForms «module».now) }
     ensures some { IfSome result (λ found. IsUnsupportedDeclaration «module».now found.1) }
-    ensures place { IfSome result (λ found. IsUnsupportedIn «module».now found.0 found.1) }
+    ensures stands { IfSome result (λ found. IsUnsupportedIn «module».now found.0 found.1) }
     ensures first { IfSome result (λ found. HaveFormsBefore «module».now found.0) }
 {
     if let Some(unsupported) = unsupported_in_structs(module, tables) {

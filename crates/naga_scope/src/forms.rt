@@ -2,14 +2,14 @@
 
 ghost use Rattle.std.specs.Prelude.{◌≡◌, List, Some};
 ghost use Rattle.std.specs.Option.{is_some, option_and_then};
-ghost use Rattle.module_meaning.specs.ExpressionForms.{converts, expression_has_own_form};
-ghost use Rattle.module_meaning.specs.ExpressionForms.{literal_has_form};
-ghost use Rattle.module_meaning.specs.ExpressionOperators.{pointee_scalar, scalar_in};
-ghost use Rattle.module_meaning.specs.Names.{HasNamesOf, module_names, name_in};
-ghost use Rattle.module_meaning.specs.ExpressionForms.{known_passes, loads_matrix, part_has_form};
-ghost use Rattle.module_meaning.specs.Sampling.{sampling_has_form};
-ghost use Rattle.module_meaning.specs.Undeclared.{member_words, part_has_form_at};
-ghost use Rattle.module_meaning.specs.Undeclared.{whole_known, whole_of};
+ghost use Rattle.module_semantics.specs.ExpressionForms.{converts, expression_has_own_form};
+ghost use Rattle.module_semantics.specs.ExpressionForms.{literal_has_form};
+ghost use Rattle.module_semantics.specs.ExpressionOperators.{pointee_scalar, scalar_in};
+ghost use Rattle.module_semantics.specs.Names.{HasNamesOf, module_names, name_in};
+ghost use Rattle.module_semantics.specs.ExpressionForms.{known_passes, loads_matrix, part_has_form};
+ghost use Rattle.module_semantics.specs.Sampling.{sampling_has_form};
+ghost use Rattle.module_semantics.specs.Undeclared.{member_words, part_has_form_at};
+ghost use Rattle.module_semantics.specs.Undeclared.{whole_known, whole_of};
 ghost use Rattle.naga_info.specs.Resolution.{InRange, inner_of};
 ghost use Rattle.naga_ir.specs.declared.types.Type_.{Type_};
 ghost use Rattle.naga_names.specs.Keys.{names_in};
@@ -20,8 +20,8 @@ ghost use Rattle.wgsl_text.specs.Words.{stands_in};
 ghost use Rattle.wgsl_words.specs.Words.{scalar_word};
 
 use crate::tables::ModuleTables;
-use module_meaning::called_str;
-use module_meaning::type_parts::{converted_scalar, known_has_parts};
+use module_semantics::called_str;
+use module_semantics::type_parts::{converted_scalar, known_has_parts};
 use naga_info::{FunctionInfo, TypeResolution};
 use naga_ir::{
     CooperativeRole, CooperativeSize, Expression, Handle, Literal, Module, SampleLevel, Scalar,

@@ -1,9 +1,9 @@
 //! The function or entry point that a `FunctionType` names.
 
 ghost use Rattle.std.specs.Prelude.{◌≡◌, IsTrue, Some, slice_get};
-ghost use Rattle.module_meaning.specs.acceptance.Accepted.{is_accepted};
-ghost use Rattle.module_meaning.specs.FunctionNumbers.{IsFunctionOf, all_functions, all_infos};
-ghost use Rattle.module_meaning.specs.FunctionNumbers.{function_number};
+ghost use Rattle.module_semantics.specs.acceptance.Accepted.{is_accepted};
+ghost use Rattle.module_semantics.specs.FunctionNumbers.{IsFunctionOf, all_functions, all_infos};
+ghost use Rattle.module_semantics.specs.FunctionNumbers.{function_number};
 
 use naga_back::FunctionType;
 use naga_info::{FunctionInfo, ModuleInfo};

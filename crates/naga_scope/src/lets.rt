@@ -3,9 +3,9 @@
 
 ghost use Rattle.std.specs.Prelude.{◌≡◌, ◌||◌, slice_get};
 ghost use Rattle.std.specs.Option.{is_some, option_map};
-ghost use Rattle.module_meaning.specs.LetCounts.{is_bound_by_uses, uses_of, uses_to_bind};
-ghost use Rattle.module_meaning.specs.FunctionShapes.{function_shape};
-ghost use Rattle.module_meaning.specs.ExpressionLabels.{label_of};
+ghost use Rattle.module_semantics.specs.LetCounts.{is_bound_by_uses, uses_of, uses_to_bind};
+ghost use Rattle.module_semantics.specs.FunctionShapes.{function_shape};
+ghost use Rattle.module_semantics.specs.ExpressionLabels.{label_of};
 ghost use Rattle.naga_info.specs.declared.info.ModuleInfo.{ModuleInfo};
 ghost use Rattle.naga_ir.specs.declared.module.Module.{Module};
 ghost use Rattle.shader_runs.specs.Program.{binds};

@@ -3,7 +3,7 @@
 ghost use Rattle.std.specs.Prelude.{[], ◌∷◌, ◌-◌, IfErr, IfOk, OnOk, map, string_bytes};
 ghost use Rattle.std.specs.List.{flat_map};
 ghost use Rattle.std.specs.Option.{option_to_list};
-ghost use Rattle.module_meaning.specs.ExpressionLabels.{label_of, labels_of_each};
+ghost use Rattle.module_semantics.specs.ExpressionLabels.{label_of, labels_of_each};
 ghost use Rattle.naga_ir.specs.StatementViews.{tree_of};
 ghost use Rattle.naga_scope.specs.ExpressionNames.{NamesLabels, RefusesLabels};
 ghost use Rattle.naga_ir.specs.InOrder.{trees_of};

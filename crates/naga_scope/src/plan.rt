@@ -2,11 +2,11 @@
 
 ghost use Rattle.std.specs.Prelude.{◌≡◌, [], List, IfErr, IfOk, IsTrue, OnErr, length, map};
 ghost use Rattle.std.specs.Prelude.{string_bytes};
-ghost use Rattle.module_meaning.specs.acceptance.Accepted.{is_accepted};
-ghost use Rattle.module_meaning.specs.ExpressionLabels.{expression_labels};
-ghost use Rattle.module_meaning.specs.FunctionNumbers.{IsFunctionOf, function_number};
-ghost use Rattle.module_meaning.specs.Names.{HasNamesOf, labels_named_in};
-ghost use Rattle.module_meaning.specs.Premises.{OperandsStandBefore};
+ghost use Rattle.module_semantics.specs.acceptance.Accepted.{is_accepted};
+ghost use Rattle.module_semantics.specs.ExpressionLabels.{expression_labels};
+ghost use Rattle.module_semantics.specs.FunctionNumbers.{IsFunctionOf, function_number};
+ghost use Rattle.module_semantics.specs.Names.{HasNamesOf, labels_named_in};
+ghost use Rattle.module_semantics.specs.Premises.{OperandsStandBefore};
 ghost use Rattle.naga_names.specs.Keys.{names_in};
 ghost use Rattle.naga_scope.specs.ExpressionNames.{HasBegunLabels, NamesLabels};
 ghost use Rattle.naga_scope.specs.Forms.{AreKnownIn};

@@ -3,10 +3,10 @@
 ghost use Rattle.std.specs.Prelude.{◌≡◌, ◌+◌, ◌-◌, ◌<◌, ◌≤◌, ◌&&◌, ◌^◌, ◌∷◌, ◌++◌, ℕ, List, []};
 ghost use Rattle.std.specs.Prelude.{length, nat_le, get_or, IsTrue, IfOk, Some, slice_set};
 ghost use Rattle.std.specs.Option.{is_some, option_map, option_to_list};
-ghost use Rattle.module_meaning.specs.FunctionShapes.{function_shape};
-ghost use Rattle.module_meaning.specs.ExpressionLabels.{label_of};
-ghost use Rattle.module_meaning.specs.Namings.{function_naming, inner_names};
-ghost use Rattle.module_meaning.specs.Premises.{OperandsStandBefore};
+ghost use Rattle.module_semantics.specs.FunctionShapes.{function_shape};
+ghost use Rattle.module_semantics.specs.ExpressionLabels.{label_of};
+ghost use Rattle.module_semantics.specs.Namings.{function_naming, inner_names};
+ghost use Rattle.module_semantics.specs.Premises.{OperandsStandBefore};
 ghost use Rattle.naga_info.specs.declared.info.ExpressionInfo.{ExpressionInfo};
 ghost use Rattle.naga_ir.specs.Operands.{expression_operands};
 ghost use Rattle.naga_info.specs.declared.info.ModuleInfo.{ModuleInfo};

@@ -2,8 +2,8 @@
 
 ghost use Rattle.std.specs.Prelude.{◌≡◌};
 ghost use Rattle.std.specs.Option.{is_some};
-ghost use Rattle.module_meaning.specs.LackingScalars.{image_lacks, base_type, own_unwritable_scalar};
-ghost use Rattle.module_meaning.specs.LackingScalars.{wordless};
+ghost use Rattle.module_semantics.specs.LackingScalars.{image_lacks, base_type, own_unwritable_scalar};
+ghost use Rattle.module_semantics.specs.LackingScalars.{wordless};
 ghost use Rattle.naga_scope.specs.Tables.{has_type_form_alone, stands_alone};
 ghost use Rattle.wgsl_words.specs.Words.{space_word};
 

@@ -2,8 +2,8 @@
 
 ghost use Rattle.std.specs.Prelude.{◌≡◌};
 ghost use Rattle.std.specs.Option.{is_some};
-ghost use Rattle.module_meaning.specs.OperatorTable.{collective_word, texel_change_word};
-ghost use Rattle.module_meaning.specs.StatementShapes.{change_of};
+ghost use Rattle.module_semantics.specs.OperatorTable.{collective_word, texel_change_word};
+ghost use Rattle.module_semantics.specs.StatementShapes.{change_of};
 ghost use Rattle.naga_ir.specs.StatementViews.{cases_of, tree_of};
 ghost use Rattle.naga_scope.specs.UnsupportedStatements.{FindsUnsupported, unsupported_case};
 ghost use Rattle.naga_scope.specs.UnsupportedStatements.{own_unsupported};

@@ -3,8 +3,8 @@ use Rattle.std.proofs.Common.{◌≡◌, ℕ, ◌*◌, Bool, true, false, List, 
 use Rattle.std.proofs.Common.{Option, Some, None, refl, sym, ap, ◌∙◌, append_assoc}
 use Rattle.std.proofs.lemmas.List.{append-nil}
 use Rattle.naga_back.specs.Indentation.{indentation}
-use Rattle.module_meaning.specs.Names.{numbered_name}
-use Rattle.module_meaning.specs.StatementShapes.{is_set}
+use Rattle.module_semantics.specs.Names.{numbered_name}
+use Rattle.module_semantics.specs.StatementShapes.{is_set}
 use Rattle.naga_form.specs.Expressions.{value_forms}
 use Rattle.naga_form.specs.Statements.{act_line, barrier_lines, let_form}
 use Rattle.naga_ir.specs.StatementTree.{simple, control_barrier, memory_barrier}
@@ -17,7 +17,7 @@ use Rattle.wgsl_text.proofs.Expressions.{call_text}
 use Rattle.wgsl_text.proofs.Statements.{call_statement_text, let_text as let_row_text, then_text, typed_let_text}
 use Rattle.wgsl_text.proofs.Types.{named_text}
 use Rattle.wgsl_text.specs.Expressions.{Arguments, Call, NoArguments, arguments_pieces, operands}
-use Rattle.wgsl_text.specs.Reading.{type_layout}
+use Rattle.wgsl_text.specs.Reading.{printed_type}
 use Rattle.wgsl_text.specs.Statements.{NoStatements, CallStatement}
 use Rattle.wgsl_text.specs.Text.{text}
 use Rattle.wgsl_text.specs.Types.{Named, TypeSpecifier}
@@ -74,9 +74,9 @@ act_row f table i word xs outcome = by outcome
         typed_let_text (numbered_name h) t (Call (Named word) args) i
         ∙ (ap (λ u. replicate (4 * i) 32
         ++ (codes "let "
-        ++ (numbered_name h ++ (codes ": " ++ (type_layout t ++ (codes " = " ++ (u ++ codes ";\n")))))))
+        ++ (numbered_name h ++ (codes ": " ++ (printed_type t ++ (codes " = " ++ (u ++ codes ";\n")))))))
         (call_text (Named word) args ∙ ap (λ w. w ++ (codes "(" ++ called)) (named_text word))
-        ∙ let_lines i (numbered_name h) (codes ": " ++ type_layout t) word called)
+        ∙ let_lines i (numbered_name h) (codes ": " ++ printed_type t) word called)
 
     by : (outcome : Option ℕ) → line_text i (act_line (naming f) (let_annotation f) word args outcome)
         ≡ indentation i ++ (outcome_text f outcome ++ (word ++ (codes "(" ++ (called ++ codes ";\n"))))

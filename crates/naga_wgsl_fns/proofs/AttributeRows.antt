@@ -13,7 +13,7 @@ use Rattle.naga_ir.specs.declared.binding.Sampling.{Sampling}
 use Rattle.naga_form.specs.Attributes.{attribute_if, attribute_of, builtin_attributes}
 use Rattle.naga_form.specs.Attributes.{interpolation_attributes, interpolation_told}
 use Rattle.naga_form.specs.Attributes.{passing_attributes}
-use Rattle.module_meaning.specs.StageBindings.{is_invariant}
+use Rattle.module_semantics.specs.StageBindings.{is_invariant}
 use Rattle.naga_words.specs.Output.{joined_texts}
 use Rattle.wgsl_text.proofs.Text.{text-append}
 use Rattle.wgsl_text.specs.Attributes.{Attribute, BlendSource, Interpolate, Invariant, Location}

@@ -9,7 +9,7 @@ use Rattle.naga_words.specs.Output.{joined_texts}
 use Rattle.shader_runs.specs.Scope.{Handles}
 use Rattle.wgsl_text.proofs.Statements.{block_text as block_row_text, else_text as else_row_text}
 use Rattle.wgsl_text.proofs.Statements.{if_text}
-use Rattle.wgsl_text.specs.Reading.{expression_layout}
+use Rattle.wgsl_text.specs.Reading.{printed_expression}
 use Rattle.wgsl_text.specs.Statements.{NoStatements, Statements, statements_pieces}
 use Rattle.wgsl_text.specs.Statements as tree
 use Rattle.wgsl_text.specs.Text.{text}
@@ -79,7 +79,7 @@ if_row f k s i c a r = by r
     rejected r = lines_form (naming f) (let_annotation f) (source f) (named_following f a k) r s
 
     condition : List ℕ
-    condition = expression_layout (value_form (naming f) (source f) s c)
+    condition = printed_expression (value_form (naming f) (source f) s c)
 
     by : (r : BlockTree) →
         lines_text i (tree.Then (tree.If (value_form (naming f) (source f) s c) accepted

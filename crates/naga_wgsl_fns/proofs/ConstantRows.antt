@@ -7,14 +7,14 @@ use Rattle.std.specs.List.{AllByRecursion, list_all}
 use Rattle.std.specs.Option.{is_some, option_map_or}
 use Rattle.std.proofs.lemmas.Bool.{and_parts, ltb-true}
 use Rattle.std.proofs.lemmas.Option.{same_Some, slice_get_within}
-use Rattle.module_meaning.proofs.Stepwise.{by_those_before}
-use Rattle.module_meaning.specs.AlikeTypes.{has_type_form}
-use Rattle.module_meaning.specs.OperatorTable.{Splat, run_word}
-use Rattle.module_meaning.specs.Names.{constant_name, module_names}
-use Rattle.module_meaning.specs.ExpressionForms.{constant_has_form, global_has_form}
-use Rattle.module_meaning.specs.ExpressionForms.{global_has_form_over, global_has_form_within}
-use Rattle.module_meaning.specs.ExpressionForms.{literal_has_form}
-use Rattle.module_meaning.specs.ExpressionContexts.{expression_context}
+use Rattle.module_semantics.proofs.Stepwise.{by_those_before}
+use Rattle.module_semantics.specs.AlikeTypes.{has_type_form}
+use Rattle.module_semantics.specs.OperatorTable.{Splat, run_word}
+use Rattle.module_semantics.specs.Names.{constant_name, module_names}
+use Rattle.module_semantics.specs.ExpressionForms.{constant_has_form, global_has_form}
+use Rattle.module_semantics.specs.ExpressionForms.{global_has_form_over, global_has_form_within}
+use Rattle.module_semantics.specs.ExpressionForms.{literal_has_form}
+use Rattle.module_semantics.specs.ExpressionContexts.{expression_context}
 use Rattle.naga_form.proofs.operators.Operators.{constructor_called, typed_notation}
 use Rattle.naga_form.proofs.types.SameValues.{or_nothing}
 use Rattle.naga_form.proofs.declarations.OwnExpressions.{global_names_in_range}
@@ -39,21 +39,21 @@ use Rattle.naga_wgsl_fns.specs.Constants.{called_global_text, constant_text, glo
 use Rattle.naga_wgsl_fns.specs.Constants.{made_global_text, next_part_text, parts_at, parts_left}
 use Rattle.naga_wgsl_fns.specs.Constants.{parts_text}
 use Rattle.naga_form.specs.Types.{type_form}
-use Rattle.module_meaning.specs.Types.{type_names}
+use Rattle.module_semantics.specs.Types.{type_names}
 use Rattle.naga_wgsl_fns.specs.ModuleText.{CanWriteOf}
 use Rattle.naga_names.specs.declared.key.NameKey.TheVariants as key
 use Rattle.naga_wgsl_fns.specs.Literals.{literal_text}
 use Rattle.naga_wgsl_fns.specs.Names.{name_of_constant, name_of_override}
 use Rattle.naga_wgsl_fns.specs.Types.{spelled_text}
-use Rattle.module_meaning.proofs.ExpressionForms.{type_form_of_spellable}
-use Rattle.module_meaning.specs.Undeclared.{is_spellable}
+use Rattle.module_semantics.proofs.ExpressionForms.{type_form_of_spellable}
+use Rattle.module_semantics.specs.Undeclared.{is_spellable}
 use Rattle.shader_runs.specs.Premises.{AllBelow}
 use Rattle.wgsl_text.proofs.Expressions.{argument_text as argument_row_text}
 use Rattle.wgsl_text.proofs.Expressions.{call_text as call_row_text, name_text}
 use Rattle.wgsl_text.proofs.Expressions.{next_argument_text as next_argument_row_text}
 use Rattle.wgsl_text.proofs.Types.{named_text}
 use Rattle.wgsl_text.specs.Expressions.{Call, Expression, Name, operands as arguments_of}
-use Rattle.wgsl_text.specs.Reading.{expression_layout}
+use Rattle.wgsl_text.specs.Reading.{printed_expression}
 use Rattle.wgsl_text.specs.Types.{Named}
 
 -- an expression is of none of the kinds that are written among a module's own
@@ -260,14 +260,14 @@ module _ (m : Module) (c : ℕ) (k : ir_constant.Constant) (there : slice_get m.
         if named then Name (constant_name (module_names m) c) else global_at m item.init
 
     of_constant : (named : Bool) → is_some k.name ≡ named →
-        constant_text m c ≡ expression_layout (by_name k named)
+        constant_text m c ≡ printed_expression (by_name k named)
     unfolding constant_text
     of_constant named is =
         ap
-        (λ o. expression_layout
+        (λ o. printed_expression
         (option_map_or (λ item. by_name item (is_some item.name)) o no_constant_form))
         there
-        ∙ ap (λ b. expression_layout (by_name k b)) is
+        ∙ ap (λ b. printed_expression (by_name k b)) is
 
     pub named_constant : is_some k.name ≡ true → name_of_constant m c ≡ constant_text m c
     unfolding name_of_constant
@@ -283,7 +283,7 @@ pub constant_row : (m : Module) → CanWriteOf m → (h : ℕ) (e : ir.Expressio
     constant_text m c ≡ global_text m h
 unfolding constant_text global_text
 constant_row m can h e c at same =
-    ap expression_layout (own_form_is m can h e (expression.Constant c) at same)
+    ap printed_expression (own_form_is m can h e (expression.Constant c) at same)
 
 -- an override has its name, and is there
 pub override_row : (m : Module) → CanWriteOf m → (h : ℕ) (e : ir.Expression) (o : ℕ) →
@@ -293,7 +293,7 @@ unfolding name_of_override global_text
 override_row m can h e o at same =
     sym
     (name_text ((type_names m).override_name o) ∙ or_nothing (module_names m (key.Override o)))
-    ∙ ap expression_layout (own_form_is m can h e (expression.Override o) at same)
+    ∙ ap printed_expression (own_form_is m can h e (expression.Override o) at same)
 
 pub override_there : (m : Module) → CanWriteOf m → (h : ℕ) (e : ir.Expression) (o : ℕ) →
     slice_get m.global_expressions h ≡ Some e → e ≡ expression.Override o → o < length m.overrides
@@ -306,7 +306,7 @@ pub literal_row : (m : Module) → CanWriteOf m → (h : ℕ) (e : ir.Expression
     literal_text value ≡ global_text m h
 unfolding global_text literal_text
 literal_row m can h e value at same =
-    ap expression_layout (own_form_is m can h e (expression.Literal value) at same)
+    ap printed_expression (own_form_is m can h e (expression.Literal value) at same)
 
 -- a value of a type, from the parts of its expression
 made_of : (m : Module) → CanWriteOf m → (h ty components : ℕ) (e own : ir.Expression) →
@@ -322,15 +322,15 @@ made_of m can h ty components e own at same formed is =
     let parts = map (global_at m) (expression_operands own) in
     let a = expression_context m (λ x. None) in
     ap₂
-    (λ o x. expression_layout
+    (λ o x. printed_expression
     (Call (unwrap_or o (Named []))
     (arguments_of (map (global_at m) (option_map_or expression_operands x [])))))
     tree.1 (at ∙ ap Some same)
-    ∙ (ap (λ n. expression_layout (applied_form n parts))
+    ∙ (ap (λ n. printed_expression (applied_form n parts))
     (sym
     (typed_notation _ (constructor_called a (Handle ty) components) (type_tree (type_names m) ty)
     tree.0 tree.1))
-    ∙ ap expression_layout (is ∙ own_form_is m can h e own at same))
+    ∙ ap printed_expression (is ∙ own_form_is m can h e own at same))
 
 pub zero_row : (m : Module) → CanWriteOf m → (h ty : ℕ) (e : ir.Expression) →
     slice_get m.global_expressions h ≡ Some e → e ≡ expression.ZeroValue ty →
@@ -352,10 +352,10 @@ pub splat_row : (m : Module) → CanWriteOf m → (h : ℕ) (size : _) (value : 
 unfolding called_global_text global_text
 splat_row m can h size value e word at same named =
     ap₂
-    (λ w o. expression_layout
+    (λ w o. printed_expression
     (Call (Named w) (arguments_of (map (global_at m) (option_map_or expression_operands o [])))))
     named (at ∙ ap Some same)
-    ∙ ap expression_layout (own_form_is m can h e (expression.Splat size value) at same)
+    ∙ ap printed_expression (own_form_is m can h e (expression.Splat size value) at same)
 
 -- ---- rows
 pub made_global_row : (m : Module) (ty handle : ℕ) →

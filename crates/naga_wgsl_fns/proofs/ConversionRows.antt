@@ -3,11 +3,11 @@ use Rattle.std.proofs.Common.{◌≡◌, ℕ, Bool, true, false, List, [], ◌++
 use Rattle.std.proofs.Common.{sym, ap, subst, ◌∙◌}
 use Rattle.std.proofs.lemmas.Option.{same_Some}
 use Rattle.std.specs.Prelude.{slice_get, unwrap_or, if◌then◌else◌}
-use Rattle.module_meaning.specs.Conversions.{conversion_target, keeps_bits}
-use Rattle.module_meaning.specs.ExpressionOperators.{type_known}
-use Rattle.module_meaning.specs.AlikeTypes.{has_type_form}
-use Rattle.module_meaning.specs.ExpressionForms.{expression_has_own_form}
-use Rattle.module_meaning.specs.acceptance.Ranges.{resolution_fits}
+use Rattle.module_semantics.specs.Conversions.{conversion_target, keeps_bits}
+use Rattle.module_semantics.specs.ExpressionOperators.{type_known}
+use Rattle.module_semantics.specs.AlikeTypes.{has_type_form}
+use Rattle.module_semantics.specs.ExpressionForms.{expression_has_own_form}
+use Rattle.module_semantics.specs.acceptance.Ranges.{resolution_fits}
 use Rattle.naga_form.proofs.operators.AllowedParts.{conversion}
 use Rattle.naga_form.proofs.operators.Operators.{bits_text, cast_called, conversion_is}
 use Rattle.naga_form.proofs.operators.Operators.{typed_notation}
@@ -32,7 +32,7 @@ use Rattle.naga_wgsl_fns.specs.Types.{resolution_text}
 use Rattle.naga_wgsl_fns.specs.declared.functions.FunctionText.{FunctionText}
 use Rattle.wgsl_text.proofs.Expressions.{call_text as call_row_text}
 use Rattle.wgsl_text.specs.Expressions.{operands as arguments_of}
-use Rattle.wgsl_text.specs.Reading.{type_layout}
+use Rattle.wgsl_text.specs.Reading.{printed_type}
 use Rattle.wgsl_text.specs.Types.{TypeSpecifier, Named as NamedType}
 
 pub conversion_row : (f : FunctionText) (table : List Availability) (operand : ℕ)
@@ -79,10 +79,10 @@ module _ (f : FunctionText) (operand : ℕ) (kind : ScalarKind) (convert : Optio
       (conversion_is (context f) (type_names_of f) operand kind convert from to _ known target
       (tree_there (type_names_of f) (Value to) formed).1)
 
-  resolution_is : resolution_text f (Value to) ≡ type_layout tree
+  resolution_is : resolution_text f (Value to) ≡ printed_type tree
   unfolding resolution_text
   resolution_is =
-      ap (λ o. type_layout (unwrap_or o (NamedType [])))
+      ap (λ o. printed_type (unwrap_or o (NamedType [])))
       (tree_there (type_names_of f) (Value to) formed).1
 
   pub callee_row : (bits : Bool) → bits ≡ keeps_bits from convert →
@@ -90,12 +90,12 @@ module _ (f : FunctionText) (operand : ℕ) (kind : ScalarKind) (convert : Optio
   unfolding callee_text cast_text bitcast_text
   callee_row bits is =
       by bits
-      ∙ ap type_layout (ap (λ b. cast_tree b tree) is ∙ sym callee_is)
+      ∙ ap printed_type (ap (λ b. cast_tree b tree) is ∙ sym callee_is)
     where
       by : (b : Bool) →
           (if b then codes "bitcast<" ++ (resolution_text f (Value to) ++ codes ">")
           else resolution_text f (Value to)) ≡
-          type_layout (cast_tree b tree)
+          printed_type (cast_tree b tree)
       by true =
           ap (λ w. codes "bitcast<" ++ (w ++ codes ">")) resolution_is
           ∙ sym (bits_text tree)

@@ -4,15 +4,15 @@ use Rattle.std.proofs.Common.{◌≡◌, ℕ, ◌<◌, true, Option, Some, ap, l
 use Rattle.std.specs.List.{list_all}
 use Rattle.std.specs.Prelude.{IsTrue}
 use Rattle.std.proofs.lemmas.Bool.{and_parts, ltb-true}
-use Rattle.module_meaning.proofs.Lists.{list_all_at}
-use Rattle.module_meaning.specs.acceptance.Accepted.{is_accepted}
-use Rattle.module_meaning.specs.DeclarationForms.{IsInitialiser}
-use Rattle.module_meaning.specs.DeclarationForms.IsInitialiser.{OfConstant, OfOverride, OfVariable}
-use Rattle.module_meaning.specs.acceptance.InfoSizes.{sizes_fit, type_is_fit}
-use Rattle.module_meaning.specs.acceptance.Ranges.{constant_in_range, declarations_in_range}
-use Rattle.module_meaning.specs.acceptance.Ranges.{global_in_range, is_below, module_in_range}
-use Rattle.module_meaning.specs.acceptance.Ranges.{module_ranges_fit, override_in_range}
-use Rattle.module_meaning.specs.acceptance.Ranges.{special_types_fit, types_in_range}
+use Rattle.module_semantics.proofs.Lists.{list_all_at}
+use Rattle.module_semantics.specs.acceptance.Accepted.{is_accepted}
+use Rattle.module_semantics.specs.DeclarationForms.{IsInitialiser}
+use Rattle.module_semantics.specs.DeclarationForms.IsInitialiser.{OfConstant, OfOverride, OfVariable}
+use Rattle.module_semantics.specs.acceptance.InfoSizes.{sizes_fit, type_is_fit}
+use Rattle.module_semantics.specs.acceptance.Ranges.{constant_in_range, declarations_in_range}
+use Rattle.module_semantics.specs.acceptance.Ranges.{global_in_range, is_below, module_in_range}
+use Rattle.module_semantics.specs.acceptance.Ranges.{module_ranges_fit, override_in_range}
+use Rattle.module_semantics.specs.acceptance.Ranges.{special_types_fit, types_in_range}
 use Rattle.naga_form.proofs.declarations.OwnExpressions.{initialiser_within}
 use Rattle.naga_info.specs.declared.info.ModuleInfo.{ModuleInfo}
 use Rattle.naga_ir.specs.declared.binding.Binding.TheVariants as binding

@@ -3,9 +3,9 @@ use Rattle.std.proofs.Common.{◌≡◌, ◌≤◌, ◌^◌, ◌∙◌, ◌++◌
 use Rattle.std.proofs.Common.{append_assoc, ap, get_or, refl, slice_get, subst, sym, take}
 use Rattle.std.specs.Option.{option_map_or}
 use Rattle.naga_ir.specs.declared.module.Module.{Module}
-use Rattle.naga_names.specs.Naming.{HasNamed, Names, labels_with_base, name_after}
-use Rattle.module_meaning.specs.ExpressionLabels.{name_of_label}
-use Rattle.module_meaning.specs.Names.{labels_named_in, wgsl_names}
+use Rattle.naga_names.specs.Naming.{HasNamed, Names, labels_with_stem, name_after}
+use Rattle.module_semantics.specs.ExpressionLabels.{name_of_label}
+use Rattle.module_semantics.specs.Names.{labels_named_in, wgsl_names}
 use Rattle.naga_scope.proofs.ExpressionNames.{counted_none_full}
 use Rattle.naga_scope.specs.ExpressionNames.{HasOtherUses, names_following}
 use Rattle.naga_wgsl_fns.specs.Refusals.{ExpressionNamesAreFullIn}
@@ -31,9 +31,9 @@ same_names new earlier labels words k = ap (λ n. name_of_label n earlier labels
 -- a namer with the words of WGSL counts its labels
 pub few_named : (labels : List (List ℕ)) (namer : Names) → HasOtherUses wgsl_names namer →
     HasNamed namer labels →
-    (base : List ℕ) → labels_with_base wgsl_names labels base ≤ 2 ^ 32
-few_named labels namer words has base =
-    subst (λ n. n ≤ 2 ^ 32) (ap (λ n. labels_with_base n labels base) words) (has.few base)
+    (stem : List ℕ) → labels_with_stem wgsl_names labels stem ≤ 2 ^ 32
+few_named labels namer words has stem =
+    subst (λ n. n ≤ 2 ^ 32) (ap (λ n. labels_with_stem n labels stem) words) (has.few stem)
 
 -- ---- the names of a function
 module _ (m : Module) (handle : ℕ) (earlier : List (List ℕ)) where

@@ -1,6 +1,6 @@
 -- The text of an expression by its kind and by where it stands, and from what is written of it in
 -- turn.
-use Rattle.module_meaning.specs.ExpressionForms.{expression_has_own_form}
+use Rattle.module_semantics.specs.ExpressionForms.{expression_has_own_form}
 use Rattle.naga_wgsl_fns.proofs.Preconditions.{IsNoOther, expression_formed, ordered}
 use Rattle.std.proofs.Common.{◌≡◌, ℕ, zero, suc, ◌<◌, Bool, true, false, List, [], ◌∷◌, length}
 use Rattle.std.proofs.Common.{Option, Some, None, codes, refl, sym, ap, ◌∙◌, append_assoc, arith}
@@ -8,10 +8,10 @@ use Rattle.std.proofs.Common.{get_or, map}
 use Rattle.std.specs.Prelude.{IsTrue, slice_get, if◌then◌else◌, unwrap_or, ◌||◌}
 use Rattle.std.specs.Option.{is_some, option_and_then, option_map, option_map_or, option_to_list}
 use Rattle.std.specs.List.{AllByRecursion}
-use Rattle.module_meaning.specs.ExpressionOperators.{is_depth_image, level_of, image_sample_operator}
-use Rattle.module_meaning.specs.ExpressionOperators.{type_known, applied_operator, called_word}
-use Rattle.module_meaning.specs.ExpressionOperators.{constructor, load_operator, own_operator}
-use Rattle.module_meaning.specs.ExpressionOperators.{query_operator, is_atomic_pointer}
+use Rattle.module_semantics.specs.ExpressionOperators.{is_depth_image, level_of, image_sample_operator}
+use Rattle.module_semantics.specs.ExpressionOperators.{type_known, applied_operator, called_word}
+use Rattle.module_semantics.specs.ExpressionOperators.{constructor, load_operator, own_operator}
+use Rattle.module_semantics.specs.ExpressionOperators.{query_operator, is_atomic_pointer}
 use Rattle.naga_form.proofs.operators.Images.{without_offset}
 use Rattle.naga_form.specs.Expressions.{constant_form, sampling_operands, zero_is_whole}
 use Rattle.naga_form.specs.Expressions.{operator_type, PlainForm, ValueForm, as_value, as_reference}
@@ -32,10 +32,10 @@ use Rattle.shader_runs.specs.Scope.{Handles, Naming}
 use Rattle.wgsl_words.specs.Words.{operator_text, unary_text}
 use Rattle.naga_form.proofs.operators.Operators.{constructor_called, operator_row, query_is_called}
 use Rattle.naga_form.proofs.operators.Operators.{typed_notation, unary_row}
-use Rattle.module_meaning.specs.Names.{module_names, numbered_name}
+use Rattle.module_semantics.specs.Names.{module_names, numbered_name}
 use Rattle.naga_form.proofs.types.SameValues.{or_nothing}
 use Rattle.naga_names.specs.declared.key.NameKey.TheVariants as key
-use Rattle.module_meaning.specs.AlikeTypes.{has_type_form}
+use Rattle.module_semantics.specs.AlikeTypes.{has_type_form}
 use Rattle.naga_info.specs.declared.info.TypeResolution.TheVariants.{Handle}
 use Rattle.naga_form.proofs.types.WrittenTypes.{tree_there}
 use Rattle.naga_form.specs.TypeTrees.{type_tree}
@@ -53,12 +53,12 @@ use Rattle.naga_wgsl_fns.specs.Expressions.{part_reference_text, part_value_text
 use Rattle.naga_wgsl_fns.specs.Expressions.{plain_address_text, plain_text, plain_tree}
 use Rattle.naga_wgsl_fns.specs.FunctionText.{named_in, type_names_of, CanWrite, IsInText, context}
 use Rattle.naga_wgsl_fns.specs.FunctionText.{expressions, handles_in, naming, source}
-use Rattle.module_meaning.specs.OperatorTable.{AtomicLoad, Operator, operator_word, own_word}
-use Rattle.module_meaning.specs.OperatorTable.{run_word, WithoutForm, zero_is_written, PartAt}
+use Rattle.module_semantics.specs.OperatorTable.{AtomicLoad, Operator, operator_word, own_word}
+use Rattle.module_semantics.specs.OperatorTable.{run_word, WithoutForm, zero_is_written, PartAt}
 use Rattle.naga_form.specs.Operators.{Called, Infix, Notation, Prefix, applied_form, notation}
 use Rattle.naga_form.specs.Operators.{operator_form, unary_form}
-use Rattle.module_meaning.specs.Premises.{OperandsStandBefore}
-use Rattle.module_meaning.specs.ExpressionShapes.{swizzle_letters, part_selector}
+use Rattle.module_semantics.specs.Premises.{OperandsStandBefore}
+use Rattle.module_semantics.specs.ExpressionShapes.{swizzle_letters, part_selector}
 use Rattle.wgsl_text.specs.Literals.{Truth}
 use Rattle.wgsl_text.proofs.Expressions.{name_text, binary_text as binary_row_text}
 use Rattle.wgsl_text.proofs.Expressions.{unary_text as unary_row_text, call_text as call_row_text}
@@ -74,7 +74,7 @@ use Rattle.naga_scope.specs.declared.points.Availability.TheVariants.{Inline, Bo
 use Rattle.naga_words.specs.Output.{joined_texts}
 use Rattle.naga_wgsl_fns.specs.Constants.{constant_text}
 use Rattle.naga_wgsl_fns.specs.Literals.{literal_text}
-use Rattle.wgsl_text.specs.Reading.{expression_layout}
+use Rattle.wgsl_text.specs.Reading.{printed_expression}
 use Rattle.naga_wgsl_fns.specs.declared.functions.FunctionText.{FunctionText}
 use Rattle.naga_wgsl_fns.proofs.PartForms.{part_form, referred_part, valued_part}
 use Rattle.naga_wgsl_fns.proofs.VariableRows.{handle_variable_reference, kept_reference}
@@ -204,11 +204,11 @@ pub value_row : (f : FunctionText) (table : List Availability) (handle : ℕ) �
     handle < length (expressions f) → value_text f table handle ≡ value_at f table handle
     (get_or table handle Absent)
 unfolding value_text own_text bound_text
-value_row f table handle can lt = ap (λ form. expression_layout (as_value form))
+value_row f table handle can lt = ap (λ form. printed_expression (as_value form))
     (cell_form f table handle can lt) ∙ by (get_or table handle Absent)
   where
     by : (cell : Availability) →
-        expression_layout
+        printed_expression
         (as_value (availability_plain (availability_of (named_in f) (numbered_name handle) cell)
         (own_form f table handle))) ≡ value_at f table handle cell
     by (Bound name) = name_text (bound_text f handle name)
@@ -222,7 +222,7 @@ abbrev pub application_at :
     FunctionText → (table : List Availability) → (type : Option TypeSpecifier) → List ℕ →
     Option Operator → List ℕ
 application_at f table type hs (Some op) = applied_text f table (notation type op) hs
-application_at f table type hs None = expression_layout (as_value no_form)
+application_at f table type hs None = printed_expression (as_value no_form)
 
 -- what an expression is made of, by its kind
 abbrev pub own_at : FunctionText → (table : List Availability) →
@@ -252,7 +252,7 @@ own_at f table handle
 own_at f table handle (Some e) =
     application_at f table (operator_type (context f) (type_names_of f) e) (expression_operands e)
     (applied_operator (context f) e)
-own_at f table handle None = expression_layout (as_value no_form)
+own_at f table handle None = printed_expression (as_value no_form)
 
 pub own_row : (f : FunctionText) (table : List Availability) (handle : ℕ) → CanWrite f →
     IsInText f handle →
@@ -266,13 +266,13 @@ own_row f table handle can within = by (slice_get (expressions f) handle) refl
     operand = plain_form (naming f) (source f) (handles_in f table)
 
     applied : (type : Option TypeSpecifier) (hs : List ℕ) (o : Option Operator) →
-        expression_layout (as_value (applied_plain no_form type operand hs o)) ≡
+        printed_expression (as_value (applied_plain no_form type operand hs o)) ≡
         application_at f table type hs o
     applied type hs None = refl
     applied type hs (Some op) = refl
 
     loaded : (pointer : ℕ) (atomic : Bool) →
-        expression_layout
+        printed_expression
         (as_value
         (applied_plain (ValueForm (as_reference (operand pointer))) None operand (pointer ∷ [])
         (if atomic then Some AtomicLoad else None))) ≡
@@ -283,23 +283,23 @@ own_row f table handle can within = by (slice_get (expressions f) handle) refl
 
     parted : (e : Option ir.Expression) → slice_get (expressions f) handle ≡ e → (base : ℕ) →
         accessed_base e ≡ Some base →
-        expression_layout (as_value (own_if (naming f) (source f) operand e)) ≡
+        printed_expression (as_value (own_if (naming f) (source f) operand e)) ≡
         part_value_text f table handle base
     parted e at base is =
         let p = part_form f table can handle within e at base is in
         let same = ap (own_if (naming f) (source f) operand) at in
-        ap (λ q. expression_layout (as_value q)) (sym same)
+        ap (λ q. printed_expression (as_value q)) (sym same)
         ∙ valued_part (is_pointer (context f) base) p.part (operand base) (own_form f table handle)
         (same ∙ p.is)
 
     of_module : (variable : ℕ) (is_handle : Bool) →
-        expression_layout (as_value (variable_plain is_handle (Name (name_of_global f variable)))) ≡
+        printed_expression (as_value (variable_plain is_handle (Name (name_of_global f variable)))) ≡
         (if is_handle then name_of_global f variable else global_address_text f variable)
     of_module variable true = name_text (name_of_global f variable)
     of_module variable false = refl
 
     by : (e : Option ir.Expression) → slice_get (expressions f) handle ≡ e →
-        expression_layout (as_value (own_if (naming f) (source f) operand e)) ≡
+        printed_expression (as_value (own_if (naming f) (source f) operand e)) ≡
         own_at f table handle e
     by (Some (expression.Access base index)) at =
         parted (Some (expression.Access base index)) at base refl
@@ -320,7 +320,7 @@ own_row f table handle can within = by (slice_get (expressions f) handle) refl
         (Some
         (expression.ImageSample
         image sampler gather coordinate array_index offset level depth_ref clamp)) at =
-        ap (λ o. expression_layout (as_value (own_if (naming f) (source f) operand o))) (sym at)
+        ap (λ o. printed_expression (as_value (own_if (naming f) (source f) operand o))) (sym at)
     by (Some (expression.ZeroValue ty)) at = refl
     by (Some (expression.Swizzle size vector pattern)) at = refl
     by (Some e) at =
@@ -352,7 +352,7 @@ pub reference_row : (f : FunctionText) (table : List Availability) (handle : ℕ
     reference_at f table handle (get_or table handle Absent) (slice_get (expressions f) handle)
 unfolding reference_text pointed_text name_of_local name_of_global part_reference_text plain_text
 reference_row f table handle can within =
-    ap (λ form. expression_layout (as_reference form)) is ∙ by cell is
+    ap (λ form. printed_expression (as_reference form)) is ∙ by cell is
   where
     cell : Availability
     cell = get_or table handle Absent
@@ -380,30 +380,30 @@ reference_row f table handle can within =
 
     -- where the handle's form is its own
     pointed : form_at f table handle ≡ own e →
-        expression_layout (Dereference (as_value (own e))) ≡ pointed_text f table handle
-    pointed mine = ap (λ q. expression_layout (Dereference (as_value q))) (sym mine)
+        printed_expression (Dereference (as_value (own e))) ≡ pointed_text f table handle
+    pointed mine = ap (λ q. printed_expression (Dereference (as_value q))) (sym mine)
 
     pointed_by : form_at f table handle ≡ own e → (o : Option ir.Expression) → e ≡ o →
         as_reference (own o) ≡ Dereference (as_value (own o)) →
-        expression_layout (as_reference (own o)) ≡ pointed_text f table handle
+        printed_expression (as_reference (own o)) ≡ pointed_text f table handle
     pointed_by mine o at value =
-        ap expression_layout value
-        ∙ (ap (λ o. expression_layout (Dereference (as_value (own o)))) (sym at) ∙ pointed mine)
+        ap printed_expression value
+        ∙ (ap (λ o. printed_expression (Dereference (as_value (own o)))) (sym at) ∙ pointed mine)
 
     parted : form_at f table handle ≡ own e → (o : Option ir.Expression) → e ≡ o → (base : ℕ) → accessed_base o
         ≡ Some base →
-        expression_layout (as_reference (own o)) ≡ part_reference_text f table handle base
+        printed_expression (as_reference (own o)) ≡ part_reference_text f table handle base
     parted mine o at base here =
         let p = part_form f table can handle within o at base here in
         let b = is_pointer (context f) base in
-        ap (λ o. expression_layout (as_reference (own o))) (sym at)
+        ap (λ o. printed_expression (as_reference (own o))) (sym at)
         ∙ (referred_part b p.part (operand base) (own e) (ap own at ∙ p.is)
-        ∙ ap (λ w. if b then expression_layout (plain_tree (own e)) else w) (pointed mine))
+        ∙ ap (λ w. if b then printed_expression (plain_tree (own e)) else w) (pointed mine))
 
     of_module : form_at f table handle ≡ own e → (variable : ℕ) →
         e ≡ Some (expression.GlobalVariable variable) → (is_handle : Bool) →
         is_handle_variable f.shader.now variable ≡ is_handle →
-        expression_layout (as_reference (own (Some (expression.GlobalVariable variable)))) ≡
+        printed_expression (as_reference (own (Some (expression.GlobalVariable variable)))) ≡
         global_reference_text f table handle variable
     of_module mine variable at true is =
         let name = Name (name_of_global f variable) in
@@ -413,11 +413,11 @@ reference_row f table handle can within =
         ∙ handle_variable_reference f table handle variable is
     of_module mine variable at false is =
         let name = Name (name_of_global f variable) in
-        ap (λ b. expression_layout (as_reference (variable_plain b name))) is
+        ap (λ b. printed_expression (as_reference (variable_plain b name))) is
         ∙ (name_text (name_of_global f variable) ∙ kept_reference f table handle variable is)
 
     kind : form_at f table handle ≡ own e → (o : Option ir.Expression) → e ≡ o →
-        expression_layout (as_reference (own o)) ≡ reference_by f table handle o
+        printed_expression (as_reference (own o)) ≡ reference_by f table handle o
     kind mine (Some (expression.GlobalVariable variable)) at =
         of_module mine variable at (is_handle_variable f.shader.now variable) refl
     kind mine (Some (expression.Override o)) at =
@@ -454,8 +454,8 @@ reference_row f table handle can within =
     kind mine None at = pointed_by mine None at refl
 
     by : (c : Availability) → form_at f table handle ≡ form c →
-        expression_layout (as_reference (form c)) ≡ reference_at f table handle c e
-    by (Bound name) mine = ap (λ q. expression_layout (Dereference (as_value q))) (sym mine)
+        printed_expression (as_reference (form c)) ≡ reference_at f table handle c e
+    by (Bound name) mine = ap (λ q. printed_expression (Dereference (as_value q))) (sym mine)
     by Absent mine = kind mine e refl
     by Barred mine = kind mine e refl
     by Everywhere mine = kind mine e refl
@@ -471,7 +471,7 @@ prefix_row f table op operand =
     let form = value_form (naming f) (source f) (handles_in f table) in
     unary_row_text (unary_form op) (form operand)
     ∙ ap (λ w. joined_texts w (joined_texts (codes "(")
-    (joined_texts (expression_layout (form operand)) (codes ")")))) (sym (unary_row op))
+    (joined_texts (printed_expression (form operand)) (codes ")")))) (sym (unary_row op))
 
 pub infix_row : (f : FunctionText) (table : List Availability) (op : ir_operator.BinaryOperator)
     (left right : ℕ)
@@ -485,14 +485,14 @@ infix_row f table op left right =
     let form = value_form (naming f) (source f) (handles_in f table) in
     binary_row_text (form left) (operator_form op) (form right)
     ∙ ap (λ w. joined_texts (codes "(")
-    (joined_texts (expression_layout (form left))
+    (joined_texts (printed_expression (form left))
     (joined_texts (codes " ")
     (joined_texts w
-    (joined_texts (codes " ") (joined_texts (expression_layout (form right)) (codes ")")))))))
+    (joined_texts (codes " ") (joined_texts (printed_expression (form right)) (codes ")")))))))
     (sym (operator_row op))
-    ∙ ap (λ w. joined_texts (codes "(") (joined_texts (expression_layout (form left)) (32 ∷ w)))
+    ∙ ap (λ w. joined_texts (codes "(") (joined_texts (printed_expression (form left)) (32 ∷ w)))
     (sym (append_assoc (operator_text op) (codes " ")
-    (joined_texts (expression_layout (form right)) (codes ")"))))
+    (joined_texts (printed_expression (form right)) (codes ")"))))
 
 -- ---- calls
 pub called_row : (f : FunctionText) (table : List Availability) (word : List ℕ) (handle : ℕ)
@@ -522,10 +522,10 @@ own_typed f table handle e own t n can within called here is made =
     let there = here ∙ ap Some is in
     let es : List Expression = value_forms (form_at f table) (expression_operands own) in
     ap
-    (λ o. expression_layout
+    (λ o. printed_expression
     (Call t (arguments_of (value_forms (form_at f table) (option_map_or expression_operands o [])))))
     there
-    ∙ sym (ap (λ n. expression_layout (applied_form n es)) called)
+    ∙ sym (ap (λ n. printed_expression (applied_form n es)) called)
     ∙ sym (own_row f table handle can within ∙ (ap (own_at f table handle) there ∙ made))
 
 -- or makes a value of a type of the module

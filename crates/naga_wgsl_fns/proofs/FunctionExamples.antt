@@ -19,13 +19,13 @@ use Rattle.naga_info.specs.declared.info.ModuleInfo.{ModuleInfo}
 use Rattle.naga_names.specs.Naming.{Names}
 use Rattle.naga_back.specs.declared.context.FunctionType.TheVariants as item
 use Rattle.naga_back.specs.declared.flags.WriterFlags.{WriterFlags}
-use Rattle.module_meaning.specs.FunctionLets.{BindsAt}
-use Rattle.module_meaning.specs.DeclarationForms.{DeclarationsHaveForms, IsInitialiser}
-use Rattle.module_meaning.specs.DeclarationForms.{ItemsHaveForms}
-use Rattle.module_meaning.specs.Faithful.{RunsAt}
-use Rattle.module_meaning.specs.Names.{LabelNames, item_labels}
-use Rattle.module_meaning.specs.Resolution.{BodyResolves}
-use Rattle.module_meaning.specs.Written.{AllWrittenHaveForms}
+use Rattle.module_semantics.specs.FunctionLets.{BindsAt}
+use Rattle.module_semantics.specs.DeclarationForms.{DeclarationsHaveForms, IsInitialiser}
+use Rattle.module_semantics.specs.DeclarationForms.{ItemsHaveForms}
+use Rattle.module_semantics.specs.Faithful.{RunsAt}
+use Rattle.module_semantics.specs.Names.{LabelNames, item_labels}
+use Rattle.module_semantics.specs.Resolution.{BodyResolves}
+use Rattle.module_semantics.specs.Written.{AllWrittenHaveForms}
 use Rattle.naga_form.proofs.names.ExpressionNames.{names_of_each_are}
 use Rattle.naga_form.specs.Declarations.{program_under}
 use Rattle.naga_back.specs.Flags.{annotates_types}

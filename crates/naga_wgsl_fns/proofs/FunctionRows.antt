@@ -17,8 +17,8 @@ use Rattle.naga_ir.specs.declared.module.LocalVariable.{LocalVariable}
 use Rattle.naga_ir.specs.declared.module.Module.{Module}
 use Rattle.naga_info.specs.declared.info.ExpressionInfo.{ExpressionInfo}
 use Rattle.naga_info.specs.declared.info.ModuleInfo.{ModuleInfo}
-use Rattle.module_meaning.specs.acceptance.Accepted.{is_accepted}
-use Rattle.module_meaning.specs.DeclarationForms.{HeadHasForm, entry_point_numbered}
+use Rattle.module_semantics.specs.acceptance.Accepted.{is_accepted}
+use Rattle.module_semantics.specs.DeclarationForms.{HeadHasForm, entry_point_numbered}
 use Rattle.naga_form.specs.Expressions.{value_form}
 use Rattle.naga_form.specs.Statements.{lines_form}
 use Rattle.wgsl_text.specs.Functions.{Parameter, value_pieces, parameter_pieces}
@@ -28,15 +28,15 @@ use Rattle.naga_form.specs.Functions.{locals_form, parameter_form, parameters_fo
 use Rattle.wgsl_text.proofs.Text.{text-append}
 use Rattle.naga_names.proofs.Refusal.{element}
 use Rattle.naga_form.proofs.statements.AcceptedFunctions.{of_number, ranges_of}
-use Rattle.module_meaning.specs.FunctionNumbers.{IsFunctionOf, all_functions, all_infos}
-use Rattle.module_meaning.specs.FunctionNumbers.{function_number}
+use Rattle.module_semantics.specs.FunctionNumbers.{IsFunctionOf, all_functions, all_infos}
+use Rattle.module_semantics.specs.FunctionNumbers.{function_number}
 use Rattle.wgsl_text.proofs.Functions.{value_text as value_row_text, locals_text as local_row_text}
 use Rattle.wgsl_text.proofs.Functions.{function_text as function_row_text}
 use Rattle.naga_names.specs.Keys.{names_in}
 use Rattle.shader_runs.specs.Scope.{Handles}
-use Rattle.module_meaning.specs.ExpressionLabels.{expression_labels}
-use Rattle.module_meaning.specs.Names.{HasNamesOf, module_names}
-use Rattle.module_meaning.specs.Written.{WrittenHaveForms}
+use Rattle.module_semantics.specs.ExpressionLabels.{expression_labels}
+use Rattle.module_semantics.specs.Names.{HasNamesOf, module_names}
+use Rattle.module_semantics.specs.Written.{WrittenHaveForms}
 use Rattle.naga_scope.specs.Tables.{AreTablesOf}
 use Rattle.naga_scope.specs.Availabilities.{TextPoint}
 use Rattle.naga_scope.specs.declared.points.Availability.{Availability}
@@ -46,7 +46,7 @@ use Rattle.naga_words.specs.declared.sink.SinkError.TheVariants.{Failed, Memory 
 use Rattle.naga_words.specs.Output.{IsReason, joined_texts}
 use Rattle.naga_wgsl_fns.specs.Errors.{IsErrorOf, IsWant}
 use Rattle.naga_wgsl_fns.specs.declared.refusals.error.Error.{Error}
-use Rattle.wgsl_text.specs.Reading.{expression_layout, type_layout}
+use Rattle.wgsl_text.specs.Reading.{printed_expression, printed_type}
 use Rattle.wgsl_text.specs.Text.{text}
 use Rattle.naga_wgsl_fns.specs.declared.functions.FunctionText.{FunctionText}
 use Rattle.naga_wgsl_fns.specs.FunctionText.{handles_in, named_in, number, CanWrite, source, naming}
@@ -235,7 +235,7 @@ pub first_value_row : (f : FunctionText) (table : List Availability) (value : �
     first_value_text f value
 unfolding first_value_text value_text joined_texts
 first_value_row f table value start =
-    ap (λ (s : Handles). codes " = " ++ (expression_layout (value_form (naming f) (source f) s value)
+    ap (λ (s : Handles). codes " = " ++ (printed_expression (value_form (naming f) (source f) s value)
     ++ codes ";\n")) start
     ∙ sym (value_row_text (first_form f value))
 
@@ -274,12 +274,12 @@ locals_step f handle local more =
     let first = text (locals_pieces following) in
     local_row_text form following
     ∙ (ap (λ t. codes "    var " ++ (form.name ++ (codes ": " ++ t)))
-    (sym (append_assoc (type_layout form.type) (text (value_pieces form.value)) first))
+    (sym (append_assoc (printed_type form.type) (text (value_pieces form.value)) first))
     ∙ (ap (λ t. codes "    var " ++ (form.name ++ (codes ": " ++ (t ++ first))))
-    (ap (λ t. type_layout form.type ++ t) (sym (append-nil (text (value_pieces form.value)))))
+    (ap (λ t. printed_type form.type ++ t) (sym (append-nil (text (value_pieces form.value)))))
     ∙ (ap (λ t. codes "    var " ++ t)
     (sym (append_assoc form.name (codes ": "
-    ++ (type_layout form.type ++ (text (value_pieces form.value) ++ []))) first))
+    ++ (printed_type form.type ++ (text (value_pieces form.value) ++ []))) first))
     ∙ ap (λ t. t ++ first) (sym (local_row_text form [])))))
 
 -- a list from an item of it on, by what stands there

@@ -7,9 +7,9 @@ use Rattle.std.specs.List.{list_all}
 use Rattle.std.specs.Option.{is_some, option_map_or, option_to_list}
 use Rattle.std.proofs.lemmas.Bool.{and_parts}
 use Rattle.std.proofs.lemmas.List.{append-nil}
-use Rattle.module_meaning.specs.ExpressionOperators.{level_of, image_sample_operator}
-use Rattle.module_meaning.specs.OperatorTable.{Sample, Splat, if_word, run_word, zero_is_written}
-use Rattle.module_meaning.specs.WrittenOut.{is_written_out, written_out_over, written_out_within}
+use Rattle.module_semantics.specs.ExpressionOperators.{level_of, image_sample_operator}
+use Rattle.module_semantics.specs.OperatorTable.{Sample, Splat, if_word, run_word, zero_is_written}
+use Rattle.module_semantics.specs.WrittenOut.{is_written_out, written_out_over, written_out_within}
 use Rattle.naga_form.specs.ConstantForms.{constant_form_over, constant_form_within}
 use Rattle.naga_form.specs.ConstantForms.{no_constant_form, built_form}
 use Rattle.naga_form.specs.Expressions.{as_value, constant_form, own_if, own_plain, value_forms}
@@ -41,7 +41,7 @@ use Rattle.wgsl_text.proofs.Types.{named_text}
 use Rattle.wgsl_text.specs.Expressions.{Argument, Arguments, Call, Expression, NoArguments}
 use Rattle.wgsl_text.specs.Expressions.{NumberArgument, more_arguments_pieces}
 use Rattle.wgsl_text.specs.Expressions.{operands as arguments_of}
-use Rattle.wgsl_text.specs.Reading.{expression_layout}
+use Rattle.wgsl_text.specs.Reading.{printed_expression}
 use Rattle.wgsl_text.specs.Text.{text}
 use Rattle.wgsl_text.specs.Types.{Named}
 
@@ -106,7 +106,7 @@ pub offset_row : (f : FunctionText) → CanWrite f → (h : ℕ) → h < length 
     next_operand_text f [] false h ≡ offset_text f (Some h)
 unfolding next_operand_text value_text offset_text
 offset_row f can h lt is =
-    ap (λ e. codes ", " ++ expression_layout e) (constant_same f can (suc h) h lt is)
+    ap (λ e. codes ", " ++ printed_expression e) (constant_same f can (suc h) h lt is)
 
 pub no_offset : (f : FunctionText) → [] ≡ offset_text f None
 unfolding offset_text
@@ -197,10 +197,10 @@ number_row component.W = refl
 
 module _ (e : Expression) (args : Arguments) where
   abbrev first : List ℕ
-  first = expression_layout e ++ text (more_arguments_pieces args)
+  first = printed_expression e ++ text (more_arguments_pieces args)
 
   called_then : (w : List ℕ) (number : Option ℕ) →
-      expression_layout (Call (Named w) (component_then number (Argument e args))) ≡
+      printed_expression (Call (Named w) (component_then number (Argument e args))) ≡
       (w ++ (codes "(" ++ number_text number)) ++ first
   called_then w None =
       call_text (Named w) (Argument e args)
@@ -218,7 +218,7 @@ module _ (e : Expression) (args : Arguments) where
       (compares clamped arrayed with_offset : Bool) →
       let op =
       image_sample_operator of_depths gather (level_of l) compares clamped arrayed with_offset in
-      expression_layout
+      printed_expression
       (Call (Named (sampling_word op)) (component_then (gathered_component op) (Argument e args))) ≡
       (sampling_word (image_sample_operator of_depths gather (level_of l) compares clamped false false)
       ++ (codes "(" ++ component_text of_depths gather))
@@ -240,10 +240,10 @@ head_then : (f : FunctionText) (image : ℕ) (gather : Option SwizzleComponent) 
     (compares clamped arrayed with_offset : Bool) (e : Expression) (args : Arguments) →
     let op =
     image_sample_operator (depths_at f image) gather (level_of l) compares clamped arrayed with_offset in
-    expression_layout
+    printed_expression
     (Call (Named (sampling_word op)) (component_then (gathered_component op) (Argument e args))) ≡
     joined_texts (head_text f image gather l compares clamped)
-    (joined_texts (expression_layout e) (text (more_arguments_pieces args)))
+    (joined_texts (printed_expression e) (text (more_arguments_pieces args)))
 unfolding head_text joined_texts
 head_then f image gather l compares clamped arrayed with_offset e args =
     head_of e args (depths_at f image) gather l compares clamped arrayed with_offset
@@ -295,9 +295,9 @@ sampling_row f table handle image sampler gather coordinate array_index offset l
     let op =
     image_sample_operator (depths_at f image) gather (level_of l) word clamp (is_some array_index)
     (is_some offset) in
-    ap (λ o. expression_layout (as_value (own_if (naming f) (source f) form o))) at
+    ap (λ o. printed_expression (as_value (own_if (naming f) (source f) form o))) at
     ∙ (ap
-    (λ hs. expression_layout
+    (λ hs. printed_expression
     (sampling_form op (zero_is_written (level_of l) in_word) whole
     (value_forms form (image ∷ sampler ∷ coordinate ∷ hs))
     (map (constant_form (source f)) (option_to_list offset))))
@@ -307,7 +307,7 @@ sampling_row f table handle image sampler gather coordinate array_index offset l
     (operands_then (value_forms form (sampler ∷ coordinate ∷ following)) last)
     ∙ ap
     (λ w. joined_texts (head_text f image gather l (is_some depth_ref) clamp)
-    (joined_texts (expression_layout (as_value (form image))) w))
+    (joined_texts (printed_expression (as_value (form image))) w))
     (next_then f table sampler (coordinate ∷ following) last
     ∙ ap (joined_texts (next_operand_text f table false sampler))
     (next_then f table coordinate following last

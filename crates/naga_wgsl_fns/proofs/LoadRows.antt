@@ -4,10 +4,10 @@ use Rattle.std.proofs.Common.{◌≡◌, ℕ, Bool, true, false, List, [], ◌�
 use Rattle.std.proofs.Common.{sym, ◌∙◌}
 use Rattle.std.specs.Prelude.{slice_get, unwrap_or, if◌then◌else◌}
 use Rattle.std.specs.Option.{option_map_or}
-use Rattle.module_meaning.specs.AlikeTypes.{has_type_form}
-use Rattle.module_meaning.specs.ExpressionOperators.{is_atomic_pointer}
-use Rattle.module_meaning.specs.OperatorTable.{AtomicLoad, run_word}
-use Rattle.module_meaning.specs.ExpressionForms.{expression_has_own_form}
+use Rattle.module_semantics.specs.AlikeTypes.{has_type_form}
+use Rattle.module_semantics.specs.ExpressionOperators.{is_atomic_pointer}
+use Rattle.module_semantics.specs.OperatorTable.{AtomicLoad, run_word}
+use Rattle.module_semantics.specs.ExpressionForms.{expression_has_own_form}
 use Rattle.naga_form.proofs.operators.AllowedParts.{loaded_matrix}
 use Rattle.naga_form.proofs.operators.Operators.{load_called, load_text as loaded_text, matrix_is}
 use Rattle.naga_form.proofs.operators.Operators.{typed_notation}
@@ -38,7 +38,7 @@ use Rattle.naga_wgsl_fns.specs.Types.{resolution_text}
 use Rattle.naga_wgsl_fns.specs.declared.functions.FunctionText.{FunctionText}
 use Rattle.wgsl_text.proofs.Expressions.{call_text as call_row_text}
 use Rattle.wgsl_text.specs.Expressions.{operands as arguments_of}
-use Rattle.wgsl_text.specs.Reading.{type_layout}
+use Rattle.wgsl_text.specs.Reading.{printed_type}
 use Rattle.wgsl_text.specs.Types.{TypeSpecifier, Named as NamedType}
 
 -- ---- atomics
@@ -96,10 +96,10 @@ module _ (f : FunctionText) (columns rows : CooperativeSize) (role : Cooperative
         (matrix_is (context f) (type_names_of f) columns rows role place s _ known
         (tree_there (type_names_of f) (Value it) formed).1)
 
-    resolution_is : resolution_text f (Value it) ≡ type_layout tree
+    resolution_is : resolution_text f (Value it) ≡ printed_type tree
     unfolding resolution_text
     resolution_is =
-        ap (λ o. type_layout (unwrap_or o (NamedType [])))
+        ap (λ o. printed_type (unwrap_or o (NamedType [])))
         (tree_there (type_names_of f) (Value it) formed).1
 
     pub matrix_callee_row : (word : List ℕ) → word ≡ load_word place.row_major →
@@ -107,11 +107,11 @@ module _ (f : FunctionText) (columns rows : CooperativeSize) (role : Cooperative
     unfolding taking_text matrix_callee_text
     matrix_callee_row word is =
         (λ i. is i ++ (codes "<" ++ (resolution_is i ++ codes ">")))
-        ∙ (by place.row_major ∙ sym (ap type_layout callee_is))
+        ∙ (by place.row_major ∙ sym (ap printed_type callee_is))
       where
         by : (b : Bool) →
-            load_word b ++ (codes "<" ++ (type_layout tree ++ codes ">")) ≡
-            type_layout (load_tree b tree)
+            load_word b ++ (codes "<" ++ (printed_type tree ++ codes ">")) ≡
+            printed_type (load_tree b tree)
         by true = sym (loaded_text true tree)
         by false = sym (loaded_text false tree)
 

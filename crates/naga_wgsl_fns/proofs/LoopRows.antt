@@ -11,7 +11,7 @@ use Rattle.shader_runs.specs.Scope.{Handles}
 use Rattle.wgsl_text.proofs.Statements.{continuing_text as continuing_row_text, loop_text}
 use Rattle.wgsl_text.proofs.Statements.{loop_break_if_text}
 use Rattle.wgsl_text.specs.Expressions.{Expression}
-use Rattle.wgsl_text.specs.Reading.{expression_layout}
+use Rattle.wgsl_text.specs.Reading.{printed_expression}
 use Rattle.wgsl_text.specs.Statements.{NoStatements, Statements, continuing_pieces}
 use Rattle.wgsl_text.specs.Statements.{statements_pieces}
 use Rattle.wgsl_text.specs.Statements as tree
@@ -121,7 +121,7 @@ loop_row f k s i b c e = by c e
         one_line (tree.LoopBreakIf body (next c) (ends c h)) i
         ∙ (loop_break_if_text body (next c) (ends c h) i
         ∙ break_if_lines i (suc i) (suc (suc i)) (text (statements_pieces body (suc i)))
-        (text (statements_pieces (next c) (suc (suc i)))) (expression_layout (ends c h)))
+        (text (statements_pieces (next c) (suc (suc i)))) (printed_expression (ends c h)))
 
 -- ---- a body in two parts
 -- by whether its first statement holds a `continue`

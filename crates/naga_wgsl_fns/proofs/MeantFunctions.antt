@@ -18,17 +18,17 @@ use Rattle.naga_ir.specs.declared.module.Module.{Module}
 use Rattle.naga_ir.specs.declared.types.Type_.{Type_}
 use Rattle.naga_names.specs.Keys.{NameMap}
 use Rattle.naga_words.specs.Spelling.{is_struct}
-use Rattle.module_meaning.specs.acceptance.Accepted.{is_accepted}
-use Rattle.module_meaning.specs.LackingScalars.{base_type}
-use Rattle.module_meaning.specs.Names.{AreLabelNames, LabelNames, item_labels, module_names}
-use Rattle.module_meaning.specs.Undeclared.{is_undeclared, names_undeclared_by}
-use Rattle.module_meaning.specs.Undeclared.{names_undeclared_within}
-use Rattle.module_meaning.specs.Written.{IsSpelledIn, OfArgument, OfLet, OfLocal, OfResult}
-use Rattle.module_meaning.specs.Written.{WrittenHaveForms}
+use Rattle.module_semantics.specs.acceptance.Accepted.{is_accepted}
+use Rattle.module_semantics.specs.LackingScalars.{base_type}
+use Rattle.module_semantics.specs.Names.{AreLabelNames, LabelNames, item_labels, module_names}
+use Rattle.module_semantics.specs.Undeclared.{is_undeclared, names_undeclared_by}
+use Rattle.module_semantics.specs.Undeclared.{names_undeclared_within}
+use Rattle.module_semantics.specs.Written.{IsSpelledIn, OfArgument, OfLet, OfLocal, OfResult}
+use Rattle.module_semantics.specs.Written.{WrittenHaveForms}
 use Rattle.naga_form.specs.Declarations.{entry_point_under, entry_points_under, program_under}
 use Rattle.naga_form.specs.Functions.{function_form}
-use Rattle.module_meaning.specs.FunctionNumbers.{all_functions, callee_count, function_number}
-use Rattle.module_meaning.proofs.FunctionNumbers.{function_among, info_among}
+use Rattle.module_semantics.specs.FunctionNumbers.{all_functions, callee_count, function_number}
+use Rattle.module_semantics.proofs.FunctionNumbers.{function_among, info_among}
 use Rattle.naga_form.proofs.statements.AcceptedFunctions.{entry_info_among, entry_points_counted}
 use Rattle.naga_form.proofs.statements.AcceptedFunctions.{functions_counted}
 use Rattle.naga_names.proofs.Refusal.{element}

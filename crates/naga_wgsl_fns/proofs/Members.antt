@@ -12,9 +12,9 @@ use Rattle.naga_ir.specs.declared.types.Type_.{Type_}
 use Rattle.naga_ir.specs.declared.types.TypeInner.{TypeInner}
 use Rattle.naga_ir.specs.declared.types.TypeInner.TheVariants as inner
 use Rattle.naga_words.specs.Spelling.{is_struct}
-use Rattle.module_meaning.specs.ExpressionOperators.{type_with}
-use Rattle.module_meaning.specs.ExpressionShapes.{ModuleDeclarations, own_selector, selector}
-use Rattle.module_meaning.specs.Undeclared.{whole_of}
+use Rattle.module_semantics.specs.ExpressionOperators.{type_with}
+use Rattle.module_semantics.specs.ExpressionShapes.{ModuleDeclarations, own_selector, selector}
+use Rattle.module_semantics.specs.Undeclared.{whole_of}
 use Rattle.naga_form.proofs.operators.AllowedParts.{no_own_struct}
 use Rattle.naga_form.proofs.types.SameValues.{IsFit}
 use Rattle.naga_wgsl_fns.specs.Expressions.{struct_at}

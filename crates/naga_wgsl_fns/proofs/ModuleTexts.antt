@@ -1,6 +1,6 @@
 -- What is known of a module from what is known of the text of one of its functions.
 use Rattle.std.proofs.Common.{◌≡◌, subst, sym}
-use Rattle.module_meaning.specs.Names.{HasNamesOf}
+use Rattle.module_semantics.specs.Names.{HasNamesOf}
 use Rattle.naga_names.specs.Keys.{names_in}
 use Rattle.naga_scope.specs.Tables.{AreTablesOf}
 use Rattle.naga_wgsl_fns.specs.FunctionText.{CanWrite}

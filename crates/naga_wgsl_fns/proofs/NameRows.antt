@@ -1,7 +1,7 @@
 -- The names of bound expressions, from what is written of them in turn.
 use Rattle.std.proofs.Common.{◌≡◌, ℕ, ◌<◌, ◌^◌, codes, decimal, ap}
 use Rattle.std.proofs.lemmas.Bool.{lt-ltb}
-use Rattle.module_meaning.specs.Names.{numbered_name, numbered_text}
+use Rattle.module_semantics.specs.Names.{numbered_name, numbered_text}
 use Rattle.naga_words.specs.Output.{joined_texts}
 
 -- the name of a handle that fits a machine word

@@ -2,9 +2,9 @@
 -- that it calls.
 use Rattle.std.proofs.Common.{◌≡◌, ℕ, ◌<◌, Some, ap, arith, length, subst, sym}
 use Rattle.std.proofs.lemmas.Option.{slice_get_within}
-use Rattle.module_meaning.proofs.FunctionNumbers.{below_all, callees_within, one_type, type_of_function}
-use Rattle.module_meaning.specs.FunctionNumbers.{all_functions, function_type}
-use Rattle.module_meaning.specs.Names.{function_name, module_names, name_in}
+use Rattle.module_semantics.proofs.FunctionNumbers.{below_all, callees_within, one_type, type_of_function}
+use Rattle.module_semantics.specs.FunctionNumbers.{all_functions, function_type}
+use Rattle.module_semantics.specs.Names.{function_name, module_names, name_in}
 use Rattle.naga_back.specs.FunctionContext.{argument_key, function_key, local_key}
 use Rattle.naga_ir.specs.declared.module.Module.{Module}
 use Rattle.naga_names.specs.Keys.{names_in}

@@ -6,8 +6,8 @@ use Rattle.std.specs.Option.{option_map_or}
 use Rattle.std.proofs.lemmas.Option.{same_Some}
 use Rattle.naga_ir.specs.declared.expression.Expression as ir
 use Rattle.naga_ir.specs.declared.expression.Expression.TheVariants as expression
-use Rattle.module_meaning.specs.OperatorTable.{WithoutForm, PartAt}
-use Rattle.module_meaning.specs.ExpressionForms.{expression_has_own_form}
+use Rattle.module_semantics.specs.OperatorTable.{WithoutForm, PartAt}
+use Rattle.module_semantics.specs.ExpressionForms.{expression_has_own_form}
 use Rattle.naga_form.proofs.operators.AllowedParts.{selected}
 use Rattle.naga_form.specs.Expressions.{PlainForm, as_value, as_reference, applied_plain, no_form}
 use Rattle.naga_form.specs.Expressions.{own_if, part_plain, is_pointer, selected_part}
@@ -22,7 +22,7 @@ use Rattle.naga_wgsl_fns.specs.declared.functions.FunctionText.{FunctionText}
 use Rattle.shader_runs.specs.Value.{Selector, MemberNamed, ElementAt}
 use Rattle.wgsl_text.proofs.Expressions.{index_text as index_row_text, index_at_text, member_text}
 use Rattle.wgsl_text.specs.Expressions as tree
-use Rattle.wgsl_text.specs.Reading.{expression_layout}
+use Rattle.wgsl_text.specs.Reading.{printed_expression}
 use Rattle.wgsl_text.specs.Text.{text}
 
 -- a part of this base: a part of its form, written as the base and what stands after it
@@ -32,12 +32,12 @@ pub record PartForm (f : FunctionText) (table : List Availability) (e : Option i
   pub is : own_if (naming f) (source f) (form_at f table) e ≡
       part_plain (is_pointer (context f) base) part (form_at f table base)
   pub ends : (b : tree.Expression) →
-      expression_layout (part b) ≡
+      printed_expression (part b) ≡
       text (tree.base_pieces b (tree.expression_pieces b)) ++ part_end f table e
   pub unsigned : (b : tree.Expression) → is_signed (part b) ≡ false
 
 selected_ends : (x : Selector) (b : tree.Expression) →
-    expression_layout (selected_part x b) ≡
+    printed_expression (selected_part x b) ≡
     text (tree.base_pieces b (tree.expression_pieces b)) ++ selector_end x
 unfolding word_text number_text
 selected_ends (MemberNamed word) b = member_text b word
@@ -93,27 +93,27 @@ module _ (f : FunctionText) (table : List Availability) (can : CanWrite f) where
 -- a part as a value and as a reference
 pub valued_part : (pointer : Bool) (part : tree.Expression → tree.Expression) (base p : PlainForm) →
     p ≡ part_plain pointer part base →
-    expression_layout (as_value p) ≡
-    (if pointer then expression_layout (tree.AddressOf (plain_tree p))
-    else expression_layout (plain_tree p))
+    printed_expression (as_value p) ≡
+    (if pointer then printed_expression (tree.AddressOf (plain_tree p))
+    else printed_expression (plain_tree p))
 valued_part true part base p is =
-    ap (λ q. expression_layout (as_value q)) is
-    ∙ ap (λ q. expression_layout (tree.AddressOf (plain_tree q))) (sym is)
+    ap (λ q. printed_expression (as_value q)) is
+    ∙ ap (λ q. printed_expression (tree.AddressOf (plain_tree q))) (sym is)
 valued_part false part base p is =
-    ap (λ q. expression_layout (as_value q)) is
-    ∙ ap (λ q. expression_layout (plain_tree q)) (sym is)
+    ap (λ q. printed_expression (as_value q)) is
+    ∙ ap (λ q. printed_expression (plain_tree q)) (sym is)
 
 pub referred_part : (pointer : Bool) (part : tree.Expression → tree.Expression)
     (base p : PlainForm) → p ≡ part_plain pointer part base →
-    expression_layout (as_reference p) ≡
-    (if pointer then expression_layout (plain_tree p)
-    else expression_layout (tree.Dereference (as_value p)))
+    printed_expression (as_reference p) ≡
+    (if pointer then printed_expression (plain_tree p)
+    else printed_expression (tree.Dereference (as_value p)))
 referred_part true part base p is =
-    ap (λ q. expression_layout (as_reference q)) is
-    ∙ ap (λ q. expression_layout (plain_tree q)) (sym is)
+    ap (λ q. printed_expression (as_reference q)) is
+    ∙ ap (λ q. printed_expression (plain_tree q)) (sym is)
 referred_part false part base p is =
-    ap (λ q. expression_layout (as_reference q)) is
-    ∙ ap (λ q. expression_layout (tree.Dereference (as_value q))) (sym is)
+    ap (λ q. printed_expression (as_reference q)) is
+    ∙ ap (λ q. printed_expression (tree.Dereference (as_value q))) (sym is)
 
 -- neither starts with a sign
 pub part_unsigned : (pointer : Bool) (part : tree.Expression → tree.Expression)

@@ -11,7 +11,7 @@ use Rattle.naga_ir.specs.declared.expression.SwizzleComponent.{SwizzleComponent}
 use Rattle.naga_ir.specs.declared.operators.UnaryOperator.{UnaryOperator}
 use Rattle.naga_ir.specs.declared.types.VectorSize.{VectorSize}
 use Rattle.naga_ir.specs.declared.types.VectorSize.TheVariants.{Bi, Tri, Quad}
-use Rattle.module_meaning.specs.ExpressionShapes.{letter, swizzle_letters, part_selector}
+use Rattle.module_semantics.specs.ExpressionShapes.{letter, swizzle_letters, part_selector}
 use Rattle.naga_scope.specs.declared.points.Availability.{Availability}
 use Rattle.naga_words.specs.Output.{joined_texts}
 use Rattle.naga_wgsl_fns.specs.declared.functions.FunctionText.{FunctionText}
@@ -23,15 +23,15 @@ use Rattle.naga_wgsl_fns.specs.Expressions.{part_base_text, part_end_text, part_
 use Rattle.naga_wgsl_fns.specs.Expressions.{part_value_text, plain_address_text, plain_text}
 use Rattle.naga_wgsl_fns.specs.Expressions.{plain_tree, pointed_text, reference_text, word_text}
 use Rattle.naga_wgsl_fns.specs.Expressions.{own_form}
-use Rattle.module_meaning.specs.Names.{constant_name, global_name, module_names, name_in}
-use Rattle.module_meaning.specs.Names.{numbered_name}
+use Rattle.module_semantics.specs.Names.{constant_name, global_name, module_names, name_in}
+use Rattle.module_semantics.specs.Names.{numbered_name}
 use Rattle.naga_names.specs.declared.key.NameKey.TheVariants as key
 use Rattle.std.proofs.lemmas.Option.{same_Some}
 use Rattle.naga_form.proofs.operators.Operators.{query_is_called, IsCalled, cast_called}
 use Rattle.naga_form.proofs.operators.Operators.{constructor_called, load_called}
-use Rattle.module_meaning.specs.ExpressionOperators.{query_operator, ExpressionContext}
-use Rattle.module_meaning.specs.ExpressionOperators.{applied_operator, load_operator}
-use Rattle.module_meaning.specs.ExpressionOperators.{is_atomic_pointer, type_known}
+use Rattle.module_semantics.specs.ExpressionOperators.{query_operator, ExpressionContext}
+use Rattle.module_semantics.specs.ExpressionOperators.{applied_operator, load_operator}
+use Rattle.module_semantics.specs.ExpressionOperators.{is_atomic_pointer, type_known}
 use Rattle.naga_wgsl_fns.proofs.PartForms.{part_form, part_unsigned, selected_unsigned}
 use Rattle.naga_wgsl_fns.proofs.PartForms.{tree_of_part}
 use Rattle.naga_form.specs.Expressions.{is_handle_variable, no_form, part_plain, is_pointer}
@@ -39,13 +39,13 @@ use Rattle.naga_form.specs.Expressions.{selected_part, variable_plain, as_value,
 use Rattle.naga_form.specs.Expressions.{ValueForm, applied_plain, as_reference, operator_type}
 use Rattle.naga_form.specs.Expressions.{own_if, own_plain, plain_below, plain_form}
 use Rattle.naga_form.specs.Expressions.{availability_plain, value_forms}
-use Rattle.module_meaning.specs.OperatorTable.{PartAt, AtomicLoad, Operator, WithoutForm}
+use Rattle.module_semantics.specs.OperatorTable.{PartAt, AtomicLoad, Operator, WithoutForm}
 use Rattle.shader_runs.specs.Value.{MemberNamed, Selector}
 use Rattle.wgsl_text.proofs.Expressions.{address_text as address_row_text}
 use Rattle.wgsl_text.proofs.Expressions.{member_text as member_row_text}
 use Rattle.wgsl_text.proofs.Text.{text-append}
 use Rattle.wgsl_text.specs.Expressions as tree
-use Rattle.module_meaning.specs.ExpressionContexts.{expression_context}
+use Rattle.module_semantics.specs.ExpressionContexts.{expression_context}
 use Rattle.naga_form.specs.ConstantForms.{constant_form_over, global_form, global_form_within}
 use Rattle.naga_form.specs.ConstantForms.{constant_form_by, no_constant_form, written_constant_form}
 use Rattle.naga_ir.specs.declared.module.Constant as ir_constant
@@ -65,7 +65,7 @@ use Rattle.shader_runs.specs.Scope.{Availability as RunAvailability}
 use Rattle.wgsl_text.specs.Literals.{Truth}
 use Rattle.wgsl_text.specs.Text.{text}
 use Rattle.wgsl_text.specs.Types.{TypeSpecifier}
-use Rattle.wgsl_text.specs.Reading.{expression_layout}
+use Rattle.wgsl_text.specs.Reading.{printed_expression}
 
 -- ---- components
 pub swizzle_row : (f : FunctionText) (table : List Availability) (vector : ℕ) (word : List ℕ)
@@ -100,18 +100,18 @@ letters_row Quad (a ∷ b ∷ c ∷ d ∷ rest) =
 base_by : (e : tree.Expression) →
     text (tree.base_pieces e (tree.expression_pieces e)) ≡
     joined_texts (if is_signed e then codes "(" else [])
-    (joined_texts (expression_layout e) (if is_signed e then codes ")" else []))
+    (joined_texts (printed_expression e) (if is_signed e then codes ")" else []))
 unfolding joined_texts
 base_by (tree.Unary op e) = simp text-append
-base_by (tree.Constant l) = sym (append-nil (expression_layout (tree.Constant l)))
-base_by (tree.Name w) = sym (append-nil (expression_layout (tree.Name w)))
-base_by (tree.Binary a op b) = sym (append-nil (expression_layout (tree.Binary a op b)))
-base_by (tree.Call t args) = sym (append-nil (expression_layout (tree.Call t args)))
-base_by (tree.Member e w) = sym (append-nil (expression_layout (tree.Member e w)))
-base_by (tree.Index e i) = sym (append-nil (expression_layout (tree.Index e i)))
-base_by (tree.IndexAt e n) = sym (append-nil (expression_layout (tree.IndexAt e n)))
-base_by (tree.AddressOf e) = sym (append-nil (expression_layout (tree.AddressOf e)))
-base_by (tree.Dereference e) = sym (append-nil (expression_layout (tree.Dereference e)))
+base_by (tree.Constant l) = sym (append-nil (printed_expression (tree.Constant l)))
+base_by (tree.Name w) = sym (append-nil (printed_expression (tree.Name w)))
+base_by (tree.Binary a op b) = sym (append-nil (printed_expression (tree.Binary a op b)))
+base_by (tree.Call t args) = sym (append-nil (printed_expression (tree.Call t args)))
+base_by (tree.Member e w) = sym (append-nil (printed_expression (tree.Member e w)))
+base_by (tree.Index e i) = sym (append-nil (printed_expression (tree.Index e i)))
+base_by (tree.IndexAt e n) = sym (append-nil (printed_expression (tree.IndexAt e n)))
+base_by (tree.AddressOf e) = sym (append-nil (printed_expression (tree.AddressOf e)))
+base_by (tree.Dereference e) = sym (append-nil (printed_expression (tree.Dereference e)))
 
 base_row : (f : FunctionText) (table : List Availability) (handle : ℕ) (signed : Bool) →
     signed ≡ is_signed (as_value (form_at f table handle)) →
@@ -124,7 +124,7 @@ base_row f table handle signed is =
     base_by base
     ∙ ap
     (λ b. joined_texts (if b then codes "(" else [])
-    (joined_texts (expression_layout base) (if b then codes ")" else [])))
+    (joined_texts (printed_expression base) (if b then codes ")" else [])))
     (sym is)
 
 -- ---- parts at an index
@@ -141,8 +141,8 @@ pub plain_row : (f : FunctionText) (table : List Availability) (handle base : �
 unfolding plain_text part_base_text part_end_text joined_texts
 plain_row f table handle base can within is =
     let p = part_form f table can handle within (slice_get (expressions f) handle) refl base is in
-    ap (λ q. expression_layout (plain_tree q)) p.is
-    ∙ (ap expression_layout (tree_of_part (is_pointer (context f) base) p.part (form_at f table base))
+    ap (λ q. printed_expression (plain_tree q)) p.is
+    ∙ (ap printed_expression (tree_of_part (is_pointer (context f) base) p.part (form_at f table base))
     ∙ p.ends (part_base f table base))
 
 pub index_row : (f : FunctionText) (table : List Availability) (index : ℕ)
@@ -337,8 +337,8 @@ base_pointed f table base is =
     ∙ (base_by e
     ∙ (ap
     (λ b. joined_texts (if b then codes "(" else [])
-    (joined_texts (expression_layout e) (if b then codes ")" else []))) none
-    ∙ append-nil (expression_layout e))))
+    (joined_texts (printed_expression e) (if b then codes ")" else []))) none
+    ∙ append-nil (printed_expression e))))
 
 pub base_unpointed : (f : FunctionText) (table : List Availability) (base : ℕ) →
     is_pointer (context f) base ≡ false →

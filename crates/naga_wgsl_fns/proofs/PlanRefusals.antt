@@ -16,7 +16,7 @@ use Rattle.naga_scope.specs.declared.statements.UnsupportedStatement.{Unsupporte
 use Rattle.naga_scope.proofs.FormedStatements.{some_unsupported}
 use Rattle.naga_form.proofs.statements.AcceptedFunctions.{accepted_at, function_there}
 use Rattle.naga_form.proofs.statements.AcceptedFunctions.{names_are_in_range, all_counted}
-use Rattle.module_meaning.specs.acceptance.Ranges.{names_in_range}
+use Rattle.module_semantics.specs.acceptance.Ranges.{names_in_range}
 use Rattle.std.proofs.lemmas.Bool.{ltb-true}
 use Rattle.std.proofs.Common.{◌≡◌, ◌<◌, ◌∙◌, ℕ, Bool, false, true, zero, suc, List, [], ◌∷◌, None}
 use Rattle.std.proofs.Common.{Option, Some, ap, arith, inl, inr, length, refl, subst, codes, sym}
@@ -41,25 +41,25 @@ use Rattle.shader_runs.specs.Program.{Function, binds}
 use Rattle.shader_runs.specs.ScopeFaults.{HasScopeFault}
 use Rattle.shader_runs.specs.ScopeRules.{ScopeHolds}
 use Rattle.shader_runs.proofs.ScopeFaults.{fault_is_no_rule}
-use Rattle.module_meaning.specs.acceptance.Accepted.{is_accepted}
-use Rattle.module_meaning.specs.ExpressionForms.{expression_has_form, known_passes}
-use Rattle.module_meaning.specs.LackingScalars.{lacking_scalar}
-use Rattle.module_meaning.specs.Written.{IsSpelledIn}
-use Rattle.module_meaning.specs.FunctionNumbers.{all_functions, all_infos}
-use Rattle.module_meaning.specs.FunctionShapes.{function_shape, function_shapes}
-use Rattle.module_meaning.specs.Undeclared.{is_spellable, names_undeclared}
+use Rattle.module_semantics.specs.acceptance.Accepted.{is_accepted}
+use Rattle.module_semantics.specs.ExpressionForms.{expression_has_form, known_passes}
+use Rattle.module_semantics.specs.LackingScalars.{lacking_scalar}
+use Rattle.module_semantics.specs.Written.{IsSpelledIn}
+use Rattle.module_semantics.specs.FunctionNumbers.{all_functions, all_infos}
+use Rattle.module_semantics.specs.FunctionShapes.{function_shape, function_shapes}
+use Rattle.module_semantics.specs.Undeclared.{is_spellable, names_undeclared}
 use Rattle.naga_info.specs.declared.info.TypeResolution.{TypeResolution}
 use Rattle.naga_info.specs.declared.info.TypeResolution.TheVariants.{Handle}
 use Rattle.naga_ir.specs.declared.types.Scalar.{Scalar}
 use Rattle.naga_ir.specs.declared.types.TypeInner.{TypeInner}
-use Rattle.naga_names.specs.Naming.{HasNamed, Names, label_base, labels_with_base}
+use Rattle.naga_names.specs.Naming.{HasNamed, Names, label_stem, labels_with_stem}
 use Rattle.naga_names.specs.declared.error.NamerError.{NamerError}
 use Rattle.naga_names.specs.declared.error.NamerError.TheVariants as namer_error
 use Rattle.naga_names.proofs.Refusal.{element}
-use Rattle.module_meaning.specs.ExpressionLabels.{SomeLabelIsFull, expression_labels}
-use Rattle.module_meaning.specs.Names.{labels_named_in, wgsl_names}
+use Rattle.module_semantics.specs.ExpressionLabels.{SomeLabelIsFull, expression_labels}
+use Rattle.module_semantics.specs.Names.{labels_named_in, wgsl_names}
 use Rattle.naga_scope.specs.ExpressionNames.{HasOtherUses, IsRefusalOfLabels}
-use Rattle.module_meaning.specs.Premises.{function_shape_at}
+use Rattle.module_semantics.specs.Premises.{function_shape_at}
 use Rattle.naga_scope.specs.Plans.{HasScopeFaultIn, IsPlanOf, IsRefusalToPlanOf, Planned}
 use Rattle.naga_scope.proofs.FaultLines.{fault_breaks}
 use Rattle.naga_scope.specs.declared.scope_faults.ScopeFault.{ScopeFault}
@@ -77,7 +77,7 @@ use Rattle.naga_wgsl_fns.specs.DeclarationRefusals.NamesDeclaration.{OfMember, O
 use Rattle.naga_wgsl_fns.specs.DeclarationRefusals.NamesDeclaration.{OfType as OfDeclaredType}
 use Rattle.naga_wgsl_fns.specs.DeclarationRefusals.NamesHead.{OfBinding, OfStage}
 use Rattle.naga_wgsl_fns.specs.Errors.{IsCustom}
-use Rattle.module_meaning.specs.ExpressionOperators.{has_parts}
+use Rattle.module_semantics.specs.ExpressionOperators.{has_parts}
 use Rattle.wgsl_layout.specs.declared.members.Misplaced.TheVariants.{OffAlignment, Overlapping}
 use Rattle.naga_ir.specs.declared.module.Constant as constant
 use Rattle.naga_wgsl_fns.specs.Constructs.{IsToldAs}
@@ -345,8 +345,8 @@ module _ (explicit : Bool) (m : Module) (info : ModuleInfo) (accepted : IsTrue (
       label = full.label;
       left = full.left;
       all = sym labels_are ∙ full.all;
-      full = sym (ap (λ (n : Names). labels_with_base n (earlier ++ full.named)
-          (label_base n full.label)) words) ∙ full.full;
+      full = sym (ap (λ (n : Names). labels_with_stem n (earlier ++ full.named)
+          (label_stem n full.label)) words) ∙ full.full;
     }
 
     -- and the other way round
@@ -357,8 +357,8 @@ module _ (explicit : Bool) (m : Module) (info : ModuleInfo) (accepted : IsTrue (
       label = full.label;
       left = full.left;
       all = labels_are ∙ full.all;
-      full = ap (λ (n : Names). labels_with_base n (earlier ++ full.named)
-          (label_base n full.label)) words ∙ full.full;
+      full = ap (λ (n : Names). labels_with_stem n (earlier ++ full.named)
+          (label_stem n full.label)) words ∙ full.full;
     }
 
     for_names : (namer : Names) → HasOtherUses wgsl_names namer → (error : NamerError) (reported : Error) →

@@ -24,32 +24,32 @@ use Rattle.naga_ir.specs.declared.types.CooperativeRole.{CooperativeRole}
 use Rattle.naga_ir.specs.declared.types.CooperativeSize.{CooperativeSize}
 use Rattle.naga_ir.specs.declared.types.VectorSize.{VectorSize}
 use Rattle.naga_info.specs.declared.info.ExpressionInfo.{ExpressionInfo}
-use Rattle.module_meaning.proofs.Lists.{list_all_at}
-use Rattle.module_meaning.proofs.ExpressionForms.{type_form_of_spellable, has_form_parts}
-use Rattle.module_meaning.specs.Sampling.{own_offset_has_form}
+use Rattle.module_semantics.proofs.Lists.{list_all_at}
+use Rattle.module_semantics.proofs.ExpressionForms.{type_form_of_spellable, has_form_parts}
+use Rattle.module_semantics.specs.Sampling.{own_offset_has_form}
 use Rattle.naga_ir.specs.declared.expression.SampleLevel.{SampleLevel}
 use Rattle.naga_wgsl_fns.specs.FunctionText.{named_in, AreInText, source, CanWrite, IsInText, IsLet}
 use Rattle.naga_wgsl_fns.specs.FunctionText.{context, naming, callees, number}
-use Rattle.module_meaning.specs.Names.{module_names, name_in, numbered_name}
-use Rattle.module_meaning.specs.AlikeTypes.{has_type_form}
-use Rattle.module_meaning.specs.DeclarationForms.{binding_has_form}
-use Rattle.module_meaning.specs.DeclarationForms.IsIoBinding.{OfArgument as IoArgument}
-use Rattle.module_meaning.specs.DeclarationForms.IsIoBinding.{OfResult as IoResult}
+use Rattle.module_semantics.specs.Names.{module_names, name_in, numbered_name}
+use Rattle.module_semantics.specs.AlikeTypes.{has_type_form}
+use Rattle.module_semantics.specs.DeclarationForms.{binding_has_form}
+use Rattle.module_semantics.specs.DeclarationForms.IsIoBinding.{OfArgument as IoArgument}
+use Rattle.module_semantics.specs.DeclarationForms.IsIoBinding.{OfResult as IoResult}
 use Rattle.naga_wgsl_fns.specs.Bindings.{passing_has_form}
-use Rattle.module_meaning.specs.ExpressionForms.{expression_has_own_form, known_passes}
+use Rattle.module_semantics.specs.ExpressionForms.{expression_has_own_form, known_passes}
 use Rattle.naga_form.proofs.declarations.AcceptedGroups.{fits_in_range, known_fits, known_is_fit}
 use Rattle.naga_form.proofs.types.PartTypes.{known_before}
 use Rattle.naga_info.specs.declared.info.ModuleInfo.{ModuleInfo}
 use Rattle.naga_words.specs.Spelling.{is_struct}
-use Rattle.module_meaning.specs.ExpressionOperators.{has_parts, is_composite, type_known}
-use Rattle.module_meaning.specs.ExpressionOperators.{called_word}
-use Rattle.module_meaning.specs.ExpressionShapes.{ModuleDeclarations, component_letters, own_selector}
-use Rattle.module_meaning.specs.ExpressionShapes.{part_selector, selector}
+use Rattle.module_semantics.specs.ExpressionOperators.{has_parts, is_composite, type_known}
+use Rattle.module_semantics.specs.ExpressionOperators.{called_word}
+use Rattle.module_semantics.specs.ExpressionShapes.{ModuleDeclarations, component_letters, own_selector}
+use Rattle.module_semantics.specs.ExpressionShapes.{part_selector, selector}
 use Rattle.naga_form.proofs.operators.AllowedParts.{LoadedMatrix, conversion, known_base}
 use Rattle.naga_form.proofs.operators.AllowedParts.{loaded_matrix, selector_is, whole_is}
 use Rattle.naga_form.proofs.operators.AllowedParts.{type_known_is as known_type_is}
 use Rattle.naga_ir.specs.declared.types.ScalarKind.{ScalarKind}
-use Rattle.module_meaning.specs.Conversions.{conversion_target}
+use Rattle.module_semantics.specs.Conversions.{conversion_target}
 use Rattle.naga_info.specs.Resolution.{InRange, handle_of, inner_of}
 use Rattle.naga_info.specs.declared.info.TypeResolution.{TypeResolution}
 use Rattle.naga_info.specs.declared.info.TypeResolution.TheVariants as resolution
@@ -62,20 +62,20 @@ use Rattle.naga_names.proofs.Refusal.{element}
 use Rattle.naga_names.specs.Keys.{names_in}
 use Rattle.naga_names.specs.Reset.{members_of}
 use Rattle.naga_names.specs.declared.key.NameKey.TheVariants as key
-use Rattle.module_meaning.specs.Undeclared.{is_spellable, member_is_written, names_undeclared}
-use Rattle.module_meaning.specs.Undeclared.{part_has_form_at, whole_known, whole_of}
+use Rattle.module_semantics.specs.Undeclared.{is_spellable, member_is_written, names_undeclared}
+use Rattle.module_semantics.specs.Undeclared.{part_has_form_at, whole_known, whole_of}
 use Rattle.shader_runs.specs.Value.{MemberNamed}
 use Rattle.naga_wgsl_fns.specs.Expressions.{accessed_base, is_of_components, struct_at, struct_known}
 use Rattle.naga_wgsl_fns.specs.Expressions.{has_components, is_vector, selector_of}
-use Rattle.module_meaning.specs.acceptance.Ranges.{is_below, local_in_range, names_in_range}
-use Rattle.module_meaning.specs.acceptance.Ranges.{resolution_fits}
-use Rattle.module_meaning.specs.Premises.{OperandsStandBefore}
-use Rattle.module_meaning.specs.Types.{type_names}
+use Rattle.module_semantics.specs.acceptance.Ranges.{is_below, local_in_range, names_in_range}
+use Rattle.module_semantics.specs.acceptance.Ranges.{resolution_fits}
+use Rattle.module_semantics.specs.Premises.{OperandsStandBefore}
+use Rattle.module_semantics.specs.Types.{type_names}
 use Rattle.shader_runs.specs.Premises.{AllBelow}
 use Rattle.shader_runs.specs.Scope.{named_after}
 use Rattle.naga_form.proofs.statements.AcceptedFunctions.{locals_are_in_range, names_are_in_range}
 use Rattle.naga_form.proofs.Fits.{named_is, named_one}
-use Rattle.module_meaning.specs.ExpressionLabels.{label_of}
+use Rattle.module_semantics.specs.ExpressionLabels.{label_of}
 use Rattle.naga_scope.specs.Availabilities.{name_of_bound, next_name}
 use Rattle.naga_wgsl_fns.specs.Names.{bound_text, next_name_text}
 use Rattle.naga_form.proofs.operators.Ordered.{operands_stand_before}
@@ -83,11 +83,11 @@ use Rattle.naga_form.proofs.types.WrittenTypes.{tree_there}
 use Rattle.naga_wgsl_fns.proofs.Members.{found_none, found_struct, member_selected, no_struct}
 use Rattle.naga_form.specs.TypeTrees.{resolution_tree}
 use Rattle.naga_form.specs.Types.{annotated_type}
-use Rattle.wgsl_text.specs.Reading.{type_layout}
+use Rattle.wgsl_text.specs.Reading.{printed_type}
 use Rattle.wgsl_text.specs.Types.{Named, TypeSpecifier}
 use Rattle.naga_wgsl_fns.specs.declared.functions.FunctionText.{FunctionText}
 use Rattle.naga_back.specs.Flags.{annotates_types}
-use Rattle.module_meaning.specs.Written.{IsWrittenIn, OfArgument, OfLet, OfLocal, OfResult}
+use Rattle.module_semantics.specs.Written.{IsWrittenIn, OfArgument, OfLet, OfLocal, OfResult}
 use Rattle.naga_form.proofs.statements.WrittenHandles.{all_front, all_rest, written_are_closed}
 use Rattle.std.specs.List.{AllByRecursion}
 use Rattle.naga_wgsl_fns.specs.Types.{annotation_text, resolution_text, let_annotation_text}
@@ -394,7 +394,7 @@ module _ (t : FunctionText) (can : CanWrite t) where
   unfolding annotation_text resolution_text let_annotation_text
   annotated_row h k at is declared formed =
       let has = tree_there (type_names m) k.ty formed in
-      ap (λ o. codes ": " ++ type_layout (unwrap_or o (Named []))) has.1
+      ap (λ o. codes ": " ++ printed_type (unwrap_or o (Named []))) has.1
       ∙ ap annotation_if
       (sym
       (ap (λ b. annotated_type b m (type_names m) es h) is

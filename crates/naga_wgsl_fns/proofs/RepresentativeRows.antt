@@ -6,8 +6,8 @@ use Rattle.std.proofs.Common.{◌≡◌, ◌≤◌, ◌<◌, ℕ, zero, suc, Boo
 use Rattle.std.proofs.Common.{None, refl, sym, ◌∙◌, arith, slice_get, subst}
 use Rattle.std.specs.Prelude.{if◌then◌else◌}
 use Rattle.std.specs.Option.{is_some, option_and_then, option_map_or}
-use Rattle.module_meaning.specs.ExpressionForms.{global_has_form, global_has_form_over}
-use Rattle.module_meaning.specs.ExpressionForms.{global_has_form_within}
+use Rattle.module_semantics.specs.ExpressionForms.{global_has_form, global_has_form_over}
+use Rattle.module_semantics.specs.ExpressionForms.{global_has_form_within}
 use Rattle.naga_ir.specs.declared.expression.Expression.{Expression}
 use Rattle.naga_ir.specs.declared.expression.Expression.TheVariants as expression
 use Rattle.naga_ir.specs.declared.module.Constant.{Constant}

@@ -3,9 +3,9 @@ use Rattle.std.proofs.Common.{◌≡◌, ◌++◌, ℕ, List, [], append-nil, in
 use Rattle.std.specs.Prelude.{Err, IfErr, IsFalse, IsTrue, Ok, OnErr, OnOk, Result, Some}
 use Rattle.naga_ir.specs.declared.binding.Binding.{Binding}
 use Rattle.naga_ir.specs.declared.binding.Binding.TheVariants.{BuiltIn, Location}
-use Rattle.text_meaning.specs.Attributes.{stage_binding_read}
-use Rattle.module_meaning.specs.DeclarationForms.{binding_has_form}
-use Rattle.module_meaning.specs.StageBindings.{binding_meant}
+use Rattle.text_semantics.specs.Attributes.{stage_binding_read}
+use Rattle.module_semantics.specs.DeclarationForms.{binding_has_form}
+use Rattle.module_semantics.specs.StageBindings.{binding_meant}
 use Rattle.naga_form.proofs.declarations.Attributes.{passing_read}
 use Rattle.naga_form.specs.Attributes.{binding_attributes}
 use Rattle.naga_words.specs.Sink.{IsAfter}

@@ -12,14 +12,14 @@ use Rattle.naga_info.specs.declared.info.ExpressionInfo.{ExpressionInfo}
 use Rattle.naga_info.specs.declared.info.ModuleInfo.{ModuleInfo}
 use Rattle.naga_names.specs.Naming.{HasNamed, Names, name_after}
 use Rattle.naga_names.proofs.Refusal.{element}
-use Rattle.module_meaning.proofs.FunctionNumbers.{entry_point_among, function_among, number_within}
-use Rattle.module_meaning.specs.acceptance.Accepted.{is_accepted}
-use Rattle.module_meaning.specs.ExpressionLabels.{expression_labels, name_of_label}
-use Rattle.module_meaning.specs.Names.{LabelNames, item_labels, labels_named_in, module_names}
-use Rattle.module_meaning.specs.Names.{wgsl_names}
-use Rattle.module_meaning.specs.DeclarationForms.{HeadHasForm}
-use Rattle.module_meaning.specs.FunctionNumbers.{IsFunctionOf, all_functions, all_infos}
-use Rattle.module_meaning.specs.FunctionNumbers.{function_number}
+use Rattle.module_semantics.proofs.FunctionNumbers.{entry_point_among, function_among, number_within}
+use Rattle.module_semantics.specs.acceptance.Accepted.{is_accepted}
+use Rattle.module_semantics.specs.ExpressionLabels.{expression_labels, name_of_label}
+use Rattle.module_semantics.specs.Names.{LabelNames, item_labels, labels_named_in, module_names}
+use Rattle.module_semantics.specs.Names.{wgsl_names}
+use Rattle.module_semantics.specs.DeclarationForms.{HeadHasForm}
+use Rattle.module_semantics.specs.FunctionNumbers.{IsFunctionOf, all_functions, all_infos}
+use Rattle.module_semantics.specs.FunctionNumbers.{function_number}
 use Rattle.naga_form.proofs.statements.AcceptedFunctions.{all_counted}
 use Rattle.naga_form.proofs.declarations.DeclaredPrograms.{stage_written}
 use Rattle.naga_form.proofs.statements.WrittenFunctions.{entry_point_at}
@@ -37,7 +37,7 @@ use Rattle.naga_words.specs.Sink.{IsAfter}
 use Rattle.wgsl_text.specs.Attributes.{attributes_pieces}
 use Rattle.wgsl_text.specs.Functions.{EntryPoint, Function, IsFunction, function_pieces}
 use Rattle.wgsl_text.specs.Reading.{HasOneReading, ReadsEntryPoint, ReadsFunction}
-use Rattle.wgsl_text.specs.Reading.{entry_point_layout, function_layout}
+use Rattle.wgsl_text.specs.Reading.{printed_entry_point, printed_function}
 use Rattle.wgsl_text.specs.Text.{text, tokens}
 use Rattle.wgsl_text.specs.Token.{LineEnd}
 use Rattle.wgsl_text.specs.Words.{IsIdentifier}
@@ -95,14 +95,14 @@ items_named m handle old new items same r named =
 
 -- an entry point's text is its function's after that of its stage
 point_layout : (m : Module) (p : ir_entry_point.EntryPoint) (form : Function) →
-    entry_point_layout
+    printed_entry_point
     (record { stage = stage_attributes (module_names m) p p.stage; function = form }) ≡
-    stage_text m p ++ function_layout form
+    stage_text m p ++ printed_function form
 unfolding stage_text attributes_text
 point_layout m p form =
     let attributes = attributes_pieces (stage_attributes (module_names m) p p.stage) in
     text-append attributes (LineEnd ∷ function_pieces form)
-    ∙ sym (append_assoc (text attributes) (codes "\n") (function_layout form))
+    ∙ sym (append_assoc (text attributes) (codes "\n") (printed_function form))
 
 -- what stands after the same text is the same
 pub same_following : (content a b : List ℕ) → content ++ a ≡ content ++ b → a ≡ b
@@ -119,7 +119,7 @@ module _ (m : Module) (info : ModuleInfo) (flags : WriterFlags) (earlier : List 
 
   text_at : (number : ℕ) (f : ir_function.Function) → slice_get (all_functions m) number ≡ Some f →
       text_after m info flags earlier number ≡
-      stage_before m number ++ function_layout (form_at number f)
+      stage_before m number ++ printed_function (form_at number f)
   text_at number f stands =
       ap
       (λ o. option_map_or
@@ -128,10 +128,10 @@ module _ (m : Module) (info : ModuleInfo) (flags : WriterFlags) (earlier : List 
 
   function_text_is : (h : ℕ) (f : ir_function.Function) → h < length m.functions →
       slice_get (all_functions m) h ≡ Some f →
-      text_after m info flags earlier h ≡ function_layout (form_at h f)
+      text_after m info flags earlier h ≡ printed_function (form_at h f)
   function_text_is h f lt stands =
       text_at h f stands
-      ∙ ap (λ o. option_map_or (stage_text m) o [] ++ function_layout (form_at h f)) (no_entry_point m h lt)
+      ∙ ap (λ o. option_map_or (stage_text m) o [] ++ printed_function (form_at h f)) (no_entry_point m h lt)
 
   abbrev point_at : (index : ℕ) → ir_entry_point.EntryPoint → EntryPoint
   point_at index p = record {
@@ -141,11 +141,11 @@ module _ (m : Module) (info : ModuleInfo) (flags : WriterFlags) (earlier : List 
 
   point_text_is : (j : ℕ) (p : ir_entry_point.EntryPoint) →
       slice_get m.entry_points.items j ≡ Some p →
-      text_after m info flags earlier (length m.functions + j) ≡ entry_point_layout (point_at j p)
+      text_after m info flags earlier (length m.functions + j) ≡ printed_entry_point (point_at j p)
   point_text_is j p at =
       let form = form_at (length m.functions + j) p.function in
       text_at (length m.functions + j) p.function (entry_point_among m j p at)
-      ∙ (ap (λ o. option_map_or (stage_text m) o [] ++ function_layout form)
+      ∙ (ap (λ o. option_map_or (stage_text m) o [] ++ printed_function form)
       (entry_point_at m j ∙ at)
       ∙ sym (point_layout m p form))
 

@@ -33,10 +33,10 @@ use Rattle.naga_words.specs.Values.{template_segments, value_pointer_segments, v
 use Rattle.naga_words.specs.Words.{cooperative_word, image_word, matrix_word, matrix_role_tail}
 use Rattle.naga_words.specs.Words.{vector_word}
 use Rattle.wgsl_text.proofs.Text.{text-append}
-use Rattle.wgsl_text.specs.Reading.{type_layout}
+use Rattle.wgsl_text.specs.Reading.{printed_type}
 use Rattle.wgsl_words.specs.Words.{scalar_word, space_access_word, space_word}
-use Rattle.module_meaning.specs.AlikeTypes.{has_type_form, type_key}
-use Rattle.module_meaning.specs.Undeclared.{is_spellable, names_undeclared}
+use Rattle.module_semantics.specs.AlikeTypes.{has_type_form, type_key}
+use Rattle.module_semantics.specs.Undeclared.{is_spellable, names_undeclared}
 use Rattle.naga_form.proofs.types.AlikeTypes.{form_is_read, form_read}
 use Rattle.naga_form.proofs.types.TypeTrees.{type_row}
 
@@ -170,10 +170,10 @@ written_has_type_form m names h content now written =
     by (type_key m.types (Handle h))
     (sym (text_known written.is_text (type_shows (names_of m.types names) (λ o. true) h))
     ∙ (type_row text-append (names_of m.types names) (λ o. true) h
-    ∙ ap (option_map type_layout) (form_is_read (names_of m.types names) (Handle h))))
+    ∙ ap (option_map printed_type) (form_is_read (names_of m.types names) (Handle h))))
   where
     by : (o : Option (List ℕ)) →
-        Some written.text ≡ option_map type_layout (option_map (form_read (names_of m.types names)) o) →
+        Some written.text ≡ option_map printed_type (option_map (form_read (names_of m.types names)) o) →
         is_some o ≡ true
     by None e = absurd cc
     by (Some key) e = refl

@@ -13,15 +13,15 @@ use Rattle.naga_ir.specs.declared.module.EntryPoint.{EntryPoint}
 use Rattle.naga_ir.specs.declared.module.MeshStageInfo.{MeshStageInfo}
 use Rattle.naga_ir.specs.declared.module.Module.{Module}
 use Rattle.naga_ir.specs.declared.module.ShaderStage.TheVariants as stage
-use Rattle.module_meaning.proofs.Lists.{list_all_at}
-use Rattle.module_meaning.specs.acceptance.Accepted.{is_accepted}
-use Rattle.module_meaning.specs.Names.{global_name, module_names}
-use Rattle.module_meaning.specs.acceptance.AgreeingOperators.{module_operators_agree}
-use Rattle.module_meaning.specs.acceptance.InfoSizes.{sizes_fit, type_is_fit}
-use Rattle.module_meaning.specs.acceptance.Ranges.{all_by_handle, declarations_in_range}
-use Rattle.module_meaning.specs.acceptance.Ranges.{entry_point_in_range, function_in_range}
-use Rattle.module_meaning.specs.acceptance.Ranges.{is_below, module_in_range, module_ranges_fit}
-use Rattle.module_meaning.specs.acceptance.Soundness.{module_is_sound}
+use Rattle.module_semantics.proofs.Lists.{list_all_at}
+use Rattle.module_semantics.specs.acceptance.Accepted.{is_accepted}
+use Rattle.module_semantics.specs.Names.{global_name, module_names}
+use Rattle.module_semantics.specs.acceptance.AgreeingOperators.{module_operators_agree}
+use Rattle.module_semantics.specs.acceptance.InfoSizes.{sizes_fit, type_is_fit}
+use Rattle.module_semantics.specs.acceptance.Ranges.{all_by_handle, declarations_in_range}
+use Rattle.module_semantics.specs.acceptance.Ranges.{entry_point_in_range, function_in_range}
+use Rattle.module_semantics.specs.acceptance.Ranges.{is_below, module_in_range, module_ranges_fit}
+use Rattle.module_semantics.specs.acceptance.Soundness.{module_is_sound}
 use Rattle.naga_form.specs.Attributes.{attribute_of, payload_attributes, size_attributes}
 use Rattle.naga_form.specs.Attributes.{stage_attributes}
 use Rattle.naga_words.specs.Output.{joined_texts}

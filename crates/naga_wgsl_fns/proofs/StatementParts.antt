@@ -13,13 +13,13 @@ use Rattle.naga_ir.proofs.Listed.{first_of}
 use Rattle.shader_runs.proofs.Update.{and_both}
 use Rattle.std.specs.Option.{option_to_list}
 use Rattle.std.proofs.lemmas.Bool.{and_parts}
-use Rattle.module_meaning.specs.acceptance.Numbers.{case_value_fits_32_bits}
-use Rattle.module_meaning.specs.acceptance.Ranges.{block_in_range, cases_in_range, is_below}
-use Rattle.module_meaning.specs.acceptance.Ranges.{statement_in_range}
-use Rattle.module_meaning.specs.StatementForms.{block_has_forms, cases_have_forms}
-use Rattle.module_meaning.specs.StatementForms.{statement_has_form}
-use Rattle.module_meaning.specs.Written.{block_lets, block_handles, cases_lets, cases_handles}
-use Rattle.module_meaning.specs.Written.{statement_lets, statement_handles}
+use Rattle.module_semantics.specs.acceptance.Numbers.{case_value_fits_32_bits}
+use Rattle.module_semantics.specs.acceptance.Ranges.{block_in_range, cases_in_range, is_below}
+use Rattle.module_semantics.specs.acceptance.Ranges.{statement_in_range}
+use Rattle.module_semantics.specs.StatementForms.{block_has_forms, cases_have_forms}
+use Rattle.module_semantics.specs.StatementForms.{statement_has_form}
+use Rattle.module_semantics.specs.Written.{block_lets, block_handles, cases_lets, cases_handles}
+use Rattle.module_semantics.specs.Written.{statement_lets, statement_handles}
 use Rattle.naga_form.proofs.statements.WrittenHandles.{all_front, all_rest}
 use Rattle.naga_ir.specs.declared.statement.SwitchValue.{SwitchValue}
 use Rattle.naga_wgsl_fns.specs.FunctionText.{AreInText, CanWriteBlock, CanWriteCases}

@@ -1,16 +1,16 @@
 -- The texts of statements, from what is written of them in turn.
-use Rattle.module_meaning.specs.Written.{statement_handles}
+use Rattle.module_semantics.specs.Written.{statement_handles}
 use Rattle.naga_scope.specs.Changes.{statement_changes}
 use Rattle.naga_ir.specs.StatementTree.{call, SimpleStatement, BlockTree, StatementTree, emit}
 use Rattle.naga_ir.specs.StatementTree.{return, simple, statement, store, block, branch, switch}
 use Rattle.naga_ir.specs.StatementTree.{loop, no_statements}
 use Rattle.naga_ir.specs.declared.flags.Barrier.{Barrier}
-use Rattle.module_meaning.specs.StatementShapes.{simple_shape, store_shape}
+use Rattle.module_semantics.specs.StatementShapes.{simple_shape, store_shape}
 use Rattle.wgsl_text.specs.Expressions.{NoArguments, Expression, expression_pieces, operands}
 use Rattle.shader_runs.specs.Scope.{after, after_result, named_by, Handles, after_emit, after_one}
 use Rattle.shader_runs.specs.Scope.{bound_name, named_after, named_after_all}
 use Rattle.naga_ir.specs.Operands.{own_operands, own_result}
-use Rattle.module_meaning.specs.ExpressionOperators.{ExpressionContext, is_atomic_pointer}
+use Rattle.module_semantics.specs.ExpressionOperators.{ExpressionContext, is_atomic_pointer}
 use Rattle.std.proofs.Common.{◌≡◌, ℕ, ◌+◌, ◌-◌, ◌<◌, ◌≤◌, ◌*◌, zero, suc, Bool, true, false, List}
 use Rattle.std.proofs.Common.{[], ◌∷◌, ◌++◌, Option, None, Some, length, refl, sym, ap, ◌∙◌, arith}
 use Rattle.std.proofs.Common.{codes, replicate, drop, slice_index_or, append_assoc, IsTrue}
@@ -22,12 +22,12 @@ use Rattle.naga_ir.specs.StatementViews.{tree_of, block_of}
 use Rattle.naga_ir.specs.declared.statement.Statement.{Statement}
 use Rattle.naga_back.specs.Indentation.{indentation}
 use Rattle.naga_ir.proofs.Listed.{first_of}
-use Rattle.module_meaning.specs.acceptance.Ranges.{named_in_range, statement_in_range}
+use Rattle.module_semantics.specs.acceptance.Ranges.{named_in_range, statement_in_range}
 use Rattle.shader_runs.specs.Program as shapes
 use Rattle.shader_runs.specs.Program.{binds, from}
 use Rattle.shader_runs.specs.Form.{word_of}
 use Rattle.shader_runs.specs.ProgramRun.{barrier_words}
-use Rattle.module_meaning.specs.FunctionShapes.{statement_shape}
+use Rattle.module_semantics.specs.FunctionShapes.{statement_shape}
 use Rattle.wgsl_text.specs.Types.{TypeSpecifier, Named as NamedType}
 use Rattle.naga_form.specs.Expressions.{as_value, as_reference, plain_form, value_form, value_forms}
 use Rattle.naga_form.specs.Expressions.{unnamed_form}
@@ -41,7 +41,7 @@ use Rattle.wgsl_text.specs.Statements as tree
 use Rattle.naga_scope.specs.declared.points.Availability.{Availability}
 use Rattle.naga_scope.proofs.Emitting.{range_more, range_none}
 use Rattle.naga_words.specs.Output.{joined_texts}
-use Rattle.wgsl_text.specs.Reading.{type_layout}
+use Rattle.wgsl_text.specs.Reading.{printed_type}
 use Rattle.wgsl_text.specs.Text.{text}
 use Rattle.naga_wgsl_fns.specs.declared.functions.FunctionText.{FunctionText}
 use Rattle.naga_wgsl_fns.specs.FunctionText.{context, handles_in, let_annotation, naming, source}
@@ -123,7 +123,7 @@ let_row f k table i handle = by (let_annotation f handle)
     by (Some t) =
         typed_let_text name t own i
         ∙ sym (line_starts i (codes "let ")
-        (name ++ ((codes ": " ++ type_layout t) ++ (codes " = " ++ (text (expression_pieces own) ++ codes ";\n")))))
+        (name ++ ((codes ": " ++ printed_type t) ++ (codes " = " ++ (text (expression_pieces own) ++ codes ";\n")))))
 
 -- ---- statements of one line
 -- a jump that returns no value is written by its words alone

@@ -1,7 +1,7 @@
 -- The handles that a function's statements and locals write by themselves are in its text.
 use Rattle.naga_form.proofs.statements.WrittenHandles.{all_among, written_are_closed}
-use Rattle.module_meaning.specs.Written.{block_lets, simple_lets, IsWrittenIn, block_handles}
-use Rattle.module_meaning.specs.Written.{cases_handles, simple_handles, statement_handles}
+use Rattle.module_semantics.specs.Written.{block_lets, simple_lets, IsWrittenIn, block_handles}
+use Rattle.module_semantics.specs.Written.{cases_handles, simple_handles, statement_handles}
 use Rattle.naga_wgsl_fns.specs.FunctionText.{CanWriteBlock, CanWriteStatement, AreLets, IsLet}
 use Rattle.naga_wgsl_fns.specs.FunctionText.{AreInText, CanWrite, bound, callees}
 use Rattle.std.proofs.Common.{subst, ap, sym, ◌∙◌, ◌≡◌, ℕ, suc, zero, ◌<◌, ◌≤◌, ◌+◌, ◌-◌, Bool}
@@ -10,9 +10,9 @@ use Rattle.std.proofs.Common.{arith, refl}
 use Rattle.naga_ir.specs.Operands.{own_result, simple_result, simple_operands}
 use Rattle.std.specs.Prelude.{◌&&◌, nat_lt, if◌then◌else◌, slice_get}
 use Rattle.std.proofs.lemmas.Bool.{and_parts, ltb-true}
-use Rattle.module_meaning.specs.acceptance.Numbers.{case_value_fits_32_bits}
-use Rattle.module_meaning.specs.acceptance.Ranges.{all_below, block_in_range, cases_in_range}
-use Rattle.module_meaning.specs.acceptance.Ranges.{is_below, statement_in_range}
+use Rattle.module_semantics.specs.acceptance.Numbers.{case_value_fits_32_bits}
+use Rattle.module_semantics.specs.acceptance.Ranges.{all_below, block_in_range, cases_in_range}
+use Rattle.module_semantics.specs.acceptance.Ranges.{is_below, statement_in_range}
 use Rattle.naga_ir.specs.StatementTree.{SimpleStatement, emit, StatementTree, simple, block, branch}
 use Rattle.naga_ir.specs.StatementTree.{switch, loop, BlockTree, no_statements, statement}
 use Rattle.naga_ir.specs.StatementTree.{CaseTrees, no_cases, case}
@@ -24,7 +24,7 @@ use Rattle.naga_ir.specs.declared.module.LocalVariable.{LocalVariable}
 use Rattle.shader_runs.specs.Program.{from}
 use Rattle.naga_wgsl_fns.proofs.Preconditions.{first_within}
 use Rattle.naga_wgsl_fns.specs.declared.functions.FunctionText.{FunctionText}
-use Rattle.module_meaning.proofs.StatementRanges.{operands_below, result_below}
+use Rattle.module_semantics.proofs.StatementRanges.{operands_below, result_below}
 
 -- ---- the handles of an `Emit`
 pub first_of : (P : ℕ → Type 0) (b : Bool) (h : ℕ) (hs : List ℕ) → AllByRecursion P (if b then h ∷ hs else hs) →

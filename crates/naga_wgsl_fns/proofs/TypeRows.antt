@@ -22,8 +22,8 @@ use Rattle.naga_words.specs.Spelling.{resolution_segments, knows_size, length_wi
 use Rattle.naga_words.specs.Sink.{IsAfter}
 use Rattle.naga_form.specs.TypeTrees.{resolution_tree}
 use Rattle.naga_words.specs.declared.error.TypeTextError.{TypeTextError}
-use Rattle.wgsl_text.specs.Reading.{type_layout}
-use Rattle.module_meaning.specs.Names.{HasNamesOf, module_names}
+use Rattle.wgsl_text.specs.Reading.{printed_type}
+use Rattle.module_semantics.specs.Names.{HasNamesOf, module_names}
 use Rattle.naga_words.specs.Output.{AppendsUnlessWanting, AppendsText, HasAppended}
 use Rattle.naga_words.specs.Output.{AppendsSegmentsUnlessWanting, AppendsSegments}
 use Rattle.naga_words.specs.Output.{HasAppendedSegments, OutputView, SpelledSegments, Wrote}
@@ -32,9 +32,9 @@ use Rattle.naga_wgsl_fns.specs.declared.functions.FunctionText.{FunctionText}
 use Rattle.naga_wgsl_fns.specs.FunctionText.{CanWrite}
 use Rattle.naga_wgsl_fns.specs.ModuleText.{CanWriteOf}
 use Rattle.naga_wgsl_fns.proofs.ModuleTexts.{can_of}
-use Rattle.module_meaning.specs.AlikeTypes.{key_within, found_key_by, handle_key, has_type_form}
-use Rattle.module_meaning.specs.acceptance.Ranges.{resolution_fits}
-use Rattle.module_meaning.specs.Types.{type_names}
+use Rattle.module_semantics.specs.AlikeTypes.{key_within, found_key_by, handle_key, has_type_form}
+use Rattle.module_semantics.specs.acceptance.Ranges.{resolution_fits}
+use Rattle.module_semantics.specs.Types.{type_names}
 use Rattle.naga_form.proofs.types.PartTypes.{known_before, known_within, named_alike, type_before}
 use Rattle.naga_form.proofs.types.WrittenTypes.{resolution_same, tree_there}
 use Rattle.naga_ir.specs.declared.module.Module.{Module}
@@ -92,7 +92,7 @@ unfolding annotation_text joined_texts
 annotation_row f ty = refl
 
 row_of : (types : List Type_) (names : NameMap) (r : TypeResolution) →
-    known_text (resolution_segments (names_context types names) r) ≡ option_map type_layout
+    known_text (resolution_segments (names_context types names) r) ≡ option_map printed_type
     (resolution_tree (names_of types names) r)
 row_of types names (resolution.Handle h) = type_row text-append (names_of types names) (λ handle. true) h
 row_of types names (resolution.Value i) = inner_tree_row text-append (names_of types names) (λ handle. true) i
@@ -142,13 +142,13 @@ module _ (m : Module) (can : CanWriteOf m) (names : NameMap) where
     formed_known : (r : TypeResolution) → IsTrue (has_type_form m.types r) →
         ((it : TypeInner) → r ≡ resolution.Value it → length_within (length m.overrides) it ≡ true) →
         known_text (resolution_segments (names_context m.types names) r) ≡
-        Some (type_layout (unwrap_or (resolution_tree (type_names m) r) (Named [])))
+        Some (printed_type (unwrap_or (resolution_tree (type_names m) r) (Named [])))
     formed_known r formed within =
         let t = tree_there (type_names m) r formed in
         let same = resolution_same m.types (length m.overrides) names (module_names m)
         (named_alike m can.info can.accepted names named) r within in
-        row_of m.types names r ∙ ap (option_map type_layout) (same ∙ t.1)
-        ∙ ap (λ o. Some (type_layout (unwrap_or o (Named [])))) (sym t.1)
+        row_of m.types names r ∙ ap (option_map printed_type) (same ∙ t.1)
+        ∙ ap (λ o. Some (printed_type (unwrap_or o (Named [])))) (sym t.1)
 
     pub type_known : (ty : ℕ) → IsTrue (has_type_form m.types (resolution.Handle ty)) →
         known_text (type_segments (names_context m.types names) ty) ≡ Some (spelled_text m ty)
@@ -158,7 +158,7 @@ module _ (m : Module) (can : CanWriteOf m) (names : NameMap) where
     pub resolution_spelled : (r : TypeResolution) → IsTrue (has_type_form m.types r) →
         IsTrue (resolution_fits (length m.overrides) (length m.types) r) →
         known_text (resolution_segments (names_context m.types names) r) ≡
-        Some (type_layout (unwrap_or (resolution_tree (type_names m) r) (Named [])))
+        Some (printed_type (unwrap_or (resolution_tree (type_names m) r) (Named [])))
     resolution_spelled r formed fits =
         formed_known r formed (λ it is. known_within m can.info can.accepted r fits it is)
 

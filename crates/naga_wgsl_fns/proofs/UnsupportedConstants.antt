@@ -6,11 +6,11 @@ use Rattle.std.specs.Prelude.{IsSomeAnd, if◌then◌else◌, not}
 use Rattle.std.specs.List.{IsAmong, find, list_all}
 use Rattle.std.specs.Option.{is_none, is_some, option_and_then, option_map_or}
 use Rattle.std.proofs.lemmas.Bool.{not-false, not-true, or_parts}
-use Rattle.module_meaning.proofs.Stepwise.{by_those_before}
-use Rattle.module_meaning.specs.Undeclared.{is_spellable}
-use Rattle.module_meaning.specs.ExpressionForms.{constant_has_form, global_has_form}
-use Rattle.module_meaning.specs.ExpressionForms.{global_has_form_over, global_has_form_within}
-use Rattle.module_meaning.specs.ExpressionForms.{literal_has_form}
+use Rattle.module_semantics.proofs.Stepwise.{by_those_before}
+use Rattle.module_semantics.specs.Undeclared.{is_spellable}
+use Rattle.module_semantics.specs.ExpressionForms.{constant_has_form, global_has_form}
+use Rattle.module_semantics.specs.ExpressionForms.{global_has_form_over, global_has_form_within}
+use Rattle.module_semantics.specs.ExpressionForms.{literal_has_form}
 use Rattle.naga_info.specs.declared.info.TypeResolution.TheVariants.{Handle}
 use Rattle.naga_ir.specs.Operands.{expression_operands}
 use Rattle.naga_ir.specs.declared.expression.Expression.{Expression}

@@ -5,9 +5,9 @@ use Rattle.std.specs.Prelude.{◌≡◌, ◌⊎◌, ℕ, Bool, true, List, ◌++
 use Rattle.std.specs.Prelude.{OnErr, OnOk, Option, Result}
 use Rattle.std.specs.Option.{option_map_or}
 use Rattle.naga_ir.specs.declared.binding.Binding.{Binding}
-use Rattle.text_meaning.specs.Attributes.{stage_binding_read}
-use Rattle.module_meaning.specs.DeclarationForms.{binding_has_form}
-use Rattle.module_meaning.specs.StageBindings.{binding_meant}
+use Rattle.text_semantics.specs.Attributes.{stage_binding_read}
+use Rattle.module_semantics.specs.DeclarationForms.{binding_has_form}
+use Rattle.module_semantics.specs.StageBindings.{binding_meant}
 use Rattle.naga_form.specs.Attributes.{binding_attributes}
 use Rattle.naga_words.specs.Sink.{IsAfter}
 use Rattle.naga_wgsl_fns.specs.Attributes.{binding_text}

@@ -21,8 +21,8 @@ use Rattle.naga_ir.specs.declared.module.Module.{Module}
 use Rattle.naga_ir.specs.declared.types.Scalar.{Scalar}
 use Rattle.naga_ir.specs.declared.types.TypeInner.{TypeInner}
 use Rattle.naga_ir.specs.declared.types.TypeInner.TheVariants as inner
-use Rattle.module_meaning.specs.ExpressionForms.{global_has_form}
-use Rattle.module_meaning.specs.LackingScalars.{lacking_scalar}
+use Rattle.module_semantics.specs.ExpressionForms.{global_has_form}
+use Rattle.module_semantics.specs.LackingScalars.{lacking_scalar}
 use Rattle.naga_scope.specs.declared.declarations.UnsupportedDeclaration.{UnsupportedDeclaration}
 use Rattle.naga_scope.specs.declared.declarations.UnsupportedDeclaration.TheVariants as declaration
 use Rattle.naga_scope.specs.declared.declarations.UnsupportedHead.{UnsupportedHead}

@@ -9,23 +9,23 @@ use Rattle.naga_form.specs.ConstantForms.{global_form, written_constant_form}
 use Rattle.naga_ir.specs.Operands.{expression_operands}
 use Rattle.naga_form.specs.Types.{type_form}
 use Rattle.naga_ir.specs.declared.module.Module.{Module}
-use Rattle.module_meaning.specs.Types.{type_names}
+use Rattle.module_semantics.specs.Types.{type_names}
 use Rattle.wgsl_text.specs.Expressions.{Call, Expression, arguments_pieces, more_arguments_pieces}
 use Rattle.wgsl_text.specs.Expressions.{operands as arguments_of}
-use Rattle.wgsl_text.specs.Reading.{expression_layout}
+use Rattle.wgsl_text.specs.Reading.{printed_expression}
 use Rattle.wgsl_text.specs.Text.{text}
 use Rattle.wgsl_text.specs.Types.{Named}
 
 -- a constant
 unfoldable pub constant_text : Module → (constant : ℕ) → List ℕ
-constant_text m c = expression_layout (written_constant_form m (type_names m) c)
+constant_text m c = printed_expression (written_constant_form m (type_names m) c)
 
 -- the form of one of the module's own expressions, and its text
 abbrev pub global_at : Module → (handle : ℕ) → Expression
 global_at m h = global_form m (type_names m) h
 
 unfoldable pub global_text : Module → (handle : ℕ) → List ℕ
-global_text m h = expression_layout (global_at m h)
+global_text m h = printed_expression (global_at m h)
 
 -- its parts
 abbrev pub parts_at : Module → (handle : ℕ) → List ℕ
@@ -46,10 +46,10 @@ next_part_text m first h = (if first then [] else codes ", ") ++ global_text m h
 -- a value of a type, made of the parts of an expression
 unfoldable pub made_global_text : Module → (ty handle : ℕ) → List ℕ
 made_global_text m ty h =
-    expression_layout
+    printed_expression
     (Call (type_form (type_names m) ty) (arguments_of (map (global_at m) (parts_at m h))))
 
 -- a word that is called with these
 unfoldable pub called_global_text : Module → (word : List ℕ) → (handle : ℕ) → List ℕ
 called_global_text m word h =
-    expression_layout (Call (Named word) (arguments_of (map (global_at m) (parts_at m h))))
+    printed_expression (Call (Named word) (arguments_of (map (global_at m) (parts_at m h))))

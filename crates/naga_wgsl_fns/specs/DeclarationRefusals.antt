@@ -4,13 +4,13 @@
 -- entry point, b a binding, ty is the handle of a type, h that of an expression or of a struct, and
 -- fault is why members of a struct can't stay where they are.
 use Rattle.std.specs.Prelude.{◌≡◌, ℕ, Some, IsFalse, codes, slice_get}
-use Rattle.module_meaning.specs.DeclarationForms.{IsDeclaredType, IsInitialiser, IsMemberBinding}
-use Rattle.module_meaning.specs.DeclarationForms.{IsIoBinding, binding_has_form, entry_point_numbered}
-use Rattle.module_meaning.specs.DeclarationForms.{stage_has_form}
-use Rattle.module_meaning.specs.FunctionNumbers.{all_functions}
-use Rattle.module_meaning.specs.Layouts.{HasOtherStride, IsMisplaced}
-use Rattle.module_meaning.specs.Undeclared.{is_spellable}
-use Rattle.module_meaning.specs.ExpressionForms.{global_has_form}
+use Rattle.module_semantics.specs.DeclarationForms.{IsDeclaredType, IsInitialiser, IsMemberBinding}
+use Rattle.module_semantics.specs.DeclarationForms.{IsIoBinding, binding_has_form, entry_point_numbered}
+use Rattle.module_semantics.specs.DeclarationForms.{stage_has_form}
+use Rattle.module_semantics.specs.FunctionNumbers.{all_functions}
+use Rattle.module_semantics.specs.Layouts.{HasOtherStride, IsMisplaced}
+use Rattle.module_semantics.specs.Undeclared.{is_spellable}
+use Rattle.module_semantics.specs.ExpressionForms.{global_has_form}
 use Rattle.naga_info.specs.declared.info.TypeResolution.TheVariants.{Handle}
 use Rattle.naga_ir.specs.declared.binding.Binding.{Binding}
 use Rattle.naga_ir.specs.declared.module.EntryPoint.{EntryPoint}

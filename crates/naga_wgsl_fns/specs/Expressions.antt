@@ -4,13 +4,13 @@ use Rattle.std.specs.Prelude.{if◌then◌else◌, nat_lt, decimal, Option, Some
 use Rattle.naga_ir.specs.declared.expression.Expression as ir
 use Rattle.naga_ir.specs.declared.expression.Expression.TheVariants as expression
 use Rattle.naga_form.specs.Expressions.{ValueForm, ReferenceForm, is_handle_variable, is_pointer}
-use Rattle.module_meaning.specs.ExpressionOperators.{is_atomic_pointer, type_known}
-use Rattle.module_meaning.specs.ExpressionOperators.{type_with}
-use Rattle.module_meaning.specs.OperatorTable.{AtomicLoad, run_word}
+use Rattle.module_semantics.specs.ExpressionOperators.{is_atomic_pointer, type_known}
+use Rattle.module_semantics.specs.ExpressionOperators.{type_with}
+use Rattle.module_semantics.specs.OperatorTable.{AtomicLoad, run_word}
 use Rattle.naga_ir.specs.declared.expression.CooperativeData.{CooperativeData}
 use Rattle.naga_ir.specs.declared.types.CooperativeRole.{CooperativeRole}
 use Rattle.naga_ir.specs.declared.types.CooperativeSize.{CooperativeSize}
-use Rattle.module_meaning.specs.ExpressionShapes.{part_selector}
+use Rattle.module_semantics.specs.ExpressionShapes.{part_selector}
 use Rattle.naga_ir.specs.declared.operators.BinaryOperator.{BinaryOperator}
 use Rattle.naga_ir.specs.declared.types.Type_.{Type_}
 use Rattle.naga_ir.specs.declared.types.TypeInner.{TypeInner}
@@ -20,21 +20,21 @@ use Rattle.shader_runs.specs.Value.{Selector, MemberNamed, ElementAt}
 use Rattle.std.specs.Option.{option_and_then, option_map_or}
 use Rattle.naga_names.specs.declared.key.NameKey.TheVariants as key
 use Rattle.naga_words.specs.Spelling.{is_struct}
-use Rattle.module_meaning.specs.Names.{global_name, module_names, name_in}
-use Rattle.module_meaning.specs.Undeclared.{whole_known}
+use Rattle.module_semantics.specs.Names.{global_name, module_names, name_in}
+use Rattle.module_semantics.specs.Undeclared.{whole_known}
 use Rattle.naga_ir.specs.Operands.{expression_operands}
 use Rattle.wgsl_text.specs.Expressions.{Expression, Name, AddressOf, Call, Dereference, Member}
 use Rattle.wgsl_text.specs.Expressions.{Unary, arguments_pieces, base_pieces, expression_pieces}
-use Rattle.module_meaning.specs.ExpressionShapes.{letter}
-use Rattle.module_meaning.specs.TypeIdentity.{component_count}
-use Rattle.module_meaning.specs.TypeParts.{is_atomic}
+use Rattle.module_semantics.specs.ExpressionShapes.{letter}
+use Rattle.module_semantics.specs.TypeIdentity.{component_count}
+use Rattle.module_semantics.specs.TypeParts.{is_atomic}
 use Rattle.naga_ir.specs.declared.expression.SwizzleComponent.{SwizzleComponent}
 use Rattle.naga_ir.specs.declared.types.VectorSize.{VectorSize}
 use Rattle.wgsl_text.specs.Expressions.{more_arguments_pieces, operands as arguments_of}
 use Rattle.wgsl_words.specs.Words.{operator_text}
 use Rattle.wgsl_text.specs.Text.{text}
 use Rattle.wgsl_text.specs.Types.{Named, TypeSpecifier}
-use Rattle.wgsl_text.specs.Reading.{type_layout}
+use Rattle.wgsl_text.specs.Reading.{printed_type}
 use Rattle.naga_form.specs.Expressions.{operator_type}
 use Rattle.naga_info.specs.declared.info.TypeResolution.{TypeResolution}
 use Rattle.naga_ir.specs.declared.types.ScalarKind.{ScalarKind}
@@ -43,7 +43,7 @@ use Rattle.naga_form.specs.Expressions.{PlainForm, as_value, as_reference, value
 use Rattle.naga_form.specs.Expressions.{plain_form, unnamed_form}
 use Rattle.naga_form.specs.Operators.{Notation, Called, applied_form}
 use Rattle.naga_scope.specs.declared.points.Availability.{Availability}
-use Rattle.wgsl_text.specs.Reading.{expression_layout}
+use Rattle.wgsl_text.specs.Reading.{printed_expression}
 use Rattle.naga_wgsl_fns.specs.declared.functions.FunctionText.{FunctionText}
 use Rattle.naga_form.specs.Types.{type_form}
 use Rattle.naga_wgsl_fns.specs.FunctionText.{expressions, handles_in, naming, source}
@@ -60,28 +60,28 @@ own_form f table handle = unnamed_form (naming f) (source f) (handles_in f table
 
 -- as a value: its name where it has one, else what it is made of
 unfoldable pub value_text : FunctionText → (table : List Availability) → (handle : ℕ) → List ℕ
-value_text f table handle = expression_layout (as_value (form_at f table handle))
+value_text f table handle = printed_expression (as_value (form_at f table handle))
 
 -- what it is made of
 unfoldable pub own_text : FunctionText → (table : List Availability) → (handle : ℕ) → List ℕ
-own_text f table handle = expression_layout (as_value (own_form f table handle))
+own_text f table handle = printed_expression (as_value (own_form f table handle))
 
 -- as a reference
 unfoldable pub reference_text : FunctionText → (table : List Availability) → (handle : ℕ) → List ℕ
-reference_text f table handle = expression_layout (as_reference (form_at f table handle))
+reference_text f table handle = printed_expression (as_reference (form_at f table handle))
 
 -- what its value points at
 unfoldable pub pointed_text : FunctionText → (table : List Availability) → (handle : ℕ) → List ℕ
-pointed_text f table handle = expression_layout (Dereference (as_value (form_at f table handle)))
+pointed_text f table handle = printed_expression (Dereference (as_value (form_at f table handle)))
 
 -- a pointer to a local
 unfoldable pub address_text : FunctionText → (local : ℕ) → List ℕ
-address_text f local = expression_layout (AddressOf (Name ((naming f).names.local_ local)))
+address_text f local = printed_expression (AddressOf (Name ((naming f).names.local_ local)))
 
 -- a pointer to a variable of the module
 unfoldable pub global_address_text : FunctionText → (variable : ℕ) → List ℕ
 global_address_text f variable =
-    expression_layout (AddressOf (Name (global_name (module_names f.shader.now) variable)))
+    printed_expression (AddressOf (Name (global_name (module_names f.shader.now) variable)))
 
 -- such a variable as a value, and as a reference where its handle has no name
 unfoldable pub global_value_text : FunctionText → (variable : ℕ) → List ℕ
@@ -122,7 +122,7 @@ next_operand_text f table first operand =
 unfoldable pub applied_text : FunctionText → (table : List Availability) → Notation
     → (operands : List ℕ) → List ℕ
 applied_text f table notation operands =
-    expression_layout (applied_form notation (value_forms (form_at f table) operands))
+    printed_expression (applied_form notation (value_forms (form_at f table) operands))
 
 -- an operator between its operands, with the blanks around it
 abbrev pub spaced_text : BinaryOperator → List ℕ
@@ -132,7 +132,7 @@ spaced_text op = codes " " ++ operator_text op ++ codes " "
 unfoldable pub made_text : FunctionText → (table : List Availability) → (type : TypeSpecifier) →
     (handle : ℕ) → List ℕ
 made_text f table type handle =
-    expression_layout
+    printed_expression
     (Call type (arguments_of (value_forms (form_at f table) (operands_at f handle))))
 
 -- a type of the module, where a value of it is made
@@ -160,7 +160,7 @@ matrix_callee f columns rows role place =
 
 unfoldable pub matrix_callee_text : FunctionText → (columns rows : CooperativeSize) →
     CooperativeRole → CooperativeData → List ℕ
-matrix_callee_text f columns rows role place = type_layout (matrix_callee f columns rows role place)
+matrix_callee_text f columns rows role place = printed_type (matrix_callee f columns rows role place)
 
 -- the word that loads a matrix, and a word that takes a type with that
 abbrev pub load_word : (row_major : Bool) → List ℕ
@@ -179,7 +179,7 @@ conversion_callee f operand kind convert =
 
 unfoldable pub callee_text : FunctionText → (operand : ℕ) → ScalarKind → (convert : Option ℕ) →
     List ℕ
-callee_text f operand kind convert = type_layout (conversion_callee f operand kind convert)
+callee_text f operand kind convert = printed_type (conversion_callee f operand kind convert)
 
 unfoldable pub bitcast_text : FunctionText → TypeResolution → List ℕ
 bitcast_text f ty = codes "bitcast<" ++ (resolution_text f ty ++ codes ">")
@@ -288,12 +288,12 @@ plain_tree (ReferenceForm e) = e
 
 -- what an expression is made of, in its plain form, and a pointer to what that refers to
 unfoldable pub plain_text : FunctionText → (table : List Availability) → (handle : ℕ) → List ℕ
-plain_text f table handle = expression_layout (plain_tree (own_form f table handle))
+plain_text f table handle = printed_expression (plain_tree (own_form f table handle))
 
 unfoldable pub plain_address_text : FunctionText → (table : List Availability) →
     (handle : ℕ) → List ℕ
 plain_address_text f table handle =
-    expression_layout (AddressOf (plain_tree (own_form f table handle)))
+    printed_expression (AddressOf (plain_tree (own_form f table handle)))
 
 -- a part of this base as a value, and as a reference where it has no name
 unfoldable pub part_value_text : FunctionText → (table : List Availability) →
@@ -323,7 +323,7 @@ parenthesized_text f table handle = codes "(" ++ (value_text f table handle ++ c
 unfoldable pub member_text : FunctionText → (table : List Availability) → (handle : ℕ) →
     (word : List ℕ) → List ℕ
 member_text f table handle word =
-    expression_layout (Member (as_value (form_at f table handle)) word)
+    printed_expression (Member (as_value (form_at f table handle)) word)
 
 -- the letter at a place of a swizzle, if it is chosen
 abbrev pub letter_at : VectorSize → List SwizzleComponent → (place : ℕ) → List ℕ

@@ -1,11 +1,11 @@
 -- What the text of a function is made from, as the laws see it, and what it wants of its module.
-use Rattle.module_meaning.specs.FunctionNumbers.{IsFunctionOf, all_functions, all_infos}
-use Rattle.module_meaning.specs.FunctionNumbers.{callee_count, function_number}
-use Rattle.module_meaning.specs.FunctionShapes.{function_shape}
-use Rattle.module_meaning.specs.StatementForms.{block_has_forms, cases_have_forms}
-use Rattle.module_meaning.specs.StatementForms.{statement_has_form}
-use Rattle.module_meaning.specs.Written.{IsWrittenIn, WrittenHaveForms, block_lets, block_handles}
-use Rattle.module_meaning.specs.Written.{cases_lets, cases_handles, statement_lets, statement_handles}
+use Rattle.module_semantics.specs.FunctionNumbers.{IsFunctionOf, all_functions, all_infos}
+use Rattle.module_semantics.specs.FunctionNumbers.{callee_count, function_number}
+use Rattle.module_semantics.specs.FunctionShapes.{function_shape}
+use Rattle.module_semantics.specs.StatementForms.{block_has_forms, cases_have_forms}
+use Rattle.module_semantics.specs.StatementForms.{statement_has_form}
+use Rattle.module_semantics.specs.Written.{IsWrittenIn, WrittenHaveForms, block_lets, block_handles}
+use Rattle.module_semantics.specs.Written.{cases_lets, cases_handles, statement_lets, statement_handles}
 use Rattle.shader_runs.specs.Program.{binds}
 use Rattle.std.specs.List.{AllByRecursion, IsAmong}
 use Rattle.std.specs.Prelude.{◌≡◌, ℕ, ◌<◌, Bool, List, Option, Some, IsTrue, slice_get}
@@ -15,21 +15,21 @@ use Rattle.naga_scope.specs.declared.points.Availability.{Availability}
 use Rattle.naga_scope.specs.Availabilities.{handles_of}
 use Rattle.naga_scope.specs.Tables.{AreTablesOf}
 use Rattle.naga_ir.specs.declared.expression.Expression.{Expression}
-use Rattle.module_meaning.specs.acceptance.Accepted.{is_accepted}
-use Rattle.module_meaning.specs.DeclarationForms.{HeadHasForm}
-use Rattle.module_meaning.specs.acceptance.Ranges.{block_in_range, cases_in_range}
-use Rattle.module_meaning.specs.acceptance.Ranges.{function_in_range}
-use Rattle.module_meaning.specs.acceptance.Ranges.{statement_in_range}
+use Rattle.module_semantics.specs.acceptance.Accepted.{is_accepted}
+use Rattle.module_semantics.specs.DeclarationForms.{HeadHasForm}
+use Rattle.module_semantics.specs.acceptance.Ranges.{block_in_range, cases_in_range}
+use Rattle.module_semantics.specs.acceptance.Ranges.{function_in_range}
+use Rattle.module_semantics.specs.acceptance.Ranges.{statement_in_range}
 use Rattle.naga_ir.specs.StatementTree.{BlockTree, CaseTrees, StatementTree}
 use Rattle.naga_names.specs.Keys.{names_in}
 use Rattle.shader_runs.specs.Scope.{Handles, Naming}
-use Rattle.module_meaning.specs.ExpressionLabels.{expression_labels}
-use Rattle.module_meaning.specs.Names.{HasNamesOf, module_names}
-use Rattle.module_meaning.specs.ExpressionOperators.{ExpressionContext}
-use Rattle.module_meaning.specs.Namings.{function_naming}
+use Rattle.module_semantics.specs.ExpressionLabels.{expression_labels}
+use Rattle.module_semantics.specs.Names.{HasNamesOf, module_names}
+use Rattle.module_semantics.specs.ExpressionOperators.{ExpressionContext}
+use Rattle.module_semantics.specs.Namings.{function_naming}
 use Rattle.naga_form.specs.Expressions.{Source, function_source}
 use Rattle.naga_form.specs.Types.{annotated_type}
-use Rattle.module_meaning.specs.Types.{type_names}
+use Rattle.module_semantics.specs.Types.{type_names}
 use Rattle.naga_words.specs.Contexts.{Names as TypeNames}
 use Rattle.wgsl_text.specs.Types.{TypeSpecifier}
 use Rattle.naga_back.specs.Flags.{annotates_types}

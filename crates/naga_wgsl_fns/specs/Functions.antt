@@ -10,8 +10,8 @@ use Rattle.naga_ir.specs.declared.module.Module.{Module}
 use Rattle.naga_info.specs.declared.info.ExpressionInfo.{ExpressionInfo}
 use Rattle.naga_info.specs.declared.info.ModuleInfo.{ModuleInfo}
 use Rattle.shader_runs.specs.Scope.{at_start}
-use Rattle.module_meaning.specs.DeclarationForms.{entry_point_numbered}
-use Rattle.module_meaning.specs.Names.{expression_name, module_names}
+use Rattle.module_semantics.specs.DeclarationForms.{entry_point_numbered}
+use Rattle.module_semantics.specs.Names.{expression_name, module_names}
 use Rattle.wgsl_text.specs.Expressions.{Expression}
 use Rattle.naga_form.specs.Expressions.{value_form}
 use Rattle.wgsl_text.specs.Functions.{Local, Function, value_pieces, parameter_pieces}
@@ -30,7 +30,7 @@ use Rattle.naga_wgsl_fns.specs.declared.functions.FunctionText.{FunctionText}
 use Rattle.naga_wgsl_fns.specs.FunctionText.{named_in, handles_in, source, naming}
 use Rattle.naga_wgsl_fns.specs.FunctionText.{number, type_names_of}
 use Rattle.naga_wgsl_fns.specs.BodyStates.{HasScope}
-use Rattle.module_meaning.specs.FunctionNumbers.{all_functions, all_infos}
+use Rattle.module_semantics.specs.FunctionNumbers.{all_functions, all_infos}
 use Rattle.naga_wgsl_fns.specs.Attributes.{attributes_text}
 use Rattle.naga_wgsl_fns.specs.Names.{name_of_function}
 use Rattle.naga_wgsl_fns.specs.Stages.{stage_text}

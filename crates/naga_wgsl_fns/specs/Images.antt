@@ -2,9 +2,9 @@
 use Rattle.std.specs.Prelude.{ℕ, Bool, true, false, List, [], ◌∷◌, ◌++◌, codes}
 use Rattle.std.specs.Prelude.{Option, Some, None}
 use Rattle.std.specs.Option.{option_map_or}
-use Rattle.module_meaning.specs.ExpressionOperators.{is_depth_image, level_of, image_sample_operator}
-use Rattle.module_meaning.specs.ExpressionOperators.{type_known}
-use Rattle.module_meaning.specs.OperatorTable.{zero_is_written}
+use Rattle.module_semantics.specs.ExpressionOperators.{is_depth_image, level_of, image_sample_operator}
+use Rattle.module_semantics.specs.ExpressionOperators.{type_known}
+use Rattle.module_semantics.specs.OperatorTable.{zero_is_written}
 use Rattle.naga_form.specs.Expressions.{constant_form, zero_is_whole}
 use Rattle.naga_form.specs.Images.{sampling_word}
 use Rattle.naga_ir.specs.declared.expression.Expression as ir
@@ -16,7 +16,7 @@ use Rattle.naga_scope.specs.declared.points.Availability.{Availability}
 use Rattle.naga_wgsl_fns.specs.Expressions.{next_operand_text}
 use Rattle.naga_wgsl_fns.specs.FunctionText.{context, source}
 use Rattle.naga_wgsl_fns.specs.declared.functions.FunctionText.{FunctionText}
-use Rattle.wgsl_text.specs.Reading.{expression_layout}
+use Rattle.wgsl_text.specs.Reading.{printed_expression}
 
 -- the expression is a sampling
 abbrev pub is_sampled : Option ir.Expression → Bool
@@ -65,4 +65,4 @@ level_text f image level by_name =
 -- an offset, as a constant
 unfoldable pub offset_text : FunctionText → (offset : Option ℕ) → List ℕ
 offset_text f None = []
-offset_text f (Some h) = codes ", " ++ expression_layout (constant_form (source f) h)
+offset_text f (Some h) = codes ", " ++ printed_expression (constant_form (source f) h)

@@ -14,18 +14,18 @@ use Rattle.naga_info.specs.declared.info.ModuleInfo.{ModuleInfo}
 use Rattle.naga_info.specs.declared.info.TypeResolution.TheVariants.{Handle}
 use Rattle.naga_names.specs.Keys.{NameMap}
 use Rattle.naga_names.specs.Naming.{HasNamed, Names}
-use Rattle.module_meaning.specs.FunctionLets.{BindsAt}
-use Rattle.module_meaning.specs.DeclarationForms.{DeclarationsHaveForms, HeadHasForm}
-use Rattle.module_meaning.specs.DeclarationForms.{ItemsHaveForms}
-use Rattle.module_meaning.specs.ExpressionLabels.{name_of_label}
-use Rattle.module_meaning.specs.FunctionNumbers.{callee_count, function_number}
-use Rattle.module_meaning.specs.Faithful.{HasInterfaceOf, RunsAt}
-use Rattle.module_meaning.specs.Names.{AreLabelNames, LabelNames, item_labels, labels_named_in}
-use Rattle.module_meaning.specs.Names.{named_apart, wgsl_names}
-use Rattle.module_meaning.specs.Premises.{ScopesHoldBefore}
-use Rattle.module_meaning.specs.Resolution.{ResolvesAt}
-use Rattle.module_meaning.specs.Undeclared.{names_undeclared}
-use Rattle.module_meaning.specs.Written.{AllWrittenHaveForms, WrittenHaveFormsBefore}
+use Rattle.module_semantics.specs.FunctionLets.{BindsAt}
+use Rattle.module_semantics.specs.DeclarationForms.{DeclarationsHaveForms, HeadHasForm}
+use Rattle.module_semantics.specs.DeclarationForms.{ItemsHaveForms}
+use Rattle.module_semantics.specs.ExpressionLabels.{name_of_label}
+use Rattle.module_semantics.specs.FunctionNumbers.{callee_count, function_number}
+use Rattle.module_semantics.specs.Faithful.{HasInterfaceOf, RunsAt}
+use Rattle.module_semantics.specs.Names.{AreLabelNames, LabelNames, item_labels, labels_named_in}
+use Rattle.module_semantics.specs.Names.{named_apart, wgsl_names}
+use Rattle.module_semantics.specs.Premises.{ScopesHoldBefore}
+use Rattle.module_semantics.specs.Resolution.{ResolvesAt}
+use Rattle.module_semantics.specs.Undeclared.{names_undeclared}
+use Rattle.module_semantics.specs.Written.{AllWrittenHaveForms, WrittenHaveFormsBefore}
 use Rattle.naga_form.specs.Declarations.{program_under}
 use Rattle.wgsl_text.specs.Declarations.{Program}
 use Rattle.wgsl_text.specs.Functions.{EntryPoint, Function}

@@ -1,7 +1,7 @@
 -- The names that the text of a function and those of a module's own expressions use.
 use Rattle.std.specs.Prelude.{ℕ, List}
-use Rattle.module_meaning.specs.Names.{argument_name, constant_name, function_name, global_name}
-use Rattle.module_meaning.specs.Names.{local_name, module_names, numbered_name, override_name}
+use Rattle.module_semantics.specs.Names.{argument_name, constant_name, function_name, global_name}
+use Rattle.module_semantics.specs.Names.{local_name, module_names, numbered_name, override_name}
 use Rattle.naga_ir.specs.declared.module.Module.{Module}
 use Rattle.naga_scope.specs.Availabilities.{name_of_bound}
 use Rattle.naga_scope.specs.declared.points.BoundName.{BoundName}

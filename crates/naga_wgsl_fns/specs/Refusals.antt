@@ -30,25 +30,25 @@ use Rattle.naga_ir.specs.declared.expression.Literal.TheVariants as literal
 use Rattle.naga_ir.specs.declared.module.Constant as constant
 use Rattle.naga_ir.specs.declared.module.Function.{Function}
 use Rattle.naga_ir.specs.declared.module.Module.{Module}
-use Rattle.module_meaning.specs.FunctionNumbers.{all_functions, all_infos}
-use Rattle.module_meaning.specs.ExpressionForms.{expression_has_form, global_has_form}
-use Rattle.module_meaning.specs.ExpressionForms.{literal_has_form, known_passes}
-use Rattle.module_meaning.specs.Sampling.{offset_has_form, sampling_has_form}
-use Rattle.module_meaning.specs.LackingScalars.{lacking_scalar}
-use Rattle.module_meaning.specs.Written.{IsSpelledIn, IsWrittenIn, WrittenHaveFormsAt}
-use Rattle.module_meaning.specs.ExpressionOperators.{has_parts}
-use Rattle.module_meaning.specs.Undeclared.{is_spellable, names_undeclared}
-use Rattle.module_meaning.specs.Conversions.{conversion_target}
-use Rattle.module_meaning.specs.ExpressionOperators.{pointee_scalar}
+use Rattle.module_semantics.specs.FunctionNumbers.{all_functions, all_infos}
+use Rattle.module_semantics.specs.ExpressionForms.{expression_has_form, global_has_form}
+use Rattle.module_semantics.specs.ExpressionForms.{literal_has_form, known_passes}
+use Rattle.module_semantics.specs.Sampling.{offset_has_form, sampling_has_form}
+use Rattle.module_semantics.specs.LackingScalars.{lacking_scalar}
+use Rattle.module_semantics.specs.Written.{IsSpelledIn, IsWrittenIn, WrittenHaveFormsAt}
+use Rattle.module_semantics.specs.ExpressionOperators.{has_parts}
+use Rattle.module_semantics.specs.Undeclared.{is_spellable, names_undeclared}
+use Rattle.module_semantics.specs.Conversions.{conversion_target}
+use Rattle.module_semantics.specs.ExpressionOperators.{pointee_scalar}
 use Rattle.naga_info.specs.declared.info.ExpressionInfo.{ExpressionInfo}
 use Rattle.naga_info.specs.declared.info.ModuleInfo.{ModuleInfo}
 use Rattle.naga_names.specs.declared.error.NamerError.{NamerError}
 use Rattle.naga_names.specs.declared.error.NamerError.TheVariants as namer_error
-use Rattle.module_meaning.specs.ExpressionLabels.{SomeLabelIsFull}
-use Rattle.module_meaning.specs.Names.{labels_named_in, wgsl_names}
+use Rattle.module_semantics.specs.ExpressionLabels.{SomeLabelIsFull}
+use Rattle.module_semantics.specs.Names.{labels_named_in, wgsl_names}
 use Rattle.naga_names.specs.Naming.{HasNamed, Names}
 use Rattle.naga_scope.specs.ExpressionNames.{HasOtherUses}
-use Rattle.module_meaning.specs.Premises.{ScopeHoldsIn}
+use Rattle.module_semantics.specs.Premises.{ScopeHoldsIn}
 use Rattle.naga_scope.specs.Plans.{HasScopeFaultIn}
 use Rattle.naga_scope.specs.declared.plan.PlanError.{PlanError}
 use Rattle.naga_scope.specs.declared.plan.PlanError.TheVariants.{LetWithoutForm, OutOfScope}

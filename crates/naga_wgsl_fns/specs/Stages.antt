@@ -7,8 +7,8 @@ use Rattle.std.specs.Option.{option_map}
 use Rattle.naga_ir.specs.declared.module.EntryPoint.{EntryPoint}
 use Rattle.naga_ir.specs.declared.module.MeshStageInfo.{MeshStageInfo}
 use Rattle.naga_ir.specs.declared.module.Module.{Module}
-use Rattle.module_meaning.specs.Names.{global_name, module_names}
-use Rattle.module_meaning.specs.acceptance.Ranges.{is_below}
+use Rattle.module_semantics.specs.Names.{global_name, module_names}
+use Rattle.module_semantics.specs.acceptance.Ranges.{is_below}
 use Rattle.naga_form.specs.Attributes.{size_attributes, stage_attributes}
 use Rattle.naga_wgsl_fns.specs.Attributes.{attributes_text, worded_text}
 

@@ -4,8 +4,8 @@
 use Rattle.wgsl_text.specs.Statements.{DefaultCase}
 use Rattle.shader_runs.specs.ProgramRun.{barrier_words}
 use Rattle.std.specs.Option.{is_some}
-use Rattle.module_meaning.specs.StatementShapes.{act_operator, barrier_bits}
-use Rattle.module_meaning.specs.FunctionShapes.{cases_shape}
+use Rattle.module_semantics.specs.StatementShapes.{act_operator, barrier_bits}
+use Rattle.module_semantics.specs.FunctionShapes.{cases_shape}
 use Rattle.naga_form.specs.Statements.{case_values_form, case_value_form, barrier_lines}
 use Rattle.std.specs.Prelude.{◌∷◌, suc, map}
 use Rattle.naga_ir.specs.declared.statement.SwitchCase.{SwitchCase}
@@ -22,14 +22,14 @@ use Rattle.shader_runs.specs.Program.{binds}
 use Rattle.shader_runs.specs.Form.{word_of}
 use Rattle.shader_runs.specs.Scope.{Handles, Names, after, after_all, bound_name, named_by}
 use Rattle.shader_runs.specs.Scope.{named_by_all, named_by_cases}
-use Rattle.module_meaning.specs.FunctionShapes.{statement_shape, statements_shape}
-use Rattle.module_meaning.specs.Names.{numbered_name}
+use Rattle.module_semantics.specs.FunctionShapes.{statement_shape, statements_shape}
+use Rattle.module_semantics.specs.Names.{numbered_name}
 use Rattle.naga_form.specs.Expressions.{as_value, as_reference, plain_form, unnamed_form}
 use Rattle.naga_form.specs.Expressions.{value_form, value_forms}
 use Rattle.naga_form.specs.Statements.{act_line, cases_form, let_form, lets_form, line_form}
 use Rattle.naga_form.specs.Statements.{lines_form}
 use Rattle.wgsl_text.specs.Expressions.{operands}
-use Rattle.wgsl_text.specs.Reading.{expression_layout}
+use Rattle.wgsl_text.specs.Reading.{printed_expression}
 use Rattle.wgsl_text.specs.Statements.{Assign, CaseValue}
 use Rattle.wgsl_text.specs.Statements.{NoStatements}
 use Rattle.wgsl_text.specs.Statements.{Statement, Statements, case_pieces}
@@ -86,7 +86,7 @@ left_to_continuing f k b s = after_all (naming f) k (statements_shape (context f
 unfoldable pub around_text : FunctionText → Handles → (i : ℕ) → (start : List ℕ) → (value : ℕ) →
     (end : List ℕ) → List ℕ
 around_text f s i start value end =
-    line_start i start ++ (expression_layout (value_form (naming f) (source f) s value) ++ end)
+    line_start i start ++ (printed_expression (value_form (naming f) (source f) s value) ++ end)
 
 unfoldable pub assignment_text : FunctionText → Handles → (i pointer value : ℕ) → List ℕ
 assignment_text f s i pointer value =
@@ -192,8 +192,8 @@ cases_text f k s i values cases =
     (cases_pieces (cases_form (naming f) (let_annotation f) (source f) k values cases s) i)
 
 -- the values of these cases
-abbrev pub labels_of : List SwitchCase → List CaseValue
-labels_of cases = map (λ c. case_value_form c.value) cases
+abbrev pub case_values_of : List SwitchCase → List CaseValue
+case_values_of cases = map (λ c. case_value_form c.value) cases
 
 -- a case value, values each of which has another one after it, and those of a group up to the colon
 unfoldable pub case_value_text : CaseValue → List ℕ

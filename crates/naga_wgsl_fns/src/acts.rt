@@ -2,11 +2,11 @@
 
 ghost use Rattle.std.specs.Prelude.{◌≡◌, ◌<◌, ℕ, Bool, IsTrue, Some, length, true};
 ghost use Rattle.std.specs.Option.{is_some, option_to_list};
-ghost use Rattle.module_meaning.specs.OperatorTable.{AtomicChange, Collective, CooperativeStore};
-ghost use Rattle.module_meaning.specs.OperatorTable.{FromSubgroup, QuadSwapped, TexelChange};
-ghost use Rattle.module_meaning.specs.OperatorTable.{collective_word, run_word};
-ghost use Rattle.module_meaning.specs.OperatorTable.{texel_change_word};
-ghost use Rattle.module_meaning.specs.StatementShapes.{change_of, source_of};
+ghost use Rattle.module_semantics.specs.OperatorTable.{AtomicChange, Collective, CooperativeStore};
+ghost use Rattle.module_semantics.specs.OperatorTable.{FromSubgroup, QuadSwapped, TexelChange};
+ghost use Rattle.module_semantics.specs.OperatorTable.{collective_word, run_word};
+ghost use Rattle.module_semantics.specs.OperatorTable.{texel_change_word};
+ghost use Rattle.module_semantics.specs.StatementShapes.{change_of, source_of};
 ghost use Rattle.naga_ir.specs.Operands.{own_operands, own_result};
 ghost use Rattle.naga_ir.specs.declared.operators.CollectiveOperation.TheVariants as collective;
 ghost use Rattle.naga_ir.specs.StatementTree.{simple, store};

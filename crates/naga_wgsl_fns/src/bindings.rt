@@ -2,8 +2,8 @@
 
 ghost use Rattle.std.specs.Prelude.{◌≡◌, ◌++◌, IfErr, IsFalse, IsTrue, OnErr, OnOk};
 ghost use Rattle.std.specs.Option.{is_some};
-ghost use Rattle.module_meaning.specs.DeclarationForms.{binding_has_form};
-ghost use Rattle.module_meaning.specs.StageBindings.{is_invariant};
+ghost use Rattle.module_semantics.specs.DeclarationForms.{binding_has_form};
+ghost use Rattle.module_semantics.specs.StageBindings.{is_invariant};
 ghost use Rattle.naga_form.specs.Attributes.{attribute_of, interpolation_attributes};
 ghost use Rattle.naga_form.specs.Attributes.{interpolation_told, is_center, is_perspective};
 ghost use Rattle.naga_form.specs.Attributes.{passing_attributes};

@@ -1,8 +1,8 @@
 //! Constants, which are written as their names, and without one as their initialisers are.
 
 ghost use Rattle.std.specs.Prelude.{◌≡◌, IsTrue};
-ghost use Rattle.module_meaning.specs.AlikeTypes.{has_type_form};
-ghost use Rattle.module_meaning.specs.ExpressionForms.{constant_has_form, global_has_form};
+ghost use Rattle.module_semantics.specs.AlikeTypes.{has_type_form};
+ghost use Rattle.module_semantics.specs.ExpressionForms.{constant_has_form, global_has_form};
 ghost use Rattle.naga_info.specs.declared.info.TypeResolution.TheVariants as resolution;
 ghost use Rattle.naga_words.specs.Output.{Writes};
 ghost use Rattle.naga_wgsl_fns.specs.Constants.{called_global_text, constant_text, global_text};

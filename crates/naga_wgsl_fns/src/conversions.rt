@@ -2,10 +2,10 @@
 
 ghost use Rattle.std.specs.Prelude.{◌≡◌, ◌<◌, IsTrue, Some, length};
 ghost use Rattle.std.specs.Option.{is_some};
-ghost use Rattle.module_meaning.specs.Conversions.{conversion_target, keeps_bits};
-ghost use Rattle.module_meaning.specs.AlikeTypes.{has_type_form};
-ghost use Rattle.module_meaning.specs.ExpressionForms.{expression_has_own_form};
-ghost use Rattle.module_meaning.specs.acceptance.Ranges.{resolution_fits};
+ghost use Rattle.module_semantics.specs.Conversions.{conversion_target, keeps_bits};
+ghost use Rattle.module_semantics.specs.AlikeTypes.{has_type_form};
+ghost use Rattle.module_semantics.specs.ExpressionForms.{expression_has_own_form};
+ghost use Rattle.module_semantics.specs.acceptance.Ranges.{resolution_fits};
 ghost use Rattle.naga_ir.specs.declared.expression.Expression.TheVariants.{As};
 ghost use Rattle.naga_wgsl_fns.specs.Expressions.{bitcast_text, callee_text, cast_text};
 ghost use Rattle.naga_wgsl_fns.specs.Expressions.{conversion_callee, made_text};
@@ -13,7 +13,7 @@ ghost use Rattle.naga_wgsl_fns.specs.FunctionText.{CanWrite, IsInText};
 ghost use Rattle.naga_words.specs.Output.{Writes};
 
 use crate::functions::FunctionText;
-use module_meaning::type_parts::converted_scalar;
+use module_semantics::type_parts::converted_scalar;
 use naga_info::TypeResolution;
 use naga_ir::{Expression, Handle, ScalarKind, TypeInner};
 use naga_scope::Scope;

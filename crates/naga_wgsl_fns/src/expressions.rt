@@ -1,7 +1,7 @@
 //! Writes expressions.
 
 ghost use Rattle.std.specs.Prelude.{[], ◌∷◌, ◌<◌, ◌≡◌, length, IsTrue};
-ghost use Rattle.module_meaning.specs.AlikeTypes.{has_type_form};
+ghost use Rattle.module_semantics.specs.AlikeTypes.{has_type_form};
 ghost use Rattle.naga_info.specs.declared.info.TypeResolution.TheVariants as resolution;
 ghost use Rattle.naga_form.specs.Operators.{Infix, Prefix, operator_form, unary_form};
 ghost use Rattle.naga_words.specs.Output.{Writes};
@@ -16,7 +16,7 @@ ghost use Rattle.wgsl_words.specs.Words.{unary_text};
 
 use crate::functions::FunctionText;
 use crate::literal::write_literal;
-use module_meaning::called_str;
+use module_semantics::called_str;
 use naga_ir::{BinaryOperator, Expression, Handle, LocalVariable, Type_, UnaryOperator};
 use naga_scope::{Availability, Scope};
 use naga_words::{Output, TextSink};

@@ -2,10 +2,10 @@
 
 ghost use Rattle.std.specs.Prelude.{◌≡◌, ◌<◌, ◌||◌, Bool, IsTrue, false, length, slice_get, true};
 ghost use Rattle.std.specs.Option.{is_some, option_to_list};
-ghost use Rattle.module_meaning.specs.ExpressionOperators.{level_of};
-ghost use Rattle.module_meaning.specs.ExpressionOperators.{image_sample_operator};
-ghost use Rattle.module_meaning.specs.OperatorTable.{Sample, run_word, zero_is_written};
-ghost use Rattle.module_meaning.specs.Sampling.{offset_has_form, sampling_has_form};
+ghost use Rattle.module_semantics.specs.ExpressionOperators.{level_of};
+ghost use Rattle.module_semantics.specs.ExpressionOperators.{image_sample_operator};
+ghost use Rattle.module_semantics.specs.OperatorTable.{Sample, run_word, zero_is_written};
+ghost use Rattle.module_semantics.specs.Sampling.{offset_has_form, sampling_has_form};
 ghost use Rattle.naga_form.specs.Expressions.{zero_is_whole};
 ghost use Rattle.naga_form.specs.Images.{sampling_word};
 ghost use Rattle.naga_ir.specs.Operands.{level_operands};

@@ -1,10 +1,10 @@
 //! A module's functions, written one by one.
 
 ghost use Rattle.std.specs.Prelude.{◌≡◌, ℕ, List, IsTrue};
-ghost use Rattle.module_meaning.specs.acceptance.Accepted.{is_accepted};
-ghost use Rattle.module_meaning.specs.DeclarationForms.{HeadHasForm};
-ghost use Rattle.module_meaning.specs.FunctionNumbers.{IsFunctionOf, function_number};
-ghost use Rattle.module_meaning.specs.Names.{HasNamesOf, wgsl_names};
+ghost use Rattle.module_semantics.specs.acceptance.Accepted.{is_accepted};
+ghost use Rattle.module_semantics.specs.DeclarationForms.{HeadHasForm};
+ghost use Rattle.module_semantics.specs.FunctionNumbers.{IsFunctionOf, function_number};
+ghost use Rattle.module_semantics.specs.Names.{HasNamesOf, wgsl_names};
 ghost use Rattle.naga_names.specs.Keys.{names_in};
 ghost use Rattle.naga_names.specs.Naming.{HasNamed};
 ghost use Rattle.naga_scope.specs.ExpressionNames.{HasOtherUses};

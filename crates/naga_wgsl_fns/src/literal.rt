@@ -1,7 +1,7 @@
 //! Writes literals.
 
 ghost use Rattle.std.specs.Prelude.{◌++◌, IsTrue};
-ghost use Rattle.module_meaning.specs.ExpressionForms.{literal_has_form};
+ghost use Rattle.module_semantics.specs.ExpressionForms.{literal_has_form};
 ghost use Rattle.naga_words.specs.Output.{Writes};
 ghost use Rattle.naga_wgsl_fns.specs.Literals.{i32_text, literal_text, i64_text, i16_text};
 ghost use Rattle.naga_wgsl_fns.specs.Literals.{f16_text, f32_text, f64_text, u16_text};

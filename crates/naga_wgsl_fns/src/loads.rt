@@ -2,10 +2,10 @@
 
 ghost use Rattle.std.specs.Prelude.{◌≡◌, ◌<◌, IsTrue, Some, length, slice_get};
 ghost use Rattle.std.specs.Option.{is_some};
-ghost use Rattle.module_meaning.specs.AlikeTypes.{has_type_form};
-ghost use Rattle.module_meaning.specs.ExpressionOperators.{is_atomic_pointer};
-ghost use Rattle.module_meaning.specs.ExpressionForms.{expression_has_own_form};
-ghost use Rattle.module_meaning.specs.acceptance.Ranges.{resolution_fits};
+ghost use Rattle.module_semantics.specs.AlikeTypes.{has_type_form};
+ghost use Rattle.module_semantics.specs.ExpressionOperators.{is_atomic_pointer};
+ghost use Rattle.module_semantics.specs.ExpressionForms.{expression_has_own_form};
+ghost use Rattle.module_semantics.specs.acceptance.Ranges.{resolution_fits};
 ghost use Rattle.naga_form.specs.Expressions.{scalar_pointed};
 ghost use Rattle.naga_ir.specs.declared.expression.Expression.TheVariants.{CooperativeLoad, Load};
 ghost use Rattle.naga_wgsl_fns.specs.Expressions.{is_atomic_at, load_text, load_word, made_text};

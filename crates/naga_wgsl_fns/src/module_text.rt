@@ -1,7 +1,7 @@
 //! What the texts of a module's types and of its own expressions are made from.
 
 ghost use Rattle.std.specs.Prelude.{IsTrue};
-ghost use Rattle.module_meaning.specs.AlikeTypes.{has_type_form};
+ghost use Rattle.module_semantics.specs.AlikeTypes.{has_type_form};
 ghost use Rattle.naga_info.specs.declared.info.TypeResolution.TheVariants as resolution;
 ghost use Rattle.naga_words.specs.Output.{Writes};
 ghost use Rattle.naga_wgsl_fns.specs.ModuleText.{CanWriteIn};

@@ -1,7 +1,7 @@
 //! Names, of which a module has a text for each key.
 
 ghost use Rattle.std.specs.Prelude.{◌≡◌, ◌<◌, Some, length};
-ghost use Rattle.module_meaning.specs.Names.{module_names, name_in, numbered_name};
+ghost use Rattle.module_semantics.specs.Names.{module_names, name_in, numbered_name};
 ghost use Rattle.naga_names.specs.Keys.{names_in};
 ghost use Rattle.naga_names.specs.declared.key.NameKey.TheVariants as key;
 ghost use Rattle.naga_words.specs.Output.{Writes};

@@ -2,8 +2,8 @@
 
 ghost use Rattle.std.specs.Prelude.{◌≡◌, ◌<◌, IsTrue, None, Some, length, slice_get};
 ghost use Rattle.std.specs.Option.{option_map};
-ghost use Rattle.module_meaning.specs.ExpressionShapes.{component_letters, letter, part_selector};
-ghost use Rattle.module_meaning.specs.ExpressionShapes.{swizzle_letters};
+ghost use Rattle.module_semantics.specs.ExpressionShapes.{component_letters, letter, part_selector};
+ghost use Rattle.module_semantics.specs.ExpressionShapes.{swizzle_letters};
 ghost use Rattle.naga_form.specs.Expressions.{as_value, is_pointer};
 ghost use Rattle.naga_words.specs.Output.{Writes};
 ghost use Rattle.naga_wgsl_fns.specs.Expressions.{accessed_base, base_text, form_at, index_text};
@@ -14,9 +14,9 @@ ghost use Rattle.naga_wgsl_fns.specs.Expressions.{part_value_text, plain_address
 ghost use Rattle.naga_wgsl_fns.specs.Expressions.{selector_of, selector_text, word_text};
 ghost use Rattle.naga_wgsl_fns.specs.Expressions.{has_components, is_vector_at, named_member_text};
 ghost use Rattle.naga_wgsl_fns.specs.Expressions.{struct_at, struct_known};
-ghost use Rattle.module_meaning.specs.ExpressionOperators.{type_known};
-ghost use Rattle.module_meaning.specs.Names.{module_names, name_in};
-ghost use Rattle.module_meaning.specs.ExpressionForms.{expression_has_own_form};
+ghost use Rattle.module_semantics.specs.ExpressionOperators.{type_known};
+ghost use Rattle.module_semantics.specs.Names.{module_names, name_in};
+ghost use Rattle.module_semantics.specs.ExpressionForms.{expression_has_own_form};
 ghost use Rattle.naga_names.specs.Keys.{names_in};
 ghost use Rattle.naga_names.specs.declared.key.NameKey.TheVariants as key;
 ghost use Rattle.naga_ir.specs.declared.expression.Expression.TheVariants.{AccessIndex};
@@ -427,18 +427,18 @@ fn write_letters<W: TextSink>(
     out.put(letter_str(size, pattern, 3));
 }
 
-/// The letter at a place of a swizzle, of which as many are chosen as the vector has components.
-fn letter_str(size: VectorSize, pattern: &[SwizzleComponent; 4], place: usize) -> &'static str
-    requires { place < 4 }
-    ensures { result.now ≡ letter_at size pattern.now place }
+/// The letter at an index of a swizzle, of which as many are chosen as the vector has components.
+fn letter_str(size: VectorSize, pattern: &[SwizzleComponent; 4], index: usize) -> &'static str
+    requires { index < 4 }
+    ensures { result.now ≡ letter_at size pattern.now index }
 {
     let chosen = match size {
         VectorSize::Bi => 2,
         VectorSize::Tri => 3,
         VectorSize::Quad => 4,
     };
-    if place < chosen {
-        component_str(pattern[place])
+    if index < chosen {
+        component_str(pattern[index])
     } else {
         ""
     }

@@ -2,9 +2,9 @@
 
 ghost use Rattle.std.specs.Prelude.{◌<◌, IsTrue, codes, length};
 ghost use Rattle.std.specs.Option.{is_some, option_map};
-ghost use Rattle.module_meaning.specs.DeclarationForms.{stage_has_form};
-ghost use Rattle.module_meaning.specs.Names.{global_name, module_names};
-ghost use Rattle.module_meaning.specs.acceptance.Ranges.{is_below};
+ghost use Rattle.module_semantics.specs.DeclarationForms.{stage_has_form};
+ghost use Rattle.module_semantics.specs.Names.{global_name, module_names};
+ghost use Rattle.module_semantics.specs.acceptance.Ranges.{is_below};
 ghost use Rattle.naga_form.specs.Attributes.{size_attributes, stage_attributes};
 ghost use Rattle.naga_ir.specs.declared.module.ShaderStage.TheVariants as stage;
 ghost use Rattle.naga_words.specs.Output.{Writes};

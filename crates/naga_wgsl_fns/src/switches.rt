@@ -12,7 +12,7 @@ ghost use Rattle.naga_wgsl_fns.specs.FunctionText.{CanWriteStatement};
 ghost use Rattle.naga_wgsl_fns.specs.BodyStates.{HasScope, PassesBlock, PassesCases};
 ghost use Rattle.naga_wgsl_fns.specs.BodyStates.{PassesStatement, text_at};
 ghost use Rattle.naga_wgsl_fns.specs.Statements.{case_text, cases_text, group_start, group_text};
-ghost use Rattle.naga_wgsl_fns.specs.Statements.{case_value_text, labels_of, stands_alone};
+ghost use Rattle.naga_wgsl_fns.specs.Statements.{case_value_text, case_values_of, stands_alone};
 ghost use Rattle.naga_wgsl_fns.specs.Statements.{statement_text, waiting_text};
 
 use crate::functions::FunctionText;
@@ -91,7 +91,7 @@ impl FunctionText<'_> {
         requires empty { IsTrue case.now.fall_through → case.now.body ≡ no_statements }
         requires scope { HasScope self.now at.old.scope (block_changes case.now.body) }
         ensures text { Writes W.text W.failures out.old out.new (text_at self.now at.old.scope
-            case_text at.old.indent (labels_of waiting.now) (case_value_form case.now.value)
+            case_text at.old.indent (case_values_of waiting.now) (case_value_form case.now.value)
             case.now.fall_through case.now.body) }
         ensures passed { PassesBlock self.now at.old at.new case.now.body }
         ensures same { Same at.old.scope at.new.scope }
@@ -116,7 +116,7 @@ impl FunctionText<'_> {
         requires body { CanWriteBlock self.now body.now }
         requires scope { HasScope self.now at.old.scope (block_changes body.now) }
         ensures text { Writes W.text W.failures out.old out.new (text_at self.now at.old.scope
-            group_text at.old.indent (labels_of waiting.now) (case_value_form value) body.now) }
+            group_text at.old.indent (case_values_of waiting.now) (case_value_form value) body.now) }
         ensures passed { PassesBlock self.now at.old at.new body.now }
         ensures same { Same at.old.scope at.new.scope }
     {
@@ -140,7 +140,7 @@ fn first_waiting(case: &SwitchCase, first: usize, index: usize) -> usize
 /// Whether it is the default, and no other case value stands with it.
 #[tactic(auto, using(crate::proofs::SwitchRows::alone_row, crate::proofs::SwitchRows::signed_other, crate::proofs::SwitchRows::unsigned_other))]
 fn is_default_alone(waiting: &[SwitchCase], value: SwitchValue) -> bool
-    ensures { result ≡ stands_alone (labels_of waiting.now) (case_value_form value) }
+    ensures { result ≡ stands_alone (case_values_of waiting.now) (case_value_form value) }
 {
     match value {
         SwitchValue::Default => waiting.is_empty(),
@@ -156,7 +156,7 @@ fn write_group_start<W: TextSink>(
     out: &mut Output<'_, W>,
 )
     ensures { Writes W.text W.failures out.old out.new
-        (group_start (labels_of waiting.now) (case_value_form value)) }
+        (group_start (case_values_of waiting.now) (case_value_form value)) }
 {
     if is_default_alone(waiting, value) {
         out.put("default:");
@@ -171,7 +171,7 @@ fn write_group_start<W: TextSink>(
 /// The values of these cases, each with what stands between it and the next one.
 #[tactic(auto, using(naga_words::proofs::Writing::loop_writes, crate::proofs::SwitchRows::waiting_more, crate::proofs::SwitchRows::waiting_none))]
 fn write_waiting<W: TextSink>(waiting: &[SwitchCase], out: &mut Output<'_, W>)
-    ensures { Writes W.text W.failures out.old out.new (waiting_text (labels_of waiting.now)) }
+    ensures { Writes W.text W.failures out.old out.new (waiting_text (case_values_of waiting.now)) }
 {
     for case in waiting {
         write_case_value(case.value, out);

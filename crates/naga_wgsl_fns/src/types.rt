@@ -1,8 +1,8 @@
 //! Types, spelled under the names of the module's items.
 
 ghost use Rattle.std.specs.Prelude.{◌<◌, IsTrue, length};
-ghost use Rattle.module_meaning.specs.AlikeTypes.{has_type_form};
-ghost use Rattle.module_meaning.specs.acceptance.Ranges.{resolution_fits};
+ghost use Rattle.module_semantics.specs.AlikeTypes.{has_type_form};
+ghost use Rattle.module_semantics.specs.acceptance.Ranges.{resolution_fits};
 ghost use Rattle.naga_info.specs.declared.info.TypeResolution.TheVariants as resolution;
 ghost use Rattle.naga_words.specs.Output.{Writes};
 ghost use Rattle.naga_back.specs.Flags.{annotates_types};

@@ -14,7 +14,7 @@ use Rattle.naga_wgsl_fns.specs.declared.refusals.error.Error.TheVariants as erro
 use Rattle.naga_wgsl_out.specs.Headline.{EachReading, FaithfulWriting, MatchesModule}
 use Rattle.module_limits.specs.Nesting.{nested_past}
 use Rattle.module_limits.specs.declared.limits.Limits.{Limits}
-use Rattle.module_meaning.specs.acceptance.Accepted.{is_accepted}
+use Rattle.module_semantics.specs.acceptance.Accepted.{is_accepted}
 use Rattle.naga_wgsl_out.specs.Checked.{IsCounted}
 use Rattle.naga_wgsl_out.specs.Leaving.{Leaves, LeavesOnError}
 use Rattle.naga_wgsl_out.specs.ModuleRefusals.{ItemsAreFull}

@@ -13,12 +13,12 @@ use Rattle.naga_ir.specs.declared.module.Constant.{Constant}
 use Rattle.naga_ir.specs.declared.module.Module.{Module}
 use Rattle.naga_ir.specs.declared.module.Override as ir_override
 use Rattle.naga_names.specs.declared.key.NameKey.TheVariants as key
-use Rattle.module_meaning.proofs.ExpressionForms.{type_form_of_spellable}
-use Rattle.module_meaning.specs.AlikeTypes.{has_type_form}
-use Rattle.module_meaning.specs.DeclarationForms.{IsDeclaredType, IsInitialiser}
-use Rattle.module_meaning.specs.Names.{module_names, name_in}
-use Rattle.module_meaning.specs.Types.{type_names}
-use Rattle.module_meaning.specs.ExpressionForms.{global_has_form}
+use Rattle.module_semantics.proofs.ExpressionForms.{type_form_of_spellable}
+use Rattle.module_semantics.specs.AlikeTypes.{has_type_form}
+use Rattle.module_semantics.specs.DeclarationForms.{IsDeclaredType, IsInitialiser}
+use Rattle.module_semantics.specs.Names.{module_names, name_in}
+use Rattle.module_semantics.specs.Types.{type_names}
+use Rattle.module_semantics.specs.ExpressionForms.{global_has_form}
 use Rattle.naga_form.specs.Attributes.{id_attributes}
 use Rattle.naga_form.specs.Declarations.{override_form}
 use Rattle.naga_words.specs.Output.{joined_texts}

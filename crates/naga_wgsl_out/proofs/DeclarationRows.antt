@@ -6,7 +6,7 @@ use Rattle.wgsl_text.proofs.Declarations.{program_text}
 use Rattle.wgsl_text.specs.Declarations.{Program, constants_pieces, enables_pieces}
 use Rattle.wgsl_text.specs.Declarations.{globals_pieces, overrides_pieces, structs_pieces}
 use Rattle.wgsl_text.specs.Functions.{entry_points_pieces, functions_pieces, group_end}
-use Rattle.wgsl_text.specs.Reading.{layout}
+use Rattle.wgsl_text.specs.Reading.{printed_program}
 use Rattle.wgsl_text.specs.Text.{text}
 use Rattle.naga_wgsl_out.specs.Constants.{constants_text, overrides_text}
 use Rattle.naga_wgsl_out.specs.Declarations.{declarations_of, declarations_text}
@@ -23,7 +23,7 @@ declarations_row m = refl
 
 -- a whole text: what it enables, its declarations, its functions and its entry points
 pub layout_row : (p : Program) →
-    layout p ≡
+    printed_program p ≡
     enables_text p.enables ++
     (declarations_of p ++ (text (functions_pieces p.functions) ++ text (entry_points_pieces p.entry_points)))
 layout_row p =

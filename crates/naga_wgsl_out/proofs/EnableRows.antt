@@ -8,7 +8,7 @@ use Rattle.wgsl_text.specs.Declarations.{enables_pieces}
 use Rattle.wgsl_text.specs.Functions.{group_end}
 use Rattle.wgsl_text.specs.Text.{text}
 use Rattle.naga_words.specs.Output.{joined_texts}
-use Rattle.module_meaning.specs.Enables.{Extension, extensions}
+use Rattle.module_semantics.specs.Enables.{Extension, extensions}
 use Rattle.naga_wgsl_out.specs.declared.enables.Enables.{Enables}
 use Rattle.naga_wgsl_out.specs.Enables.{enables_of, enables_text, end_text, is_any, line_text}
 use Rattle.naga_wgsl_out.specs.Enables.{is_any_after, words_among, words_found}

@@ -10,9 +10,9 @@ use Rattle.naga_names.proofs.Refusal.{element}
 use Rattle.naga_ir.specs.declared.module.Function.{Function}
 use Rattle.naga_ir.specs.declared.module.Module.{Module}
 use Rattle.naga_names.specs.Naming.{HasNamed, Names}
-use Rattle.module_meaning.specs.ExpressionLabels.{expression_labels, all_expression_labels}
-use Rattle.module_meaning.specs.FunctionNumbers.{all_functions}
-use Rattle.module_meaning.specs.Names.{expression_name, item_labels, labels_before, labels_named_in}
+use Rattle.module_semantics.specs.ExpressionLabels.{expression_labels, all_expression_labels}
+use Rattle.module_semantics.specs.FunctionNumbers.{all_functions}
+use Rattle.module_semantics.specs.Names.{expression_name, item_labels, labels_before, labels_named_in}
 use Rattle.naga_scope.specs.ExpressionNames.{NamesLabels}
 use Rattle.naga_scope.specs.Plans.{AreExpressionNames, IsPlanOf, Planned}
 use Rattle.naga_info.specs.declared.info.ModuleInfo.{ModuleInfo}

@@ -5,11 +5,11 @@ use Rattle.std.proofs.lemmas.Option.{slice_get_within}
 use Rattle.naga_ir.specs.declared.module.Function.{Function}
 use Rattle.std.specs.Prelude.{◌⊎◌, IfErr, IsErrAnd, IsTrue, OnErr, OnOk, Result}
 use Rattle.naga_ir.specs.declared.module.Module.{Module}
-use Rattle.module_meaning.specs.acceptance.Accepted.{is_accepted}
-use Rattle.module_meaning.specs.DeclarationForms.{DeclarationsHaveForms}
+use Rattle.module_semantics.specs.acceptance.Accepted.{is_accepted}
+use Rattle.module_semantics.specs.DeclarationForms.{DeclarationsHaveForms}
 use Rattle.wgsl_text.specs.Declarations.{Program}
 use Rattle.naga_form.specs.Declarations.{written_program}
-use Rattle.module_meaning.specs.FunctionNumbers.{all_functions}
+use Rattle.module_semantics.specs.FunctionNumbers.{all_functions}
 use Rattle.naga_form.proofs.names.Resolution.{resolves}
 use Rattle.naga_form.proofs.declarations.Interface.{has_interface}
 use Rattle.naga_form.proofs.Programs.{is_program}
@@ -18,7 +18,7 @@ use Rattle.naga_names.specs.Keys.{NameMap}
 use Rattle.wgsl_text.specs.Reading.{Reads, HasOneReading}
 use Rattle.wgsl_text.specs.Text.{tokens}
 use Rattle.wgsl_text.proofs.Reading.{program_has_one_reading}
-use Rattle.module_meaning.specs.Faithful.{HasInterfaceOf, RunsAs}
+use Rattle.module_semantics.specs.Faithful.{HasInterfaceOf, RunsAs}
 use Rattle.naga_form.proofs.statements.WrittenLets.{binds_as}
 use Rattle.naga_form.proofs.Runs.{runs_as}
 use Rattle.naga_words.specs.Sink.{IsAfter}

@@ -6,9 +6,9 @@ use Rattle.std.specs.List.{IsAmong}
 use Rattle.std.specs.Option.{option_map_or, option_or}
 use Rattle.std.specs.Result.{result_err}
 use Rattle.std.specs.Prelude.{Err, IsFalse, IsSomeAnd, Result}
-use Rattle.module_meaning.specs.ExpressionForms.{expression_has_form}
-use Rattle.module_meaning.specs.FunctionShapes.{function_shape}
-use Rattle.module_meaning.specs.Written.{WrittenHaveForms}
+use Rattle.module_semantics.specs.ExpressionForms.{expression_has_form}
+use Rattle.module_semantics.specs.FunctionShapes.{function_shape}
+use Rattle.module_semantics.specs.Written.{WrittenHaveForms}
 use Rattle.naga_info.specs.declared.info.ExpressionInfo.{ExpressionInfo}
 use Rattle.naga_info.specs.declared.info.ModuleInfo.{ModuleInfo}
 use Rattle.naga_ir.specs.InOrder.{trees_in}

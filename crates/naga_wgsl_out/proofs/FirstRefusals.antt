@@ -4,21 +4,21 @@ use Rattle.std.proofs.Common.{arith, inl, inr, length, refl, slice_get, subst, s
 use Rattle.std.proofs.lemmas.Bool.{false≢true}
 use Rattle.std.specs.Option.{option_and_then}
 use Rattle.std.specs.Prelude.{IfSome, if◌then◌else◌}
-use Rattle.module_meaning.proofs.FunctionNumbers.{function_among}
-use Rattle.module_meaning.specs.DeclarationForms.{DeclarationsHaveForms}
-use Rattle.module_meaning.specs.DeclarationForms.IsDeclaredType.{OfConstant as ConstantType}
-use Rattle.module_meaning.specs.DeclarationForms.IsDeclaredType.{OfMember as MemberType}
-use Rattle.module_meaning.specs.DeclarationForms.IsDeclaredType.{OfOverride as OverrideType}
-use Rattle.module_meaning.specs.DeclarationForms.IsDeclaredType.{OfVariable as VariableType}
-use Rattle.module_meaning.specs.DeclarationForms.IsInitialiser.{OfConstant as ConstantInitialiser}
-use Rattle.module_meaning.specs.DeclarationForms.IsInitialiser.{OfOverride as OverrideInitialiser}
-use Rattle.module_meaning.specs.DeclarationForms.IsInitialiser.{OfVariable as VariableInitialiser}
-use Rattle.module_meaning.specs.DeclarationForms.IsMemberBinding.{OfMember as MemberBinding}
-use Rattle.module_meaning.specs.DeclarationForms.IsIoBinding.{OfArgument, OfResult}
-use Rattle.module_meaning.specs.FunctionNumbers.{all_functions, all_infos}
-use Rattle.module_meaning.specs.Layouts.{concerned_members, concerned_of, module_rule}
-use Rattle.module_meaning.specs.ExpressionForms.{global_has_form}
-use Rattle.module_meaning.specs.Undeclared.{is_spellable}
+use Rattle.module_semantics.proofs.FunctionNumbers.{function_among}
+use Rattle.module_semantics.specs.DeclarationForms.{DeclarationsHaveForms}
+use Rattle.module_semantics.specs.DeclarationForms.IsDeclaredType.{OfConstant as ConstantType}
+use Rattle.module_semantics.specs.DeclarationForms.IsDeclaredType.{OfMember as MemberType}
+use Rattle.module_semantics.specs.DeclarationForms.IsDeclaredType.{OfOverride as OverrideType}
+use Rattle.module_semantics.specs.DeclarationForms.IsDeclaredType.{OfVariable as VariableType}
+use Rattle.module_semantics.specs.DeclarationForms.IsInitialiser.{OfConstant as ConstantInitialiser}
+use Rattle.module_semantics.specs.DeclarationForms.IsInitialiser.{OfOverride as OverrideInitialiser}
+use Rattle.module_semantics.specs.DeclarationForms.IsInitialiser.{OfVariable as VariableInitialiser}
+use Rattle.module_semantics.specs.DeclarationForms.IsMemberBinding.{OfMember as MemberBinding}
+use Rattle.module_semantics.specs.DeclarationForms.IsIoBinding.{OfArgument, OfResult}
+use Rattle.module_semantics.specs.FunctionNumbers.{all_functions, all_infos}
+use Rattle.module_semantics.specs.Layouts.{concerned_members, concerned_of, module_rule}
+use Rattle.module_semantics.specs.ExpressionForms.{global_has_form}
+use Rattle.module_semantics.specs.Undeclared.{is_spellable}
 use Rattle.naga_info.specs.declared.info.ModuleInfo.{ModuleInfo}
 use Rattle.naga_info.specs.declared.info.TypeResolution.TheVariants.{Handle}
 use Rattle.naga_ir.specs.declared.binding.Binding.TheVariants as binding

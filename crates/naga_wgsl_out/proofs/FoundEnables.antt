@@ -6,7 +6,7 @@ use Rattle.std.proofs.Common.{refl, sym, add-one, drop-cons}
 use Rattle.std.proofs.Math.Bool.{or-false, or_assoc}
 use Rattle.std.specs.Prelude.{◌||◌}
 use Rattle.std.specs.List.{enumerate_from, list_any}
-use Rattle.module_meaning.specs.Enables.{Extension}
+use Rattle.module_semantics.specs.Enables.{Extension}
 use Rattle.naga_wgsl_out.specs.declared.enables.Enables.{Enables}
 use Rattle.naga_wgsl_out.specs.Enables.{either, enables_of}
 

@@ -17,9 +17,9 @@ use Rattle.naga_ir.specs.declared.module.Function.{Function}
 use Rattle.naga_ir.specs.declared.module.Module.{Module}
 use Rattle.naga_info.specs.declared.info.ExpressionInfo.{ExpressionInfo}
 use Rattle.naga_info.specs.declared.info.ModuleInfo.{ModuleInfo}
-use Rattle.module_meaning.specs.acceptance.Accepted.{is_accepted}
-use Rattle.module_meaning.specs.DeclarationForms.{entry_point_numbered}
-use Rattle.module_meaning.specs.FunctionNumbers.{all_functions, entry_functions, function_type}
+use Rattle.module_semantics.specs.acceptance.Accepted.{is_accepted}
+use Rattle.module_semantics.specs.DeclarationForms.{entry_point_numbered}
+use Rattle.module_semantics.specs.FunctionNumbers.{all_functions, entry_functions, function_type}
 use Rattle.naga_back.specs.declared.context.FunctionType.{FunctionType}
 use Rattle.naga_back.specs.declared.context.FunctionType.TheVariants as item
 use Rattle.wgsl_text.specs.Attributes.{attributes_pieces}
@@ -38,9 +38,9 @@ use Rattle.wgsl_text.specs.Text.{text}
 use Rattle.naga_names.specs.Naming.{Names}
 use Rattle.naga_scope.specs.ExpressionNames.{NamesLabels}
 use Rattle.naga_scope.specs.Plans.{IsPlanOf, Planned}
-use Rattle.module_meaning.specs.Enables.{written_enables}
-use Rattle.module_meaning.specs.Names.{expression_name, labels_before, labels_named_in}
-use Rattle.module_meaning.specs.Names.{module_names, wgsl_names}
+use Rattle.module_semantics.specs.Enables.{written_enables}
+use Rattle.module_semantics.specs.Names.{expression_name, labels_before, labels_named_in}
+use Rattle.module_semantics.specs.Names.{module_names, wgsl_names}
 use Rattle.naga_wgsl_fns.specs.Appends.{Appends, StoppedWithin, Wrote}
 use Rattle.naga_wgsl_fns.specs.Attributes.{attributes_text}
 use Rattle.naga_back.specs.Flags.{annotates_types}
@@ -63,7 +63,7 @@ use Rattle.naga_wgsl_out.specs.Writing.{written_text}
 use Rattle.naga_wgsl_out.proofs.ExpressionNames.{named_plan, none_full}
 use Rattle.naga_wgsl_fns.proofs.PlanRefusals.{fault_fails}
 use Rattle.naga_wgsl_out.proofs.ModuleScopes.{has_plan_holds}
-use Rattle.module_meaning.proofs.FunctionNumbers.{info_among, type_of_entry_point, type_of_function}
+use Rattle.module_semantics.proofs.FunctionNumbers.{info_among, type_of_entry_point, type_of_function}
 use Rattle.naga_form.proofs.statements.WrittenFunctions.{entry_point_at}
 use Rattle.naga_wgsl_fns.proofs.FunctionRows.{no_entry_point}
 use Rattle.naga_names.proofs.Reset.{enumerate_from-append}

@@ -8,8 +8,8 @@ use Rattle.std.specs.List.{enumerate_from}
 use Rattle.std.specs.Prelude.{Some, None, if◌then◌else◌}
 use Rattle.naga_ir.specs.declared.module.Module.{Module}
 use Rattle.naga_names.specs.declared.key.NameKey.{NameKey}
-use Rattle.module_meaning.specs.Names.{module_names, name_in}
-use Rattle.module_meaning.specs.Types.{type_names}
+use Rattle.module_semantics.specs.Names.{module_names, name_in}
+use Rattle.module_semantics.specs.Types.{type_names}
 use Rattle.naga_form.specs.ConstantForms.{global_form}
 use Rattle.naga_words.specs.Output.{joined_texts}
 use Rattle.wgsl_text.proofs.Functions.{value_text as value_row_text}

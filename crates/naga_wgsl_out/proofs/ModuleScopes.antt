@@ -10,16 +10,16 @@ use Rattle.naga_ir.specs.declared.module.Module.{Module}
 use Rattle.naga_info.specs.declared.info.ModuleInfo.{ModuleInfo}
 use Rattle.shader_runs.specs.Program.{Function}
 use Rattle.shader_runs.specs.ScopeRules.{ScopeHolds}
-use Rattle.module_meaning.specs.acceptance.Accepted.{is_accepted}
-use Rattle.module_meaning.proofs.Lists.{all_pass}
-use Rattle.module_meaning.specs.DeclarationForms.{DeclarationsHaveForms}
-use Rattle.module_meaning.specs.Written.{AllWrittenHaveForms}
-use Rattle.module_meaning.specs.Premises.{EachScopeHolds, ScopesHold, handles_are_counted}
-use Rattle.module_meaning.specs.FunctionNumbers.{all_functions, all_infos}
-use Rattle.module_meaning.specs.FunctionShapes.{function_shapes}
+use Rattle.module_semantics.specs.acceptance.Accepted.{is_accepted}
+use Rattle.module_semantics.proofs.Lists.{all_pass}
+use Rattle.module_semantics.specs.DeclarationForms.{DeclarationsHaveForms}
+use Rattle.module_semantics.specs.Written.{AllWrittenHaveForms}
+use Rattle.module_semantics.specs.Premises.{EachScopeHolds, ScopesHold, handles_are_counted}
+use Rattle.module_semantics.specs.FunctionNumbers.{all_functions, all_infos}
+use Rattle.module_semantics.specs.FunctionShapes.{function_shapes}
 use Rattle.naga_form.proofs.statements.AcceptedFunctions.{all_counted}
 use Rattle.naga_names.proofs.Refusal.{element}
-use Rattle.module_meaning.specs.Names.{labels_before}
+use Rattle.module_semantics.specs.Names.{labels_before}
 use Rattle.naga_wgsl_fns.specs.declared.refusals.error.Error.{Error}
 use Rattle.naga_wgsl_fns.specs.declared.refusals.error.Error.TheVariants.{Custom, FmtError, Memory}
 use Rattle.naga_wgsl_fns.specs.declared.refusals.error.Error.TheVariants.{Unimplemented}

@@ -19,14 +19,14 @@ use Rattle.naga_names.proofs.Members.{member_named, member_put}
 use Rattle.naga_names.specs.declared.key.NameKey.TheVariants as key
 use Rattle.naga_names.proofs.NamedItems.{constant_stands, global_stands, named_there}
 use Rattle.naga_names.proofs.NamedItems.{override_stands, type_stands}
-use Rattle.module_meaning.specs.Names.{reserved_prefixes, wgsl_names, module_names, function_name}
-use Rattle.module_meaning.specs.Names.{HasNamesOf, item_labels}
+use Rattle.module_semantics.specs.Names.{reserved_prefixes, wgsl_names, module_names, function_name}
+use Rattle.module_semantics.specs.Names.{HasNamesOf, item_labels}
 use Rattle.naga_form.proofs.names.Names.{name_is, function_item, argument_item, function_there}
 use Rattle.naga_form.proofs.names.Names.{argument_there, local_item, local_there}
 use Rattle.naga_form.proofs.names.MemberNames.{puts}
 use Rattle.naga_names.proofs.Refusal.{element}
-use Rattle.module_meaning.proofs.Lists.{list_all_at}
-use Rattle.module_meaning.specs.FunctionNumbers.{all_functions, function_type}
+use Rattle.module_semantics.proofs.Lists.{list_all_at}
+use Rattle.module_semantics.specs.FunctionNumbers.{all_functions, function_type}
 use Rattle.naga_back.specs.FunctionContext.{argument_key, function_key}
 use Rattle.naga_back.specs.declared.context.FunctionType.{FunctionType}
 use Rattle.naga_back.specs.declared.context.FunctionType.TheVariants as item

@@ -4,13 +4,13 @@ use Rattle.std.proofs.Common.{below_more, inl, inr, length, slice_get, subst, sy
 use Rattle.std.specs.Prelude.{Err, IfErr, IfOk, IsErrAnd, IsFalse, IsSomeAnd, IsTrue, MatchOption}
 use Rattle.std.specs.Prelude.{Ok, Result}
 use Rattle.std.proofs.lemmas.Option.{slice_get_within}
-use Rattle.module_meaning.specs.acceptance.Accepted.{is_accepted}
-use Rattle.module_meaning.specs.DeclarationForms.{DeclarationsHaveForms}
-use Rattle.module_meaning.specs.ExpressionForms.{expression_has_form}
-use Rattle.module_meaning.specs.FunctionNumbers.{all_functions, all_infos, function_number}
-use Rattle.module_meaning.specs.Names.{labels_before, wgsl_names}
-use Rattle.module_meaning.specs.Undeclared.{is_spellable}
-use Rattle.module_meaning.specs.Written.{IsSpelledIn}
+use Rattle.module_semantics.specs.acceptance.Accepted.{is_accepted}
+use Rattle.module_semantics.specs.DeclarationForms.{DeclarationsHaveForms}
+use Rattle.module_semantics.specs.ExpressionForms.{expression_has_form}
+use Rattle.module_semantics.specs.FunctionNumbers.{all_functions, all_infos, function_number}
+use Rattle.module_semantics.specs.Names.{labels_before, wgsl_names}
+use Rattle.module_semantics.specs.Undeclared.{is_spellable}
+use Rattle.module_semantics.specs.Written.{IsSpelledIn}
 use Rattle.naga_form.proofs.statements.AcceptedFunctions.{all_counted}
 use Rattle.naga_info.specs.declared.info.ExpressionInfo.{ExpressionInfo}
 use Rattle.naga_info.specs.declared.info.ModuleInfo.{ModuleInfo}

@@ -6,10 +6,10 @@ use Rattle.std.proofs.Common.{◌≡◌, ◌∙◌, ◌+◌, ℕ, suc, List, ap,
 use Rattle.std.proofs.lemmas.Option.{none-some}
 use Rattle.std.specs.Option.{option_map, option_map_or}
 use Rattle.std.specs.Prelude.{None, Option, Some, unwrap_or}
-use Rattle.module_meaning.proofs.Layouts.{stand_in_order}
-use Rattle.module_meaning.proofs.WrittenSizes.{Laid, aligned_at, begins_at, given, laid}
-use Rattle.module_meaning.proofs.WrittenSizes.{placed_none, placed_some, unlaid}
-use Rattle.module_meaning.specs.Layouts.{layout_in, span_of, written_size}
+use Rattle.module_semantics.proofs.Layouts.{stand_in_order}
+use Rattle.module_semantics.proofs.WrittenSizes.{Laid, aligned_at, begins_at, given, laid}
+use Rattle.module_semantics.proofs.WrittenSizes.{placed_none, placed_some, unlaid}
+use Rattle.module_semantics.specs.Layouts.{layout_in, span_of, written_size}
 use Rattle.naga_ir.specs.declared.module.Module.{Module}
 use Rattle.naga_ir.specs.declared.types.StructMember.{StructMember}
 use Rattle.naga_layout.specs.Types.{StandInOrder, placed_members}

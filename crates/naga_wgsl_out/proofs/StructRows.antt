@@ -21,13 +21,13 @@ use Rattle.naga_names.proofs.Refusal.{run_out_unfit}
 use Rattle.naga_names.specs.Refusal.{HasLongStruct}
 use Rattle.naga_names.specs.Reset.{members_of}
 use Rattle.naga_names.specs.declared.key.NameKey.TheVariants as key
-use Rattle.module_meaning.proofs.ExpressionForms.{type_form_of_spellable}
-use Rattle.module_meaning.specs.AlikeTypes.{has_type_form}
-use Rattle.module_meaning.specs.DeclarationForms.{IsDeclaredType, IsMemberBinding}
-use Rattle.module_meaning.specs.Layouts.{span_of, written_size}
-use Rattle.module_meaning.specs.Names.{module_names, name_in, wgsl_names}
-use Rattle.module_meaning.specs.Types.{type_names}
-use Rattle.module_meaning.specs.Undeclared.{is_declared, is_undeclared}
+use Rattle.module_semantics.proofs.ExpressionForms.{type_form_of_spellable}
+use Rattle.module_semantics.specs.AlikeTypes.{has_type_form}
+use Rattle.module_semantics.specs.DeclarationForms.{IsDeclaredType, IsMemberBinding}
+use Rattle.module_semantics.specs.Layouts.{span_of, written_size}
+use Rattle.module_semantics.specs.Names.{module_names, name_in, wgsl_names}
+use Rattle.module_semantics.specs.Types.{type_names}
+use Rattle.module_semantics.specs.Undeclared.{is_declared, is_undeclared}
 use Rattle.naga_form.specs.Attributes.{passing_attributes}
 use Rattle.naga_form.specs.Declarations.{member_form}
 use Rattle.naga_words.specs.Output.{joined_texts}

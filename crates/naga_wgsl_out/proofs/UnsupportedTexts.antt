@@ -3,10 +3,10 @@ use Rattle.std.proofs.Common.{ℕ, Bool, true, false, List, None, Option, Some, 
 use Rattle.std.proofs.Common.{inl, inr, refl, subst, sym}
 use Rattle.std.specs.List.{IsAmong}
 use Rattle.std.specs.Prelude.{IsSomeAnd, slice_get}
-use Rattle.module_meaning.specs.ExpressionForms.{known_passes}
-use Rattle.module_meaning.specs.ExpressionOperators.{has_parts}
-use Rattle.module_meaning.specs.LackingScalars.{lacking_scalar}
-use Rattle.module_meaning.specs.Undeclared.{names_undeclared}
+use Rattle.module_semantics.specs.ExpressionForms.{known_passes}
+use Rattle.module_semantics.specs.ExpressionOperators.{has_parts}
+use Rattle.module_semantics.specs.LackingScalars.{lacking_scalar}
+use Rattle.module_semantics.specs.Undeclared.{names_undeclared}
 use Rattle.naga_info.specs.declared.info.ExpressionInfo.{ExpressionInfo}
 use Rattle.naga_info.specs.declared.info.TypeResolution.{TypeResolution}
 use Rattle.naga_info.specs.declared.info.TypeResolution.TheVariants.{Handle}

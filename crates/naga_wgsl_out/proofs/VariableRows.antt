@@ -15,13 +15,13 @@ use Rattle.naga_ir.specs.declared.module.GlobalVariable.{GlobalVariable}
 use Rattle.naga_ir.specs.declared.module.Module.{Module}
 use Rattle.naga_ir.specs.declared.types.AddressSpace.{AddressSpace}
 use Rattle.naga_names.specs.declared.key.NameKey.TheVariants as key
-use Rattle.module_meaning.proofs.ExpressionForms.{type_form_of_spellable}
-use Rattle.module_meaning.specs.AlikeTypes.{has_type_form}
-use Rattle.module_meaning.specs.DeclarationForms.{IsDeclaredType, IsInitialiser}
-use Rattle.module_meaning.specs.Names.{module_names, name_in}
-use Rattle.module_meaning.specs.StageBindings.{is_coherent_memory, is_volatile_memory}
-use Rattle.module_meaning.specs.Types.{type_names}
-use Rattle.module_meaning.specs.ExpressionForms.{global_has_form}
+use Rattle.module_semantics.proofs.ExpressionForms.{type_form_of_spellable}
+use Rattle.module_semantics.specs.AlikeTypes.{has_type_form}
+use Rattle.module_semantics.specs.DeclarationForms.{IsDeclaredType, IsInitialiser}
+use Rattle.module_semantics.specs.Names.{module_names, name_in}
+use Rattle.module_semantics.specs.StageBindings.{is_coherent_memory, is_volatile_memory}
+use Rattle.module_semantics.specs.Types.{type_names}
+use Rattle.module_semantics.specs.ExpressionForms.{global_has_form}
 use Rattle.naga_form.specs.Attributes.{attribute_if, decoration_attributes, global_attributes}
 use Rattle.naga_form.specs.Attributes.{resource_attributes}
 use Rattle.naga_form.specs.Declarations.{space_of_words, variable_form}

@@ -7,8 +7,8 @@ use Rattle.std.specs.Option.{option_to_list}
 use Rattle.naga_ir.specs.declared.module.Constant.{Constant}
 use Rattle.naga_ir.specs.declared.module.Module.{Module}
 use Rattle.naga_ir.specs.declared.module.Override as ir_override
-use Rattle.module_meaning.specs.Names.{constant_name, module_names}
-use Rattle.module_meaning.specs.Types.{type_names}
+use Rattle.module_semantics.specs.Names.{constant_name, module_names}
+use Rattle.module_semantics.specs.Types.{type_names}
 use Rattle.naga_form.specs.ConstantForms.{global_form}
 use Rattle.naga_form.specs.Declarations.{constant_form, override_form}
 use Rattle.naga_form.specs.Types.{type_form}

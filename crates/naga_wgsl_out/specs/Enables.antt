@@ -5,11 +5,11 @@ use Rattle.wgsl_text.specs.Declarations.{enables_pieces}
 use Rattle.wgsl_text.specs.Functions.{group_end}
 use Rattle.wgsl_text.specs.Text.{text}
 use Rattle.naga_wgsl_out.specs.declared.enables.Enables.{Enables}
-use Rattle.module_meaning.specs.Enables.{Extension, f16, int16, dual_source_blending}
-use Rattle.module_meaning.specs.Enables.{clip_distances}
-use Rattle.module_meaning.specs.Enables.{mesh_shader, binding_array, draw_index, primitive_index}
-use Rattle.module_meaning.specs.Enables.{cooperative_matrix, ray_tracing_pipeline, per_vertex}
-use Rattle.module_meaning.specs.Enables.{subgroups}
+use Rattle.module_semantics.specs.Enables.{Extension, f16, int16, dual_source_blending}
+use Rattle.module_semantics.specs.Enables.{clip_distances}
+use Rattle.module_semantics.specs.Enables.{mesh_shader, binding_array, draw_index, primitive_index}
+use Rattle.module_semantics.specs.Enables.{cooperative_matrix, ray_tracing_pipeline, per_vertex}
+use Rattle.module_semantics.specs.Enables.{subgroups}
 
 -- those that pass a test
 abbrev pub enables_of : (Extension → Bool) → Enables

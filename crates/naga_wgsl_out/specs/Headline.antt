@@ -8,10 +8,10 @@ use Rattle.naga_info.specs.declared.info.ModuleInfo.{ModuleInfo}
 use Rattle.wgsl_text.specs.Reading.{Reads, HasOneReading}
 use Rattle.wgsl_text.specs.Text.{tokens}
 use Rattle.wgsl_text.specs.Declarations.{Program}
-use Rattle.module_meaning.specs.FunctionLets.{BindsAs}
-use Rattle.module_meaning.specs.Faithful.{HasInterfaceOf, RunsAs}
-use Rattle.module_meaning.specs.Layouts.{KeepsLayouts}
-use Rattle.module_meaning.specs.Resolution.{ResolvesAs}
+use Rattle.module_semantics.specs.FunctionLets.{BindsAs}
+use Rattle.module_semantics.specs.Faithful.{HasInterfaceOf, RunsAs}
+use Rattle.module_semantics.specs.Layouts.{KeepsLayouts}
+use Rattle.module_semantics.specs.Resolution.{ResolvesAs}
 use Rattle.naga_wgsl_fns.specs.declared.refusals.error.Error.{Error}
 use Rattle.naga_wgsl_out.specs.ModuleRefusals.{RefusesOnlyFor}
 use Rattle.naga_back.specs.declared.flags.WriterFlags.{WriterFlags}

@@ -6,9 +6,9 @@ use Rattle.std.specs.Option.{option_map}
 use Rattle.naga_ir.specs.declared.module.Module.{Module}
 use Rattle.naga_names.specs.Keys.{names_in}
 use Rattle.naga_names.specs.declared.key.NameKey.{NameKey}
-use Rattle.module_meaning.specs.DeclarationForms.{DeclarationsHaveForms}
-use Rattle.module_meaning.specs.Names.{module_names, name_in}
-use Rattle.module_meaning.specs.Types.{type_names}
+use Rattle.module_semantics.specs.DeclarationForms.{DeclarationsHaveForms}
+use Rattle.module_semantics.specs.Names.{module_names, name_in}
+use Rattle.module_semantics.specs.Types.{type_names}
 use Rattle.naga_form.specs.ConstantForms.{global_form}
 use Rattle.wgsl_text.specs.Functions.{value_pieces}
 use Rattle.wgsl_text.specs.Text.{text}

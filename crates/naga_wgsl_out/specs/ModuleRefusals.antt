@@ -4,10 +4,10 @@
 use Rattle.std.specs.Prelude.{◌≡◌, ⊤, ℕ, List, ◌⊎◌, codes, string_bytes, Result, Ok, Err, Bool}
 use Rattle.naga_ir.specs.declared.module.Module.{Module}
 use Rattle.naga_info.specs.declared.info.ModuleInfo.{ModuleInfo}
-use Rattle.module_meaning.specs.DeclarationForms.{DeclarationsHaveForms}
-use Rattle.module_meaning.specs.Written.{AllWrittenHaveForms}
-use Rattle.module_meaning.specs.Names.{HasNamesOf, labels_before, wgsl_names}
-use Rattle.module_meaning.specs.Premises.{ScopesHold}
+use Rattle.module_semantics.specs.DeclarationForms.{DeclarationsHaveForms}
+use Rattle.module_semantics.specs.Written.{AllWrittenHaveForms}
+use Rattle.module_semantics.specs.Names.{HasNamesOf, labels_before, wgsl_names}
+use Rattle.module_semantics.specs.Premises.{ScopesHold}
 use Rattle.naga_names.specs.Keys.{NameMap}
 use Rattle.naga_names.specs.Naming.{Names}
 use Rattle.naga_names.specs.Refusal.{SomeNameIsFull, SomeKeyIsFull}
@@ -20,7 +20,7 @@ use Rattle.naga_wgsl_fns.specs.Refusals.{TellsOfForm, TellsOfFullNamer, TellsOfM
 use Rattle.naga_wgsl_fns.specs.declared.refusals.error.Error.{Error}
 use Rattle.naga_wgsl_fns.specs.declared.refusals.error.Error.TheVariants.{FmtError, Custom, Memory}
 
--- the names of some items of the module can't be told, since so many of them have one base; or
+-- the names of some items of the module can't be told, since so many of them have one stem; or
 -- those of some labels that front ends gave in a function, after all labels in front of them; or,
 -- of either, the key of an item is out of range
 abbrev pub ItemsAreFull : Module → Type 0
@@ -58,7 +58,7 @@ HasUnsupported explicit m info error =
     NamesDeclaration m error ⊎ ((number : ℕ) × HasUnsupportedIn explicit m info number error)
 
 -- ---- refusals
--- the function with some number breaks a rule of scope at some place: it uses a handle that is out
+-- the function with some number breaks a rule of scope somewhere: it uses a handle that is out
 -- of scope there, or gives one that may not be given there
 abbrev pub IsOutOfScope : Module → ModuleInfo → (message : List ℕ) → Type 0
 IsOutOfScope m info message =

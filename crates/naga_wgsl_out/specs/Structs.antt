@@ -10,10 +10,10 @@ use Rattle.naga_ir.specs.declared.types.StructMember as ir_member
 use Rattle.naga_ir.specs.declared.types.Type_.{Type_}
 use Rattle.naga_names.specs.Reset.{members_of}
 use Rattle.naga_names.specs.declared.key.NameKey.TheVariants as key
-use Rattle.module_meaning.specs.Layouts.{span_of}
-use Rattle.module_meaning.specs.Names.{module_names, name_in}
-use Rattle.module_meaning.specs.Types.{type_names}
-use Rattle.module_meaning.specs.Undeclared.{is_declared}
+use Rattle.module_semantics.specs.Layouts.{span_of}
+use Rattle.module_semantics.specs.Names.{module_names, name_in}
+use Rattle.module_semantics.specs.Types.{type_names}
+use Rattle.module_semantics.specs.Undeclared.{is_declared}
 use Rattle.naga_form.specs.Attributes.{attribute_of}
 use Rattle.naga_form.specs.Declarations.{member_form, struct_form}
 use Rattle.wgsl_layout.specs.declared.layouts.Layout.{Layout}

@@ -9,8 +9,8 @@ use Rattle.naga_ir.specs.declared.module.GlobalVariable.{GlobalVariable}
 use Rattle.naga_ir.specs.declared.module.Module.{Module}
 use Rattle.naga_ir.specs.declared.types.AddressSpace.{AddressSpace}
 use Rattle.naga_names.specs.declared.key.NameKey.TheVariants as key
-use Rattle.module_meaning.specs.Names.{module_names}
-use Rattle.module_meaning.specs.Types.{type_names}
+use Rattle.module_semantics.specs.Names.{module_names}
+use Rattle.module_semantics.specs.Types.{type_names}
 use Rattle.naga_form.specs.Attributes.{resource_attributes}
 use Rattle.naga_form.specs.Declarations.{space_form, variable_form}
 use Rattle.wgsl_text.specs.Declarations.{Global, global_attributes_pieces, globals_pieces}

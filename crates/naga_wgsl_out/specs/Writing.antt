@@ -10,11 +10,11 @@ use Rattle.naga_ir.specs.declared.module.Module.{Module}
 use Rattle.naga_info.specs.declared.info.ModuleInfo.{ModuleInfo}
 use Rattle.naga_scope.specs.Plans.{AreExpressionNames, IsPlanOf, Planned}
 use Rattle.naga_form.specs.Declarations.{written_program}
-use Rattle.module_meaning.specs.Enables.{written_enables}
-use Rattle.module_meaning.specs.FunctionNumbers.{all_functions, function_type}
-use Rattle.module_meaning.specs.Names.{expression_name, labels_before}
+use Rattle.module_semantics.specs.Enables.{written_enables}
+use Rattle.module_semantics.specs.FunctionNumbers.{all_functions, function_type}
+use Rattle.module_semantics.specs.Names.{expression_name, labels_before}
 use Rattle.naga_names.specs.Naming.{Names}
-use Rattle.wgsl_text.specs.Reading.{layout}
+use Rattle.wgsl_text.specs.Reading.{printed_program}
 use Rattle.naga_wgsl_fns.specs.Appends.{StoppedWithin, Wrote}
 use Rattle.naga_back.specs.Flags.{annotates_types}
 use Rattle.naga_wgsl_fns.specs.Functions.{known_of, text_of, text_of_function}
@@ -37,7 +37,7 @@ pub record Writing (W : Type 0) : Type 0 where
 -- something has none, nothing says what stands here in its place: a call that refuses the module
 -- leaves no more than a beginning of this text, in front of the first function that it refuses.
 abbrev pub written_text : Module → ModuleInfo → WriterFlags → List ℕ
-written_text m info flags = layout (written_program m info flags)
+written_text m info flags = printed_program (written_program m info flags)
 
 -- a call that answers `Ok` appends the text of the module
 abbrev pub AppendsItsText : Module → ModuleInfo → WriterFlags → Result Unit Error →

@@ -2,10 +2,10 @@
 //! and variables.
 
 ghost use Rattle.std.specs.Prelude.{◌≡◌, ℕ, IsTrue, Some};
-ghost use Rattle.module_meaning.specs.AlikeTypes.{has_type_form};
-ghost use Rattle.module_meaning.specs.DeclarationForms.{DeclarationsHaveForms};
-ghost use Rattle.module_meaning.specs.Names.{HasNamesOf};
-ghost use Rattle.module_meaning.specs.ExpressionForms.{global_has_form};
+ghost use Rattle.module_semantics.specs.AlikeTypes.{has_type_form};
+ghost use Rattle.module_semantics.specs.DeclarationForms.{DeclarationsHaveForms};
+ghost use Rattle.module_semantics.specs.Names.{HasNamesOf};
+ghost use Rattle.module_semantics.specs.ExpressionForms.{global_has_form};
 ghost use Rattle.naga_info.specs.declared.info.TypeResolution.TheVariants as resolution;
 ghost use Rattle.naga_names.specs.Keys.{names_in};
 ghost use Rattle.naga_scope.specs.Tables.{AreTablesOf};

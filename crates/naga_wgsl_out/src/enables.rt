@@ -4,8 +4,8 @@
 ghost use Rattle.std.specs.Prelude.{◌≡◌, false, true};
 ghost use Rattle.std.specs.List.{list_any};
 ghost use Rattle.std.specs.Option.{option_map_or};
-ghost use Rattle.module_meaning.specs.Enables.{entry_point_needs, is_enabled, is_needed};
-ghost use Rattle.module_meaning.specs.Enables.{type_needs, written_enables};
+ghost use Rattle.module_semantics.specs.Enables.{entry_point_needs, is_enabled, is_needed};
+ghost use Rattle.module_semantics.specs.Enables.{type_needs, written_enables};
 ghost use Rattle.naga_back.specs.Flags.{is_portable};
 ghost use Rattle.naga_ir.specs.declared.binding.Binding.TheVariants as binding;
 ghost use Rattle.naga_ir.specs.declared.types.TypeInner.TheVariants as inner;
@@ -15,7 +15,7 @@ ghost use Rattle.naga_wgsl_out.specs.Enables.{in_each_text, is_any, line_text, w
 ghost use Rattle.naga_wgsl_out.specs.Enables.{words_found};
 ghost use Rattle.naga_words.specs.Output.{Writes};
 
-use module_meaning::extensions::{names_subgroups, spells_halves};
+use module_semantics::extensions::{names_subgroups, spells_halves};
 use naga_back::{WriterFlags, is_portable};
 use naga_info::ModuleInfo;
 use naga_ir::{

@@ -1,7 +1,7 @@
 //! The structs that a text declares, each with its members.
 
 ghost use Rattle.std.specs.Prelude.{◌≡◌, ◌+◌, IfSome, Some, slice_get};
-ghost use Rattle.module_meaning.specs.Layouts.{layout_in, written_size};
+ghost use Rattle.module_semantics.specs.Layouts.{layout_in, written_size};
 ghost use Rattle.naga_names.specs.declared.key.NameKey.TheVariants as key;
 ghost use Rattle.naga_scope.specs.Tables.{AreTablesOf};
 ghost use Rattle.naga_words.specs.Output.{Writes};

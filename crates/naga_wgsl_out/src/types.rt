@@ -2,7 +2,7 @@
 
 ghost use Rattle.std.specs.Prelude.{◌≡◌, ◌<◌, IsTrue, length};
 ghost use Rattle.std.specs.Option.{option_map};
-ghost use Rattle.module_meaning.specs.acceptance.Ranges.{parts_stand_before};
+ghost use Rattle.module_semantics.specs.acceptance.Ranges.{parts_stand_before};
 ghost use Rattle.naga_layout.specs.Types.{layout_at, told, user_rule};
 
 use naga_ir::{Handle, Type_, UniqueArena};
@@ -39,7 +39,7 @@ pub use naga_words::{SinkError, TextSink, TypeContext, TypeTextError, WriterType
 ///     // Some(TypeLayout { align: 4, size: Some(20) })
 /// }
 /// ```
-#[tactic(auto, using(module_meaning::proofs::Layouts::stand_in_order))]
+#[tactic(auto, using(module_semantics::proofs::Layouts::stand_in_order))]
 pub fn type_layout(types: &UniqueArena<Type_>, handle: Handle<Type_>) -> Option<TypeLayout>
     requires ordered { IsTrue (parts_stand_before types.now) }
     requires there { handle < length types.now }

@@ -2,7 +2,7 @@
 
 ghost use Rattle.std.specs.Prelude.{◌≡◌, IsTrue, None};
 ghost use Rattle.module_limits.specs.Nesting.{nested_past};
-ghost use Rattle.module_meaning.specs.acceptance.Accepted.{is_accepted};
+ghost use Rattle.module_semantics.specs.acceptance.Accepted.{is_accepted};
 ghost use Rattle.naga_wgsl_out.specs.Within.{AnswersBounded, AnswersWithin, TellsBounded, unfailed};
 ghost use Rattle.naga_wgsl_out.specs.Within.{unfailed_error};
 

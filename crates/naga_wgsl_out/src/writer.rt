@@ -2,12 +2,12 @@
 
 ghost use Rattle.std.specs.Prelude.{◌≡◌, [], IfErr, IfOk, IsTrue, OnOk};
 ghost use Rattle.std.specs.Prelude.{string_bytes};
-ghost use Rattle.module_meaning.specs.acceptance.Accepted.{is_accepted};
-ghost use Rattle.module_meaning.specs.DeclarationForms.{DeclarationsHaveForms};
-ghost use Rattle.module_meaning.specs.FunctionNumbers.{IsFunctionOf, function_number};
+ghost use Rattle.module_semantics.specs.acceptance.Accepted.{is_accepted};
+ghost use Rattle.module_semantics.specs.DeclarationForms.{DeclarationsHaveForms};
+ghost use Rattle.module_semantics.specs.FunctionNumbers.{IsFunctionOf, function_number};
 ghost use Rattle.naga_names.specs.Keys.{names_in};
 ghost use Rattle.naga_names.specs.Refusal.{IsResetRefusal};
-ghost use Rattle.module_meaning.specs.Names.{HasNamesOf, wgsl_names};
+ghost use Rattle.module_semantics.specs.Names.{HasNamesOf, wgsl_names};
 ghost use Rattle.naga_scope.specs.Plans.{AreExpressionNames, IsPlanOf};
 ghost use Rattle.naga_scope.specs.Tables.{AreTablesOf};
 ghost use Rattle.naga_wgsl_fns.specs.Appends.{Appends};
@@ -292,7 +292,7 @@ fn line_after(module: &Module, ty: &FunctionType) -> &'static str
 /// An item without a name is an error, which is one of these:
 ///
 /// - [`Error::Custom`], `namer is full`: more than 4,294,967,296 items that are no members of structs
-///   have labels with one base.
+///   have labels with one stem.
 /// - [`Error::Custom`], `name key out of range`: no key can tell the item. A key tells 4,294,967,296
 ///   members of a struct, as many arguments of a function, and 65,536 entry points.
 /// - [`Error::Memory`]: memory ran out for the names, or for the text of one of the other two.

@@ -10,7 +10,7 @@ pub mod sample;
 mod statement_rows;
 pub mod structs;
 
-pub use rows::{SampleName, build_argument};
+pub use rows::{SampleModule, build_argument};
 pub use sample::Sample;
 pub use statement_rows::nest;
 pub use structs::{add_placed_struct, add_struct};

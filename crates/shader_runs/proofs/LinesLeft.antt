@@ -50,13 +50,13 @@ module _ (f : Naming) where
         line_continues k st s (form_all f (named_by f.function st k) ss (after f k st s)) only.0
         ∙ ap (λ c. holds_continue st || c) (lines_continue (named_by f.function st k) ss (after f k st s) only.1)
 
-    groups_continue : (k : ℕ) (labels : List CaseValue) (cs : Cases) (s : Handles) → OnlyEmptyCasesFall cs →
-        some_group_continues (form_cases f k labels cs s) ≡ some_case_continues cs
-    groups_continue k labels no_case s only = refl
-    groups_continue k labels (case label b true cs) s only =
-        groups_continue (named_by_all f.function b k) (labels ++ label ∷ []) cs s only.2
+    groups_continue : (k : ℕ) (case_values : List CaseValue) (cs : Cases) (s : Handles) → OnlyEmptyCasesFall cs →
+        some_group_continues (form_cases f k case_values cs s) ≡ some_case_continues cs
+    groups_continue k case_values no_case s only = refl
+    groups_continue k case_values (case case_value b true cs) s only =
+        groups_continue (named_by_all f.function b k) (case_values ++ case_value ∷ []) cs s only.2
         ∙ ap (λ c. c || some_case_continues cs) (sym (falls_continue b only.0))
-    groups_continue k labels (case label b false cs) s only =
+    groups_continue k case_values (case case_value b false cs) s only =
         λ i. lines_continue k b s only.1 i || groups_continue (named_by_all f.function b k) [] cs s only.2 i
 
 module _ (f : Naming) where
@@ -139,12 +139,12 @@ module _ (f : Naming) where
         line_counted k l st s (form_all f (named_by f.function st k) ss (after f k st s))
         ∙ lines_counted (named_by f.function st k) (lets_by f.function st l) ss (after f k st s)
 
-    pub groups_counted : (k l : ℕ) (labels : List CaseValue) (cs : Cases) (s : Handles) →
-        lets_following_groups l (form_cases f k labels cs s) ≡ lets_by_cases f.function cs l
-    groups_counted k l labels no_case s = refl
-    groups_counted k l labels (case label b true cs) s = groups_counted (named_by_all f.function b k) l
-        (labels ++ label ∷ []) cs s
-    groups_counted k l labels (case label b false cs) s =
+    pub groups_counted : (k l : ℕ) (case_values : List CaseValue) (cs : Cases) (s : Handles) →
+        lets_following_groups l (form_cases f k case_values cs s) ≡ lets_by_cases f.function cs l
+    groups_counted k l case_values no_case s = refl
+    groups_counted k l case_values (case case_value b true cs) s = groups_counted (named_by_all f.function b k) l
+        (case_values ++ case_value ∷ []) cs s
+    groups_counted k l case_values (case case_value b false cs) s =
         ap (λ n. lets_following_groups n (form_cases f (named_by_all f.function b k) [] cs s)) (lines_counted k l b s)
         ∙ groups_counted (named_by_all f.function b k) (lets_by_all f.function b l) [] cs s
 

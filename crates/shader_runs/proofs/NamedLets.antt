@@ -85,12 +85,12 @@ module _ (f : Naming) where
         ∙ names_both (statement_named_lets f k st) (statements_named_lets f k1 ss) refl
         (lines_bind k1 ss (after f k st s))
 
-    groups_bind : (k : ℕ) (labels : List CaseValue) (cs : Cases) (s : Handles) →
-        groups_lets (form_cases f k labels cs s) ≡ names_of (cases_named_lets f k cs)
-    groups_bind k labels no_case s = refl
-    groups_bind k labels (case label b true cs) s =
-        groups_bind (named_by_all f.function b k) (labels ++ label ∷ []) cs s
-    groups_bind k labels (case label b false cs) s =
+    groups_bind : (k : ℕ) (case_values : List CaseValue) (cs : Cases) (s : Handles) →
+        groups_lets (form_cases f k case_values cs s) ≡ names_of (cases_named_lets f k cs)
+    groups_bind k case_values no_case s = refl
+    groups_bind k case_values (case case_value b true cs) s =
+        groups_bind (named_by_all f.function b k) (case_values ++ case_value ∷ []) cs s
+    groups_bind k case_values (case case_value b false cs) s =
         let k1 = named_by_all f.function b k in
         names_both (statements_named_lets f k b) (cases_named_lets f k1 cs) (lines_bind k b s) (groups_bind k1 [] cs s)
 

@@ -388,49 +388,49 @@ module _ (p : Module) (c : Call) (n : Names) (d : Respond) (facts : Facts p c n 
 
   -- the values that wait in front of a case, and its own
   abbrev Awaited : CaseValue → List CaseValue → Cases → Type 0
-  Awaited x labels no_case = ⊥
-  Awaited x labels (case l b falls cs) = IsTrue (among x (labels ++ l ∷ []))
+  Awaited x case_values no_case = ⊥
+  Awaited x case_values (case l b falls cs) = IsTrue (among x (case_values ++ l ∷ []))
 
-  awaited_more : (x : CaseValue) (labels : List CaseValue) (b : Statements) (cs : Cases) → JoinsNext true b cs →
-      IsTrue (among x labels) → Awaited x labels cs
-  awaited_more x labels b (case l b1 falls cs) m e =
-      among_append x labels l ∙ or_left (among x labels) (same_case_value x l) e
-  awaited_more x labels end no_case m e = absurd m
-  awaited_more x labels (then st ss) no_case m e = absurd m
+  awaited_more : (x : CaseValue) (case_values : List CaseValue) (b : Statements) (cs : Cases) → JoinsNext true b cs →
+      IsTrue (among x case_values) → Awaited x case_values cs
+  awaited_more x case_values b (case l b1 falls cs) m e =
+      among_append x case_values l ∙ or_left (among x case_values) (same_case_value x l) e
+  awaited_more x case_values end no_case m e = absurd m
+  awaited_more x case_values (then st ss) no_case m e = absurd m
 
   -- the text's run is in the group of a case
   abbrev Found : ℕ → List CaseValue → Cases → Handles → CaseValue → ℕ → Type 0
-  Found k labels cs s x i =
-      GoesToGroup x (form_cases (naming c n) k labels cs s) (group_of cs i) ×
+  Found k case_values cs s x i =
+      GoesToGroup x (form_cases (naming c n) k case_values cs s) (group_of cs i) ×
       FitsAll p c n (named_before c.function cs i k) (body_at cs i) s ×
       ((q : Point) (names names1 : Scope) (t t1 : List Event) →
       Text (form_all (naming c n) (named_before c.function cs i k) (body_at cs i) s) q names t
-      names1 t1 → Text (lines_at (form_cases (naming c n) k labels cs s) (group_of cs i)) q
+      names1 t1 → Text (lines_at (form_cases (naming c n) k case_values cs s) (group_of cs i)) q
       names t names1 t1)
 
   -- case values that wait are those of the next group
-  waiting : (cs : Cases) (k : ℕ) (labels : List CaseValue) (s : Handles) (x : CaseValue) →
-      IsFollowed labels cs → IsTrue (among x labels) → FitsCases p c n k cs s →
-      GoesToGroup x (form_cases (naming c n) k labels cs s) 0
+  waiting : (cs : Cases) (k : ℕ) (case_values : List CaseValue) (s : Handles) (x : CaseValue) →
+      IsFollowed case_values cs → IsTrue (among x case_values) → FitsCases p c n k cs s →
+      GoesToGroup x (form_cases (naming c n) k case_values cs s) 0
   waiting no_case k [] s x w e m = absurd (true≢false (sym e))
   waiting no_case k (l ∷ ls) s x w e m = absurd w
-  waiting (case l b false cs) k labels s x w e m =
-      own_group (among_append x labels l ∙ or_left (among x labels) (same_case_value x l) e)
-  waiting (case l end true cs) k labels s x w e m =
-      waiting cs k (labels ++ l ∷ []) s x (falls_followed (labels ++ l ∷ []) cs m.0)
-      (among_append x labels l ∙ or_left (among x labels) (same_case_value x l) e) m.2
-  waiting (case l (then st ss) true cs) k labels s x w e m = absurd m.0
+  waiting (case l b false cs) k case_values s x w e m =
+      own_group (among_append x case_values l ∙ or_left (among x case_values) (same_case_value x l) e)
+  waiting (case l end true cs) k case_values s x w e m =
+      waiting cs k (case_values ++ l ∷ []) s x (falls_followed (case_values ++ l ∷ []) cs m.0)
+      (among_append x case_values l ∙ or_left (among x case_values) (same_case_value x l) e) m.2
+  waiting (case l (then st ss) true cs) k case_values s x w e m = absurd m.0
 
   found_here : (l : CaseValue) (b : Statements) (falls : Bool) (cs : Cases) (k : ℕ)
-      (labels : List CaseValue) (s : Handles) (x : CaseValue) → IsTrue (among x (labels ++ l ∷ [])) →
-      FitsCases p c n k (case l b falls cs) s → Found k labels (case l b falls cs) s x 0
-  found_here l b false cs k labels s x e m = (own_group e, m.1, λ q names names1 t t1 h. h)
-  found_here l end true cs k labels s x e m = (
-    waiting cs k (labels ++ l ∷ []) s x (falls_followed (labels ++ l ∷ []) cs m.0) e m.2,
+      (case_values : List CaseValue) (s : Handles) (x : CaseValue) → IsTrue (among x (case_values ++ l ∷ [])) →
+      FitsCases p c n k (case l b falls cs) s → Found k case_values (case l b falls cs) s x 0
+  found_here l b false cs k case_values s x e m = (own_group e, m.1, λ q names names1 t t1 h. h)
+  found_here l end true cs k case_values s x e m = (
+    waiting cs k (case_values ++ l ∷ []) s x (falls_followed (case_values ++ l ∷ []) cs m.0) e m.2,
     tt,
     λ q names names1 t t1 h. from_none _ q names names1 t t1 h,
   )
-  found_here l (then st ss) true cs k labels s x e m = absurd m.0
+  found_here l (then st ss) true cs k case_values s x e m = absurd m.0
 
   -- a case that falls through is empty
   nothing_done : (b : Statements) (cs : Cases) (kept kept1 : EmittedValues) (t t1 : List Event) →
@@ -440,29 +440,34 @@ module _ (p : Module) (c : Call) (n : Names) (d : Respond) (facts : Facts p c n 
 
   falls_to : {cs : Cases} {i : ℕ} {kept kept1 : EmittedValues} {t t1 : List Event} →
       FallsTo c bound cs i kept t kept1 t1 →
-      (k : ℕ) (labels : List CaseValue) (s : Handles) (x : CaseValue) → Awaited x labels cs →
-      FitsCases p c n k cs s → Found k labels cs s x i × (kept1 ≡ kept) × (t1 ≡ t)
-  falls_to (this_case {l = l} {b = b} {falls = falls} {cs = cs}) k labels s x e m =
-      (found_here l b falls cs k labels s x e m, refl, refl)
-  falls_to (next_case {l = l} {b = b} {cs = cs} {kept = kept} {kept1 = kept1} {t = t} {t1 = t1} q rest) k labels
+      (k : ℕ) (case_values : List CaseValue) (s : Handles) (x : CaseValue) → Awaited x case_values cs →
+      FitsCases p c n k cs s → Found k case_values cs s x i × (kept1 ≡ kept) × (t1 ≡ t)
+  falls_to (this_case {l = l} {b = b} {falls = falls} {cs = cs}) k case_values s x e m =
+      (found_here l b falls cs k case_values s x e m, refl, refl)
+  falls_to (next_case {l = l} {b = b} {cs = cs} {kept = kept} {kept1 = kept1} {t = t} {t1 = t1} q rest) k case_values
       s x e m =
       let first = nothing_done b cs kept kept1 t t1 m.0 q in
-      let w = falls_to rest (named_by_all c.function b k) (labels ++ l ∷ []) s x
-      (awaited_more x (labels ++ l ∷ []) b cs m.0 e) m.2 in
+      let w = falls_to rest (named_by_all c.function b k) (case_values ++ l ∷ []) s x
+      (awaited_more x (case_values ++ l ∷ []) b cs m.0 e) m.2 in
       (w.0, w.1 ∙ first.0, w.2 ∙ first.1)
 
   comes_to : {x : CaseValue} {cs : Cases} {i : ℕ} {kept kept1 : EmittedValues} {t t1 : List Event} →
-      ComesToCase c bound x cs i kept t kept1 t1 → (k : ℕ) (labels : List CaseValue) (s : Handles) →
-      among x labels ≡ false → FitsCases p c n k cs s → Found k labels cs s x i × (kept1 ≡ kept) ×
+      ComesToCase c bound x cs i kept t kept1 t1 → (k : ℕ) (case_values : List CaseValue) (s : Handles) →
+      among x case_values ≡ false → FitsCases p c n k cs s → Found k case_values cs s x i × (kept1 ≡ kept) ×
       (t1 ≡ t)
-  comes_to {x} (own_case {l = l} q rest) k labels s e m =
-      falls_to rest k labels s x (among_append x labels l ∙ or_right (among x labels) (same_case_value x l) q) m
-  comes_to {x} (other_case {l = l} {b = b} {falls = false} q rest) k labels s e m =
+  comes_to {x} (own_case {l = l} q rest) k case_values s e m =
+      falls_to rest k case_values s x
+      (among_append x case_values l ∙ or_right (among x case_values) (same_case_value x l) q) m
+  comes_to {x} (other_case {l = l} {b = b} {falls = false} q rest) k case_values s e m =
       let w = comes_to rest (named_by_all c.function b k) [] s refl m.2 in
-      ((other_group (among_append x labels l ∙ ap (λ a. a || same_case_value x l) e ∙ q) w.0.0, w.0.1, w.0.2), w.1, w.2)
-  comes_to {x} (other_case {l = l} {b = b} {falls = true} q rest) k labels s e m =
-      comes_to rest (named_by_all c.function b k) (labels ++ l ∷ []) s
-      (among_append x labels l ∙ ap (λ a. a || same_case_value x l) e ∙ q) m.2
+      (
+        (other_group (among_append x case_values l ∙ ap (λ a. a || same_case_value x l) e ∙ q) w.0.0, w.0.1, w.0.2),
+        w.1,
+        w.2,
+      )
+  comes_to {x} (other_case {l = l} {b = b} {falls = true} q rest) k case_values s e m =
+      comes_to rest (named_by_all c.function b k) (case_values ++ l ∷ []) s
+      (among_append x case_values l ∙ ap (λ a. a || same_case_value x l) e ∙ q) m.2
 
   -- the same state and events, of the text's run
   same_from : (ls : Lines) (q : Point) (names names2 : Scope) (t t1 t2 : List Event) → t1 ≡ t →

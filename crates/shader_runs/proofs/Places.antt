@@ -77,15 +77,15 @@ module _ (f : Naming) where
   after_form (Barrier bits) k s tail q = performs_after (barrier_words bits) tail q
   after_form _ k s tail q = refl
 
-  case_lines : (cs : Cases) (i k : ℕ) (labels : List CaseValue) (s : Handles) →
-      case_falls cs i ≡ false → lines_at (form_cases f k labels cs s) (group_of cs i) ≡ form_all f
+  case_lines : (cs : Cases) (i k : ℕ) (case_values : List CaseValue) (s : Handles) →
+      case_falls cs i ≡ false → lines_at (form_cases f k case_values cs s) (group_of cs i) ≡ form_all f
       (named_before f.function cs i k) (body_at cs i) s
-  case_lines no_case i k labels s e = refl
-  case_lines (case l b false cs) zero k labels s e = refl
-  case_lines (case l b true cs) zero k labels s e = absurd (true≢false e)
-  case_lines (case l b false cs) (suc i) k labels s e = case_lines cs i (named_by_all f.function b k) [] s e
-  case_lines (case l b true cs) (suc i) k labels s e =
-      case_lines cs i (named_by_all f.function b k) (labels ++ l ∷ []) s e
+  case_lines no_case i k case_values s e = refl
+  case_lines (case l b false cs) zero k case_values s e = refl
+  case_lines (case l b true cs) zero k case_values s e = absurd (true≢false e)
+  case_lines (case l b false cs) (suc i) k case_values s e = case_lines cs i (named_by_all f.function b k) [] s e
+  case_lines (case l b true cs) (suc i) k case_values s e =
+      case_lines cs i (named_by_all f.function b k) (case_values ++ l ∷ []) s e
 
   module _ (c : Call) (n : ℕ) where
     inside_form : {st : Statement} {g : Region} {kept kept1 : EmittedValues} {t t1 : List Event} →

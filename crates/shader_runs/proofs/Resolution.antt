@@ -266,19 +266,19 @@ module _ (p : Module) (f : Naming) (distinct : AreDistinct p f) where
             (lines_resolve k1 l1 ss (after f k st s) (numbers_by f.function l st numbers)
             (names_by f k l st names) le regular.1 only.1 (scope_by p f distinct k l st s numbers names here scope))
 
-        groups_resolve : (k l : ℕ) (labels : List CaseValue) (cs : Cases) (s : Handles)
+        groups_resolve : (k l : ℕ) (case_values : List CaseValue) (cs : Cases) (s : Handles)
             (numbers : LetNumbers) (names : Lookup) →
             named_by_cases f.function cs k ≤ total p f distinct → CasesAreRegular p callees f cs →
             OnlyEmptyCasesFall cs →
             InScope p f distinct k s numbers names →
-            groups_targets l names (form_cases f k labels cs s) ≡ map Some
+            groups_targets l names (form_cases f k case_values cs s) ≡ map Some
             (cases_targets f k l cs s numbers)
-        groups_resolve k l labels no_case s numbers names le regular only scope = refl
-        groups_resolve k l labels (case label b true cs) s numbers names le regular only scope =
+        groups_resolve k l case_values no_case s numbers names le regular only scope = refl
+        groups_resolve k l case_values (case case_value b true cs) s numbers names le regular only scope =
             let k1 = named_by_all f.function b k in
-            groups_resolve k1 l (labels ++ label ∷ []) cs s numbers names le regular.2 only.2
+            groups_resolve k1 l (case_values ++ case_value ∷ []) cs s numbers names le regular.2 only.2
             (scope_more p f distinct k k1 s numbers names (list_more f b k) scope)
-        groups_resolve k l labels (case label b false cs) s numbers names le regular only scope =
+        groups_resolve k l case_values (case case_value b false cs) s numbers names le regular only scope =
             let k1 = named_by_all f.function b k in
             let l1 = lets_by_all f.function b l in
             let here : k1 ≤ total p f distinct = omega (arith, le, cases_more f cs k1) in

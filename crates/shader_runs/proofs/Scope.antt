@@ -42,11 +42,11 @@ performs_continue (w ∷ ws) tail = performs_continue ws tail
 abbrev pub IsFollowed : List CaseValue → Cases → Type 0
 IsFollowed [] no_case = Unit {0}
 IsFollowed (l ∷ ls) no_case = ⊥
-IsFollowed labels (case l b falls cs) = Unit {0}
+IsFollowed case_values (case l b falls cs) = Unit {0}
 
-pub falls_followed : (labels : List CaseValue) (cs : Cases) → JoinsNext true end cs → IsFollowed labels cs
-falls_followed labels no_case m = absurd m
-falls_followed labels (case l b falls cs) m = tt
+pub falls_followed : (case_values : List CaseValue) (cs : Cases) → JoinsNext true end cs → IsFollowed case_values cs
+falls_followed case_values no_case m = absurd m
+falls_followed case_values (case l b falls cs) m = tt
 
 -- a jump goes on with the next turn, however what it returns is told
 pub told_continues : {A B : Type 0} (tell : Option A → Option B) (j : Jump A) → is_continue (jump_told tell j)
@@ -80,22 +80,22 @@ mutual
       continue_one p c n k st s rest m.0 ∙ ap (λ x. holds_continue st || x)
       (continue_all p c n (named_by c.function st k) ss (after (naming c n) k st s) m.1)
 
-  pub continue_cases : (p : Module) (c : Call) (n : Names) (k : ℕ) (labels : List CaseValue)
+  pub continue_cases : (p : Module) (c : Call) (n : Names) (k : ℕ) (case_values : List CaseValue)
       (cs : Cases) (s : Handles) → FitsCases p c n k cs s →
-      some_group_continues (form_cases (naming c n) k labels cs s) ≡ some_case_continues cs
-  continue_cases p c n k labels no_case s m = refl
-  continue_cases p c n k labels (case l b false cs) s m =
+      some_group_continues (form_cases (naming c n) k case_values cs s) ≡ some_case_continues cs
+  continue_cases p c n k case_values no_case s m = refl
+  continue_cases p c n k case_values (case l b false cs) s m =
       ap₂ (λ x y. x || y) (continue_all p c n k b s m.1)
       (continue_cases p c n (named_by_all c.function b k) [] cs s m.2)
-  continue_cases p c n k labels (case l end true cs) s m = continue_cases p c n k (labels ++ l ∷ []) cs s m.2
-  continue_cases p c n k labels (case l (then st ss) true cs) s m = absurd m.0
+  continue_cases p c n k case_values (case l end true cs) s m = continue_cases p c n k (case_values ++ l ∷ []) cs s m.2
+  continue_cases p c n k case_values (case l (then st ss) true cs) s m = absurd m.0
 
 or_assoc : (a b c : Bool) → ((a || b) || c) ≡ (a || (b || c))
 or_assoc true b c = refl
 or_assoc false b c = refl
 
-pub among_append : (x : CaseValue) (labels : List CaseValue) (l : CaseValue) → among x (labels ++ l ∷ [])
-    ≡ (among x labels || same_case_value x l)
+pub among_append : (x : CaseValue) (case_values : List CaseValue) (l : CaseValue) → among x (case_values ++ l ∷ [])
+    ≡ (among x case_values || same_case_value x l)
 among_append x [] l = or-false (same_case_value x l)
 among_append x (y ∷ ys) l =
     ap (λ b. same_case_value x y || b) (among_append x ys l)
@@ -106,21 +106,21 @@ first_followed_by no_case = tt
 first_followed_by (case l b falls cs) = tt
 
 -- the groups have the cases' values
-has_cases : (p : Module) (c : Call) (n : Names) (k : ℕ) (labels : List CaseValue) (cs : Cases)
-    (s : Handles) → FitsCases p c n k cs s → IsFollowed labels cs →
-    (x : CaseValue) → group_has x (form_cases (naming c n) k labels cs s) ≡
-    (among x labels || has_case_value x cs)
+has_cases : (p : Module) (c : Call) (n : Names) (k : ℕ) (case_values : List CaseValue) (cs : Cases)
+    (s : Handles) → FitsCases p c n k cs s → IsFollowed case_values cs →
+    (x : CaseValue) → group_has x (form_cases (naming c n) k case_values cs s) ≡
+    (among x case_values || has_case_value x cs)
 has_cases p c n k [] no_case s m w x = refl
 has_cases p c n k (y ∷ ys) no_case s m w x = absurd w
-has_cases p c n k labels (case l b false cs) s m w x =
-    ap₂ (λ p q. p || q) (among_append x labels l)
+has_cases p c n k case_values (case l b false cs) s m w x =
+    ap₂ (λ p q. p || q) (among_append x case_values l)
     (has_cases p c n (named_by_all c.function b k) [] cs s m.2 (first_followed_by cs) x)
-    ∙ or_assoc (among x labels) (same_case_value x l) (has_case_value x cs)
-has_cases p c n k labels (case l end true cs) s m w x =
-    has_cases p c n k (labels ++ l ∷ []) cs s m.2 (falls_followed (labels ++ l ∷ []) cs m.0) x
-    ∙ ap (λ p. p || has_case_value x cs) (among_append x labels l)
-    ∙ or_assoc (among x labels) (same_case_value x l) (has_case_value x cs)
-has_cases p c n k labels (case l (then st ss) true cs) s m w x = absurd m.0
+    ∙ or_assoc (among x case_values) (same_case_value x l) (has_case_value x cs)
+has_cases p c n k case_values (case l end true cs) s m w x =
+    has_cases p c n k (case_values ++ l ∷ []) cs s m.2 (falls_followed (case_values ++ l ∷ []) cs m.0) x
+    ∙ ap (λ p. p || has_case_value x cs) (among_append x case_values l)
+    ∙ or_assoc (among x case_values) (same_case_value x l) (has_case_value x cs)
+has_cases p c n k case_values (case l (then st ss) true cs) s m w x = absurd m.0
 
 pub has_all_cases : (p : Module) (c : Call) (n : Names) (k : ℕ) (cs : Cases) (s : Handles) →
     FitsCases p c n k cs s → (x : CaseValue) → group_has x (form_cases (naming c n) k [] cs s) ≡ has_case_value x cs

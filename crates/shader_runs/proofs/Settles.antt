@@ -527,8 +527,8 @@ module _ (k : ℕ) where
 
         groups_settle : (gs : Groups) (x : CaseValue) → SettlesNext (follow_groups l k gs x) (follow_groups l' n gs x)
         groups_settle no_group x names t = same here
-        groups_settle (group labels b gs) x names t =
-            cond_settles (among x labels) (follow_all l k b names t)
+        groups_settle (group case_values b gs) x names t =
+            cond_settles (among x case_values) (follow_all l k b names t)
             (follow_groups l k gs x names t) (follow_all l' n b names t)
             (follow_groups l' n gs x names t) (lines_settle b names t)
             (groups_settle gs x names t)

@@ -522,40 +522,40 @@ module _ (p : Module) (c : Call) (n : Names) (d : Respond) (facts : Facts p c n 
   -- what is to be shown of the cases of a switch, after waiting values: entered, or on the way to
   -- the case value x
   pub record Cases_row (k : ℕ) (cs : Cases) (s : Handles) : Type 0 where
-    pub entered : (labels : List CaseValue) → IsFollowed labels cs →
-        (x : CaseValue) → IsTrue (among x labels) →
+    pub entered : (case_values : List CaseValue) → IsFollowed case_values cs →
+        (x : CaseValue) → IsTrue (among x case_values) →
         (names : Scope) (kept : EmittedValues) (t : List Event) → Related c n s names kept →
         FitsCases p c n k cs s →
         SameBody c s kept (some_case_continues cs) (run_on c bound cs kept t)
-        (follow_groups (words c d) bound (form_cases (naming c n) k labels cs s) x names t)
-    pub searching : (labels : List CaseValue) → IsFollowed labels cs →
-        (x : CaseValue) → among x labels ≡ false →
+        (follow_groups (words c d) bound (form_cases (naming c n) k case_values cs s) x names t)
+    pub searching : (case_values : List CaseValue) → IsFollowed case_values cs →
+        (x : CaseValue) → among x case_values ≡ false →
         (names : Scope) (kept : EmittedValues) (t : List Event) → Related c n s names kept →
         FitsCases p c n k cs s →
         SameBody c s kept (some_case_continues cs) (run_cases c bound cs x kept t)
-        (follow_groups (words c d) bound (form_cases (naming c n) k labels cs s) x names t)
+        (follow_groups (words c d) bound (form_cases (naming c n) k case_values cs s) x names t)
 
   no_cases : (k : ℕ) (s : Handles) → Cases_row k no_case s
   no_cases k s = record { entered = in_none; searching = by_none }
     where
-      in_none : (labels : List CaseValue) → IsFollowed labels no_case →
-          (x : CaseValue) → IsTrue (among x labels) →
+      in_none : (case_values : List CaseValue) → IsFollowed case_values no_case →
+          (x : CaseValue) → IsTrue (among x case_values) →
           (names : Scope) (kept : EmittedValues) (t : List Event) → Related c n s names kept →
           FitsCases p c n k no_case s → SameBody c s kept false (run_on c bound no_case kept t)
-          (follow_groups (words c d) bound (form_cases (naming c n) k labels no_case s) x names t)
-      in_none labels w x e names kept t r m = done (agree_refl s kept)
+          (follow_groups (words c d) bound (form_cases (naming c n) k case_values no_case s) x names t)
+      in_none case_values w x e names kept t r m = done (agree_refl s kept)
 
-      by_none : (labels : List CaseValue) → IsFollowed labels no_case →
-          (x : CaseValue) → among x labels ≡ false →
+      by_none : (case_values : List CaseValue) → IsFollowed case_values no_case →
+          (x : CaseValue) → among x case_values ≡ false →
           (names : Scope) (kept : EmittedValues) (t : List Event) → Related c n s names kept →
           FitsCases p c n k no_case s → SameBody c s kept false (run_cases c bound no_case x kept t)
-          (follow_groups (words c d) bound (form_cases (naming c n) k labels no_case s) x names t)
-      by_none labels w x e names kept t r m = done (agree_refl s kept)
+          (follow_groups (words c d) bound (form_cases (naming c n) k case_values no_case s) x names t)
+      by_none case_values w x e names kept t r m = done (agree_refl s kept)
 
   module _ (k : ℕ) (l : CaseValue) (b : Statements) (cs : Cases) (s : Handles) (same : List_row k b s)
       (rest : Cases_row (named_by_all c.function b k) cs s) where
     abbrev Groups_at : List CaseValue → Bool → CaseValue → Next Scope
-    Groups_at labels falls x = follow_groups (words c d) bound (form_cases (naming c n) k labels
+    Groups_at case_values falls x = follow_groups (words c d) bound (form_cases (naming c n) k case_values
         (case l b falls cs) s) x
 
     abbrev On_from : Bool → Next EmittedValues
@@ -587,17 +587,17 @@ module _ (p : Module) (c : Call) (n : Names) (d : Respond) (facts : Facts p c n 
     more_held kept a =
         weaker (λ k l p. p) (λ k l q. (q.0, or_right (any_continue b) (some_case_continues cs) q.1)) (λ k l b. b) a
 
-    is_among : (labels : List CaseValue) (x : CaseValue) → IsTrue (among x labels || same_case_value x l) →
-        IsTrue (among x (labels ++ l ∷ []))
-    is_among labels x e = among_append x labels l ∙ e
+    is_among : (case_values : List CaseValue) (x : CaseValue) → IsTrue (among x case_values || same_case_value x l) →
+        IsTrue (among x (case_values ++ l ∷ []))
+    is_among case_values x e = among_append x case_values l ∙ e
 
     -- the case with this value, or one that waiting values came to
-    pub here_stays : (labels : List CaseValue) (x : CaseValue) → IsTrue (among x (labels ++ l ∷ [])) →
+    pub here_stays : (case_values : List CaseValue) (x : CaseValue) → IsTrue (among x (case_values ++ l ∷ [])) →
         (names : Scope) (kept : EmittedValues) (t : List Event) → Related c n s names kept →
         FitsCases p c n k (case l b false cs) s →
         SameBody c s kept (any_continue b || some_case_continues cs) (On_from false kept t)
-        (Groups_at labels false x names t)
-    here_stays labels x e names kept t r m =
+        (Groups_at case_values false x names t)
+    here_stays case_values x e names kept t r m =
         let others = follow_groups (words c d) bound
         (form_cases (naming c n) (named_by_all c.function b k) [] cs s) x names t in
         subst (λ z. SameBody c s kept (any_continue b || some_case_continues cs)
@@ -605,12 +605,12 @@ module _ (p : Module) (c : Call) (n : Names) (d : Respond) (facts : Facts p c n 
         (sym e) (body_alone names kept t r m.1)
 
     -- another case
-    pub past_stays : (labels : List CaseValue) (x : CaseValue) → among x (labels ++ l ∷ []) ≡ false →
+    pub past_stays : (case_values : List CaseValue) (x : CaseValue) → among x (case_values ++ l ∷ []) ≡ false →
         (names : Scope) (kept : EmittedValues) (t : List Event) → Related c n s names kept →
         FitsCases p c n k (case l b false cs) s →
         SameBody c s kept (any_continue b || some_case_continues cs) (run_cases c bound cs x kept t)
-        (Groups_at labels false x names t)
-    past_stays labels x e names kept t r m =
+        (Groups_at case_values false x names t)
+    past_stays case_values x e names kept t r m =
         let others = follow_groups (words c d) bound
         (form_cases (naming c n) (named_by_all c.function b k) [] cs s) x names t in
         subst (λ z. SameBody c s kept (any_continue b || some_case_continues cs)
@@ -632,32 +632,32 @@ module _ (p : Module) (c : Call) (n : Names) (d : Respond) (facts : Facts p c n 
       List_row k b s → Cases_row (named_by_all c.function b k) cs s → Cases_row k (case l b falls cs) s
   case_row k l b false cs s same rest =
       record {
-        entered = λ labels w x e names kept t r m. here_stays k l b cs s same rest labels x
-            (among_append x labels l ∙ or_left (among x labels) (same_case_value x l) e) names kept t r m;
-        searching = λ labels w x e names kept t r m. by_case_value (same_case_value x l) s kept
+        entered = λ case_values w x e names kept t r m. here_stays k l b cs s same rest case_values x
+            (among_append x case_values l ∙ or_left (among x case_values) (same_case_value x l) e) names kept t r m;
+        searching = λ case_values w x e names kept t r m. by_case_value (same_case_value x l) s kept
             (any_continue b || some_case_continues cs)
-            (λ q. here_stays k l b cs s same rest labels x (among_append x labels l
-            ∙ or_right (among x labels) (same_case_value x l) q) names kept t r m)
-            (λ q. past_stays k l b cs s same rest labels x (among_append x labels l
-            ∙ or_second (among x labels) (same_case_value x l) e ∙ q) names kept t r m);
+            (λ q. here_stays k l b cs s same rest case_values x (among_append x case_values l
+            ∙ or_right (among x case_values) (same_case_value x l) q) names kept t r m)
+            (λ q. past_stays k l b cs s same rest case_values x (among_append x case_values l
+            ∙ or_second (among x case_values) (same_case_value x l) e ∙ q) names kept t r m);
       }
   case_row k l end true cs s same rest =
       record {
-        entered = λ labels w x e names kept t r m. rest.entered (labels ++ l ∷ [])
-            (falls_followed (labels ++ l ∷ []) cs m.0) x (among_append x labels l
-            ∙ or_left (among x labels) (same_case_value x l) e) names kept t r m.2;
-        searching = λ labels w x e names kept t r m. by_case_value (same_case_value x l) s kept
+        entered = λ case_values w x e names kept t r m. rest.entered (case_values ++ l ∷ [])
+            (falls_followed (case_values ++ l ∷ []) cs m.0) x (among_append x case_values l
+            ∙ or_left (among x case_values) (same_case_value x l) e) names kept t r m.2;
+        searching = λ case_values w x e names kept t r m. by_case_value (same_case_value x l) s kept
             (some_case_continues cs)
-            (λ q. rest.entered (labels ++ l ∷ []) (falls_followed (labels ++ l ∷ []) cs m.0) x
-            (among_append x labels l ∙ or_right (among x labels) (same_case_value x l) q) names kept t r
-            m.2) (λ q. rest.searching (labels ++ l ∷ []) (falls_followed (labels ++ l ∷ []) cs m.0)
-            x (among_append x labels l ∙ or_second (among x labels) (same_case_value x l) e ∙ q) names
+            (λ q. rest.entered (case_values ++ l ∷ []) (falls_followed (case_values ++ l ∷ []) cs m.0) x
+            (among_append x case_values l ∙ or_right (among x case_values) (same_case_value x l) q) names kept t r
+            m.2) (λ q. rest.searching (case_values ++ l ∷ []) (falls_followed (case_values ++ l ∷ []) cs m.0)
+            x (among_append x case_values l ∙ or_second (among x case_values) (same_case_value x l) e ∙ q) names
             kept t r m.2);
       }
   case_row k l (then st ss) true cs s same rest =
       record {
-        entered = λ labels w x e names kept t r m. absurd m.0;
-        searching = λ labels w x e names kept t r m. absurd m.0;
+        entered = λ case_values w x e names kept t r m. absurd m.0;
+        searching = λ case_values w x e names kept t r m. absurd m.0;
       }
 
   switch_line : (k h : ℕ) (cs : Cases) (s : Handles) → Cases_row k cs s →

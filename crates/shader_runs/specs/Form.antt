@@ -188,11 +188,11 @@ abbrev mutual
 
   -- a case that falls through gives its value to the next one
   pub form_cases : Naming → ℕ → List CaseValue → Cases → Handles → Groups
-  form_cases f k labels no_case s = no_group
-  form_cases f k labels (case l b true cs) s =
-      form_cases f (named_by_all f.function b k) (labels ++ l ∷ []) cs s
-  form_cases f k labels (case l b false cs) s =
-      group (labels ++ l ∷ []) (form_all f k b s)
+  form_cases f k case_values no_case s = no_group
+  form_cases f k case_values (case l b true cs) s =
+      form_cases f (named_by_all f.function b k) (case_values ++ l ∷ []) cs s
+  form_cases f k case_values (case l b false cs) s =
+      group (case_values ++ l ∷ []) (form_all f k b s)
       (form_cases f (named_by_all f.function b k) [] cs s)
 
 -- the names from the index i on

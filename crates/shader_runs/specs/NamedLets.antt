@@ -24,7 +24,7 @@ abbrev mutual
 
   pub groups_lets : Groups → List Bytes
   groups_lets no_group = []
-  groups_lets (group labels b gs) = lines_lets b ++ groups_lets gs
+  groups_lets (group case_values b gs) = lines_lets b ++ groups_lets gs
 
 -- those of each function, the last one first
 abbrev pub text_lets : TextModule → List (List Bytes)
@@ -68,8 +68,8 @@ abbrev mutual
 
   pub cases_named_lets : Naming → ℕ → Cases → List NamedLet
   cases_named_lets f k no_case = []
-  cases_named_lets f k (case label b true cs) = cases_named_lets f (named_by_all f.function b k) cs
-  cases_named_lets f k (case label b false cs) =
+  cases_named_lets f k (case case_value b true cs) = cases_named_lets f (named_by_all f.function b k) cs
+  cases_named_lets f k (case case_value b false cs) =
       statements_named_lets f k b ++ cases_named_lets f (named_by_all f.function b k) cs
 
 -- those of a function's body

@@ -164,8 +164,8 @@ pub data Passes (c : Call) (n : ℕ) :
 -- the lines of the group with this index
 abbrev pub lines_at : Groups → ℕ → Lines
 lines_at no_group i = last
-lines_at (group labels b gs) zero = b
-lines_at (group labels b gs) (suc i) = lines_at gs i
+lines_at (group case_values b gs) zero = b
+lines_at (group case_values b gs) (suc i) = lines_at gs i
 
 -- the lines of a region
 abbrev pub lines_in : Line → Region → Lines
@@ -193,12 +193,12 @@ text_turn l n b d e names t =
 
 -- this case value is one of the group with this index, and of no group before it
 pub data GoesToGroup (x : CaseValue) : Groups → ℕ → Type 0 where
-  own_group : {labels : List CaseValue} {b : Lines} {gs : Groups} →
-      IsTrue (among x labels) →
-      GoesToGroup x (group labels b gs) 0
-  other_group : {labels : List CaseValue} {b : Lines} {gs : Groups} {i : ℕ} →
-      among x labels ≡ false → GoesToGroup x gs i →
-      GoesToGroup x (group labels b gs) (suc i)
+  own_group : {case_values : List CaseValue} {b : Lines} {gs : Groups} →
+      IsTrue (among x case_values) →
+      GoesToGroup x (group case_values b gs) 0
+  other_group : {case_values : List CaseValue} {b : Lines} {gs : Groups} {i : ℕ} →
+      among x case_values ≡ false → GoesToGroup x gs i →
+      GoesToGroup x (group case_values b gs) (suc i)
 
 -- the run of a line, begun with these names and events, comes to a region with those
 pub data TextComes (l : Words) (n : ℕ) :

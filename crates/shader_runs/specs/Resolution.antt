@@ -109,7 +109,7 @@ abbrev mutual
 
   pub lets_following_groups : ℕ → Groups → ℕ
   lets_following_groups l no_group = l
-  lets_following_groups l (group labels b gs) = lets_following_groups (lets_following_all l b) gs
+  lets_following_groups l (group case_values b gs) = lets_following_groups (lets_following_all l b) gs
 
 -- what is in scope after a line: the name of a `let`, from there on
 abbrev pub names_following : ℕ → Line → Lookup → Lookup
@@ -149,7 +149,7 @@ abbrev mutual
 
   pub groups_targets : ℕ → Lookup → Groups → List (Option Target)
   groups_targets l names no_group = []
-  groups_targets l names (group labels b gs) =
+  groups_targets l names (group case_values b gs) =
       lines_targets l names b ++ groups_targets (lets_following_all l b) names gs
 
 -- items under these names, from the number i on
@@ -306,8 +306,8 @@ abbrev mutual
 
   pub lets_by_cases : Function → Cases → ℕ → ℕ
   lets_by_cases f no_case l = l
-  lets_by_cases f (case label b true cs) l = lets_by_cases f cs l
-  lets_by_cases f (case label b false cs) l = lets_by_cases f cs (lets_by_all f b l)
+  lets_by_cases f (case case_value b true cs) l = lets_by_cases f cs l
+  lets_by_cases f (case case_value b false cs) l = lets_by_cases f cs (lets_by_all f b l)
 
 -- the numbers of the names in scope after a statement
 abbrev pub numbers_by : Function → ℕ → Statement → LetNumbers → LetNumbers
@@ -383,9 +383,9 @@ abbrev mutual
 
   pub cases_targets : Naming → (k l : ℕ) → Cases → Handles → LetNumbers → List Target
   cases_targets f k l no_case s numbers = []
-  cases_targets f k l (case label b true cs) s numbers =
+  cases_targets f k l (case case_value b true cs) s numbers =
       cases_targets f (named_by_all f.function b k) l cs s numbers
-  cases_targets f k l (case label b false cs) s numbers =
+  cases_targets f k l (case case_value b false cs) s numbers =
       statements_targets f k l b s numbers
       ++ cases_targets f (named_by_all f.function b k) (lets_by_all f.function b l) cs s numbers
 

@@ -439,9 +439,9 @@ switch_function result body =
 
 abbrev pub switch_text : List Line → TextFunction
 switch_text body =
-    let labels = Numbered (pos 1) ∷ Numbered (pos 2) ∷ Default ∷ [] in
+    let case_values = Numbered (pos 1) ∷ Numbered (pos 2) ∷ Default ∷ [] in
     text_of (codes "s") (x_name ∷ []) [] (lines (
-    SwitchOn (Name x_name) (group labels (lines body) no_group) ∷ []))
+    SwitchOn (Name x_name) (group case_values (lines body) no_group) ∷ []))
 
 -- [switch]: empty cases that fall through are joined
 abbrev pub SwitchRow : Type 0

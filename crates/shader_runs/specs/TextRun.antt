@@ -220,7 +220,7 @@ abbrev mutual
 
   pub some_group_continues : Groups → Bool
   some_group_continues no_group = false
-  some_group_continues (group labels b gs) = some_continue b || some_group_continues gs
+  some_group_continues (group case_values b gs) = some_continue b || some_group_continues gs
 
 -- `break if` leaves the loop
 abbrev pub break_line : Words → Option Tree → Next Scope
@@ -241,7 +241,7 @@ among x (l ∷ ls) = same_case_value x l || among x ls
 -- some group has this case value
 abbrev pub group_has : CaseValue → Groups → Bool
 group_has x no_group = false
-group_has x (group labels b gs) = among x labels || group_has x gs
+group_has x (group case_values b gs) = among x case_values || group_has x gs
 
 abbrev mutual
   pub follow : Words → ℕ → Line → Next Scope
@@ -256,8 +256,8 @@ abbrev mutual
       closed_outcome names (branch_by v t1 (follow_all l n a names t1) (follow_all l n b names t1)))
   follow l n (SwitchOn e groups) names t =
       with_value (value_of l e names t) (λ v t1. closed_outcome names (with_integer v t1 (λ z.
-      let label = case_value_if (group_has (Numbered z) groups) z in
-      after_switch (follow_groups l n groups label names t1))))
+      let case_value = case_value_if (group_has (Numbered z) groups) z in
+      after_switch (follow_groups l n groups case_value names t1))))
   follow l n (LoopOf b d e) names t =
       turns n (λ names1 t1.
       closed_outcome names1
@@ -281,8 +281,8 @@ abbrev mutual
   -- the first group with this case value
   pub follow_groups : Words → ℕ → Groups → CaseValue → Next Scope
   follow_groups l n no_group x names t = Done names t
-  follow_groups l n (group labels b gs) x names t =
-      cond (among x labels) (follow_all l n b names t) (follow_groups l n gs x names t)
+  follow_groups l n (group case_values b gs) x names t =
+      cond (among x case_values) (follow_all l n b names t) (follow_groups l n gs x names t)
 
 -- parameters with their values
 abbrev pub with_parameters : List Bytes → List Value → Scope → Scope

@@ -2,7 +2,7 @@
 //! of a struct so that its members stay where a module has them.
 //!
 //! Here are numbers alone. How the types of a module are laid out is in `naga_layout`, how the
-//! structs of a text are in `text_meaning/specs/Layout`; both go by the rules of `specs/Rules`.
+//! structs of a text are in `text_semantics/specs/Layout`; both go by the rules of `specs/Rules`.
 #![tactic(auto)]
 
 mod layouts;

@@ -2,7 +2,7 @@
 //!
 //! `wgsl_rows ROW [explicit]` builds the module that the row names, asks whether it is accepted,
 //! counts its uses, writes it, and prints the text. The names of rows are those that
-//! `SampleName::from_name` takes (`crates/sample_modules/src/rows.rt`).
+//! `SampleModule::from_name` takes (`crates/sample_modules/src/rows.rt`).
 #![tactic(auto)]
 
 mod program;

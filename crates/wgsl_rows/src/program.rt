@@ -4,7 +4,7 @@ use bitflags::Flags;
 use naga_wgsl_out::builder::ModuleBuilder;
 use naga_wgsl_out::info::{accepts, count};
 use naga_wgsl_out::wgsl::{WriterFlags, write_string};
-use sample_modules::SampleName;
+use sample_modules::SampleModule;
 use std::alloc::Global;
 use std::fmt::Display;
 use std::io;
@@ -31,7 +31,7 @@ pub fn run<O: Write, E: Write>(alloc: Global, words: &[String], out: &mut O, err
 /// Builds the row's module, beginning with an empty one, and prints its text, or why there is none.
 fn build_and_answer<O: Write, E: Write>(
     alloc: Global,
-    row: SampleName,
+    row: SampleModule,
     shader: &mut ModuleBuilder,
     flags: WriterFlags,
     out: &mut O,
@@ -44,15 +44,15 @@ fn build_and_answer<O: Write, E: Write>(
 }
 
 /// The row and the flags that the words name.
-fn asked_row(words: &[String]) -> Option<(SampleName, WriterFlags)> {
+fn asked_row(words: &[String]) -> Option<(SampleModule, WriterFlags)> {
     match words {
-        [row] => Some((SampleName::from_name(row.as_str())?, WriterFlags::empty())),
+        [row] => Some((SampleModule::from_name(row.as_str())?, WriterFlags::empty())),
         [row, second] => {
             if second.as_str() != "explicit" {
                 return None;
             }
             Some((
-                SampleName::from_name(row.as_str())?,
+                SampleModule::from_name(row.as_str())?,
                 WriterFlags::EXPLICIT_TYPES,
             ))
         }

@@ -1,7 +1,7 @@
 //! One of a module's own expressions, written by itself.
 ghost use Rattle.std.specs.Prelude.{◌<◌, IsTrue, length};
-ghost use Rattle.module_meaning.specs.acceptance.Accepted.{is_accepted};
-ghost use Rattle.module_meaning.specs.Names.{HasNamesOf};
+ghost use Rattle.module_semantics.specs.acceptance.Accepted.{is_accepted};
+ghost use Rattle.module_semantics.specs.Names.{HasNamesOf};
 ghost use Rattle.naga_names.specs.Keys.{names_in};
 
 use crate::modules::read;

@@ -25,7 +25,7 @@ const LETTERS: Long = Long {
     again: "_1",
 };
 
-/// The base ends in a digit, so that the first name has a `_` after it.
+/// The stem ends in a digit, so that the first name has a `_` after it.
 const FOREIGN: Long = Long {
     part: "\u{1f600}",
     times: MEBIBYTE / 4,

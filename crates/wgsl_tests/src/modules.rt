@@ -1,7 +1,7 @@
 //! Modules as texts of JSON or as they are built, and the texts that are written for them.
 
 ghost use Rattle.std.specs.Prelude.{IsTrue};
-ghost use Rattle.module_meaning.specs.acceptance.Accepted.{is_accepted};
+ghost use Rattle.module_semantics.specs.acceptance.Accepted.{is_accepted};
 
 use naga_json::{Known, read_known};
 use naga_wgsl_out::builder::ModuleBuilder;

@@ -1,7 +1,7 @@
 //! What the writer leaves in sinks that refuse a chunk.
 
 ghost use Rattle.std.specs.Prelude.{◌≡◌, ◌<◌, ◌++◌, IsErrOf, IsTrue, OnErr, OnOk};
-ghost use Rattle.module_meaning.specs.acceptance.Accepted.{is_accepted};
+ghost use Rattle.module_semantics.specs.acceptance.Accepted.{is_accepted};
 
 use crate::modules::{IDENTITY, read};
 use crate::whole_module;

@@ -40,7 +40,7 @@ use Rattle.wgsl_text.proofs.Words.{accesses_free, enables_free}
 use Rattle.std.specs.Str.{bytes_eq}
 use Rattle.wgsl_text.specs.Tables.{address_space_words, access_words, enable_words}
 use Rattle.wgsl_text.specs.Text.{text}
-use Rattle.wgsl_text.specs.Reading.{type_layout, expression_layout, layout}
+use Rattle.wgsl_text.specs.Reading.{printed_type, printed_expression, printed_program}
 
 after_runs : (a : Attribute) (s : ReadState) → Runs (after_attribute a) s s
 after_runs (Numbered Binding n) s = at_end
@@ -284,7 +284,7 @@ enables_text w more = refl
 pub members_text : (m : StructMember) (more : List StructMember) →
     text (members_pieces (m ∷ more)) ≡ codes "    " ++
     (text (attributes_pieces m.attributes) ++
-    (m.name ++ (codes ": " ++ (type_layout m.type ++ (codes ",\n" ++ text (members_pieces more))))))
+    (m.name ++ (codes ": " ++ (printed_type m.type ++ (codes ",\n" ++ text (members_pieces more))))))
 members_text m more = simp text-append
 
 pub structs_text : (d : Struct) (more : List Struct) →
@@ -296,15 +296,15 @@ structs_text d more = simp text-append
 pub constants_text : (d : NamedConstant) (more : List NamedConstant) →
     text (constants_pieces (d ∷ more)) ≡ codes "const " ++
     (d.name ++ (codes ": " ++
-    (type_layout d.type ++
-    (codes " = " ++ (expression_layout d.value ++ (codes ";\n" ++ text (constants_pieces more)))))))
+    (printed_type d.type ++
+    (codes " = " ++ (printed_expression d.value ++ (codes ";\n" ++ text (constants_pieces more)))))))
 constants_text d more = simp text-append
 
 pub overrides_text : (d : Override) (more : List Override) →
     text (overrides_pieces (d ∷ more)) ≡ text (attributes_pieces d.attributes) ++
     (codes "override " ++
     (d.name ++ (codes ": " ++
-    (type_layout d.type ++ (text (value_pieces d.value) ++ text (overrides_pieces more))))))
+    (printed_type d.type ++ (text (value_pieces d.value) ++ text (overrides_pieces more))))))
 overrides_text d more = simp text-append
 
 pub globals_text : (d : Global) (more : List Global) →
@@ -313,10 +313,10 @@ pub globals_text : (d : Global) (more : List Global) →
     (text (space_pieces d.space) ++
     (codes " " ++
     (d.name ++ (codes ": " ++
-    (type_layout d.type ++ (text (value_pieces d.value) ++ text (globals_pieces more))))))))
+    (printed_type d.type ++ (text (value_pieces d.value) ++ text (globals_pieces more))))))))
 globals_text d more = simp text-append
 
-pub program_text : (p : Program) → layout p ≡ text (enables_pieces p.enables) ++
+pub program_text : (p : Program) → printed_program p ≡ text (enables_pieces p.enables) ++
     (text (group_end p.enables) ++
     (text (structs_pieces p.structs) ++
     (text (constants_pieces p.constants) ++

@@ -37,7 +37,7 @@ use Rattle.wgsl_text.specs.Tables.{gather_words, level_words, type_taking_words}
 use Rattle.std.specs.Fmt.{decimal}
 use Rattle.wgsl_text.specs.Text.{mark_text, text}
 use Rattle.std.proofs.lemmas.List.{append-nil}
-use Rattle.wgsl_text.specs.Reading.{type_layout, expression_layout}
+use Rattle.wgsl_text.specs.Reading.{printed_type, printed_expression}
 
 less_runs : (a : Expression) → IsExpression a → (s : Stack) → Runs (mark LessThan ∷ []) (Got a (InParens s))
     (Expect (InRight a Less s))
@@ -323,50 +323,51 @@ mutual
 
 -- The text of each row, from the texts of its parts.
 
-pub name_text : (w : List ℕ) → expression_layout (Name w) ≡ w
+pub name_text : (w : List ℕ) → printed_expression (Name w) ≡ w
 name_text w = append-nil w
 
 pub binary_text : (a : Expression) (op : BinaryOperator) (b : Expression) →
-    expression_layout (Binary a op b) ≡ codes "(" ++
-    (expression_layout a ++
-    (codes " " ++ (text (binary_pieces op) ++ (codes " " ++ (expression_layout b ++ codes ")")))))
+    printed_expression (Binary a op b) ≡ codes "(" ++
+    (printed_expression a ++
+    (codes " " ++ (text (binary_pieces op) ++ (codes " " ++ (printed_expression b ++ codes ")")))))
 binary_text a op b = simp text-append
 
-pub unary_text : (op : UnaryOperator) (e : Expression) → expression_layout (Unary op e)
-    ≡ mark_text (unary_mark op) ++ (codes "(" ++ (expression_layout e ++ codes ")"))
+pub unary_text : (op : UnaryOperator) (e : Expression) → printed_expression (Unary op e)
+    ≡ mark_text (unary_mark op) ++ (codes "(" ++ (printed_expression e ++ codes ")"))
 unary_text op e = simp text-append
 
-pub call_text : (t : TypeSpecifier) (args : Arguments) → expression_layout (Call t args) ≡ type_layout t
+pub call_text : (t : TypeSpecifier) (args : Arguments) → printed_expression (Call t args) ≡ printed_type t
     ++ (codes "(" ++ text (arguments_pieces args))
 call_text t args = simp text-append
 
 pub argument_text : (e : Expression) (more : Arguments) → text (arguments_pieces (Argument e more))
-    ≡ expression_layout e ++ text (more_arguments_pieces more)
+    ≡ printed_expression e ++ text (more_arguments_pieces more)
 argument_text e more = simp text-append
 
 pub next_argument_text : (e : Expression) (more : Arguments) → text (more_arguments_pieces (Argument e more))
-    ≡ codes ", " ++ (expression_layout e ++ text (more_arguments_pieces more))
+    ≡ codes ", " ++ (printed_expression e ++ text (more_arguments_pieces more))
 next_argument_text e more = simp text-append
 
 -- the base of a member or an index
 abbrev pub base_text : Expression → List ℕ
 base_text e = text (base_pieces e (expression_pieces e))
 
-pub member_text : (e : Expression) (w : List ℕ) → expression_layout (Member e w) ≡ base_text e ++ (codes "." ++ w)
+pub member_text : (e : Expression) (w : List ℕ) → printed_expression (Member e w) ≡ base_text e ++ (codes "." ++ w)
 member_text e w = simp (text-append, append-nil)
 
-pub index_text : (e i : Expression) → expression_layout (Index e i)
-    ≡ base_text e ++ (codes "[" ++ (expression_layout i ++ codes "]"))
+pub index_text : (e i : Expression) → printed_expression (Index e i)
+    ≡ base_text e ++ (codes "[" ++ (printed_expression i ++ codes "]"))
 index_text e i = simp text-append
 
-pub index_at_text : (e : Expression) (n : ℕ) → expression_layout (IndexAt e n)
+pub index_at_text : (e : Expression) (n : ℕ) → printed_expression (IndexAt e n)
     ≡ base_text e ++ (codes "[" ++ (decimal n ++ codes "]"))
 index_at_text e n = text-append (base_pieces e (expression_pieces e)) _
     ∙ ap (λ v. base_text e ++ (codes "[" ++ v)) (plain_text n (mark CloseBracket ∷ []))
 
-pub address_text : (e : Expression) → expression_layout (AddressOf e) ≡ codes "(&" ++ (expression_layout e ++ codes ")")
+pub address_text : (e : Expression) →
+    printed_expression (AddressOf e) ≡ codes "(&" ++ (printed_expression e ++ codes ")")
 address_text e = simp text-append
 
-pub dereference_text : (e : Expression) → expression_layout (Dereference e)
-    ≡ codes "(*" ++ (expression_layout e ++ codes ")")
+pub dereference_text : (e : Expression) → printed_expression (Dereference e)
+    ≡ codes "(*" ++ (printed_expression e ++ codes ")")
 dereference_text e = simp text-append

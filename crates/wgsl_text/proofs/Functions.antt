@@ -33,7 +33,7 @@ use Rattle.wgsl_text.proofs.Statements.{closes, statements_run, statements_close
 use Rattle.wgsl_text.proofs.Text.{ends_word, text-append}
 use Rattle.wgsl_text.proofs.Types.{type_runs, type_spaced}
 use Rattle.wgsl_text.specs.Text.{text}
-use Rattle.wgsl_text.specs.Reading.{type_layout, expression_layout}
+use Rattle.wgsl_text.specs.Reading.{printed_type, printed_expression}
 
 -- functions
 
@@ -237,17 +237,17 @@ entry_points_closed (e ∷ more) is = entry_point_closed e is.0 then more_entry_
 
 -- The text of each row, from the texts of its parts.
 
-pub value_text : (e : Expression) → text (value_pieces (Some e)) ≡ codes " = " ++ (expression_layout e ++ codes ";\n")
+pub value_text : (e : Expression) → text (value_pieces (Some e)) ≡ codes " = " ++ (printed_expression e ++ codes ";\n")
 value_text e = simp text-append
 
 pub result_text : (list : List Attribute) (t : TypeSpecifier) → text (result_pieces (ResultOf list t))
-    ≡ codes " -> " ++ (text (attributes_pieces list) ++ type_layout t)
+    ≡ codes " -> " ++ (text (attributes_pieces list) ++ printed_type t)
 result_text list t = simp text-append
 
 pub locals_text : (l : Local) (more : List Local) →
     text (locals_pieces (l ∷ more)) ≡ codes "    var " ++
     (l.name ++ (codes ": " ++
-    (type_layout l.type ++ (text (value_pieces l.value) ++ text (locals_pieces more)))))
+    (printed_type l.type ++ (text (value_pieces l.value) ++ text (locals_pieces more)))))
 locals_text l more = simp text-append
 
 pub function_text : (f : Function) → text (function_pieces f) ≡ codes "fn " ++

@@ -176,11 +176,11 @@ unwind_statements (Then s done) more = unwind_statements done (Then s more)
 
 abbrev pub unwind_cases : Cases → Cases → Cases
 unwind_cases NoCases more = more
-unwind_cases (Case labels body done) more = unwind_cases done (Case labels body more)
+unwind_cases (Case case_values body done) more = unwind_cases done (Case case_values body more)
 
 abbrev pub unwind_case_values : List CaseValue → CaseValues → CaseValues
-unwind_case_values [] labels = labels
-unwind_case_values (l ∷ done) labels = unwind_case_values done (MoreCaseValues l labels)
+unwind_case_values [] case_values = case_values
+unwind_case_values (l ∷ done) case_values = unwind_case_values done (MoreCaseValues l case_values)
 
 -- a statement has been read
 abbrev pub add_statement : Statement → Stack → ReadState
@@ -261,7 +261,7 @@ close_block body (InAccept e s) = add_statement (If e body NoBlock) s
 close_block body (InReject e accept s) = add_statement (If e accept (SomeBlock body)) s
 close_block body (InLoop s) = add_statement (Loop body NoBlock) s
 close_block body (InContinuing first s) = CloseOnce (Loop first (SomeBlock body)) s
-close_block body (InCase e done labels s) = AtCase e (Case labels body done) s
+close_block body (InCase e done case_values s) = AtCase e (Case case_values body done) s
 close_block body (InLocals f parameters result locals s) =
     add_function (record {
       name = f;
@@ -637,15 +637,16 @@ number_case_value SuffixU negative n = UnsignedCase n
 number_case_value _ negative n = SignedCase negative n
 
 abbrev pub expect_case_value : Token → Expression → Cases → List CaseValue → Stack → ReadState
-expect_case_value (Fixed KeywordDefault) e done labels s = AfterCaseValue e done labels DefaultCase s
-expect_case_value (Number negative n suffix) e done labels s =
-    AfterCaseValue e done labels (number_case_value suffix negative n) s
-expect_case_value _ e done labels s = Failed
+expect_case_value (Fixed KeywordDefault) e done case_values s = AfterCaseValue e done case_values DefaultCase s
+expect_case_value (Number negative n suffix) e done case_values s =
+    AfterCaseValue e done case_values (number_case_value suffix negative n) s
+expect_case_value _ e done case_values s = Failed
 
 abbrev pub after_case_value : Mark → Expression → Cases → List CaseValue → CaseValue → Stack → ReadState
-after_case_value Comma e done labels l s = ExpectCaseValue e done (l ∷ labels) s
-after_case_value Colon e done labels l s = ExpectBrace (InCase e done (unwind_case_values labels (LastCaseValue l)) s)
-after_case_value _ e done labels l s = Failed
+after_case_value Comma e done case_values l s = ExpectCaseValue e done (l ∷ case_values) s
+after_case_value Colon e done case_values l s =
+    ExpectBrace (InCase e done (unwind_case_values case_values (LastCaseValue l)) s)
+after_case_value _ e done case_values l s = Failed
 
 abbrev pub after_parameters : Mark → List ℕ → List Parameter → Stack → ReadState
 after_parameters OpenBrace f ps s = Expect (InStatements NoStatements (InLocals f ps NoResult [] s))
@@ -758,8 +759,8 @@ step takes_types (AfterBreak s) t = at_mark (λ m. after_break m s) t
 step takes_types (CloseTwice st s) t = CloseOnce st s
 step takes_types (CloseOnce st s) t = add_statement st s
 step takes_types (AtCase e done s) t = at_mark (λ m. at_case m e done s) t
-step takes_types (ExpectCaseValue e done labels s) t = expect_case_value t e done labels s
-step takes_types (AfterCaseValue e done labels l s) t = at_mark (λ m. after_case_value m e done labels l s) t
+step takes_types (ExpectCaseValue e done case_values s) t = expect_case_value t e done case_values s
+step takes_types (AfterCaseValue e done case_values l s) t = at_mark (λ m. after_case_value m e done case_values l s) t
 step takes_types (FunctionName s) t = at_word (λ w. AfterFunctionName w s) t
 step takes_types (AfterFunctionName w s) t = ExpectParameter (InParameters w [] [] s)
 step takes_types (ExpectParameter s) t = expect_parameter t s

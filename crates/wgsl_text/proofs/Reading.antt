@@ -21,9 +21,9 @@ use Rattle.wgsl_text.proofs.Declarations.{newest_first, program_runs, newest_twi
 use Rattle.wgsl_text.specs.Words.{is_builtin}
 use Rattle.wgsl_text.specs.Text.{text, tokens_in, tokens}
 use Rattle.wgsl_text.specs.Reading.{ReadsType, ReadsExpression, ReadsStatement, ReadsFunction}
-use Rattle.wgsl_text.specs.Reading.{ReadsEntryPoint, entry_point_layout}
-use Rattle.wgsl_text.specs.Reading.{Reads, type_layout, expression_layout, statement_layout}
-use Rattle.wgsl_text.specs.Reading.{function_layout, layout, HasOneReading}
+use Rattle.wgsl_text.specs.Reading.{ReadsEntryPoint, printed_entry_point}
+use Rattle.wgsl_text.specs.Reading.{Reads, printed_type, printed_expression, printed_statement}
+use Rattle.wgsl_text.specs.Reading.{printed_function, printed_program, HasOneReading}
 use Rattle.wgsl_text.proofs.Machine.{ReadState, Expect, ExpectType, Got, GotType, Bottom, InStatements}
 use Rattle.wgsl_text.proofs.Machine.{InProgram, step, run}
 
@@ -122,23 +122,23 @@ spaced_tokens ps a = pieces_scan ps (subst Apart (append-nil ps) (a.by [] tt ref
 closed_tokens : (ps : List Piece) → Closed ps → tokens (text ps) ≡ tokens_in ps
 closed_tokens ps a = pieces_scan ps (subst Apart (append-nil ps) (a.by [] tt))
 
-pub type_has_one_reading : (t : TypeSpecifier) → IsType t → HasOneReading ReadsType (type_layout t) t
+pub type_has_one_reading : (t : TypeSpecifier) → IsType t → HasOneReading ReadsType (printed_type t) t
 type_has_one_reading t is =
-    let r : ReadsType (tokens (type_layout t)) t =
+    let r : ReadsType (tokens (printed_type t)) t =
     record { form = is; tokens = spaced_tokens (type_pieces t) (type_spaced t is.part) } in
     record { read = r; only = λ other o. type_unique _ other t o r }
 
 pub expression_has_one_reading : (e : Expression) → IsExpression e →
-    HasOneReading ReadsExpression (expression_layout e) e
+    HasOneReading ReadsExpression (printed_expression e) e
 expression_has_one_reading e is =
-    let r : ReadsExpression (tokens (expression_layout e)) e =
+    let r : ReadsExpression (tokens (printed_expression e)) e =
     record { form = is; tokens = spaced_tokens (expression_pieces e) (expression_spaced e is) } in
     record { read = r; only = λ other o. expression_unique _ other e o r }
 
 pub statement_has_one_reading : (st : Statement) → IsStatement st → (level : ℕ) →
-    HasOneReading ReadsStatement (statement_layout st level) st
+    HasOneReading ReadsStatement (printed_statement st level) st
 statement_has_one_reading st is level =
-    let r : ReadsStatement (tokens (statement_layout st level)) st =
+    let r : ReadsStatement (tokens (printed_statement st level)) st =
     record {
       form = is;
       level = level;
@@ -147,21 +147,21 @@ statement_has_one_reading st is level =
     } in
     record { read = r; only = λ other o. statement_unique _ other st o r }
 
-pub function_has_one_reading : (f : Function) → IsFunction f → HasOneReading ReadsFunction (function_layout f) f
+pub function_has_one_reading : (f : Function) → IsFunction f → HasOneReading ReadsFunction (printed_function f) f
 function_has_one_reading f is =
-    let r : ReadsFunction (tokens (function_layout f)) f =
+    let r : ReadsFunction (tokens (printed_function f)) f =
     record { form = is; tokens = closed_tokens (function_pieces f) (function_closed f is) } in
     record { read = r; only = λ other o. function_unique _ other f o r }
 
 pub entry_point_has_one_reading : (e : EntryPoint) → IsEntryPoint e →
-    HasOneReading ReadsEntryPoint (entry_point_layout e) e
+    HasOneReading ReadsEntryPoint (printed_entry_point e) e
 entry_point_has_one_reading e is =
-    let r : ReadsEntryPoint (tokens (entry_point_layout e)) e =
+    let r : ReadsEntryPoint (tokens (printed_entry_point e)) e =
     record { form = is; tokens = closed_tokens (entry_point_pieces e) (entry_point_closed e is) } in
     record { read = r; only = λ other o. entry_point_unique _ other e o r }
 
-pub program_has_one_reading : (p : Program) → IsProgram p → HasOneReading Reads (layout p) p
+pub program_has_one_reading : (p : Program) → IsProgram p → HasOneReading Reads (printed_program p) p
 program_has_one_reading p is =
-    let r : Reads (tokens (layout p)) p =
+    let r : Reads (tokens (printed_program p)) p =
     record { form = is; tokens = closed_tokens (program_pieces p) (program_closed p is) } in
     record { read = r; only = λ other o. program_unique _ other p o r }

@@ -31,7 +31,7 @@ use Rattle.wgsl_text.proofs.Text.{ends_word, ends, text-append, indent_text}
 use Rattle.wgsl_text.proofs.Types.{type_runs, type_spaced}
 use Rattle.std.specs.Prelude.{codes, ◌^◌}
 use Rattle.wgsl_text.specs.Text.{text}
-use Rattle.wgsl_text.specs.Reading.{type_layout, expression_layout}
+use Rattle.wgsl_text.specs.Reading.{printed_type, printed_expression}
 
 -- the first, newest first, in front of the second
 abbrev rewind_statements : Statements → Statements → Statements
@@ -40,7 +40,7 @@ rewind_statements (Then s more) done = rewind_statements more (Then s done)
 
 abbrev rewind_cases : Cases → Cases → Cases
 rewind_cases NoCases done = done
-rewind_cases (Case labels body more) done = rewind_cases more (Case labels body done)
+rewind_cases (Case case_values body more) done = rewind_cases more (Case case_values body done)
 
 unwind_rewind : (ss done : Statements) → unwind_statements (rewind_statements ss done) NoStatements
     ≡ unwind_statements done ss
@@ -49,24 +49,24 @@ unwind_rewind (Then s more) done = unwind_rewind more (Then s done)
 
 unwind_rewind_cases : (cs done : Cases) → unwind_cases (rewind_cases cs done) NoCases ≡ unwind_cases done cs
 unwind_rewind_cases NoCases done = refl
-unwind_rewind_cases (Case labels body more) done = unwind_rewind_cases more (Case labels body done)
+unwind_rewind_cases (Case case_values body more) done = unwind_rewind_cases more (Case case_values body done)
 
 -- the brace after statements
 pub closes : (ss : Statements) {s : Stack} {qs : List Piece} {s' : ReadState} → Runs qs (close_block ss s) s' →
     Runs (mark CloseBrace ∷ qs) (Expect (InStatements (rewind_statements ss NoStatements) s)) s'
 closes ss {s} b = reads $ as_state (ap (λ body. close_block body s) (unwind_rewind ss NoStatements)) b
 
-case_value_runs : (l : CaseValue) (e : Expression) (done : Cases) (labels : List CaseValue) (s : Stack) →
-    Runs (case_value_pieces l) (ExpectCaseValue e done labels s) (AfterCaseValue e done labels l s)
-case_value_runs DefaultCase e done labels s = at_end
-case_value_runs _ e done labels s = at_end
+case_value_runs : (l : CaseValue) (e : Expression) (done : Cases) (case_values : List CaseValue) (s : Stack) →
+    Runs (case_value_pieces l) (ExpectCaseValue e done case_values s) (AfterCaseValue e done case_values l s)
+case_value_runs DefaultCase e done case_values s = at_end
+case_value_runs _ e done case_values s = at_end
 
-case_values_run : (ls : CaseValues) (e : Expression) (done : Cases) (labels : List CaseValue) (s : Stack) →
-    Runs (case_values_pieces ls) (ExpectCaseValue e done labels s)
-    (ExpectBrace (InCase e done (unwind_case_values labels ls) s))
-case_values_run (LastCaseValue l) e done labels s = case_value_runs l e done labels s onward at_end
-case_values_run (MoreCaseValues l more) e done labels s = case_value_runs l e done labels s onward reads $
-    over_gap $ case_values_run more e done (l ∷ labels) s
+case_values_run : (ls : CaseValues) (e : Expression) (done : Cases) (case_values : List CaseValue) (s : Stack) →
+    Runs (case_values_pieces ls) (ExpectCaseValue e done case_values s)
+    (ExpectBrace (InCase e done (unwind_case_values case_values ls) s))
+case_values_run (LastCaseValue l) e done case_values s = case_value_runs l e done case_values s onward at_end
+case_values_run (MoreCaseValues l more) e done case_values s = case_value_runs l e done case_values s onward reads $
+    over_gap $ case_values_run more e done (l ∷ case_values) s
 
 case_runs : (ls : CaseValues) (e : Expression) (done : Cases) (s : Stack) →
     Runs (case_pieces ls) (AtCase e done s) (ExpectBrace (InCase e done ls s))
@@ -163,10 +163,10 @@ mutual
   cases_run : (cs : Cases) → IsCases cs → (n : ℕ) (e : Expression) (done : Cases) (s : Stack) →
       Runs (cases_pieces cs n) (AtCase e done s) (AtCase e (rewind_cases cs done) s)
   cases_run NoCases is n e done s = at_end
-  cases_run (Case labels body more) is n e done s =
-      over_indent $ case_runs labels e done s onward over_gap $ reads $ over_line $ statements_run
+  cases_run (Case case_values body more) is n e done s =
+      over_indent $ case_runs case_values e done s onward over_gap $ reads $ over_line $ statements_run
       body is.1 (suc n) NoStatements _ onward over_indent $ closes body $ over_line $ cases_run
-      more is.2 n e (Case labels body done) s
+      more is.2 n e (Case case_values body done) s
 
 -- In their pieces no token runs into the next.
 
@@ -247,39 +247,39 @@ mutual
 
   cases_closed : (cs : Cases) → IsCases cs → (n : ℕ) → Closed (cases_pieces cs n)
   cases_closed NoCases is n = none
-  cases_closed (Case labels body more) is n =
-      indent $ case_closed labels is.0 then gap $ sign (λ _. refl) $ line $
+  cases_closed (Case case_values body more) is n =
+      indent $ case_closed case_values is.0 then gap $ sign (λ _. refl) $ line $
       statements_closed body is.1 (suc n) then indent $ sign (λ _. refl) $ line $ cases_closed more is.2 n
 
 -- The text of each row, from the texts of its parts.
 
 pub let_text : (w : List ℕ) (e : Expression) (n : ℕ) → text (statement_pieces (Let w e) n) ≡ indent_text n
-    ++ (codes "let " ++ (w ++ (codes " = " ++ (expression_layout e ++ codes ";\n"))))
+    ++ (codes "let " ++ (w ++ (codes " = " ++ (printed_expression e ++ codes ";\n"))))
 let_text w e n = simp text-append
 
 pub typed_let_text : (w : List ℕ) (t : TypeSpecifier) (e : Expression) (n : ℕ) →
     text (statement_pieces (TypedLet w t e) n) ≡ indent_text n ++
     (codes "let " ++
-    (w ++ (codes ": " ++ (type_layout t ++ (codes " = " ++ (expression_layout e ++ codes ";\n"))))))
+    (w ++ (codes ": " ++ (printed_type t ++ (codes " = " ++ (printed_expression e ++ codes ";\n"))))))
 typed_let_text w t e n = simp text-append
 
 pub assign_text : (a b : Expression) (n : ℕ) → text (statement_pieces (Assign a b) n) ≡ indent_text n
-    ++ (expression_layout a ++ (codes " = " ++ (expression_layout b ++ codes ";\n")))
+    ++ (printed_expression a ++ (codes " = " ++ (printed_expression b ++ codes ";\n")))
 assign_text a b n = simp text-append
 
 pub call_statement_text : (t : TypeSpecifier) (args : Arguments) (n : ℕ) →
     text (statement_pieces (CallStatement t args) n) ≡ indent_text n ++
-    (type_layout t ++ (codes "(" ++ (text (arguments_pieces args) ++ codes ";\n")))
+    (printed_type t ++ (codes "(" ++ (text (arguments_pieces args) ++ codes ";\n")))
 call_statement_text t args n = simp text-append
 
 pub return_text : (e : Expression) (n : ℕ) → text (statement_pieces (ReturnValue e) n) ≡ indent_text n
-    ++ (codes "return " ++ (expression_layout e ++ codes ";\n"))
+    ++ (codes "return " ++ (printed_expression e ++ codes ";\n"))
 return_text e n = simp text-append
 
 pub if_text : (e : Expression) (accept : Statements) (reject : OptionalBlock) (n : ℕ) →
     text (statement_pieces (If e accept reject) n) ≡ indent_text n ++
     (codes "if " ++
-    (expression_layout e ++
+    (printed_expression e ++
     (codes " {\n" ++
     (text (statements_pieces accept (suc n)) ++
     (indent_text n ++ (codes "}" ++ text (else_pieces reject n)))))))
@@ -306,7 +306,7 @@ pub loop_break_if_text : (body rest : Statements) (e : Expression) (n : ℕ) →
     (text (statements_pieces rest (suc (suc n))) ++
     (indent_text (suc (suc n)) ++
     (codes "break if " ++
-    (expression_layout e ++
+    (printed_expression e ++
     (codes ";\n" ++
     (indent_text (suc n) ++ (codes "}\n" ++ (indent_text n ++ codes "}\n"))))))))))))
 loop_break_if_text body rest e n = simp text-append
@@ -320,17 +320,17 @@ continuing_text body n = simp text-append
 pub switch_text : (e : Expression) (cases : Cases) (n : ℕ) →
     text (statement_pieces (Switch e cases) n) ≡ indent_text n ++
     (codes "switch " ++
-    (expression_layout e ++
+    (printed_expression e ++
     (codes " {\n" ++ (text (cases_pieces cases (suc n)) ++ (indent_text n ++ codes "}\n")))))
 switch_text e cases n = simp text-append
 
-pub case_text : (labels : CaseValues) (body : Statements) (more : Cases) (n : ℕ) →
-    text (cases_pieces (Case labels body more) n) ≡ indent_text n ++
-    (text (case_pieces labels) ++
+pub case_text : (case_values : CaseValues) (body : Statements) (more : Cases) (n : ℕ) →
+    text (cases_pieces (Case case_values body more) n) ≡ indent_text n ++
+    (text (case_pieces case_values) ++
     (codes " {\n" ++
     (text (statements_pieces body (suc n)) ++
     (indent_text n ++ (codes "}\n" ++ text (cases_pieces more n))))))
-case_text labels body more n = simp text-append
+case_text case_values body more n = simp text-append
 
 pub block_text : (body : Statements) (n : ℕ) → text (statement_pieces (Block body) n) ≡ indent_text n
     ++ (codes "{\n" ++ (text (statements_pieces body (suc n)) ++ (indent_text n ++ codes "}\n")))

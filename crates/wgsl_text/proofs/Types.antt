@@ -21,7 +21,7 @@ use Rattle.std.specs.Prelude.{codes, ⊤, IsTrue, cond}
 use Rattle.std.proofs.lemmas.Bool.{false≢true, and_parts}
 use Rattle.wgsl_text.specs.Text.{text}
 use Rattle.std.proofs.lemmas.List.{append-nil}
-use Rattle.wgsl_text.specs.Reading.{type_layout}
+use Rattle.wgsl_text.specs.Reading.{printed_type}
 
 gap_runs : (gaps : Bool) {qs : List Piece} {s s' : ReadState} → Runs qs s s' → Runs (gap_if gaps ++ qs) s s'
 gap_runs true b = over_gap b
@@ -190,14 +190,14 @@ mutual
 
 -- The text of each row, from the texts of its parts.
 
-pub named_text : (w : List ℕ) → type_layout (Named w) ≡ w
+pub named_text : (w : List ℕ) → printed_type (Named w) ≡ w
 named_text w = append-nil w
 
 pub type_part_text : (t : TypeSpecifier) (more : TemplateArguments) (gaps : Bool) →
-    text (template_pieces (TypeArgument t more) gaps) ≡ type_layout t ++ text (more_template_pieces more gaps)
+    text (template_pieces (TypeArgument t more) gaps) ≡ printed_type t ++ text (more_template_pieces more gaps)
 type_part_text t more gaps = simp text-append
 
 pub next_part_text : (t : TypeSpecifier) (more : TemplateArguments) →
     text (more_template_pieces (TypeArgument t more) true)
-    ≡ codes ", " ++ (type_layout t ++ text (more_template_pieces more true))
+    ≡ codes ", " ++ (printed_type t ++ text (more_template_pieces more true))
 next_part_text t more = simp text-append

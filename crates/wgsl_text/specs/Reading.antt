@@ -44,23 +44,23 @@ pub record Reads (ts : List Token) (program : Program) : Type 0 where
   pub tokens : ts ≡ tokens_in (program_pieces program)
 
 -- the texts of trees, with their blanks and line ends
-abbrev pub type_layout : TypeSpecifier → List ℕ
-type_layout t = text (type_pieces t)
+abbrev pub printed_type : TypeSpecifier → List ℕ
+printed_type t = text (type_pieces t)
 
-abbrev pub expression_layout : Expression → List ℕ
-expression_layout e = text (expression_pieces e)
+abbrev pub printed_expression : Expression → List ℕ
+printed_expression e = text (expression_pieces e)
 
-abbrev pub statement_layout : Statement → ℕ → List ℕ
-statement_layout s level = text (statement_pieces s level)
+abbrev pub printed_statement : Statement → ℕ → List ℕ
+printed_statement s level = text (statement_pieces s level)
 
-abbrev pub function_layout : Function → List ℕ
-function_layout f = text (function_pieces f)
+abbrev pub printed_function : Function → List ℕ
+printed_function f = text (function_pieces f)
 
-abbrev pub entry_point_layout : EntryPoint → List ℕ
-entry_point_layout e = text (entry_point_pieces e)
+abbrev pub printed_entry_point : EntryPoint → List ℕ
+printed_entry_point e = text (entry_point_pieces e)
 
-abbrev pub layout : Program → List ℕ
-layout program = text (program_pieces program)
+abbrev pub printed_program : Program → List ℕ
+printed_program program = text (program_pieces program)
 
 -- Of all trees the text is read as this one, and as no other.
 pub record HasOneReading {A : Type 0} (reads : List Token → A → Type 0) (bytes : List ℕ)

@@ -26,7 +26,7 @@ use Rattle.wgsl_text.specs.Attributes.{Builtin, Interpolate, Mesh, Payload, Inco
 use Rattle.wgsl_text.specs.Attributes.{Numbered, WorkgroupSize}
 use Rattle.wgsl_text.specs.Functions.{NoResult, ResultOf}
 use Rattle.wgsl_text.specs.Declarations.{NoSpace, Program, no_declarations}
-use Rattle.wgsl_text.specs.Reading.{type_layout, expression_layout}
+use Rattle.wgsl_text.specs.Reading.{printed_type, printed_expression}
 use Rattle.wgsl_text.specs.WorkedTrees.{lines, names, template_of, named_type, template}
 use Rattle.wgsl_text.specs.WorkedTrees.{sized_template}
 use Rattle.wgsl_text.specs.WorkedTrees.{member_of, let_statement, typed_let_statement}
@@ -37,15 +37,15 @@ use Rattle.wgsl_text.specs.WorkedTrees.{global, entry_point, name, integer, unsi
 use Rattle.wgsl_text.specs.WorkedTrees.{statements, parameter, local, function, of_functions}
 use Rattle.wgsl_text.specs.WorkedTrees.{IsText}
 
--- The tree is a type, and this is its layout.
+-- The tree is a type, and it is printed so.
 pub record IsTypeText (t : TypeSpecifier) (spelling : String) : Type 0 where
   pub form : IsType t
-  pub text : type_layout t ≡ codes spelling
+  pub text : printed_type t ≡ codes spelling
 
 -- the same of an expression
 pub record IsExpressionText (e : Expression) (spelling : String) : Type 0 where
   pub form : IsExpression e
-  pub text : expression_layout e ≡ codes spelling
+  pub text : printed_expression e ≡ codes spelling
 
 -- each row of types
 pub record TypeRows : Type 0 where

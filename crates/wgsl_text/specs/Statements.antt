@@ -77,7 +77,7 @@ case_values_pieces (MoreCaseValues l more) =
 -- a default that stands alone has no `case`
 abbrev pub case_pieces : CaseValues → List Piece
 case_pieces (LastCaseValue DefaultCase) = mark KeywordDefault ∷ mark Colon ∷ []
-case_pieces labels = mark KeywordCase ∷ Blank ∷ case_values_pieces labels
+case_pieces case_values = mark KeywordCase ∷ Blank ∷ case_values_pieces case_values
 
 -- A statement stands n levels deep.
 abbrev mutual
@@ -156,9 +156,9 @@ abbrev mutual
 
   pub cases_pieces : Cases → ℕ → List Piece
   cases_pieces NoCases n = []
-  cases_pieces (Case labels body more) n =
+  cases_pieces (Case case_values body more) n =
       Indent n ∷
-      (case_pieces labels ++
+      (case_pieces case_values ++
       (Blank ∷ mark OpenBrace ∷ LineEnd ∷
       (statements_pieces body (suc n) ++
       (Indent n ∷ mark CloseBrace ∷ LineEnd ∷ cases_pieces more n))))
@@ -195,7 +195,7 @@ defaults_among (MoreCaseValues l more) = defaults_at l + defaults_among more
 
 abbrev pub default_count : Cases → ℕ
 default_count NoCases = 0
-default_count (Case labels body more) = defaults_among labels + default_count more
+default_count (Case case_values body more) = defaults_among case_values + default_count more
 
 -- A switch has exactly one default among the values of its cases.
 abbrev mutual
@@ -222,4 +222,4 @@ abbrev mutual
 
   pub IsCases : Cases → Type 0
   IsCases NoCases = ⊤
-  IsCases (Case labels body more) = AreCaseValues labels × IsStatements body × IsCases more
+  IsCases (Case case_values body more) = AreCaseValues case_values × IsStatements body × IsCases more

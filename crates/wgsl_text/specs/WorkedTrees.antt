@@ -17,12 +17,12 @@ use Rattle.wgsl_text.specs.Functions.{Parameter, Result, ResultOf, Local, Functi
 use Rattle.wgsl_text.specs.Declarations.{StructMember, Struct, NamedConstant, Override, Space}
 use Rattle.wgsl_text.specs.Declarations.{SpaceAlone, SpaceAndAccess, Global, Program}
 use Rattle.wgsl_text.specs.Declarations.{no_declarations, IsProgram}
-use Rattle.wgsl_text.specs.Reading.{layout}
+use Rattle.wgsl_text.specs.Reading.{printed_program}
 
--- The tree is a program, and these bytes are its layout.
+-- The tree is a program, and it is printed as these bytes.
 pub record IsText (program : Program) (bytes : List ℕ) : Type 0 where
   pub form : IsProgram program
-  pub text : layout program ≡ bytes
+  pub text : printed_program program ≡ bytes
 
 -- lines, each with its end
 abbrev pub lines : List String → List ℕ

@@ -1,4 +1,4 @@
-//! What WGSL text is: its tokens, its trees, and the layout of a tree. The public functions are
+//! What WGSL text is: its tokens, its trees, and how trees are printed. The public functions are
 //! laws.
 #![tactic(auto)]
 
@@ -14,9 +14,9 @@ ghost use Rattle.wgsl_text.specs.Declarations.{Program, IsProgram};
 ghost use Rattle.wgsl_text.specs.LargeExamples.{LargePrograms};
 ghost use Rattle.wgsl_text.specs.Operators.{OperatorWords};
 ghost use Rattle.wgsl_text.specs.Reading.{AreReadOnce, ReadsType, ReadsExpression, ReadsStatement};
-ghost use Rattle.wgsl_text.specs.Reading.{ReadsFunction, Reads, HasOneReading, type_layout};
-ghost use Rattle.wgsl_text.specs.Reading.{expression_layout, statement_layout, function_layout};
-ghost use Rattle.wgsl_text.specs.Reading.{ReadsEntryPoint, entry_point_layout, layout};
+ghost use Rattle.wgsl_text.specs.Reading.{ReadsFunction, Reads, HasOneReading, printed_type};
+ghost use Rattle.wgsl_text.specs.Reading.{printed_expression, printed_statement, printed_function};
+ghost use Rattle.wgsl_text.specs.Reading.{ReadsEntryPoint, printed_entry_point, printed_program};
 ghost use Rattle.wgsl_text.specs.NotInGrammar.{TextsNotInGrammar};
 ghost use Rattle.wgsl_text.specs.Rows.{TypeRows, OperatorRows, AccessRows, LineRows};
 ghost use Rattle.wgsl_text.specs.Spelled.{SpelledPieces};
@@ -34,47 +34,47 @@ pub fn longest_token()
 
 /// The text of a type is read as that type and no other, and no tokens are read as two types.
 pub fn one_reading_of_a_type()
-    ensures layout { (t : TypeSpecifier) → IsType t → HasOneReading ReadsType (type_layout t) t }
+    ensures printed { (t : TypeSpecifier) → IsType t → HasOneReading ReadsType (printed_type t) t }
     ensures unique { AreReadOnce ReadsType }
 {}
 
 /// The text of an expression is read as that expression and no other, and no tokens are read as two
 /// expressions.
 pub fn one_reading_of_an_expression()
-    ensures layout { (e : Expression) → IsExpression e →
-        HasOneReading ReadsExpression (expression_layout e) e }
+    ensures printed { (e : Expression) → IsExpression e →
+        HasOneReading ReadsExpression (printed_expression e) e }
     ensures unique { AreReadOnce ReadsExpression }
 {}
 
 /// The text of a statement, at any level, is read as that statement and no other, and no tokens are
 /// read as two statements.
 pub fn one_reading_of_a_statement()
-    ensures layout { (s : Statement) → IsStatement s → (level : ℕ) →
-        HasOneReading ReadsStatement (statement_layout s level) s }
+    ensures printed { (s : Statement) → IsStatement s → (level : ℕ) →
+        HasOneReading ReadsStatement (printed_statement s level) s }
     ensures unique { AreReadOnce ReadsStatement }
 {}
 
 /// The text of a function is read as that function and no other, and no tokens are read as two
 /// functions.
 pub fn one_reading_of_a_function()
-    ensures layout { (f : Function) → IsFunction f →
-        HasOneReading ReadsFunction (function_layout f) f }
+    ensures printed { (f : Function) → IsFunction f →
+        HasOneReading ReadsFunction (printed_function f) f }
     ensures unique { AreReadOnce ReadsFunction }
 {}
 
 /// The text of an entry point is read as that entry point and no other, and no tokens are read as
 /// two entry points.
 pub fn one_reading_of_an_entry_point()
-    ensures layout { (e : EntryPoint) → IsEntryPoint e →
-        HasOneReading ReadsEntryPoint (entry_point_layout e) e }
+    ensures printed { (e : EntryPoint) → IsEntryPoint e →
+        HasOneReading ReadsEntryPoint (printed_entry_point e) e }
     ensures unique { AreReadOnce ReadsEntryPoint }
 {}
 
 /// The text of a program is read as that program and no other, and no tokens are read as two
 /// programs.
 pub fn one_reading_of_a_program()
-    ensures layout { (program : Program) → IsProgram program →
-        HasOneReading Reads (layout program) program }
+    ensures printed { (program : Program) → IsProgram program →
+        HasOneReading Reads (printed_program program) program }
     ensures unique { AreReadOnce Reads }
 {}
 

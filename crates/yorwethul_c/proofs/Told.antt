@@ -6,7 +6,7 @@ use Rattle.decimal_floats.specs.Decimals.{IsDecimalModule}
 use Rattle.std.specs.Prelude.{◌<◌, ◌%◌, IfSome, IsTrue}
 use Rattle.naga_ir.specs.declared.module.Module.{Module}
 use Rattle.naga_info.specs.declared.info.ModuleInfo.{ModuleInfo}
-use Rattle.module_meaning.specs.acceptance.Accepted.{is_accepted}
+use Rattle.module_semantics.specs.acceptance.Accepted.{is_accepted}
 use Rattle.naga_back.specs.declared.flags.WriterFlags.{WriterFlags}
 use Rattle.naga_back.specs.Flags.{annotates_types, bits_of}
 use Rattle.naga_wgsl_fns.specs.Refusals.{TellsOfModule}

@@ -12,7 +12,7 @@ use Rattle.naga_back.specs.Flags.{annotates_types, bits_of}
 use Rattle.naga_back.specs.declared.flags.WriterFlags.{WriterFlags}
 use Rattle.naga_acceptance.specs.FirstFaults.{IsFirstFault}
 use Rattle.naga_acceptance.specs.declared.faults.Unaccepted.{Unaccepted}
-use Rattle.module_meaning.specs.acceptance.Accepted.{is_accepted}
+use Rattle.module_semantics.specs.acceptance.Accepted.{is_accepted}
 use Rattle.module_answers.specs.Faults.{TellsFaultAt}
 use Rattle.module_answers.specs.Refusals.{TellsRefusalAt}
 use Rattle.module_answers.specs.WriteOutcomes.{TellsRefusal}
@@ -22,7 +22,7 @@ use Rattle.module_answers.specs.declared.within.NoOutcome.TheVariants as unwritt
 use Rattle.module_limits.specs.Nesting.{nested_past}
 use Rattle.module_limits.specs.declared.nesting.Nested.{Nested}
 use Rattle.naga_form.specs.Declarations.{written_program}
-use Rattle.wgsl_text.specs.Reading.{layout}
+use Rattle.wgsl_text.specs.Reading.{printed_program}
 use Rattle.naga_wgsl_fns.specs.declared.refusals.error.Error.{Error}
 use Rattle.naga_wgsl_fns.specs.declared.refusals.error.Error.TheVariants as error
 use Rattle.naga_wgsl_out.specs.Checked.{IsCounted}
@@ -109,7 +109,7 @@ pub record IsWritten (flags : ℕ) (text : List ℕ) : Type 0 where
   pub accepted : IsTrue (is_accepted given read)
   pub counted : IsCounted m read info
   pub faithful : FaithfulWriting writer m info (Ok tt) [] text 0 0
-  pub text_is : text ≡ layout (written_program m info writer)
+  pub text_is : text ≡ printed_program (written_program m info writer)
   pub is_within : length text ≤ longest_text
 
 -- The text of an accepted module, written as asked, would be longer than it may be.
@@ -124,7 +124,7 @@ pub record IsTooLong (flags : ℕ) : Type 0 where
   pub info : ModuleInfo
   pub accepted : IsTrue (is_accepted given read)
   pub counted : IsCounted m read info
-  pub longer : longest_text < length (layout (written_program m info writer))
+  pub longer : longest_text < length (printed_program (written_program m info writer))
 
 -- The writer refused an accepted module, for a listed construct that stands there and is the first,
 -- and this line tells it with its position.

@@ -3,12 +3,12 @@
 ghost use Rattle.std.specs.Prelude.{◌≡◌, length};
 ghost use Rattle.std.specs.List.{enumerate_from};
 ghost use Rattle.naga_ir.specs.Operands.{expression_operands};
-ghost use Rattle.module_meaning.specs.Literals.{literal_is_within};
+ghost use Rattle.module_semantics.specs.Literals.{literal_is_within};
 ghost use Rattle.naga_acceptance.specs.FirstFaults.{expression_range_fault};
 ghost use Rattle.naga_acceptance.specs.FirstFaults.{global_expression_range_fault, names_fault};
 ghost use Rattle.naga_acceptance.specs.Searching.{first_faulty};
-ghost use Rattle.module_meaning.specs.acceptance.Ranges.{all_below};
-ghost use Rattle.module_meaning.specs.acceptance.Ranges.{initialiser_before, names_in_range};
+ghost use Rattle.module_semantics.specs.acceptance.Ranges.{all_below};
+ghost use Rattle.module_semantics.specs.acceptance.Ranges.{initialiser_before, names_in_range};
 
 use crate::faults::Fault;
 use crate::ranges::is_below;

@@ -5,15 +5,15 @@ ghost use Rattle.std.specs.List.{list_all};
 ghost use Rattle.std.specs.Option.{option_map_or};
 ghost use Rattle.naga_ir.specs.StatementViews.{cases_of};
 ghost use Rattle.naga_acceptance.specs.TextOrder.{case_values_fit_32_bits};
-ghost use Rattle.module_meaning.specs.acceptance.Numbers.{binding_fits_32_bits, fits_16_bits};
-ghost use Rattle.module_meaning.specs.acceptance.Numbers.{fits_32_bits};
-ghost use Rattle.module_meaning.specs.acceptance.Numbers.{case_value_fits_32_bits};
-ghost use Rattle.module_meaning.specs.acceptance.Numbers.{member_fits_32_bits};
-ghost use Rattle.module_meaning.specs.acceptance.Numbers.{pattern_is_whole, resource_fits_32_bits};
-ghost use Rattle.module_meaning.specs.acceptance.Numbers.{signature_fits_32_bits};
-ghost use Rattle.module_meaning.specs.acceptance.Numbers.{size_fits_32_bits};
-ghost use Rattle.module_meaning.specs.acceptance.Numbers.{type_fits_32_bits};
-ghost use Rattle.module_meaning.specs.acceptance.Numbers.{workgroup_fits_32_bits};
+ghost use Rattle.module_semantics.specs.acceptance.Numbers.{binding_fits_32_bits, fits_16_bits};
+ghost use Rattle.module_semantics.specs.acceptance.Numbers.{fits_32_bits};
+ghost use Rattle.module_semantics.specs.acceptance.Numbers.{case_value_fits_32_bits};
+ghost use Rattle.module_semantics.specs.acceptance.Numbers.{member_fits_32_bits};
+ghost use Rattle.module_semantics.specs.acceptance.Numbers.{pattern_is_whole, resource_fits_32_bits};
+ghost use Rattle.module_semantics.specs.acceptance.Numbers.{signature_fits_32_bits};
+ghost use Rattle.module_semantics.specs.acceptance.Numbers.{size_fits_32_bits};
+ghost use Rattle.module_semantics.specs.acceptance.Numbers.{type_fits_32_bits};
+ghost use Rattle.module_semantics.specs.acceptance.Numbers.{workgroup_fits_32_bits};
 
 use naga_ir::{
     ArraySize, Binding, Function, FunctionArgument, FunctionResult, ResourceBinding, StructMember,

@@ -6,9 +6,9 @@ ghost use Rattle.std.specs.List.{enumerate_from};
 ghost use Rattle.naga_acceptance.specs.FirstFaults.{entry_point_sizes_fault};
 ghost use Rattle.naga_acceptance.specs.FirstFaults.{function_sizes_fault, sizes_fault};
 ghost use Rattle.naga_acceptance.specs.Searching.{first_unfit};
-ghost use Rattle.module_meaning.specs.acceptance.InfoSizes.{function_size_fits, is_handle_pointer};
-ghost use Rattle.module_meaning.specs.acceptance.InfoSizes.{is_handle_space, resolution_is_fit};
-ghost use Rattle.module_meaning.specs.acceptance.InfoSizes.{type_is_fit};
+ghost use Rattle.module_semantics.specs.acceptance.InfoSizes.{function_size_fits, is_handle_pointer};
+ghost use Rattle.module_semantics.specs.acceptance.InfoSizes.{is_handle_space, resolution_is_fit};
+ghost use Rattle.module_semantics.specs.acceptance.InfoSizes.{type_is_fit};
 ghost use Rattle.naga_words.specs.Spelling.{is_struct};
 
 use crate::faults::{Fault, FaultPosition, FunctionPosition, Unaccepted, at};

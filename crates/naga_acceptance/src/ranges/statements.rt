@@ -5,7 +5,7 @@ ghost use Rattle.std.specs.Result.{result_err};
 ghost use Rattle.naga_ir.specs.StatementViews.{tree_of};
 ghost use Rattle.naga_acceptance.specs.TextOrder.{is_in_range, numbered, own_in_range, text_order};
 ghost use Rattle.naga_ir.specs.Operands.{own_operands, own_result};
-ghost use Rattle.module_meaning.specs.acceptance.Ranges.{all_below, is_below};
+ghost use Rattle.module_semantics.specs.acceptance.Ranges.{all_below, is_below};
 
 use crate::ranges::is_below;
 use crate::ranges::numbers::case_values_fit_32_bits;

@@ -1,7 +1,7 @@
 -- What acceptance says of the expressions that stand together in a function, in an entry point or in
 -- the module itself.
-use Rattle.module_meaning.specs.Names.{TypesAreDistinguished}
-use Rattle.module_meaning.proofs.SideBySide.{in_groups, paired_at}
+use Rattle.module_semantics.specs.Names.{TypesAreDistinguished}
+use Rattle.module_semantics.proofs.SideBySide.{in_groups, paired_at}
 use Rattle.std.proofs.Common.{◌≡◌, ℕ, zero, suc, ◌<◌, ◌+◌, Bool, true, false, List, [], ◌∷◌, refl}
 use Rattle.std.proofs.Common.{sym, ap, ◌∙◌, length, ◌&&◌, Option, Some, None, slice_get, map, arith}
 use Rattle.std.proofs.Common.{nat_lt, ◌^◌, ◌≤◌, eqb-true, ◌⊎◌, inl, inr}
@@ -31,35 +31,35 @@ use Rattle.naga_info.specs.declared.info.ModuleInfo.{ModuleInfo}
 use Rattle.naga_info.specs.declared.info.TypeResolution.{TypeResolution}
 use Rattle.naga_info.specs.declared.info.TypeResolution.TheVariants.{Handle, Value}
 use Rattle.naga_words.specs.Spelling.{length_within}
-use Rattle.module_meaning.specs.acceptance.Accepted.{is_accepted}
-use Rattle.module_meaning.specs.acceptance.AgreeingOperators.{Group, function_group}
-use Rattle.module_meaning.specs.acceptance.AgreeingOperators.{function_groups, further_groups_of}
-use Rattle.module_meaning.specs.acceptance.AgreeingOperators.{groups_of, module_operators_agree}
-use Rattle.module_meaning.specs.acceptance.ExpressionTypes.{expression_type_fits, has_its_type}
-use Rattle.module_meaning.specs.acceptance.ExpressionTypes.{have_their_types}
-use Rattle.module_meaning.specs.acceptance.InfoSizes.{all_paired, sizes_fit, function_size_fits}
-use Rattle.module_meaning.specs.acceptance.InfoSizes.{type_is_fit, resolution_is_fit, all_known}
-use Rattle.module_meaning.specs.acceptance.InfoSizes.{entry_point_size_fits}
-use Rattle.module_meaning.specs.acceptance.Numbers.{fits_32_bits, size_fits_32_bits}
-use Rattle.module_meaning.specs.acceptance.Numbers.{type_fits_32_bits, workgroup_fits_32_bits}
-use Rattle.module_meaning.specs.acceptance.OperandDemands.{operands_fit, are_operands_fit}
-use Rattle.module_meaning.specs.acceptance.Ranges.{module_ranges_fit, module_in_range}
-use Rattle.module_meaning.specs.acceptance.Ranges.{resolution_fits, types_in_range}
-use Rattle.module_meaning.specs.acceptance.Ranges.{function_in_range, entry_point_in_range}
-use Rattle.module_meaning.specs.acceptance.Ranges.{expression_in_range, all_below, all_by_handle}
-use Rattle.module_meaning.specs.acceptance.Ranges.{global_expression_in_range, signature_fits}
-use Rattle.module_meaning.specs.acceptance.Ranges.{names_fit, local_in_range, expressions_in_range}
-use Rattle.module_meaning.specs.acceptance.Ranges.{block_in_range, declarations_in_range}
-use Rattle.module_meaning.specs.acceptance.Ranges.{names_in_range, numbers_in_range, parts_before}
-use Rattle.module_meaning.specs.acceptance.Ranges.{special_types_fit, constant_in_range}
-use Rattle.module_meaning.specs.acceptance.Ranges.{override_in_range, global_in_range, is_below}
-use Rattle.module_meaning.specs.acceptance.Soundness.{module_is_sound, function_is_sound}
-use Rattle.module_meaning.specs.acceptance.Soundness.{entry_point_is_sound, declarations_are_sound}
-use Rattle.module_meaning.proofs.Lists.{list_all_at, placed_at}
+use Rattle.module_semantics.specs.acceptance.Accepted.{is_accepted}
+use Rattle.module_semantics.specs.acceptance.AgreeingOperators.{Group, function_group}
+use Rattle.module_semantics.specs.acceptance.AgreeingOperators.{function_groups, further_groups_of}
+use Rattle.module_semantics.specs.acceptance.AgreeingOperators.{groups_of, module_operators_agree}
+use Rattle.module_semantics.specs.acceptance.ExpressionTypes.{expression_type_fits, has_its_type}
+use Rattle.module_semantics.specs.acceptance.ExpressionTypes.{have_their_types}
+use Rattle.module_semantics.specs.acceptance.InfoSizes.{all_paired, sizes_fit, function_size_fits}
+use Rattle.module_semantics.specs.acceptance.InfoSizes.{type_is_fit, resolution_is_fit, all_known}
+use Rattle.module_semantics.specs.acceptance.InfoSizes.{entry_point_size_fits}
+use Rattle.module_semantics.specs.acceptance.Numbers.{fits_32_bits, size_fits_32_bits}
+use Rattle.module_semantics.specs.acceptance.Numbers.{type_fits_32_bits, workgroup_fits_32_bits}
+use Rattle.module_semantics.specs.acceptance.OperandDemands.{operands_fit, are_operands_fit}
+use Rattle.module_semantics.specs.acceptance.Ranges.{module_ranges_fit, module_in_range}
+use Rattle.module_semantics.specs.acceptance.Ranges.{resolution_fits, types_in_range}
+use Rattle.module_semantics.specs.acceptance.Ranges.{function_in_range, entry_point_in_range}
+use Rattle.module_semantics.specs.acceptance.Ranges.{expression_in_range, all_below, all_by_handle}
+use Rattle.module_semantics.specs.acceptance.Ranges.{global_expression_in_range, signature_fits}
+use Rattle.module_semantics.specs.acceptance.Ranges.{names_fit, local_in_range, expressions_in_range}
+use Rattle.module_semantics.specs.acceptance.Ranges.{block_in_range, declarations_in_range}
+use Rattle.module_semantics.specs.acceptance.Ranges.{names_in_range, numbers_in_range, parts_before}
+use Rattle.module_semantics.specs.acceptance.Ranges.{special_types_fit, constant_in_range}
+use Rattle.module_semantics.specs.acceptance.Ranges.{override_in_range, global_in_range, is_below}
+use Rattle.module_semantics.specs.acceptance.Soundness.{module_is_sound, function_is_sound}
+use Rattle.module_semantics.specs.acceptance.Soundness.{entry_point_is_sound, declarations_are_sound}
+use Rattle.module_semantics.proofs.Lists.{list_all_at, placed_at}
 use Rattle.naga_names.proofs.Refusal.{element}
 use Rattle.naga_form.proofs.operators.AgreeingUses.{AreKnown, AllFit, IsIn, in_right}
-use Rattle.module_meaning.proofs.FunctionNumbers.{in_append, in_left}
-use Rattle.module_meaning.specs.FunctionNumbers.{all_infos}
+use Rattle.module_semantics.proofs.FunctionNumbers.{in_append, in_left}
+use Rattle.module_semantics.specs.FunctionNumbers.{all_infos}
 use Rattle.naga_form.proofs.types.SameValues.{TypesAreCounted, TypesAreFit, IsFit, InnerIsCounted}
 use Rattle.naga_form.proofs.types.SameValues.{LengthIsCounted}
 
@@ -94,7 +94,7 @@ fits_in_range overrides types (Value it) fits = tt
 
 -- ---- what is known of expressions that stand together, in a function if in one
 pub record IsSoundGroup (m : Module) (info : ModuleInfo) (f : Option Function) (g : Group) : Type 0 where
-  pub place : IsIn (groups_of m info) g
+  pub among : IsIn (groups_of m info) g
   pub size : length g.expressions ≡ length g.known
   pub fits : AllFit m info g.known
   pub below : (h : ℕ) (e : Expression) → slice_get g.expressions h ≡ Some e → all_below h (expression_operands e) ≡ true
@@ -191,8 +191,8 @@ module _ (m : Module) (info : ModuleInfo) where
         expression_in_range m arguments locals h e ≡ true) →
         have_their_types m f g.known g.expressions ≡ true → are_operands_fit m.types g.known g.expressions
         ≡ true → IsSoundGroup m info f g
-    sound_group f g arguments locals place size fits ranges typed demands = record {
-      place = place;
+    sound_group f g arguments locals among size fits ranges typed demands = record {
+      among = among;
       size = size;
       fits = λ h r at. fit_of r (fits h r at);
       below = λ h e at. (in_range h e at).0;
@@ -218,7 +218,7 @@ module _ (m : Module) (info : ModuleInfo) where
         function_in_range m callees f ≡ true →
         list_all (λ k. resolution_fits (length m.overrides) (length m.types) k.ty) es ≡ true →
         function_is_sound m f es ≡ true → IsSoundGroup m info (Some f) (function_group f es)
-    function_is callees f es place size ranges known sound =
+    function_is callees f es among size ranges known sound =
         let one = and_parts (signature_fits (length m.types) f) _ ranges in let two = and_parts (names_fit f) _ one.1 in
         let three = and_parts (list_all (local_in_range (length m.types) (length f.expressions))
         f.local_variables) _ two.1 in
@@ -227,7 +227,7 @@ module _ (m : Module) (info : ModuleInfo) where
         let parts = and_parts _ _ sound in let typed = and_parts _ _ parts.0 in
         let test = expression_in_range m (length f.arguments.items) (length f.local_variables) in
         sound_group (Some f) (function_group f es) (length f.arguments.items)
-        (length f.local_variables) place (eqb-true (length f.expressions) (length es) size
+        (length f.local_variables) among (eqb-true (length f.expressions) (length es) size
         ∙ sym (length-map es (λ e. e.ty)))
         (known_test (resolution_fits (length m.overrides) (length m.types)) es known)
         (λ h e at. let from : 0 + h ≡ h = omega arith in sym (ap (λ n. test n e) from)

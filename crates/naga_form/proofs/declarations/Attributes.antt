@@ -36,23 +36,23 @@ use Rattle.wgsl_text.specs.Attributes.{after_location, after_size as may_follow_
 use Rattle.wgsl_text.specs.Attributes.{is_global_binding, is_id, is_io_binding, is_member_binding}
 use Rattle.wgsl_text.specs.Attributes.{is_stage}
 use Rattle.wgsl_text.specs.Words.{IsIdentifier}
-use Rattle.text_meaning.specs.Attributes.{AnyHitStage, BuiltinValue, ClosestHitStage, ComputeStage}
-use Rattle.text_meaning.specs.Attributes.{MeshStage, MissStage, TaskStage}
-use Rattle.text_meaning.specs.Attributes.{ResourceBinding as Resource, AtLocation, LocationBinding}
-use Rattle.text_meaning.specs.Attributes.{alignment_read, after_alignment, after_location_read}
-use Rattle.text_meaning.specs.Attributes.{after_size, default_interpolation, default_sampling}
-use Rattle.text_meaning.specs.Attributes.{id_read, is_coherent, is_volatile, plain_location}
-use Rattle.text_meaning.specs.Attributes.{resource_binding_read, size_read, stage_binding_read}
-use Rattle.text_meaning.specs.Attributes.{stage_read}
-use Rattle.module_meaning.specs.DeclarationForms.{binding_has_form, stage_has_form}
-use Rattle.module_meaning.specs.Interface.{stage_of}
-use Rattle.module_meaning.specs.Names.{global_name}
-use Rattle.module_meaning.specs.acceptance.Numbers.{binding_fits_32_bits, fits_16_bits}
-use Rattle.module_meaning.specs.acceptance.Numbers.{fits_32_bits, resource_fits_32_bits}
-use Rattle.module_meaning.specs.acceptance.Numbers.{workgroup_fits_32_bits}
-use Rattle.module_meaning.specs.acceptance.Ranges.{is_below}
-use Rattle.module_meaning.specs.StageBindings.{binding_meant, is_coherent_memory, is_invariant}
-use Rattle.module_meaning.specs.StageBindings.{is_volatile_memory, stage_binding}
+use Rattle.text_semantics.specs.Attributes.{AnyHitStage, BuiltinValue, ClosestHitStage, ComputeStage}
+use Rattle.text_semantics.specs.Attributes.{MeshStage, MissStage, TaskStage}
+use Rattle.text_semantics.specs.Attributes.{ResourceBinding as Resource, AtLocation, LocationBinding}
+use Rattle.text_semantics.specs.Attributes.{alignment_read, after_alignment, after_location_read}
+use Rattle.text_semantics.specs.Attributes.{after_size, default_interpolation, default_sampling}
+use Rattle.text_semantics.specs.Attributes.{id_read, is_coherent, is_volatile, plain_location}
+use Rattle.text_semantics.specs.Attributes.{resource_binding_read, size_read, stage_binding_read}
+use Rattle.text_semantics.specs.Attributes.{stage_read}
+use Rattle.module_semantics.specs.DeclarationForms.{binding_has_form, stage_has_form}
+use Rattle.module_semantics.specs.Interface.{stage_of}
+use Rattle.module_semantics.specs.Names.{global_name}
+use Rattle.module_semantics.specs.acceptance.Numbers.{binding_fits_32_bits, fits_16_bits}
+use Rattle.module_semantics.specs.acceptance.Numbers.{fits_32_bits, resource_fits_32_bits}
+use Rattle.module_semantics.specs.acceptance.Numbers.{workgroup_fits_32_bits}
+use Rattle.module_semantics.specs.acceptance.Ranges.{is_below}
+use Rattle.module_semantics.specs.StageBindings.{binding_meant, is_coherent_memory, is_invariant}
+use Rattle.module_semantics.specs.StageBindings.{is_volatile_memory, stage_binding}
 use Rattle.naga_form.specs.Attributes.{attribute_if, attribute_of, binding_attributes}
 use Rattle.naga_form.specs.Attributes.{builtin_attributes, decoration_attributes, global_attributes}
 use Rattle.naga_form.specs.Attributes.{id_attributes, interpolation_attributes, interpolation_told}

@@ -2,7 +2,7 @@
 -- the initialisers of the named constants spell signatures of expressions, or of the zero value
 -- that one without a tree counts as, and name what is there. A tree has its expression's type, and
 -- an initialiser its constant's.
-use Rattle.module_meaning.specs.Names.{TypesAreDistinguished}
+use Rattle.module_semantics.specs.Names.{TypesAreDistinguished}
 use Rattle.std.proofs.Common.{◌≡◌, ℕ, zero, suc, Bool, true, false, List, [], ◌∷◌, refl, sym, ap}
 use Rattle.std.proofs.Common.{◌∙◌, subst}
 use Rattle.std.proofs.Common.{Option, Some, None, ◌⊎◌, inl, inr, slice_get, if◌then◌else◌}
@@ -19,14 +19,14 @@ use Rattle.shader_runs.specs.Program.{ConstantTree}
 use Rattle.shader_runs.specs.Premises.{constant_type, ConstantInRange}
 use Rattle.shader_runs.specs.Typing.{Signature, constant_signatures, IsOneOf, TreeFits}
 use Rattle.shader_runs.specs.Value.{Spelled, type_at}
-use Rattle.module_meaning.specs.acceptance.Accepted.{is_accepted}
-use Rattle.module_meaning.specs.acceptance.AgreeingOperators.{Group}
-use Rattle.module_meaning.specs.ExpressionShapes.{constant_tree}
-use Rattle.module_meaning.specs.ModuleShapes.{module_shape, named_constants, initialiser}
-use Rattle.module_meaning.specs.ExpressionContexts.{expression_context, global_tree, zero_of_type}
-use Rattle.module_meaning.specs.ExpressionOperators.{constructor}
-use Rattle.module_meaning.specs.OperatorTable.{run_word}
-use Rattle.module_meaning.specs.Types.{type_of_values}
+use Rattle.module_semantics.specs.acceptance.Accepted.{is_accepted}
+use Rattle.module_semantics.specs.acceptance.AgreeingOperators.{Group}
+use Rattle.module_semantics.specs.ExpressionShapes.{constant_tree}
+use Rattle.module_semantics.specs.ModuleShapes.{module_shape, named_constants, initialiser}
+use Rattle.module_semantics.specs.ExpressionContexts.{expression_context, global_tree, zero_of_type}
+use Rattle.module_semantics.specs.ExpressionOperators.{constructor}
+use Rattle.module_semantics.specs.OperatorTable.{run_word}
+use Rattle.module_semantics.specs.Types.{type_of_values}
 use Rattle.naga_form.proofs.declarations.AcceptedGroups.{IsSoundGroup}
 use Rattle.naga_form.proofs.operators.AgreeingUses.{value_at}
 use Rattle.naga_form.proofs.operators.ConstantTrees.{IsTreeOf, trees_are, initialiser_is}

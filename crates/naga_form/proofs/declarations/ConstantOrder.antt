@@ -1,6 +1,6 @@
 -- The named constants of an accepted module have an order in which each stands after those that
 -- its initialiser names: that of their initialisers among the module's own expressions.
-use Rattle.module_meaning.specs.Names.{TypesAreDistinguished}
+use Rattle.module_semantics.specs.Names.{TypesAreDistinguished}
 use Rattle.std.proofs.Common.{◌≡◌, ℕ, zero, suc, ◌<◌, ◌≤◌, Bool, true, false, List, [], ◌∷◌, refl}
 use Rattle.std.proofs.Common.{sym, ap, ◌∙◌, length, subst}
 use Rattle.std.proofs.Common.{Option, Some, None, slice_get, arith, nat_lt, if◌then◌else◌}
@@ -24,17 +24,17 @@ use Rattle.shader_runs.specs.Program.{Indexing, Picking, Joining}
 use Rattle.shader_runs.specs.Program as program
 use Rattle.shader_runs.specs.Premises.{EachLeaf, EachLeafOf}
 use Rattle.shader_runs.specs.Value.{Value}
-use Rattle.module_meaning.specs.acceptance.Accepted.{is_accepted}
-use Rattle.module_meaning.specs.ExpressionOperators.{constructor}
-use Rattle.module_meaning.specs.ExpressionShapes.{ModuleDeclarations, trees, tree_then, trees_of, built}
-use Rattle.module_meaning.specs.ExpressionShapes.{tree_over, computed_over}
-use Rattle.module_meaning.specs.ModuleShapes.{module_shape, named_constants, initialiser}
-use Rattle.module_meaning.specs.OperatorTable.{Operator, Splat, run_word}
-use Rattle.module_meaning.specs.acceptance.Ranges.{all_below}
-use Rattle.module_meaning.specs.ExpressionContexts.{constant_over, declared_over, global_tree}
-use Rattle.module_meaning.specs.ExpressionContexts.{global_tree_within, constant_number}
-use Rattle.module_meaning.specs.ExpressionContexts.{override_number}
-use Rattle.module_meaning.specs.ExpressionContexts.{global_types_known, zero_of_type}
+use Rattle.module_semantics.specs.acceptance.Accepted.{is_accepted}
+use Rattle.module_semantics.specs.ExpressionOperators.{constructor}
+use Rattle.module_semantics.specs.ExpressionShapes.{ModuleDeclarations, trees, tree_then, trees_of, built}
+use Rattle.module_semantics.specs.ExpressionShapes.{tree_over, computed_over}
+use Rattle.module_semantics.specs.ModuleShapes.{module_shape, named_constants, initialiser}
+use Rattle.module_semantics.specs.OperatorTable.{Operator, Splat, run_word}
+use Rattle.module_semantics.specs.acceptance.Ranges.{all_below}
+use Rattle.module_semantics.specs.ExpressionContexts.{constant_over, declared_over, global_tree}
+use Rattle.module_semantics.specs.ExpressionContexts.{global_tree_within, constant_number}
+use Rattle.module_semantics.specs.ExpressionContexts.{override_number}
+use Rattle.module_semantics.specs.ExpressionContexts.{global_types_known, zero_of_type}
 use Rattle.naga_form.proofs.declarations.ConstantInitialisers.{initialiser_of}
 use Rattle.naga_form.proofs.operators.ComputedTrees.{HoldsOfMade, of_computed}
 use Rattle.naga_form.proofs.operators.ConstantTrees.{availability_tree}

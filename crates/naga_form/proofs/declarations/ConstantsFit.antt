@@ -1,6 +1,6 @@
 -- What is asked of a program's constants holds of the program of shapes of an accepted module,
 -- where words and names stand apart; and so does what is asked of the constants in its functions.
-use Rattle.module_meaning.specs.Names.{TypesAreDistinguished}
+use Rattle.module_semantics.specs.Names.{TypesAreDistinguished}
 use Rattle.std.proofs.Common.{◌≡◌, ℕ, ◌<◌, List, Some, slice_get, length}
 use Rattle.std.specs.Prelude.{IsTrue}
 use Rattle.naga_ir.specs.declared.module.Function.{Function}
@@ -10,9 +10,9 @@ use Rattle.naga_info.specs.declared.info.ModuleInfo.{ModuleInfo}
 use Rattle.shader_runs.specs.Program.{ConstantTree}
 use Rattle.shader_runs.specs.Premises.{ConstantsFit, EachWord, OperatesOutside}
 use Rattle.shader_runs.specs.Scope.{ModuleNames}
-use Rattle.module_meaning.specs.acceptance.Accepted.{is_accepted}
-use Rattle.module_meaning.specs.acceptance.AgreeingOperators.{function_group}
-use Rattle.module_meaning.specs.ModuleShapes.{module_shape}
+use Rattle.module_semantics.specs.acceptance.Accepted.{is_accepted}
+use Rattle.module_semantics.specs.acceptance.AgreeingOperators.{function_group}
+use Rattle.module_semantics.specs.ModuleShapes.{module_shape}
 use Rattle.naga_form.proofs.declarations.AcceptedGroups.{IsSoundGroup}
 use Rattle.naga_form.proofs.declarations.ConstantInitialisers.{initialiser_in_range}
 use Rattle.naga_form.proofs.declarations.ConstantInitialisers.{initialiser_typed}

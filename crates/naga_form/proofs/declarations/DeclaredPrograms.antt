@@ -31,24 +31,24 @@ use Rattle.naga_names.specs.Keys.{NameMap}
 use Rattle.naga_names.specs.Reset.{members_of}
 use Rattle.naga_names.specs.declared.key.NameKey.TheVariants as key
 use Rattle.naga_words.specs.Contexts.{Names as TypeNames}
-use Rattle.module_meaning.specs.acceptance.Accepted.{is_accepted}
-use Rattle.module_meaning.specs.AlikeTypes.{has_type_form}
-use Rattle.module_meaning.specs.DeclarationForms.{stage_has_form, DeclarationsHaveForms}
-use Rattle.module_meaning.specs.DeclarationForms.{IsDeclaredType, IsInitialiser}
-use Rattle.module_meaning.specs.Layouts.{written_size}
-use Rattle.module_meaning.specs.Names.{module_names, name_in, wgsl_names}
-use Rattle.module_meaning.specs.acceptance.Numbers.{binding_fits_32_bits, fits_32_bits}
-use Rattle.module_meaning.specs.acceptance.Numbers.{member_fits_32_bits, type_fits_32_bits}
-use Rattle.module_meaning.specs.acceptance.Numbers.{workgroup_fits_32_bits}
-use Rattle.module_meaning.specs.acceptance.Ranges.{constant_in_range, global_in_range, is_below}
-use Rattle.module_meaning.specs.acceptance.Ranges.{function_in_range, override_in_range}
-use Rattle.module_meaning.specs.acceptance.Ranges.{special_types_fit, types_in_range}
-use Rattle.module_meaning.specs.Types.{type_names}
-use Rattle.module_meaning.specs.Undeclared.{is_declared}
-use Rattle.module_meaning.specs.ExpressionForms.{constant_has_form, global_has_form}
-use Rattle.module_meaning.specs.ExpressionForms.{literal_has_form}
-use Rattle.module_meaning.proofs.Lists.{list_all_at}
-use Rattle.module_meaning.proofs.ExpressionForms.{type_form_of_spellable}
+use Rattle.module_semantics.specs.acceptance.Accepted.{is_accepted}
+use Rattle.module_semantics.specs.AlikeTypes.{has_type_form}
+use Rattle.module_semantics.specs.DeclarationForms.{stage_has_form, DeclarationsHaveForms}
+use Rattle.module_semantics.specs.DeclarationForms.{IsDeclaredType, IsInitialiser}
+use Rattle.module_semantics.specs.Layouts.{written_size}
+use Rattle.module_semantics.specs.Names.{module_names, name_in, wgsl_names}
+use Rattle.module_semantics.specs.acceptance.Numbers.{binding_fits_32_bits, fits_32_bits}
+use Rattle.module_semantics.specs.acceptance.Numbers.{member_fits_32_bits, type_fits_32_bits}
+use Rattle.module_semantics.specs.acceptance.Numbers.{workgroup_fits_32_bits}
+use Rattle.module_semantics.specs.acceptance.Ranges.{constant_in_range, global_in_range, is_below}
+use Rattle.module_semantics.specs.acceptance.Ranges.{function_in_range, override_in_range}
+use Rattle.module_semantics.specs.acceptance.Ranges.{special_types_fit, types_in_range}
+use Rattle.module_semantics.specs.Types.{type_names}
+use Rattle.module_semantics.specs.Undeclared.{is_declared}
+use Rattle.module_semantics.specs.ExpressionForms.{constant_has_form, global_has_form}
+use Rattle.module_semantics.specs.ExpressionForms.{literal_has_form}
+use Rattle.module_semantics.proofs.Lists.{list_all_at}
+use Rattle.module_semantics.proofs.ExpressionForms.{type_form_of_spellable}
 use Rattle.wgsl_text.proofs.ValueWords.{value_words}
 use Rattle.wgsl_text.specs.Attributes.{IsAttributes, is_stage}
 use Rattle.wgsl_text.specs.Declarations.{IsGlobal, IsMember, IsNamedConstant, IsOverride, IsStruct}

@@ -17,12 +17,12 @@ use Rattle.naga_ir.specs.declared.types.Type_.{Type_}
 use Rattle.naga_names.specs.Reset.{members_of}
 use Rattle.naga_names.specs.declared.key.NameKey.TheVariants as key
 use Rattle.naga_words.specs.Spelling.{is_struct}
-use Rattle.module_meaning.specs.DeclaredItems.{struct_number}
-use Rattle.module_meaning.specs.Names.{LabelNames, module_names, name_in, override_name}
-use Rattle.module_meaning.specs.Resolution.{MembersResolve, OwnMembersResolve, words_of_members}
-use Rattle.module_meaning.specs.Types.{type_names}
-use Rattle.module_meaning.specs.Undeclared.{is_declared, is_undeclared}
-use Rattle.text_meaning.specs.Resolution.{index_among, struct_named}
+use Rattle.module_semantics.specs.DeclaredItems.{struct_number}
+use Rattle.module_semantics.specs.Names.{LabelNames, module_names, name_in, override_name}
+use Rattle.module_semantics.specs.Resolution.{MembersResolve, OwnMembersResolve, words_of_members}
+use Rattle.module_semantics.specs.Types.{type_names}
+use Rattle.module_semantics.specs.Undeclared.{is_declared, is_undeclared}
+use Rattle.text_semantics.specs.Resolution.{index_among, struct_named}
 use Rattle.wgsl_text.specs.Declarations.{Program, Struct}
 use Rattle.naga_form.proofs.names.DistinguishedItems.{items_are_distinguished}
 use Rattle.naga_form.proofs.ListIndices.{formed_at, formed_from, made_at, made_from, numbered_at}

@@ -27,18 +27,18 @@ use Rattle.shader_runs.proofs.Constants.{constants_are_computed}
 use Rattle.shader_runs.proofs.Form.{has_type_at}
 use Rattle.shader_runs.proofs.OneRun.{initialisers_are_alike}
 use Rattle.wgsl_text.specs.Declarations.{Program}
-use Rattle.text_meaning.specs.Abstraction.{expression_read, program_read}
-use Rattle.text_meaning.specs.Vocabulary.{vocabulary_read}
-use Rattle.module_meaning.specs.acceptance.Accepted.{is_accepted}
-use Rattle.module_meaning.specs.DeclarationForms.{ConstantsHaveForms, IsInitialiser}
-use Rattle.module_meaning.specs.ExpressionContexts.{global_tree}
-use Rattle.module_meaning.specs.ExpressionForms.{global_has_form, global_has_form_over}
-use Rattle.module_meaning.specs.ExpressionForms.{global_has_form_within}
-use Rattle.module_meaning.specs.Interface.{global_expression_value}
-use Rattle.module_meaning.specs.ModuleShapes.{module_shape, variable_shape}
-use Rattle.module_meaning.specs.Names.{LabelNames, module_names}
-use Rattle.module_meaning.specs.Namings.{outer_names}
-use Rattle.module_meaning.specs.Types.{type_names}
+use Rattle.text_semantics.specs.Abstraction.{expression_read, program_read}
+use Rattle.text_semantics.specs.Vocabulary.{vocabulary_read}
+use Rattle.module_semantics.specs.acceptance.Accepted.{is_accepted}
+use Rattle.module_semantics.specs.DeclarationForms.{ConstantsHaveForms, IsInitialiser}
+use Rattle.module_semantics.specs.ExpressionContexts.{global_tree}
+use Rattle.module_semantics.specs.ExpressionForms.{global_has_form, global_has_form_over}
+use Rattle.module_semantics.specs.ExpressionForms.{global_has_form_within}
+use Rattle.module_semantics.specs.Interface.{global_expression_value}
+use Rattle.module_semantics.specs.ModuleShapes.{module_shape, variable_shape}
+use Rattle.module_semantics.specs.Names.{LabelNames, module_names}
+use Rattle.module_semantics.specs.Namings.{outer_names}
+use Rattle.module_semantics.specs.Types.{type_names}
 use Rattle.naga_form.specs.ConstantForms.{global_form}
 use Rattle.naga_form.specs.Declarations.{program_under}
 use Rattle.naga_form.specs.GlobalValues.{HasValueOf}

@@ -32,8 +32,8 @@ use Rattle.naga_back.specs.FunctionContext.{function_key}
 use Rattle.naga_words.specs.Contexts.{names_of, Names as TypeNames}
 use Rattle.wgsl_words.specs.Words.{space_access_word, space_word}
 use Rattle.wgsl_text.specs.Expressions.{Expression}
-use Rattle.wgsl_text.specs.Reading.{type_layout}
-use Rattle.text_meaning.specs.Vocabulary.{vocabulary_read}
+use Rattle.wgsl_text.specs.Reading.{printed_type}
+use Rattle.text_semantics.specs.Vocabulary.{vocabulary_read}
 use Rattle.wgsl_text.specs.Types.{TypeSpecifier, Named}
 use Rattle.wgsl_text.proofs.Text.{text-append}
 use Rattle.shader_runs.specs.Constants.{text_initialiser_value}
@@ -41,38 +41,38 @@ use Rattle.shader_runs.specs.Program as shapes
 use Rattle.shader_runs.specs.Scope.{Naming, at_start}
 use Rattle.shader_runs.specs.Text.{TextModule}
 use Rattle.shader_runs.specs.Value.{Value}
-use Rattle.text_meaning.specs.Abstraction.{expression_read, program_read}
-use Rattle.text_meaning.specs.Attributes.{stage_read}
-use Rattle.text_meaning.specs.Interface.{access_read, constant_interface_read}
-use Rattle.text_meaning.specs.Interface.{entry_point_interface_read, function_interface_read}
-use Rattle.text_meaning.specs.Interface.{global_interface_read, member_interface_read}
-use Rattle.text_meaning.specs.Interface.{override_interface_read, parameter_read, result_read}
-use Rattle.text_meaning.specs.Interface.{space_read, struct_interface_read}
-use Rattle.module_meaning.specs.acceptance.Accepted.{is_accepted}
-use Rattle.module_meaning.specs.DeclarationForms.{DeclarationsHaveForms, IsInitialiser}
-use Rattle.module_meaning.specs.DeclarationForms.{IsMemberBinding, IsIoBinding, binding_has_form}
-use Rattle.module_meaning.specs.DeclarationForms.{stage_has_form}
-use Rattle.module_meaning.proofs.DeclarationForms.{items_have_forms}
-use Rattle.module_meaning.specs.Enables.{written_enables}
-use Rattle.module_meaning.specs.Faithful.{HasInterfaceOf, TellsInterfaceOf}
-use Rattle.module_meaning.specs.FunctionNumbers.{all_functions}
-use Rattle.module_meaning.specs.Interface.{argument_io, body_interface, constant_interface}
-use Rattle.module_meaning.specs.Interface.{entry_point_interface, function_interfaces}
-use Rattle.module_meaning.specs.Interface.{global_expression_value, global_interface}
-use Rattle.module_meaning.specs.Interface.{member_interface, override_interface, result_io}
-use Rattle.module_meaning.specs.Interface.{stage_of, struct_interface}
-use Rattle.module_meaning.specs.Layouts.{written_size}
-use Rattle.module_meaning.specs.ModuleShapes.{module_shape}
-use Rattle.module_meaning.specs.Names.{constant_name, expression_name, function_name, global_name}
-use Rattle.module_meaning.specs.Names.{LabelNames, module_names, name_in, override_name}
-use Rattle.module_meaning.specs.Namings.{function_naming}
-use Rattle.module_meaning.specs.acceptance.Numbers.{fits_32_bits, workgroup_fits_32_bits}
-use Rattle.module_meaning.specs.acceptance.Ranges.{is_below}
-use Rattle.module_meaning.specs.Types.{spelled_type, type_names}
-use Rattle.module_meaning.specs.Undeclared.{is_declared}
-use Rattle.module_meaning.specs.Written.{AllWrittenHaveForms}
-use Rattle.module_meaning.proofs.FunctionNumbers.{entry_point_among, function_among}
-use Rattle.module_meaning.proofs.FunctionNumbers.{type_of_entry_point}
+use Rattle.text_semantics.specs.Abstraction.{expression_read, program_read}
+use Rattle.text_semantics.specs.Attributes.{stage_read}
+use Rattle.text_semantics.specs.Interface.{access_read, constant_interface_read}
+use Rattle.text_semantics.specs.Interface.{entry_point_interface_read, function_interface_read}
+use Rattle.text_semantics.specs.Interface.{global_interface_read, member_interface_read}
+use Rattle.text_semantics.specs.Interface.{override_interface_read, parameter_read, result_read}
+use Rattle.text_semantics.specs.Interface.{space_read, struct_interface_read}
+use Rattle.module_semantics.specs.acceptance.Accepted.{is_accepted}
+use Rattle.module_semantics.specs.DeclarationForms.{DeclarationsHaveForms, IsInitialiser}
+use Rattle.module_semantics.specs.DeclarationForms.{IsMemberBinding, IsIoBinding, binding_has_form}
+use Rattle.module_semantics.specs.DeclarationForms.{stage_has_form}
+use Rattle.module_semantics.proofs.DeclarationForms.{items_have_forms}
+use Rattle.module_semantics.specs.Enables.{written_enables}
+use Rattle.module_semantics.specs.Faithful.{HasInterfaceOf, TellsInterfaceOf}
+use Rattle.module_semantics.specs.FunctionNumbers.{all_functions}
+use Rattle.module_semantics.specs.Interface.{argument_io, body_interface, constant_interface}
+use Rattle.module_semantics.specs.Interface.{entry_point_interface, function_interfaces}
+use Rattle.module_semantics.specs.Interface.{global_expression_value, global_interface}
+use Rattle.module_semantics.specs.Interface.{member_interface, override_interface, result_io}
+use Rattle.module_semantics.specs.Interface.{stage_of, struct_interface}
+use Rattle.module_semantics.specs.Layouts.{written_size}
+use Rattle.module_semantics.specs.ModuleShapes.{module_shape}
+use Rattle.module_semantics.specs.Names.{constant_name, expression_name, function_name, global_name}
+use Rattle.module_semantics.specs.Names.{LabelNames, module_names, name_in, override_name}
+use Rattle.module_semantics.specs.Namings.{function_naming}
+use Rattle.module_semantics.specs.acceptance.Numbers.{fits_32_bits, workgroup_fits_32_bits}
+use Rattle.module_semantics.specs.acceptance.Ranges.{is_below}
+use Rattle.module_semantics.specs.Types.{spelled_type, type_names}
+use Rattle.module_semantics.specs.Undeclared.{is_declared}
+use Rattle.module_semantics.specs.Written.{AllWrittenHaveForms}
+use Rattle.module_semantics.proofs.FunctionNumbers.{entry_point_among, function_among}
+use Rattle.module_semantics.proofs.FunctionNumbers.{type_of_entry_point}
 use Rattle.naga_form.specs.Attributes.{stage_attributes}
 use Rattle.naga_form.specs.ConstantForms.{global_form}
 use Rattle.naga_form.specs.Declarations.{constant_form, entry_points_under, member_form}
@@ -98,14 +98,14 @@ use Rattle.naga_form.proofs.statements.WrittenFunctions.{entry_point_at}
 use Rattle.naga_back.specs.declared.flags.WriterFlags.{WriterFlags}
 use Rattle.naga_back.specs.Flags.{annotates_types}
 
--- the layout of a type's form is its spelling, and nothing where it has no form
-spelled_form : (t : TypeNames) (ty : ℕ) → type_layout (type_form t ty) ≡ spelled_type t ty
+-- a type's form is printed as its spelling, and nothing where it has no form
+spelled_form : (t : TypeNames) (ty : ℕ) → printed_type (type_form t ty) ≡ spelled_type t ty
 spelled_form t ty =
     by (type_tree t ty)
     ∙ ap (λ w. unwrap_or w []) (sym (type_row text-append t (λ handle. true) ty))
   where
     by : (tree : Option TypeSpecifier) →
-        type_layout (unwrap_or tree (Named [])) ≡ unwrap_or (option_map type_layout tree) []
+        printed_type (unwrap_or tree (Named [])) ≡ unwrap_or (option_map printed_type tree) []
     by None = refl
     by (Some tree) = refl
 
@@ -144,7 +144,7 @@ results_io t (Some r) bound =
     })
 
 locals_declared : (n : Naming) (t : TypeNames) (source : Source) (l : ℕ) (vs : List LocalVariable) →
-    map (λ v. type_layout v.type) (locals_form n t source l vs) ≡ map (λ v. spelled_type t v.ty) vs
+    map (λ v. printed_type v.type) (locals_form n t source l vs) ≡ map (λ v. spelled_type t v.ty) vs
 locals_declared n t source l [] = refl
 locals_declared n t source l (v ∷ more) =
     λ i. spelled_form t v.ty i ∷ locals_declared n t source (l + 1) more i

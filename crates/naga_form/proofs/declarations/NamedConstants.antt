@@ -19,12 +19,12 @@ use Rattle.naga_info.specs.declared.info.TypeResolution.TheVariants.{Handle}
 use Rattle.naga_names.proofs.Refusal.{element}
 use Rattle.naga_names.specs.Keys.{NameMap}
 use Rattle.naga_names.specs.declared.key.NameKey.TheVariants as key
-use Rattle.module_meaning.specs.ModuleShapes.{initialiser, module_shape, named_constants}
-use Rattle.module_meaning.specs.Names.{constant_name, name_in, override_name}
-use Rattle.module_meaning.specs.Namings.{named_handles, numbered_key, outer_names}
-use Rattle.module_meaning.specs.OperatorTable.{if_there}
-use Rattle.module_meaning.specs.ExpressionContexts.{named_count, constant_number, override_number}
-use Rattle.module_meaning.specs.Types.{type_of_values}
+use Rattle.module_semantics.specs.ModuleShapes.{initialiser, module_shape, named_constants}
+use Rattle.module_semantics.specs.Names.{constant_name, name_in, override_name}
+use Rattle.module_semantics.specs.Namings.{named_handles, numbered_key, outer_names}
+use Rattle.module_semantics.specs.OperatorTable.{if_there}
+use Rattle.module_semantics.specs.ExpressionContexts.{named_count, constant_number, override_number}
+use Rattle.module_semantics.specs.Types.{type_of_values}
 use Rattle.shader_runs.specs.Program.{constant_count, override_types}
 use Rattle.shader_runs.specs.Value.{ValueType, BooleanType, type_at}
 

@@ -31,15 +31,15 @@ use Rattle.shader_runs.specs.Scope.{ModuleNames}
 use Rattle.shader_runs.specs.Text.{TextFunction}
 use Rattle.shader_runs.specs.Value.{Bytes, PartTypes, Value, ValueType, has_type, has_types}
 use Rattle.shader_runs.specs.World.{Meaning, Settings}
-use Rattle.text_meaning.specs.Abstraction.{global_pointer_read, module_variable_read}
-use Rattle.module_meaning.specs.acceptance.ExpressionTypes.{variable_type}
+use Rattle.text_semantics.specs.Abstraction.{global_pointer_read, module_variable_read}
+use Rattle.module_semantics.specs.acceptance.ExpressionTypes.{variable_type}
 use Rattle.wgsl_text.specs.Types.{TypeSpecifier}
 use Rattle.wgsl_words.specs.Words.{space_access_word, space_word}
-use Rattle.module_meaning.specs.acceptance.InfoSizes.{is_handle_space}
-use Rattle.module_meaning.specs.ModuleShapes.{variable_shape}
-use Rattle.module_meaning.specs.Names.{global_name, module_names}
-use Rattle.module_meaning.specs.Namings.{outer_names}
-use Rattle.module_meaning.specs.Types.{declared_type, type_names, word_of_values}
+use Rattle.module_semantics.specs.acceptance.InfoSizes.{is_handle_space}
+use Rattle.module_semantics.specs.ModuleShapes.{variable_shape}
+use Rattle.module_semantics.specs.Names.{global_name, module_names}
+use Rattle.module_semantics.specs.Namings.{outer_names}
+use Rattle.module_semantics.specs.Types.{declared_type, type_names, word_of_values}
 use Rattle.naga_form.specs.Declarations.{space_form, space_of_words, variable_form}
 use Rattle.naga_form.specs.Types.{type_form}
 use Rattle.naga_form.proofs.Fits.{mapped_length}

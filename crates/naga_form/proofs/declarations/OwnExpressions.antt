@@ -1,6 +1,6 @@
 -- The own expressions of an accepted module stand together as those of a function do: what they
 -- name is there and stands before them. Each constant has a tree.
-use Rattle.module_meaning.specs.Names.{TypesAreDistinguished}
+use Rattle.module_semantics.specs.Names.{TypesAreDistinguished}
 use Rattle.std.proofs.Common.{◌≡◌, ℕ, ◌<◌, ◌+◌, true, sym, ap, ◌∙◌, length, Option, Some, None}
 use Rattle.std.proofs.Common.{slice_get, arith, nat_lt, ◌&&◌}
 use Rattle.std.specs.List.{list_all}
@@ -17,21 +17,21 @@ use Rattle.naga_info.specs.declared.info.ModuleInfo.{ModuleInfo}
 use Rattle.naga_info.specs.declared.info.TypeResolution.TheVariants.{Handle}
 use Rattle.naga_info.proofs.Options.{map_some}
 use Rattle.shader_runs.specs.Program.{ConstantTree}
-use Rattle.module_meaning.specs.acceptance.Accepted.{is_accepted}
-use Rattle.module_meaning.specs.acceptance.AgreeingOperators.{Group, module_operators_agree}
-use Rattle.module_meaning.specs.acceptance.ExpressionTypes as types
-use Rattle.module_meaning.specs.acceptance.InfoSizes.{sizes_fit, type_is_fit, all_known}
-use Rattle.module_meaning.specs.acceptance.Ranges.{module_ranges_fit, module_in_range}
-use Rattle.module_meaning.specs.acceptance.Ranges.{declarations_in_range, types_in_range}
-use Rattle.module_meaning.specs.acceptance.Ranges.{special_types_fit, constant_in_range}
-use Rattle.module_meaning.specs.acceptance.Ranges.{override_in_range, global_in_range}
-use Rattle.module_meaning.specs.acceptance.Ranges.{global_expression_in_range, expression_in_range}
-use Rattle.module_meaning.specs.acceptance.Ranges.{initialiser_before, names_in_range, all_by_handle}
-use Rattle.module_meaning.specs.acceptance.Ranges.{all_below, resolution_fits, is_below}
-use Rattle.module_meaning.specs.acceptance.Ranges.{function_in_range, entry_point_in_range}
-use Rattle.module_meaning.specs.acceptance.Soundness.{module_is_sound}
-use Rattle.module_meaning.specs.ExpressionContexts.{constant_over, global_tree, written_constant}
-use Rattle.module_meaning.proofs.Lists.{list_all_at, placed_at}
+use Rattle.module_semantics.specs.acceptance.Accepted.{is_accepted}
+use Rattle.module_semantics.specs.acceptance.AgreeingOperators.{Group, module_operators_agree}
+use Rattle.module_semantics.specs.acceptance.ExpressionTypes as types
+use Rattle.module_semantics.specs.acceptance.InfoSizes.{sizes_fit, type_is_fit, all_known}
+use Rattle.module_semantics.specs.acceptance.Ranges.{module_ranges_fit, module_in_range}
+use Rattle.module_semantics.specs.acceptance.Ranges.{declarations_in_range, types_in_range}
+use Rattle.module_semantics.specs.acceptance.Ranges.{special_types_fit, constant_in_range}
+use Rattle.module_semantics.specs.acceptance.Ranges.{override_in_range, global_in_range}
+use Rattle.module_semantics.specs.acceptance.Ranges.{global_expression_in_range, expression_in_range}
+use Rattle.module_semantics.specs.acceptance.Ranges.{initialiser_before, names_in_range, all_by_handle}
+use Rattle.module_semantics.specs.acceptance.Ranges.{all_below, resolution_fits, is_below}
+use Rattle.module_semantics.specs.acceptance.Ranges.{function_in_range, entry_point_in_range}
+use Rattle.module_semantics.specs.acceptance.Soundness.{module_is_sound}
+use Rattle.module_semantics.specs.ExpressionContexts.{constant_over, global_tree, written_constant}
+use Rattle.module_semantics.proofs.Lists.{list_all_at, placed_at}
 use Rattle.naga_form.proofs.declarations.AcceptedGroups.{IsSoundGroup, own_known, own_group}
 use Rattle.naga_form.proofs.declarations.AcceptedGroups.{declarations_are}
 use Rattle.naga_form.proofs.operators.ConstantTrees.{expected_there, availability_tree}

@@ -22,7 +22,7 @@ use Rattle.naga_names.specs.Keys.{NameMap}
 use Rattle.naga_names.specs.declared.key.NameKey.TheVariants as key
 use Rattle.naga_words.specs.Contexts.{Names as TypeNames}
 use Rattle.wgsl_text.specs.Declarations as tree
-use Rattle.wgsl_text.specs.Reading.{type_layout}
+use Rattle.wgsl_text.specs.Reading.{printed_type}
 use Rattle.wgsl_text.specs.Types.{TypeSpecifier, pointer_tree}
 use Rattle.wgsl_text.proofs.Text.{text-append}
 use Rattle.wgsl_words.specs.Words.{space_access_word, space_word}
@@ -32,22 +32,22 @@ use Rattle.shader_runs.specs.Program as shapes
 use Rattle.shader_runs.specs.Program.{AtPlace, Held, pointer_to}
 use Rattle.shader_runs.specs.Scope.{ModuleNames}
 use Rattle.shader_runs.specs.Text.{ModuleVariable, TextConstant}
-use Rattle.text_meaning.specs.Abstraction.{constant_read, expression_read, global_pointer_read}
-use Rattle.text_meaning.specs.Abstraction.{module_variable_read}
-use Rattle.module_meaning.specs.DeclarationForms.{ConstantsHaveForms, VariablesHaveForms}
-use Rattle.module_meaning.specs.ExpressionContexts.{global_tree, named_count, override_number}
-use Rattle.module_meaning.specs.ExpressionContexts.{zero_of_type}
-use Rattle.module_meaning.specs.acceptance.ExpressionTypes.{variable_type}
-use Rattle.module_meaning.specs.acceptance.InfoSizes.{is_handle_space}
-use Rattle.module_meaning.specs.ModuleShapes.{initialiser, module_shape, named_constants}
-use Rattle.module_meaning.specs.ModuleShapes.{variable_shape}
-use Rattle.module_meaning.specs.Names.{constant_name, global_name, module_names, name_in}
-use Rattle.module_meaning.specs.Namings.{named_handles, outer_names}
-use Rattle.module_meaning.specs.TypeIdentity.{identity, word_of_unspelled_type}
-use Rattle.module_meaning.specs.Types.{declared_type, type_names, word_of_values}
-use Rattle.module_meaning.specs.Undeclared.{is_spellable}
-use Rattle.module_meaning.specs.ExpressionForms.{global_has_form}
-use Rattle.module_meaning.proofs.ExpressionForms.{type_form_of_spellable}
+use Rattle.text_semantics.specs.Abstraction.{constant_read, expression_read, global_pointer_read}
+use Rattle.text_semantics.specs.Abstraction.{module_variable_read}
+use Rattle.module_semantics.specs.DeclarationForms.{ConstantsHaveForms, VariablesHaveForms}
+use Rattle.module_semantics.specs.ExpressionContexts.{global_tree, named_count, override_number}
+use Rattle.module_semantics.specs.ExpressionContexts.{zero_of_type}
+use Rattle.module_semantics.specs.acceptance.ExpressionTypes.{variable_type}
+use Rattle.module_semantics.specs.acceptance.InfoSizes.{is_handle_space}
+use Rattle.module_semantics.specs.ModuleShapes.{initialiser, module_shape, named_constants}
+use Rattle.module_semantics.specs.ModuleShapes.{variable_shape}
+use Rattle.module_semantics.specs.Names.{constant_name, global_name, module_names, name_in}
+use Rattle.module_semantics.specs.Namings.{named_handles, outer_names}
+use Rattle.module_semantics.specs.TypeIdentity.{identity, word_of_unspelled_type}
+use Rattle.module_semantics.specs.Types.{declared_type, type_names, word_of_values}
+use Rattle.module_semantics.specs.Undeclared.{is_spellable}
+use Rattle.module_semantics.specs.ExpressionForms.{global_has_form}
+use Rattle.module_semantics.proofs.ExpressionForms.{type_form_of_spellable}
 use Rattle.naga_form.specs.ConstantForms.{global_form}
 use Rattle.naga_form.specs.Declarations.{constant_form, override_form, space_form}
 use Rattle.naga_form.specs.Declarations.{space_of_words, variable_form}
@@ -61,10 +61,10 @@ use Rattle.naga_form.proofs.operators.Operators.{spelled_as_trees}
 use Rattle.naga_form.proofs.types.WrittenTypes.{tree_there}
 
 -- ---- pointers to variables
--- a variable in a space that has a word is read by the layout of the pointer to it
+-- a variable in a space that has a word is read by the printed pointer to it
 layout_read : (word : List ℕ) (access : Option (List ℕ)) (t : TypeSpecifier) →
     global_pointer_read (space_of_words (Some word) access) t ≡
-    Some (type_layout (pointer_tree word access t))
+    Some (printed_type (pointer_tree word access t))
 layout_read word None t = refl
 layout_read word (Some access) t = refl
 
@@ -80,7 +80,7 @@ placed_read m at word named ty t is =
     ∙ sym (ap (λ o. Some (unwrap_or o
     (word_of_unspelled_type (identity m.types (Value (inner.Pointer ty at))))))
     (inner_tree_row text-append (type_names m) (λ handle. true) (inner.Pointer ty at)
-    ∙ (λ i. option_map type_layout
+    ∙ (λ i. option_map printed_type
     (pointer_tree_in (named i) (space_access_word at) (is i))))))
 
 -- a variable of a type that has a form is read as its shape has it

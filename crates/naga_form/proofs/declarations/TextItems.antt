@@ -19,16 +19,16 @@ use Rattle.shader_runs.specs.Resolution.{ConstantTarget, GlobalTarget, text_name
 use Rattle.shader_runs.specs.Resolution.{with_items}
 use Rattle.shader_runs.specs.Scope.{ModuleNames}
 use Rattle.shader_runs.specs.Text.{TextFunction}
-use Rattle.text_meaning.specs.Abstraction.{function_read, functions_of, program_read}
+use Rattle.text_semantics.specs.Abstraction.{function_read, functions_of, program_read}
 use Rattle.wgsl_text.specs.Declarations.{Program}
 use Rattle.wgsl_text.specs.Functions.{Function}
-use Rattle.module_meaning.specs.acceptance.Accepted.{is_accepted}
-use Rattle.module_meaning.specs.DeclarationForms.{ItemsHaveForms}
-use Rattle.module_meaning.specs.FunctionNumbers.{all_functions, all_infos}
-use Rattle.module_meaning.specs.FunctionShapes.{function_shapes}
-use Rattle.module_meaning.specs.ModuleShapes.{module_shape}
-use Rattle.module_meaning.specs.Names.{LabelNames, module_names}
-use Rattle.module_meaning.specs.Namings.{outer_names}
+use Rattle.module_semantics.specs.acceptance.Accepted.{is_accepted}
+use Rattle.module_semantics.specs.DeclarationForms.{ItemsHaveForms}
+use Rattle.module_semantics.specs.FunctionNumbers.{all_functions, all_infos}
+use Rattle.module_semantics.specs.FunctionShapes.{function_shapes}
+use Rattle.module_semantics.specs.ModuleShapes.{module_shape}
+use Rattle.module_semantics.specs.Names.{LabelNames, module_names}
+use Rattle.module_semantics.specs.Namings.{outer_names}
 use Rattle.naga_form.specs.Declarations.{program_under}
 use Rattle.naga_form.specs.Functions.{function_form, functions_under}
 use Rattle.naga_form.proofs.statements.AcceptedFunctions.{functions_counted}

@@ -12,29 +12,29 @@ use Rattle.naga_ir.specs.declared.module.Constant.{Constant}
 use Rattle.naga_ir.specs.declared.module.Module.{Module}
 use Rattle.naga_names.specs.declared.key.NameKey.TheVariants as key
 use Rattle.naga_words.specs.Spelling.{is_struct}
-use Rattle.module_meaning.specs.acceptance.Accepted.{is_accepted}
-use Rattle.module_meaning.specs.DeclarationForms.{ConstantsHaveForms, OtherInitialisersHaveForms}
-use Rattle.module_meaning.specs.DeclaredItems.{initialiser_meant, module_stage_targets}
-use Rattle.module_meaning.specs.DeclaredItems.{resolution_items}
-use Rattle.module_meaning.specs.ExpressionContexts.{zero_of_type}
-use Rattle.module_meaning.specs.ModuleShapes.{initialiser}
-use Rattle.module_meaning.specs.Names.{constant_name, LabelNames, module_names}
-use Rattle.module_meaning.specs.Resolution.{ConstantsResolve, InitialisersResolve, ItemsResolve}
-use Rattle.module_meaning.specs.Resolution.{MembersResolve, TypesResolve}
-use Rattle.module_meaning.specs.Types.{type_names}
-use Rattle.module_meaning.specs.Undeclared.{is_declared, is_undeclared}
-use Rattle.module_meaning.specs.ExpressionForms.{global_has_form}
-use Rattle.module_meaning.proofs.ExpressionForms.{spellable_parts}
+use Rattle.module_semantics.specs.acceptance.Accepted.{is_accepted}
+use Rattle.module_semantics.specs.DeclarationForms.{ConstantsHaveForms, OtherInitialisersHaveForms}
+use Rattle.module_semantics.specs.DeclaredItems.{initialiser_meant, module_stage_targets}
+use Rattle.module_semantics.specs.DeclaredItems.{resolution_items}
+use Rattle.module_semantics.specs.ExpressionContexts.{zero_of_type}
+use Rattle.module_semantics.specs.ModuleShapes.{initialiser}
+use Rattle.module_semantics.specs.Names.{constant_name, LabelNames, module_names}
+use Rattle.module_semantics.specs.Resolution.{ConstantsResolve, InitialisersResolve, ItemsResolve}
+use Rattle.module_semantics.specs.Resolution.{MembersResolve, TypesResolve}
+use Rattle.module_semantics.specs.Types.{type_names}
+use Rattle.module_semantics.specs.Undeclared.{is_declared, is_undeclared}
+use Rattle.module_semantics.specs.ExpressionForms.{global_has_form}
+use Rattle.module_semantics.proofs.ExpressionForms.{spellable_parts}
 use Rattle.shader_runs.specs.Resolution.{constant_targets, Lookup, text_names, tree_targets}
 use Rattle.shader_runs.specs.Text.{TextConstant}
-use Rattle.text_meaning.specs.Abstraction.{constant_read, program_read}
-use Rattle.text_meaning.specs.Resolution.{initialiser_targets, item_named, stage_targets}
-use Rattle.text_meaning.specs.Resolution.{struct_named, StructItem, type_items, ValueItem}
+use Rattle.text_semantics.specs.Abstraction.{constant_read, program_read}
+use Rattle.text_semantics.specs.Resolution.{initialiser_targets, item_named, stage_targets}
+use Rattle.text_semantics.specs.Resolution.{struct_named, StructItem, type_items, ValueItem}
 use Rattle.wgsl_text.proofs.Types.{named_text}
 use Rattle.wgsl_text.proofs.Words.{passes}
 use Rattle.wgsl_text.specs.Declarations.{Program}
 use Rattle.wgsl_text.specs.Expressions.{Expression}
-use Rattle.wgsl_text.specs.Reading.{type_layout}
+use Rattle.wgsl_text.specs.Reading.{printed_type}
 use Rattle.wgsl_text.specs.Types.{Named, plain_type_words}
 use Rattle.wgsl_text.specs.Words.{stands_in}
 use Rattle.naga_form.proofs.statements.AcceptedFunctions.{entry_points_counted}
@@ -63,10 +63,10 @@ use Rattle.naga_back.specs.declared.flags.WriterFlags.{WriterFlags}
 -- a word of the table of types names no item
 plain_names_no_item : (w : List ℕ) → stands_in plain_type_words w ≡ true → names_no_item w ≡ true
 plain_names_no_item w plain =
-    let free = passes (λ v. operates_freely (type_layout (Named v))) plain_type_words w
+    let free = passes (λ v. operates_freely (printed_type (Named v))) plain_type_words w
     plain_types_free plain in
     ap names_no_item (sym (named_text w))
-    ∙ (free_parts (type_layout (Named w)) free).no_item
+    ∙ (free_parts (printed_type (Named w)) free).no_item
 
 module _ (m : Module) (info : ModuleInfo) (flags : WriterFlags) (labels : LabelNames)
     (accepted : IsTrue (is_accepted m info)) where
@@ -194,8 +194,8 @@ module _ (m : Module) (info : ModuleInfo) (flags : WriterFlags) (labels : LabelN
       let tree = tree_there (type_names m) r parts.0 in
       let counted = types_are_counted m info accepted (types_are_distinguished m) in
       let types = types_are_fit m info accepted in
-      let same : type_layout t ≡ type_layout tree.0 =
-      same_Some _ _ (sym e ∙ spelling_of m counted r ∙ ap (option_map type_layout) tree.1) in
+      let same : printed_type t ≡ printed_type tree.0 =
+      same_Some _ _ (sym e ∙ spelling_of m counted r ∙ ap (option_map printed_type) tree.1) in
       let one : t ≡ tree.0 =
       one_layout m counted t tree.0 is (tree_is m types r (fit_of m info accepted r fits) tree.0 tree.1) same in
       subst (λ u. type_items (item_named program) u ≡ map Some (resolution_items m r)) (sym one)

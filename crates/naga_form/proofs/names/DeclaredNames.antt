@@ -16,11 +16,11 @@ use Rattle.naga_ir.specs.declared.module.Module.{Module}
 use Rattle.naga_ir.specs.declared.types.Type_.{Type_}
 use Rattle.naga_names.specs.Reset.{members_of}
 use Rattle.naga_names.specs.declared.key.NameKey.TheVariants as key
-use Rattle.module_meaning.specs.Names.{LabelNames, module_names, name_in}
-use Rattle.module_meaning.specs.Namings.{outer_names}
-use Rattle.module_meaning.specs.Types.{type_names}
-use Rattle.module_meaning.specs.Undeclared.{declared_struct_name, declared_struct_names, is_declared}
-use Rattle.text_meaning.specs.Vocabulary.{vocabulary_of, vocabulary_read}
+use Rattle.module_semantics.specs.Names.{LabelNames, module_names, name_in}
+use Rattle.module_semantics.specs.Namings.{outer_names}
+use Rattle.module_semantics.specs.Types.{type_names}
+use Rattle.module_semantics.specs.Undeclared.{declared_struct_name, declared_struct_names, is_declared}
+use Rattle.text_semantics.specs.Vocabulary.{vocabulary_of, vocabulary_read}
 use Rattle.wgsl_text.specs.Declarations.{Struct, StructMember}
 use Rattle.wgsl_text.specs.Words.{stands_in}
 use Rattle.naga_form.specs.Declarations.{member_form, program_under, struct_form}

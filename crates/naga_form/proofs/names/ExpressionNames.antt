@@ -18,12 +18,12 @@ use Rattle.naga_names.proofs.NameShapes.{name_after_is_word, name_after_not_numb
 use Rattle.naga_names.proofs.NamedItems.{Stands}
 use Rattle.naga_names.proofs.Refusal.{element}
 use Rattle.naga_names.proofs.Reset.{labels_of-around}
-use Rattle.module_meaning.specs.ExpressionLabels.{all_expression_labels, expression_labels}
-use Rattle.module_meaning.specs.ExpressionLabels.{name_of_label}
-use Rattle.module_meaning.specs.FunctionNumbers.{all_functions}
-use Rattle.module_meaning.specs.Names.{AreLabelNames, AreLabelNamesOf, expression_name, item_labels}
-use Rattle.module_meaning.specs.Names.{labels_named_in, module_names, name_in, named_apart}
-use Rattle.module_meaning.specs.Names.{numbered_name, wgsl_names}
+use Rattle.module_semantics.specs.ExpressionLabels.{all_expression_labels, expression_labels}
+use Rattle.module_semantics.specs.ExpressionLabels.{name_of_label}
+use Rattle.module_semantics.specs.FunctionNumbers.{all_functions}
+use Rattle.module_semantics.specs.Names.{AreLabelNames, AreLabelNamesOf, expression_name, item_labels}
+use Rattle.module_semantics.specs.Names.{labels_named_in, module_names, name_in, named_apart}
+use Rattle.module_semantics.specs.Names.{numbered_name, wgsl_names}
 use Rattle.wgsl_text.specs.Words.{IsIdentifier, is_builtin}
 use Rattle.naga_form.proofs.names.Names.{identifier_is_another, is_identifier, name_is, unnumbered}
 

@@ -16,12 +16,12 @@ use Rattle.naga_ir.specs.declared.module.Module.{Module}
 use Rattle.naga_names.specs.declared.key.NameKey.{NameKey}
 use Rattle.naga_names.specs.declared.key.NameKey.TheVariants as key
 use Rattle.naga_names.proofs.Refusal.{element}
-use Rattle.module_meaning.specs.ExpressionContexts.{constant_number, override_number}
-use Rattle.module_meaning.specs.FunctionNumbers.{all_functions, function_type}
-use Rattle.module_meaning.specs.FunctionShapes.{function_shape}
-use Rattle.module_meaning.specs.Names.{global_name, module_names, name_in}
-use Rattle.module_meaning.specs.Namings.{inner_names, numbered_key}
-use Rattle.module_meaning.specs.Types.{declared_type}
+use Rattle.module_semantics.specs.ExpressionContexts.{constant_number, override_number}
+use Rattle.module_semantics.specs.FunctionNumbers.{all_functions, function_type}
+use Rattle.module_semantics.specs.FunctionShapes.{function_shape}
+use Rattle.module_semantics.specs.Names.{global_name, module_names, name_in}
+use Rattle.module_semantics.specs.Namings.{inner_names, numbered_key}
+use Rattle.module_semantics.specs.Types.{declared_type}
 use Rattle.shader_runs.specs.Premises.{ArgumentName, ConstantName, FixedName, fixed_name}
 use Rattle.shader_runs.specs.Premises.{GlobalName, IsFixedName, LocalName}
 use Rattle.shader_runs.specs.Program as shapes

@@ -8,11 +8,11 @@ use Rattle.std.specs.List.{list_all}
 use Rattle.std.proofs.lemmas.Bool.{false≢true, and_parts, not-true, eqb-true}
 use Rattle.wgsl_text.specs.Requests.{is_request, word_before_arguments}
 use Rattle.wgsl_text.specs.Words.{is_word_text}
-use Rattle.module_meaning.specs.OperatorTable.{Operator, CooperativeLoad, MakeSpelled, Convert}
-use Rattle.module_meaning.specs.OperatorTable.{Reinterpret, WithoutForm, Unsupported, Cast}
-use Rattle.module_meaning.specs.OperatorTable.{with_type, run_word, one_word, asks, is_untyped}
-use Rattle.module_meaning.specs.OperatorTable.{SpellsAType, TypeIsSound, unsupported_word}
-use Rattle.module_meaning.specs.OperatorTable.{unsupported_asks}
+use Rattle.module_semantics.specs.OperatorTable.{Operator, CooperativeLoad, MakeSpelled, Convert}
+use Rattle.module_semantics.specs.OperatorTable.{Reinterpret, WithoutForm, Unsupported, Cast}
+use Rattle.module_semantics.specs.OperatorTable.{with_type, run_word, one_word, asks, is_untyped}
+use Rattle.module_semantics.specs.OperatorTable.{SpellsAType, TypeIsSound, unsupported_word}
+use Rattle.module_semantics.specs.OperatorTable.{unsupported_asks}
 use Rattle.naga_form.proofs.names.FreeNames.{begins_free}
 use Rattle.naga_form.proofs.operators.OperatorTable.{by_table, mathematical, others}
 

@@ -22,7 +22,7 @@ use Rattle.shader_runs.specs.Scope.{named_by, named_by_all, named_by_cases, Nami
 use Rattle.shader_runs.specs.Value.{Bytes}
 use Rattle.shader_runs.proofs.NamedLets.{binds_as_meant}
 use Rattle.shader_runs.proofs.Sources.{cases_more, list_more, named_all_more}
-use Rattle.text_meaning.specs.Resolution.{own_names}
+use Rattle.text_semantics.specs.Resolution.{own_names}
 
 -- the names of variables in their order
 variables_named : (f : Naming) (i : ℕ) (os : List (Option ℕ)) →

@@ -25,20 +25,20 @@ use Rattle.naga_names.proofs.Refusal.{element}
 use Rattle.naga_names.specs.Reset.{labelled_items, LabelledItem}
 use Rattle.naga_names.specs.declared.key.NameKey.{NameKey}
 use Rattle.naga_names.specs.declared.key.NameKey.TheVariants as key
-use Rattle.module_meaning.specs.ExpressionLabels.{expression_labels}
-use Rattle.module_meaning.specs.FunctionNumbers.{all_functions, function_type}
-use Rattle.module_meaning.specs.FunctionShapes.{function_shapes}
-use Rattle.module_meaning.specs.ModuleShapes.{module_shape}
-use Rattle.module_meaning.specs.Names.{AreLabelNames, AreLabelNamesOf, argument_name, LabelNames}
-use Rattle.module_meaning.specs.Names.{local_name, module_names, name_in, numbered_name, wgsl_names}
-use Rattle.module_meaning.specs.Namings.{function_naming, namings_from, outer_names}
-use Rattle.module_meaning.specs.Types.{declared_type, type_names}
-use Rattle.module_meaning.proofs.FunctionNumbers.{in_append}
+use Rattle.module_semantics.specs.ExpressionLabels.{expression_labels}
+use Rattle.module_semantics.specs.FunctionNumbers.{all_functions, function_type}
+use Rattle.module_semantics.specs.FunctionShapes.{function_shapes}
+use Rattle.module_semantics.specs.ModuleShapes.{module_shape}
+use Rattle.module_semantics.specs.Names.{AreLabelNames, AreLabelNamesOf, argument_name, LabelNames}
+use Rattle.module_semantics.specs.Names.{local_name, module_names, name_in, numbered_name, wgsl_names}
+use Rattle.module_semantics.specs.Namings.{function_naming, namings_from, outer_names}
+use Rattle.module_semantics.specs.Types.{declared_type, type_names}
+use Rattle.module_semantics.proofs.FunctionNumbers.{in_append}
 use Rattle.shader_runs.specs.Form.{form_function, form_functions}
 use Rattle.shader_runs.specs.Program.{argument_count, local_count}
 use Rattle.shader_runs.specs.Scope.{named_by_all, Naming}
 use Rattle.shader_runs.specs.Text.{TextFunction}
-use Rattle.text_meaning.specs.Resolution.{hides_no_type, is_in_no_type}
+use Rattle.text_semantics.specs.Resolution.{hides_no_type, is_in_no_type}
 use Rattle.wgsl_text.specs.Declarations.{Program}
 use Rattle.naga_form.proofs.declarations.DeclaredStructs.{name_from, struct_names}
 use Rattle.naga_form.proofs.names.ExpressionNames.{label_no_item}

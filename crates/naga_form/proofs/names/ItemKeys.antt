@@ -18,11 +18,11 @@ use Rattle.naga_names.specs.declared.key.NameKey.TheVariants as key
 use Rattle.naga_names.proofs.NamedItems.{Stands, constant_stands, global_stands, override_stands}
 use Rattle.naga_names.proofs.NamedItems.{type_stands}
 use Rattle.naga_names.proofs.Refusal.{element}
-use Rattle.module_meaning.specs.ExpressionContexts.{named_count}
-use Rattle.module_meaning.specs.FunctionNumbers.{all_functions, function_type}
-use Rattle.module_meaning.specs.Names.{function_name, global_name, module_names, name_in}
-use Rattle.module_meaning.specs.Names.{wgsl_names}
-use Rattle.module_meaning.specs.Namings.{named_handles, numbered_key}
+use Rattle.module_semantics.specs.ExpressionContexts.{named_count}
+use Rattle.module_semantics.specs.FunctionNumbers.{all_functions, function_type}
+use Rattle.module_semantics.specs.Names.{function_name, global_name, module_names, name_in}
+use Rattle.module_semantics.specs.Names.{wgsl_names}
+use Rattle.module_semantics.specs.Namings.{named_handles, numbered_key}
 use Rattle.shader_runs.specs.Program as shapes
 use Rattle.wgsl_text.specs.Words.{is_builtin}
 use Rattle.naga_form.proofs.declarations.NamedConstants.{IsNumberedIn, OfConstant, OfOverride}

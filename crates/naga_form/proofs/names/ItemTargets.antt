@@ -10,14 +10,14 @@ use Rattle.std.specs.Prelude.{IsTrue}
 use Rattle.naga_info.specs.declared.info.ModuleInfo.{ModuleInfo}
 use Rattle.naga_ir.specs.declared.module.Module.{Module}
 use Rattle.naga_names.proofs.Refusal.{element}
-use Rattle.module_meaning.specs.acceptance.Accepted.{is_accepted}
-use Rattle.module_meaning.specs.ExpressionContexts.{expression_context, global_tree}
-use Rattle.module_meaning.specs.ExpressionContexts.{override_number}
-use Rattle.module_meaning.specs.ModuleShapes.{module_shape, variable_shape}
-use Rattle.module_meaning.specs.Names.{global_name, LabelNames, module_names}
-use Rattle.module_meaning.specs.Namings.{outer_names}
-use Rattle.module_meaning.specs.Types.{type_names}
-use Rattle.module_meaning.specs.ExpressionForms.{global_has_form}
+use Rattle.module_semantics.specs.acceptance.Accepted.{is_accepted}
+use Rattle.module_semantics.specs.ExpressionContexts.{expression_context, global_tree}
+use Rattle.module_semantics.specs.ExpressionContexts.{override_number}
+use Rattle.module_semantics.specs.ModuleShapes.{module_shape, variable_shape}
+use Rattle.module_semantics.specs.Names.{global_name, LabelNames, module_names}
+use Rattle.module_semantics.specs.Namings.{outer_names}
+use Rattle.module_semantics.specs.Types.{type_names}
+use Rattle.module_semantics.specs.ExpressionForms.{global_has_form}
 use Rattle.shader_runs.specs.Correct.{ItemsFit}
 use Rattle.shader_runs.specs.Form.{constant_form, form_module_with}
 use Rattle.shader_runs.specs.Text.{TextFunction}
@@ -26,7 +26,7 @@ use Rattle.shader_runs.specs.Resolution.{constant_targets, ConstantTarget, Globa
 use Rattle.shader_runs.specs.Resolution.{text_names, tree_targets}
 use Rattle.shader_runs.specs.Scope.{ModuleNames}
 use Rattle.shader_runs.proofs.Resolution.{constant_stands, global_stands, tree_resolves}
-use Rattle.text_meaning.specs.Abstraction.{expression_read, program_read}
+use Rattle.text_semantics.specs.Abstraction.{expression_read, program_read}
 use Rattle.wgsl_text.specs.Declarations.{Program}
 use Rattle.naga_form.proofs.declarations.AcceptedGroups.{declarations_are}
 use Rattle.naga_form.proofs.operators.ConstantForms.{global_read, names_are_read}

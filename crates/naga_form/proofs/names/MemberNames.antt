@@ -8,7 +8,7 @@ use Rattle.naga_names.specs.Reset.{PutsInto, labelled_items, named_items, member
 use Rattle.naga_names.specs.Reset.{member_label, member_names}
 use Rattle.naga_names.specs.declared.key.NameKey.TheVariants as key
 use Rattle.naga_names.proofs.Members.{member_put, put_members_distinguished}
-use Rattle.module_meaning.specs.Names.{module_names, wgsl_names, name_in}
+use Rattle.module_semantics.specs.Names.{module_names, wgsl_names, name_in}
 use Rattle.wgsl_text.specs.Words.{IsWord}
 use Rattle.naga_form.proofs.names.Names.{is_word_after}
 

@@ -11,22 +11,22 @@ use Rattle.naga_ir.specs.declared.expression.Expression as ir
 use Rattle.naga_ir.specs.declared.module.Function as ir_function
 use Rattle.naga_info.specs.declared.info.ExpressionInfo.{ExpressionInfo}
 use Rattle.naga_info.specs.declared.info.ModuleInfo.{ModuleInfo}
-use Rattle.module_meaning.specs.Conversions.{keeps_bits, conversion_target}
-use Rattle.module_meaning.specs.Undeclared.{declared_struct_names, is_declared}
+use Rattle.module_semantics.specs.Conversions.{keeps_bits, conversion_target}
+use Rattle.module_semantics.specs.Undeclared.{declared_struct_names, is_declared}
 use Rattle.naga_form.proofs.names.DeclaredNames.{declared_stands}
 use Rattle.std.proofs.Math.Bool.{or-true}
 use Rattle.wgsl_text.specs.Operators.{is_built_in}
-use Rattle.module_meaning.specs.ExpressionOperators.{cast_to, constructor, applied_operator}
-use Rattle.module_meaning.specs.ExpressionOperators.{own_operator, type_known, is_depth_image}
-use Rattle.module_meaning.specs.ExpressionOperators.{level_of, query_operator, image_sample_operator}
-use Rattle.module_meaning.specs.ExpressionOperators.{matrix_load, is_atomic_pointer}
-use Rattle.module_meaning.specs.ExpressionShapes.{ModuleDeclarations, shape_of, applied_or, applied_shape}
-use Rattle.module_meaning.specs.ExpressionShapes.{constant_shape, part_selector, part_shape}
-use Rattle.module_meaning.specs.ExpressionShapes.{constant_tree, image_sample_shape, trees, written_zero}
-use Rattle.module_meaning.specs.OperatorTable.{run_word, Operator, MakeSpelled, AtomicLoad}
-use Rattle.module_meaning.specs.OperatorTable.{is_untyped, WithoutForm, ValueOf, Cast, PartAt}
-use Rattle.module_meaning.specs.OperatorTable.{with_type, asks}
-use Rattle.module_meaning.specs.FunctionNumbers.{all_functions, function_type}
+use Rattle.module_semantics.specs.ExpressionOperators.{cast_to, constructor, applied_operator}
+use Rattle.module_semantics.specs.ExpressionOperators.{own_operator, type_known, is_depth_image}
+use Rattle.module_semantics.specs.ExpressionOperators.{level_of, query_operator, image_sample_operator}
+use Rattle.module_semantics.specs.ExpressionOperators.{matrix_load, is_atomic_pointer}
+use Rattle.module_semantics.specs.ExpressionShapes.{ModuleDeclarations, shape_of, applied_or, applied_shape}
+use Rattle.module_semantics.specs.ExpressionShapes.{constant_shape, part_selector, part_shape}
+use Rattle.module_semantics.specs.ExpressionShapes.{constant_tree, image_sample_shape, trees, written_zero}
+use Rattle.module_semantics.specs.OperatorTable.{run_word, Operator, MakeSpelled, AtomicLoad}
+use Rattle.module_semantics.specs.OperatorTable.{is_untyped, WithoutForm, ValueOf, Cast, PartAt}
+use Rattle.module_semantics.specs.OperatorTable.{with_type, asks}
+use Rattle.module_semantics.specs.FunctionNumbers.{all_functions, function_type}
 use Rattle.naga_back.specs.FunctionContext.{function_key}
 use Rattle.naga_info.specs.declared.info.TypeResolution.{TypeResolution}
 use Rattle.naga_info.specs.declared.info.TypeResolution.TheVariants.{Handle, Value}
@@ -36,26 +36,26 @@ use Rattle.naga_form.proofs.operators.OperatingWords.{operates_freely, asks_free
 use Rattle.naga_form.proofs.operators.OperatingWords.{silent_free, bits_free, unsupported_free}
 use Rattle.naga_form.proofs.operators.OperatingWords.{is_of_statements, is_signed, matrix_load_free}
 use Rattle.naga_form.proofs.operators.OperatingWords.{request_free, free_parts, names_no_item}
-use Rattle.module_meaning.proofs.OwnOperators.{own_is_untyped}
+use Rattle.module_semantics.proofs.OwnOperators.{own_is_untyped}
 use Rattle.naga_form.proofs.operators.TreeWords.{constant_words, levels_words, offset_words}
 use Rattle.naga_form.proofs.operators.TreeWords.{or_false_words, written_words}
 use Rattle.naga_form.proofs.operators.AppliedWords.{applied_words}
-use Rattle.module_meaning.specs.ExpressionContexts.{expression_context, declared, types_known}
+use Rattle.module_semantics.specs.ExpressionContexts.{expression_context, declared, types_known}
 use Rattle.naga_info.proofs.Options.{then_some}
 use Rattle.naga_form.proofs.types.SameValues.{IsFit, TypesAreFit}
 use Rattle.naga_form.proofs.operators.TypedWords.{no_request}
-use Rattle.module_meaning.proofs.ExpressionShapes.{load_asks}
-use Rattle.module_meaning.proofs.Shapes.{operator_any}
+use Rattle.module_semantics.proofs.ExpressionShapes.{load_asks}
+use Rattle.module_semantics.proofs.Shapes.{operator_any}
 use Rattle.shader_runs.specs.Program as shapes
 use Rattle.shader_runs.specs.Scope.{Naming, named_by_all, fits_function}
 use Rattle.shader_runs.specs.Premises.{WordFits, AreDistinct, FixedKey, NumberedKey, NamedKey}
 use Rattle.shader_runs.specs.Premises.{AsksBy, OperatesBy, StandsFree, IsNoName, ConstantsWords}
 use Rattle.shader_runs.specs.Premises.{FixedName, fixed_name, IsFixedName}
 use Rattle.naga_form.proofs.names.Names.{numbered_distinct, item_is_identifier, item_not_numbered}
-use Rattle.module_meaning.specs.Names.{numbered_name, module_names, name_in, function_name}
-use Rattle.module_meaning.specs.Names.{numbered_text, AreLabelNamesOf}
-use Rattle.module_meaning.specs.FunctionShapes.{function_shape, statements_shape}
-use Rattle.module_meaning.specs.Namings.{outer_names, function_naming}
+use Rattle.module_semantics.specs.Names.{numbered_name, module_names, name_in, function_name}
+use Rattle.module_semantics.specs.Names.{numbered_text, AreLabelNamesOf}
+use Rattle.module_semantics.specs.FunctionShapes.{function_shape, statements_shape}
+use Rattle.module_semantics.specs.Namings.{outer_names, function_naming}
 use Rattle.naga_ir.specs.declared.expression.Expression.TheVariants as expression
 use Rattle.naga_ir.specs.declared.module.Module.{Module}
 use Rattle.naga_keywords.specs.Plain.{is_word}
@@ -64,7 +64,7 @@ use Rattle.wgsl_text.specs.Requests.{is_request}
 use Rattle.wgsl_text.specs.Words.{is_builtin, stands_in}
 use Rattle.naga_form.proofs.Fits.{named_by_all_is}
 use Rattle.naga_form.proofs.names.ExpressionNames.{label_no_item, label_no_word}
-use Rattle.module_meaning.specs.ExpressionLabels.{expression_labels}
+use Rattle.module_semantics.specs.ExpressionLabels.{expression_labels}
 use Rattle.naga_form.proofs.statements.WellFormed.{any_shape}
 use Rattle.naga_form.proofs.statements.FunctionsFit.{IsFree}
 use Rattle.naga_form.proofs.statements.Worded.{asks_by_requests}
@@ -73,7 +73,7 @@ use Rattle.naga_form.proofs.operators.AllowedParts.{target_fit}
 use Rattle.naga_ir.specs.declared.types.ScalarKind.{ScalarKind}
 use Rattle.naga_ir.specs.declared.types.TypeInner.{TypeInner}
 use Rattle.naga_ir.specs.declared.types.Type_.{Type_}
-use Rattle.module_meaning.specs.Shapes.{operator_shape}
+use Rattle.module_semantics.specs.Shapes.{operator_shape}
 use Rattle.naga_ir.specs.Operands.{cooperative_operands, expression_operands, query_operands}
 use Rattle.naga_ir.specs.declared.expression.ImageQuery.{ImageQuery}
 use Rattle.naga_ir.specs.declared.expression.ImageQuery.TheVariants as query

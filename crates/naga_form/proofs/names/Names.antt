@@ -31,11 +31,11 @@ use Rattle.wgsl_text.specs.Keywords.{builtin_words, reserved_words}
 use Rattle.wgsl_text.specs.Words.{stands_in, is_builtin, IsIdentifier, IsWord, is_letter, is_word_byte}
 use Rattle.wgsl_text.specs.Words.{all_word_bytes, is_word_text, is_reserved}
 use Rattle.shader_runs.proofs.Update.{and_left, and_right}
-use Rattle.module_meaning.specs.FunctionNumbers.{all_functions, function_number, function_type}
-use Rattle.module_meaning.specs.Names.{module_names, wgsl_names, numbered_text, function_name}
-use Rattle.module_meaning.specs.Names.{numbered_name, name_in}
-use Rattle.module_meaning.proofs.FunctionNumbers.{IsNumbered, OfEntryPoint, OfFunction}
-use Rattle.module_meaning.proofs.FunctionNumbers.{function_keys_tell, one_number, which_function}
+use Rattle.module_semantics.specs.FunctionNumbers.{all_functions, function_number, function_type}
+use Rattle.module_semantics.specs.Names.{module_names, wgsl_names, numbered_text, function_name}
+use Rattle.module_semantics.specs.Names.{numbered_name, name_in}
+use Rattle.module_semantics.proofs.FunctionNumbers.{IsNumbered, OfEntryPoint, OfFunction}
+use Rattle.module_semantics.proofs.FunctionNumbers.{function_keys_tell, one_number, which_function}
 use Rattle.naga_back.specs.FunctionContext.{argument_key, function_key, local_key}
 use Rattle.naga_back.specs.declared.context.FunctionType.{FunctionType}
 use Rattle.naga_back.specs.declared.context.FunctionType.TheVariants as item

@@ -9,13 +9,13 @@ use Rattle.naga_ir.specs.declared.types.Type_.{Type_}
 use Rattle.naga_ir.specs.declared.expression.Expression.{Expression}
 use Rattle.naga_info.specs.declared.info.TypeResolution.{TypeResolution}
 use Rattle.naga_names.specs.declared.key.NameKey.TheVariants as key
-use Rattle.module_meaning.specs.ExpressionContexts.{expression_context, global_tree}
-use Rattle.module_meaning.specs.ExpressionOperators.{applied_operator}
-use Rattle.module_meaning.specs.ModuleShapes.{initialiser}
-use Rattle.module_meaning.specs.Names.{module_names, name_in}
-use Rattle.module_meaning.specs.Namings.{outer_names}
-use Rattle.module_meaning.specs.OperatorTable.{Operator, asks, run_word}
-use Rattle.module_meaning.specs.Undeclared.{declared_struct_names, is_declared}
+use Rattle.module_semantics.specs.ExpressionContexts.{expression_context, global_tree}
+use Rattle.module_semantics.specs.ExpressionOperators.{applied_operator}
+use Rattle.module_semantics.specs.ModuleShapes.{initialiser}
+use Rattle.module_semantics.specs.Names.{module_names, name_in}
+use Rattle.module_semantics.specs.Namings.{outer_names}
+use Rattle.module_semantics.specs.OperatorTable.{Operator, asks, run_word}
+use Rattle.module_semantics.specs.Undeclared.{declared_struct_names, is_declared}
 use Rattle.naga_form.proofs.operators.AppliedWords.{applied_words}
 use Rattle.naga_form.proofs.names.DeclaredNames.{declared_stands}
 use Rattle.std.proofs.Math.Bool.{or-true}

@@ -11,8 +11,8 @@ use Rattle.naga_ir.specs.declared.module.Function as ir_function
 use Rattle.naga_ir.specs.declared.module.Module.{Module}
 use Rattle.naga_info.specs.declared.info.ExpressionInfo.{ExpressionInfo}
 use Rattle.naga_info.specs.declared.info.ModuleInfo.{ModuleInfo}
-use Rattle.module_meaning.specs.acceptance.Accepted.{is_accepted}
-use Rattle.module_meaning.specs.acceptance.Ranges.{function_in_range}
+use Rattle.module_semantics.specs.acceptance.Accepted.{is_accepted}
+use Rattle.module_semantics.specs.acceptance.Ranges.{function_in_range}
 use Rattle.std.proofs.lemmas.Bool.{ltb-true}
 use Rattle.naga_form.proofs.Facts.{further, from_start}
 use Rattle.shader_runs.specs.Program as shapes
@@ -22,24 +22,24 @@ use Rattle.shader_runs.specs.Scope.{Naming}
 use Rattle.shader_runs.specs.Resolution.{text_targets}
 use Rattle.shader_runs.specs.Identifiers.{LeafStands, LeavesStand}
 use Rattle.shader_runs.proofs.Resolution.{resolves_as_meant}
-use Rattle.module_meaning.specs.FunctionNumbers.{all_functions, all_infos}
-use Rattle.module_meaning.specs.Names.{AreLabelNames, expression_name, LabelNames, module_names}
-use Rattle.module_meaning.specs.Types.{declared_type}
-use Rattle.module_meaning.specs.ExpressionOperators.{is_atomic_pointer}
-use Rattle.module_meaning.specs.ExpressionShapes.{ModuleDeclarations, shape_of, applied_shape, applied_or}
-use Rattle.module_meaning.specs.ExpressionShapes.{part_shape, part_selector}
-use Rattle.module_meaning.specs.FunctionShapes.{function_shape, function_shapes}
-use Rattle.module_meaning.specs.Namings.{function_naming, namings_from, namings_under, outer_names}
-use Rattle.module_meaning.specs.ModuleShapes.{module_shape}
-use Rattle.module_meaning.specs.OperatorTable.{Operator, BinarySign, AtomicLoad}
-use Rattle.module_meaning.specs.ExpressionContexts.{declared, types_known}
-use Rattle.module_meaning.specs.DeclarationForms.{DeclarationsHaveForms}
-use Rattle.module_meaning.proofs.DeclarationForms.{others_have_forms}
+use Rattle.module_semantics.specs.FunctionNumbers.{all_functions, all_infos}
+use Rattle.module_semantics.specs.Names.{AreLabelNames, expression_name, LabelNames, module_names}
+use Rattle.module_semantics.specs.Types.{declared_type}
+use Rattle.module_semantics.specs.ExpressionOperators.{is_atomic_pointer}
+use Rattle.module_semantics.specs.ExpressionShapes.{ModuleDeclarations, shape_of, applied_shape, applied_or}
+use Rattle.module_semantics.specs.ExpressionShapes.{part_shape, part_selector}
+use Rattle.module_semantics.specs.FunctionShapes.{function_shape, function_shapes}
+use Rattle.module_semantics.specs.Namings.{function_naming, namings_from, namings_under, outer_names}
+use Rattle.module_semantics.specs.ModuleShapes.{module_shape}
+use Rattle.module_semantics.specs.OperatorTable.{Operator, BinarySign, AtomicLoad}
+use Rattle.module_semantics.specs.ExpressionContexts.{declared, types_known}
+use Rattle.module_semantics.specs.DeclarationForms.{DeclarationsHaveForms}
+use Rattle.module_semantics.proofs.DeclarationForms.{others_have_forms}
 use Rattle.naga_form.specs.Declarations.{program_under, written_program}
-use Rattle.module_meaning.specs.Premises.{ScopesHold}
-use Rattle.module_meaning.specs.Resolution.{BodiesResolve, ResolvesAs, ResolvesUnder}
+use Rattle.module_semantics.specs.Premises.{ScopesHold}
+use Rattle.module_semantics.specs.Resolution.{BodiesResolve, ResolvesAs, ResolvesUnder}
 use Rattle.std.specs.List.{list_all}
-use Rattle.text_meaning.specs.Resolution.{types_are_not_hidden}
+use Rattle.text_semantics.specs.Resolution.{types_are_not_hidden}
 use Rattle.naga_form.proofs.names.DeclaredItems.{initialisers_resolve, items_resolve}
 use Rattle.naga_form.proofs.names.HiddenNames.{functions_hide_none, hides_none}
 use Rattle.naga_form.proofs.Fits.{mapped_length}
@@ -48,7 +48,7 @@ use Rattle.naga_form.proofs.names.ExpressionNames.{expression_names_are}
 use Rattle.naga_form.proofs.statements.ScopeRules.{scopes_are_checked_under}
 use Rattle.naga_form.proofs.ModuleFits.{module_fits_under}
 use Rattle.naga_form.proofs.Runs.{reads_as_shapes_under}
-use Rattle.module_meaning.specs.Written.{AllWrittenHaveForms}
+use Rattle.module_semantics.specs.Written.{AllWrittenHaveForms}
 use Rattle.naga_back.specs.declared.flags.WriterFlags.{WriterFlags}
 use Rattle.naga_back.specs.Flags.{annotates_types}
 

@@ -17,11 +17,11 @@ use Rattle.naga_ir.specs.declared.module.Module.{Module}
 use Rattle.naga_ir.specs.declared.module.ShaderStage.{ShaderStage}
 use Rattle.naga_ir.specs.declared.module.ShaderStage.TheVariants as stage
 use Rattle.naga_names.specs.Keys.{NameMap}
-use Rattle.module_meaning.specs.DeclaredItems.{stage_variables}
-use Rattle.module_meaning.specs.Names.{global_name, LabelNames}
-use Rattle.module_meaning.specs.acceptance.Ranges.{is_below}
+use Rattle.module_semantics.specs.DeclaredItems.{stage_variables}
+use Rattle.module_semantics.specs.Names.{global_name, LabelNames}
+use Rattle.module_semantics.specs.acceptance.Ranges.{is_below}
 use Rattle.shader_runs.specs.Resolution.{GlobalTarget, Lookup}
-use Rattle.text_meaning.specs.Resolution.{variable_named}
+use Rattle.text_semantics.specs.Resolution.{variable_named}
 use Rattle.wgsl_text.specs.Attributes.{Attribute, IncomingPayload, Mesh, Payload, Worded}
 use Rattle.naga_form.specs.Attributes.{attribute_of, payload_attributes, size_attributes}
 use Rattle.naga_form.specs.Attributes.{stage_attributes}

@@ -1,7 +1,7 @@
 -- Expressions of an accepted module over operands of equal types: their operands are told alike,
 -- and where one key tells what they apply, or one type what they have, their values are of one
 -- type.
-use Rattle.module_meaning.specs.Names.{TypesAreDistinguished}
+use Rattle.module_semantics.specs.Names.{TypesAreDistinguished}
 use Rattle.std.proofs.Common.{◌≡◌, ℕ, List, [], sym, ap, ◌∙◌, Some, slice_get, map}
 use Rattle.std.specs.Prelude.{IsTrue}
 use Rattle.std.specs.Option.{option_map_or}
@@ -11,10 +11,10 @@ use Rattle.naga_ir.specs.declared.module.Module.{Module}
 use Rattle.naga_info.specs.declared.info.ModuleInfo.{ModuleInfo}
 use Rattle.naga_info.specs.declared.info.TypeResolution.{TypeResolution}
 use Rattle.shader_runs.specs.Typing.{Signature}
-use Rattle.module_meaning.specs.acceptance.Accepted.{is_accepted}
-use Rattle.module_meaning.specs.acceptance.AgreeingOperators.{operator_key, identity_at}
-use Rattle.module_meaning.specs.AlikeTypes.{type_identity}
-use Rattle.module_meaning.specs.acceptance.ExpressionTypes.{expected_type, LikeThis, is_expected}
+use Rattle.module_semantics.specs.acceptance.Accepted.{is_accepted}
+use Rattle.module_semantics.specs.acceptance.AgreeingOperators.{operator_key, identity_at}
+use Rattle.module_semantics.specs.AlikeTypes.{type_identity}
+use Rattle.module_semantics.specs.acceptance.ExpressionTypes.{expected_type, LikeThis, is_expected}
 use Rattle.naga_form.proofs.declarations.AcceptedGroups.{types_are_counted, agree, operands_known}
 use Rattle.naga_form.proofs.declarations.AcceptedGroups.{own_known}
 use Rattle.naga_form.proofs.operators.AgreeingUses.{IsUse, AreKnown, value_at, uses_agree}
@@ -47,12 +47,12 @@ module _ (m : Module) (info : ModuleInfo) (accepted : IsTrue (is_accepted m info
 
     abbrev pub use_of : (k : List ℕ) → operator_key m.types a.group.known a.expression ≡ Some k → IsUse m info
     use_of k at = record {
-      number = a.sound.place.0;
+      number = a.sound.among.0;
       group = a.group;
       handle = a.handle;
       expression = a.expression;
       key = k;
-      group_there = a.sound.place.1;
+      group_there = a.sound.among.1;
       expression_there = a.there;
       key_is = at;
     }

@@ -27,17 +27,17 @@ use Rattle.naga_names.specs.Reset.{members_of}
 use Rattle.naga_names.specs.declared.key.NameKey.TheVariants as key
 use Rattle.shader_runs.specs.Value.{Selector, MemberNamed, ElementAt}
 use Rattle.wgsl_words.specs.Words.{scalar_word}
-use Rattle.module_meaning.specs.acceptance.AgreeingOperators.{Group, word_key, swizzle_key}
-use Rattle.module_meaning.specs.AlikeTypes.{type_key, type_identity, handle_key, key_within}
-use Rattle.module_meaning.specs.AlikeTypes.{found_key_by, named_key_by, pointer_key, over_scalar}
-use Rattle.module_meaning.specs.ExpressionShapes.{own_selector, selector, component_letters, letter}
-use Rattle.module_meaning.specs.ExpressionShapes.{swizzle_letters}
-use Rattle.module_meaning.specs.acceptance.InfoSizes.{resolution_is_fit}
-use Rattle.module_meaning.specs.Names.{module_names, name_in, ItemsAreDistinguished}
-use Rattle.module_meaning.specs.acceptance.Ranges.{parts_before}
-use Rattle.module_meaning.specs.TypeIdentity.{level, component_count, kind_number, identity}
-use Rattle.module_meaning.specs.TypeIdentity.{word_of_unspelled_type}
-use Rattle.module_meaning.specs.TypeParts.{is_part_number, value_part_count}
+use Rattle.module_semantics.specs.acceptance.AgreeingOperators.{Group, word_key, swizzle_key}
+use Rattle.module_semantics.specs.AlikeTypes.{type_key, type_identity, handle_key, key_within}
+use Rattle.module_semantics.specs.AlikeTypes.{found_key_by, named_key_by, pointer_key, over_scalar}
+use Rattle.module_semantics.specs.ExpressionShapes.{own_selector, selector, component_letters, letter}
+use Rattle.module_semantics.specs.ExpressionShapes.{swizzle_letters}
+use Rattle.module_semantics.specs.acceptance.InfoSizes.{resolution_is_fit}
+use Rattle.module_semantics.specs.Names.{module_names, name_in, ItemsAreDistinguished}
+use Rattle.module_semantics.specs.acceptance.Ranges.{parts_before}
+use Rattle.module_semantics.specs.TypeIdentity.{level, component_count, kind_number, identity}
+use Rattle.module_semantics.specs.TypeIdentity.{word_of_unspelled_type}
+use Rattle.module_semantics.specs.TypeParts.{is_part_number, value_part_count}
 use Rattle.naga_form.proofs.operators.Signatures.{declared_for}
 use Rattle.naga_names.proofs.Refusal.{element}
 

@@ -1,6 +1,6 @@
 -- Signatures of an accepted module that are called alike, over operands of equal types, have
 -- results of one type, wherever they stand in it.
-use Rattle.module_meaning.specs.Names.{ItemsAreDistinguished}
+use Rattle.module_semantics.specs.Names.{ItemsAreDistinguished}
 use Rattle.std.proofs.Common.{◌≡◌, ℕ, true, false, List, [], ◌∷◌, refl, sym, ap, ◌∙◌, subst, length}
 use Rattle.std.proofs.Common.{Option, Some, None, ◌⊎◌, inl, inr, slice_get, get_or, map}
 use Rattle.std.specs.Prelude.{IsTrue}
@@ -20,14 +20,14 @@ use Rattle.naga_info.specs.declared.info.TypeResolution.{TypeResolution}
 use Rattle.naga_info.specs.declared.info.TypeResolution.TheVariants.{Handle, Value}
 use Rattle.shader_runs.specs.Typing.{Signature}
 use Rattle.shader_runs.specs.Value.{Spelled, PartWord, IndexWord, Selector, MemberNamed}
-use Rattle.module_meaning.specs.acceptance.Accepted.{is_accepted}
-use Rattle.module_meaning.specs.acceptance.AgreeingOperators.{operator_key, identity_at, one_key}
-use Rattle.module_meaning.specs.acceptance.AgreeingOperators.{swizzle_key}
-use Rattle.module_meaning.specs.AlikeTypes.{type_identity}
-use Rattle.module_meaning.specs.ExpressionShapes.{part_selector, selector, swizzle_letters}
-use Rattle.module_meaning.specs.acceptance.InfoSizes.{resolution_is_fit}
-use Rattle.module_meaning.specs.acceptance.OperandDemands.{operands_fit, is_swizzled}
-use Rattle.module_meaning.specs.TypeParts.{is_part_number}
+use Rattle.module_semantics.specs.acceptance.Accepted.{is_accepted}
+use Rattle.module_semantics.specs.acceptance.AgreeingOperators.{operator_key, identity_at, one_key}
+use Rattle.module_semantics.specs.acceptance.AgreeingOperators.{swizzle_key}
+use Rattle.module_semantics.specs.AlikeTypes.{type_identity}
+use Rattle.module_semantics.specs.ExpressionShapes.{part_selector, selector, swizzle_letters}
+use Rattle.module_semantics.specs.acceptance.InfoSizes.{resolution_is_fit}
+use Rattle.module_semantics.specs.acceptance.OperandDemands.{operands_fit, is_swizzled}
+use Rattle.module_semantics.specs.TypeParts.{is_part_number}
 use Rattle.naga_form.proofs.declarations.AcceptedGroups.{types_range}
 use Rattle.naga_form.proofs.operators.AgreeingExpressions.{operands_are, same_operands, by_key}
 use Rattle.naga_form.proofs.types.AlikeParts.{PartsStand, parts_stand}

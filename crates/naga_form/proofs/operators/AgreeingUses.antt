@@ -12,18 +12,18 @@ use Rattle.naga_ir.specs.declared.module.Module.{Module}
 use Rattle.naga_info.specs.declared.info.ModuleInfo.{ModuleInfo}
 use Rattle.naga_info.specs.declared.info.TypeResolution.{TypeResolution}
 use Rattle.shader_runs.specs.Value.{ValueType, BooleanType, type_at}
-use Rattle.module_meaning.specs.acceptance.AgreeingOperators.{operator_key, identity_at}
-use Rattle.module_meaning.specs.acceptance.AgreeingOperators.{expression_use, Group, uses_of}
-use Rattle.module_meaning.specs.acceptance.AgreeingOperators.{groups_of, module_uses}
-use Rattle.module_meaning.specs.acceptance.AgreeingOperators.{module_operators_agree}
-use Rattle.module_meaning.specs.AlikeTypes.{type_identity}
-use Rattle.module_meaning.specs.ExpressionOperators.{applied_operator}
-use Rattle.module_meaning.specs.acceptance.Operations.{Operation}
-use Rattle.module_meaning.specs.OperatorTable.{Operator, run_word}
-use Rattle.module_meaning.specs.ExpressionContexts.{expression_context}
-use Rattle.module_meaning.specs.Types.{type_of_values}
-use Rattle.module_meaning.proofs.FunctionNumbers.{in_left}
-use Rattle.module_meaning.proofs.Operations.{all_agree_at}
+use Rattle.module_semantics.specs.acceptance.AgreeingOperators.{operator_key, identity_at}
+use Rattle.module_semantics.specs.acceptance.AgreeingOperators.{expression_use, Group, uses_of}
+use Rattle.module_semantics.specs.acceptance.AgreeingOperators.{groups_of, module_uses}
+use Rattle.module_semantics.specs.acceptance.AgreeingOperators.{module_operators_agree}
+use Rattle.module_semantics.specs.AlikeTypes.{type_identity}
+use Rattle.module_semantics.specs.ExpressionOperators.{applied_operator}
+use Rattle.module_semantics.specs.acceptance.Operations.{Operation}
+use Rattle.module_semantics.specs.OperatorTable.{Operator, run_word}
+use Rattle.module_semantics.specs.ExpressionContexts.{expression_context}
+use Rattle.module_semantics.specs.Types.{type_of_values}
+use Rattle.module_semantics.proofs.FunctionNumbers.{in_left}
+use Rattle.module_semantics.proofs.Operations.{all_agree_at}
 use Rattle.naga_form.proofs.operators.OperatorKeys.{IsFormed, IsKeyed, keyed, one_key_of_word}
 use Rattle.naga_form.proofs.types.SameValues.{TypesAreCounted, IsFit, numbers_by_values}
 use Rattle.naga_form.proofs.types.SameValues.{values_by_numbers}

@@ -1,6 +1,6 @@
 -- Expressions of an accepted module that the runs call by one spelled word, over operands of equal
 -- types, are of one type: by the type whose value they are, or by the operator that they apply.
-use Rattle.module_meaning.specs.Names.{TypesAreDistinguished}
+use Rattle.module_semantics.specs.Names.{TypesAreDistinguished}
 use Rattle.std.proofs.Common.{◌≡◌, ℕ, Bool, true, false, List, [], ◌∷◌, refl, sym, ap, ◌∙◌, subst}
 use Rattle.std.proofs.Common.{Option, Some, None, map, drop, if◌then◌else◌, nat_eq}
 use Rattle.std.specs.Prelude.{IsTrue, slice_get, get_or, unwrap_or, ◌&&◌, take}
@@ -27,23 +27,23 @@ use Rattle.naga_info.specs.declared.info.TypeResolution.TheVariants.{Handle, Val
 use Rattle.shader_runs.specs.Typing.{Signature}
 use Rattle.shader_runs.specs.Value.{Word, Spelled, PartWord, IndexWord, Selector, MemberNamed}
 use Rattle.std.specs.List.{flat_map}
-use Rattle.module_meaning.specs.acceptance.Accepted.{is_accepted}
-use Rattle.module_meaning.specs.acceptance.AgreeingOperators.{Group, operator_key}
-use Rattle.module_meaning.specs.AlikeTypes.{type_identity}
-use Rattle.module_meaning.specs.ExpressionOperators.{applied_operator, constructor, matrix_load}
-use Rattle.module_meaning.specs.ExpressionOperators.{is_atomic_pointer, image_sample_operator}
-use Rattle.module_meaning.specs.ExpressionOperators.{query_operator}
-use Rattle.module_meaning.specs.ExpressionShapes.{part_selector, letter}
-use Rattle.module_meaning.specs.acceptance.ExpressionTypes.{expected_type, LikeThis, only}
-use Rattle.module_meaning.specs.OperatorTable.{Operator, AtomicLoad, CooperativeLoad, MatrixLoad}
-use Rattle.module_meaning.specs.OperatorTable.{WithoutForm, ValueOf, MakeSpelled, Level, run_word}
-use Rattle.module_meaning.specs.OperatorTable.{one_word, asks}
-use Rattle.module_meaning.specs.Types.{word_of_values, called_spelling, type_names}
-use Rattle.module_meaning.specs.Types.{spelled_resolution}
-use Rattle.module_meaning.specs.TypeIdentity.{identity, identity_at, identity_code, Itself, Nothing}
-use Rattle.module_meaning.specs.TypeIdentity.{StructAt, word_of_unspelled_type, component_count}
-use Rattle.module_meaning.specs.Undeclared.{is_undeclared, is_undeclared_struct}
-use Rattle.module_meaning.proofs.ExpressionForms.{called_spelled}
+use Rattle.module_semantics.specs.acceptance.Accepted.{is_accepted}
+use Rattle.module_semantics.specs.acceptance.AgreeingOperators.{Group, operator_key}
+use Rattle.module_semantics.specs.AlikeTypes.{type_identity}
+use Rattle.module_semantics.specs.ExpressionOperators.{applied_operator, constructor, matrix_load}
+use Rattle.module_semantics.specs.ExpressionOperators.{is_atomic_pointer, image_sample_operator}
+use Rattle.module_semantics.specs.ExpressionOperators.{query_operator}
+use Rattle.module_semantics.specs.ExpressionShapes.{part_selector, letter}
+use Rattle.module_semantics.specs.acceptance.ExpressionTypes.{expected_type, LikeThis, only}
+use Rattle.module_semantics.specs.OperatorTable.{Operator, AtomicLoad, CooperativeLoad, MatrixLoad}
+use Rattle.module_semantics.specs.OperatorTable.{WithoutForm, ValueOf, MakeSpelled, Level, run_word}
+use Rattle.module_semantics.specs.OperatorTable.{one_word, asks}
+use Rattle.module_semantics.specs.Types.{word_of_values, called_spelling, type_names}
+use Rattle.module_semantics.specs.Types.{spelled_resolution}
+use Rattle.module_semantics.specs.TypeIdentity.{identity, identity_at, identity_code, Itself, Nothing}
+use Rattle.module_semantics.specs.TypeIdentity.{StructAt, word_of_unspelled_type, component_count}
+use Rattle.module_semantics.specs.Undeclared.{is_undeclared, is_undeclared_struct}
+use Rattle.module_semantics.proofs.ExpressionForms.{called_spelled}
 use Rattle.naga_words.specs.Spelling.{is_struct}
 use Rattle.naga_form.proofs.declarations.AcceptedGroups.{agree}
 use Rattle.naga_form.proofs.operators.AgreeingExpressions.{are, own_type, operands_are, own_is}

@@ -7,15 +7,15 @@ use Rattle.std.proofs.lemmas.Bool.{and_parts, ltb-true}
 use Rattle.std.proofs.lemmas.Option.{same_Some, slice_get-map}
 use Rattle.naga_ir.specs.declared.expression.SwizzleComponent.TheVariants as component
 use Rattle.naga_ir.specs.declared.types.Type_.{Type_}
-use Rattle.module_meaning.specs.AlikeTypes.{has_type_form}
-use Rattle.module_meaning.specs.ExpressionForms.{converts, expression_has_own_form, known_passes}
-use Rattle.module_meaning.specs.ExpressionForms.{loads_matrix}
-use Rattle.module_meaning.specs.acceptance.InfoSizes.{resolution_is_fit}
-use Rattle.module_meaning.specs.Names.{module_names, name_in}
-use Rattle.module_meaning.specs.acceptance.OperandDemands.{operands_fit}
-use Rattle.module_meaning.specs.TypeParts.{is_part_number, value_part_count}
-use Rattle.module_meaning.specs.Undeclared.{whole_known, whole_of}
-use Rattle.module_meaning.specs.Types.{type_names}
+use Rattle.module_semantics.specs.AlikeTypes.{has_type_form}
+use Rattle.module_semantics.specs.ExpressionForms.{converts, expression_has_own_form, known_passes}
+use Rattle.module_semantics.specs.ExpressionForms.{loads_matrix}
+use Rattle.module_semantics.specs.acceptance.InfoSizes.{resolution_is_fit}
+use Rattle.module_semantics.specs.Names.{module_names, name_in}
+use Rattle.module_semantics.specs.acceptance.OperandDemands.{operands_fit}
+use Rattle.module_semantics.specs.TypeParts.{is_part_number, value_part_count}
+use Rattle.module_semantics.specs.Undeclared.{whole_known, whole_of}
+use Rattle.module_semantics.specs.Types.{type_names}
 use Rattle.naga_info.specs.declared.info.TypeResolution.{TypeResolution}
 use Rattle.naga_info.specs.declared.info.TypeResolution.TheVariants.{Handle, Value}
 use Rattle.naga_names.proofs.Refusal.{element}
@@ -38,8 +38,8 @@ use Rattle.naga_ir.specs.declared.types.CooperativeRole.{CooperativeRole}
 use Rattle.naga_ir.specs.declared.types.CooperativeSize.{CooperativeSize}
 use Rattle.naga_ir.specs.declared.types.Scalar.{Scalar}
 use Rattle.naga_ir.specs.declared.types.ScalarKind.{ScalarKind}
-use Rattle.module_meaning.specs.Conversions.{conversion_target}
-use Rattle.module_meaning.specs.ExpressionOperators.{ExpressionContext, pointee_scalar, type_known}
+use Rattle.module_semantics.specs.Conversions.{conversion_target}
+use Rattle.module_semantics.specs.ExpressionOperators.{ExpressionContext, pointee_scalar, type_known}
 use Rattle.naga_form.proofs.types.SameValues.{IsFit}
 use Rattle.naga_form.proofs.types.WrittenTypes.{tree_there}
 use Rattle.naga_form.specs.Expressions.{scalar_pointed}
@@ -47,10 +47,10 @@ use Rattle.naga_form.specs.TypeTrees.{inner_tree}
 use Rattle.naga_ir.specs.declared.module.Module.{Module}
 use Rattle.naga_ir.specs.declared.types.TypeInner.{TypeInner}
 use Rattle.naga_ir.specs.declared.types.TypeInner.TheVariants as inner
-use Rattle.module_meaning.specs.ExpressionOperators.{has_parts, is_composite, type_with}
-use Rattle.module_meaning.specs.ExpressionShapes.{ModuleDeclarations, component_letters, own_selector}
-use Rattle.module_meaning.specs.ExpressionShapes.{part_selector, selector}
-use Rattle.module_meaning.specs.ExpressionContexts.{declared, types_known}
+use Rattle.module_semantics.specs.ExpressionOperators.{has_parts, is_composite, type_with}
+use Rattle.module_semantics.specs.ExpressionShapes.{ModuleDeclarations, component_letters, own_selector}
+use Rattle.module_semantics.specs.ExpressionShapes.{part_selector, selector}
+use Rattle.module_semantics.specs.ExpressionContexts.{declared, types_known}
 use Rattle.shader_runs.specs.Value.{Selector, MemberNamed, ElementAt}
 
 -- what has parts has one at each index

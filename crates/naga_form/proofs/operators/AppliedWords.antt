@@ -15,18 +15,18 @@ use Rattle.naga_ir.specs.declared.types.ScalarKind.{ScalarKind}
 use Rattle.naga_ir.specs.declared.types.TypeInner.{TypeInner}
 use Rattle.naga_ir.specs.declared.types.Type_.{Type_}
 use Rattle.naga_names.specs.declared.key.NameKey.TheVariants as key
-use Rattle.module_meaning.specs.Conversions.{conversion_target, keeps_bits}
-use Rattle.module_meaning.specs.ExpressionContexts.{expression_context}
-use Rattle.module_meaning.specs.ExpressionOperators.{ExpressionContext, applied_operator, cast_to}
-use Rattle.module_meaning.specs.ExpressionOperators.{constructor, has_parts, is_atomic_pointer}
-use Rattle.module_meaning.specs.ExpressionOperators.{is_depth_image, level_of, matrix_load}
-use Rattle.module_meaning.specs.ExpressionOperators.{image_sample_operator, type_known}
-use Rattle.module_meaning.specs.Names.{module_names, name_in}
-use Rattle.module_meaning.specs.OperatorTable.{Operator, AtomicLoad, WithoutForm, Cast, PartAt}
-use Rattle.module_meaning.specs.OperatorTable.{with_type, asks, is_untyped, run_word}
-use Rattle.module_meaning.specs.Undeclared.{is_declared}
-use Rattle.module_meaning.proofs.ExpressionShapes.{load_asks}
-use Rattle.module_meaning.proofs.OwnOperators.{own_is_untyped}
+use Rattle.module_semantics.specs.Conversions.{conversion_target, keeps_bits}
+use Rattle.module_semantics.specs.ExpressionContexts.{expression_context}
+use Rattle.module_semantics.specs.ExpressionOperators.{ExpressionContext, applied_operator, cast_to}
+use Rattle.module_semantics.specs.ExpressionOperators.{constructor, has_parts, is_atomic_pointer}
+use Rattle.module_semantics.specs.ExpressionOperators.{is_depth_image, level_of, matrix_load}
+use Rattle.module_semantics.specs.ExpressionOperators.{image_sample_operator, type_known}
+use Rattle.module_semantics.specs.Names.{module_names, name_in}
+use Rattle.module_semantics.specs.OperatorTable.{Operator, AtomicLoad, WithoutForm, Cast, PartAt}
+use Rattle.module_semantics.specs.OperatorTable.{with_type, asks, is_untyped, run_word}
+use Rattle.module_semantics.specs.Undeclared.{is_declared}
+use Rattle.module_semantics.proofs.ExpressionShapes.{load_asks}
+use Rattle.module_semantics.proofs.OwnOperators.{own_is_untyped}
 use Rattle.naga_form.proofs.operators.AllowedParts.{target_fit}
 use Rattle.naga_form.proofs.operators.OperatingWords.{operates_freely, bits_free, unsupported_free}
 use Rattle.naga_form.proofs.operators.OperatingWords.{silent_free}

@@ -14,16 +14,16 @@ use Rattle.naga_ir.specs.declared.expression.Expression.{Expression}
 use Rattle.naga_ir.specs.declared.expression.Expression.TheVariants as expression
 use Rattle.naga_ir.specs.declared.module.Constant.{Constant}
 use Rattle.naga_ir.specs.declared.module.Module.{Module}
-use Rattle.module_meaning.specs.ExpressionContexts.{constant_number, constant_over, declared_over}
-use Rattle.module_meaning.specs.ExpressionContexts.{global_tree, global_tree_within}
-use Rattle.module_meaning.specs.ExpressionContexts.{global_types_known, zero_of_type}
-use Rattle.module_meaning.specs.ExpressionForms.{constant_has_form_over, global_has_form}
-use Rattle.module_meaning.specs.ExpressionForms.{global_has_form_over, global_has_form_within}
-use Rattle.module_meaning.specs.ExpressionOperators.{constructor}
-use Rattle.module_meaning.specs.ExpressionShapes.{ModuleDeclarations, built, computed_over, tree_then, trees}
-use Rattle.module_meaning.specs.ExpressionShapes.{trees_of}
-use Rattle.module_meaning.specs.OperatorTable.{Operator, Splat, run_word}
-use Rattle.module_meaning.specs.Undeclared.{is_spellable}
+use Rattle.module_semantics.specs.ExpressionContexts.{constant_number, constant_over, declared_over}
+use Rattle.module_semantics.specs.ExpressionContexts.{global_tree, global_tree_within}
+use Rattle.module_semantics.specs.ExpressionContexts.{global_types_known, zero_of_type}
+use Rattle.module_semantics.specs.ExpressionForms.{constant_has_form_over, global_has_form}
+use Rattle.module_semantics.specs.ExpressionForms.{global_has_form_over, global_has_form_within}
+use Rattle.module_semantics.specs.ExpressionOperators.{constructor}
+use Rattle.module_semantics.specs.ExpressionShapes.{ModuleDeclarations, built, computed_over, tree_then, trees}
+use Rattle.module_semantics.specs.ExpressionShapes.{trees_of}
+use Rattle.module_semantics.specs.OperatorTable.{Operator, Splat, run_word}
+use Rattle.module_semantics.specs.Undeclared.{is_spellable}
 use Rattle.shader_runs.specs.Program.{ConstantTree, Fixed, NamedConstant, Constructed}
 use Rattle.shader_runs.specs.Program.{ConstantTrees, no_constant, constant}
 

@@ -4,10 +4,10 @@ use Rattle.std.proofs.Common.{◌||◌, not}
 use Rattle.std.specs.List.{AllByRecursion, list_all}
 use Rattle.std.specs.Option.{is_some}
 use Rattle.std.proofs.lemmas.Bool.{and_from}
-use Rattle.module_meaning.specs.OperatorTable.{Operator, BinarySign, UnarySign, Sample, Gather}
-use Rattle.module_meaning.specs.OperatorTable.{Texel, OnlyTexel, Barrier, StorageOrdered}
-use Rattle.module_meaning.specs.OperatorTable.{WorkgroupOrdered, SubgroupOrdered, TextureOrdered, has_word}
-use Rattle.module_meaning.specs.OperatorTable.{is_untyped, one_word, run_word}
+use Rattle.module_semantics.specs.OperatorTable.{Operator, BinarySign, UnarySign, Sample, Gather}
+use Rattle.module_semantics.specs.OperatorTable.{Texel, OnlyTexel, Barrier, StorageOrdered}
+use Rattle.module_semantics.specs.OperatorTable.{WorkgroupOrdered, SubgroupOrdered, TextureOrdered, has_word}
+use Rattle.module_semantics.specs.OperatorTable.{is_untyped, one_word, run_word}
 use Rattle.shader_runs.specs.Program.{BarrierBits}
 use Rattle.shader_runs.specs.ProgramRun.{barrier_words, word_if}
 use Rattle.wgsl_text.specs.Expressions.{IsCallee}

@@ -13,13 +13,13 @@ use Rattle.naga_ir.specs.declared.expression.Expression.{Expression}
 use Rattle.naga_ir.specs.declared.expression.Expression.TheVariants as expression
 use Rattle.naga_ir.specs.declared.operators.BinaryOperator.TheVariants as binary
 use Rattle.naga_ir.specs.declared.module.Module.{Module}
-use Rattle.module_meaning.specs.ExpressionForms.{global_has_form_over}
-use Rattle.module_meaning.specs.ExpressionOperators.{applied_operator, part_operator}
-use Rattle.module_meaning.specs.ExpressionShapes.{ModuleDeclarations, built, computed_over, has_values}
-use Rattle.module_meaning.specs.ExpressionShapes.{indexed, operated, over_two, part_selector}
-use Rattle.module_meaning.specs.ExpressionShapes.{part_tree, picked, swizzle_letters, tree_over}
-use Rattle.module_meaning.specs.ExpressionShapes.{tree_then, trees, trees_of, typed_tree}
-use Rattle.module_meaning.specs.OperatorTable.{Operator, asks, run_word}
+use Rattle.module_semantics.specs.ExpressionForms.{global_has_form_over}
+use Rattle.module_semantics.specs.ExpressionOperators.{applied_operator, part_operator}
+use Rattle.module_semantics.specs.ExpressionShapes.{ModuleDeclarations, built, computed_over, has_values}
+use Rattle.module_semantics.specs.ExpressionShapes.{indexed, operated, over_two, part_selector}
+use Rattle.module_semantics.specs.ExpressionShapes.{part_tree, picked, swizzle_letters, tree_over}
+use Rattle.module_semantics.specs.ExpressionShapes.{tree_then, trees, trees_of, typed_tree}
+use Rattle.module_semantics.specs.OperatorTable.{Operator, asks, run_word}
 use Rattle.shader_runs.specs.Program.{ConstantTree, Constructed, Indexing, Picking, Joining}
 use Rattle.shader_runs.specs.Program.{ConstantTrees, no_constant, constant}
 use Rattle.shader_runs.specs.Value.{MemberNamed, Selector, ShortCircuit, ShortCircuitAnd}

@@ -11,30 +11,30 @@ use Rattle.std.specs.List.{AllByRecursion, list_all}
 use Rattle.std.specs.Option.{is_some, option_and_then, option_map, option_map_or}
 use Rattle.std.proofs.lemmas.Bool.{and_parts}
 use Rattle.std.proofs.lemmas.Option.{slice_get_within}
-use Rattle.module_meaning.proofs.ExpressionForms.{declared_of_spellable, type_form_of_spellable}
-use Rattle.module_meaning.specs.AlikeTypes.{has_type_form}
-use Rattle.module_meaning.specs.Undeclared.{is_spellable, is_undeclared_struct}
-use Rattle.module_meaning.specs.ExpressionOperators.{ExpressionContext, constructor}
-use Rattle.module_meaning.specs.ExpressionShapes.{ModuleDeclarations, built, computed_over, tree_over}
-use Rattle.module_meaning.specs.ExpressionShapes.{tree_then, tree_within, trees, trees_of}
+use Rattle.module_semantics.proofs.ExpressionForms.{declared_of_spellable, type_form_of_spellable}
+use Rattle.module_semantics.specs.AlikeTypes.{has_type_form}
+use Rattle.module_semantics.specs.Undeclared.{is_spellable, is_undeclared_struct}
+use Rattle.module_semantics.specs.ExpressionOperators.{ExpressionContext, constructor}
+use Rattle.module_semantics.specs.ExpressionShapes.{ModuleDeclarations, built, computed_over, tree_over}
+use Rattle.module_semantics.specs.ExpressionShapes.{tree_then, tree_within, trees, trees_of}
 use Rattle.naga_form.proofs.operators.ComputedTrees.{computed_as_formed}
-use Rattle.module_meaning.specs.Literals.{literal_value}
-use Rattle.module_meaning.specs.Names.{constant_name, module_names}
-use Rattle.module_meaning.specs.Namings.{outer_names}
-use Rattle.module_meaning.specs.OperatorTable.{Operator, Splat, run_word}
-use Rattle.module_meaning.specs.ExpressionForms.{constant_has_form, constant_has_form_over}
-use Rattle.module_meaning.specs.ExpressionForms.{expression_has_own_form, global_has_form}
-use Rattle.module_meaning.specs.ExpressionForms.{global_has_form_over, global_has_form_within}
-use Rattle.module_meaning.specs.ExpressionForms.{literal_has_form}
-use Rattle.module_meaning.specs.ExpressionContexts.{constant_number, constant_over, declared}
-use Rattle.module_meaning.specs.ExpressionContexts.{declared_over, global_tree, global_tree_within}
-use Rattle.module_meaning.specs.ExpressionContexts.{global_types_known, override_number}
-use Rattle.module_meaning.specs.ExpressionContexts.{expression_context, types_known}
-use Rattle.module_meaning.specs.ExpressionContexts.{written_constant, zero_of_type}
-use Rattle.module_meaning.specs.Types.{type_names}
+use Rattle.module_semantics.specs.Literals.{literal_value}
+use Rattle.module_semantics.specs.Names.{constant_name, module_names}
+use Rattle.module_semantics.specs.Namings.{outer_names}
+use Rattle.module_semantics.specs.OperatorTable.{Operator, Splat, run_word}
+use Rattle.module_semantics.specs.ExpressionForms.{constant_has_form, constant_has_form_over}
+use Rattle.module_semantics.specs.ExpressionForms.{expression_has_own_form, global_has_form}
+use Rattle.module_semantics.specs.ExpressionForms.{global_has_form_over, global_has_form_within}
+use Rattle.module_semantics.specs.ExpressionForms.{literal_has_form}
+use Rattle.module_semantics.specs.ExpressionContexts.{constant_number, constant_over, declared}
+use Rattle.module_semantics.specs.ExpressionContexts.{declared_over, global_tree, global_tree_within}
+use Rattle.module_semantics.specs.ExpressionContexts.{global_types_known, override_number}
+use Rattle.module_semantics.specs.ExpressionContexts.{expression_context, types_known}
+use Rattle.module_semantics.specs.ExpressionContexts.{written_constant, zero_of_type}
+use Rattle.module_semantics.specs.Types.{type_names}
 use Rattle.naga_info.specs.declared.info.ExpressionInfo.{ExpressionInfo}
 use Rattle.naga_info.specs.declared.info.ModuleInfo.{ModuleInfo}
-use Rattle.module_meaning.specs.WrittenOut.{written_out_over, written_out_within}
+use Rattle.module_semantics.specs.WrittenOut.{written_out_over, written_out_within}
 use Rattle.naga_form.proofs.declarations.NamedConstants.{constant_numbered, override_numbered}
 use Rattle.naga_form.proofs.types.SameValues.{or_nothing}
 use Rattle.naga_form.proofs.statements.WrittenHandles.{all_map}
@@ -63,7 +63,7 @@ use Rattle.shader_runs.specs.Form.{constant_form, constant_forms}
 use Rattle.shader_runs.specs.Program.{ConstantTree, Constructed, Fixed, NamedConstant}
 use Rattle.shader_runs.specs.Scope.{ModuleNames}
 use Rattle.shader_runs.specs.Text.{Apply, LiteralOf, Name, more, no_more}
-use Rattle.text_meaning.specs.Abstraction.{arguments_read, expression_read}
+use Rattle.text_semantics.specs.Abstraction.{arguments_read, expression_read}
 use Rattle.wgsl_text.proofs.Building.{called_words}
 use Rattle.wgsl_text.specs.Expressions.{Constant, Expression, IsExpression, Name as NameExpression}
 use Rattle.wgsl_text.specs.Expressions.{operands}

@@ -2,7 +2,7 @@
 -- operators are those of expressions of sound groups, and what it names is there. A constant that
 -- counts as a zero value is such a tree wherever an expression names it.
 use Rattle.naga_form.proofs.operators.AgreeingUses.{value_is, value_at}
-use Rattle.module_meaning.specs.Names.{TypesAreDistinguished}
+use Rattle.module_semantics.specs.Names.{TypesAreDistinguished}
 use Rattle.shader_runs.proofs.Typing.{no_signature}
 use Rattle.naga_form.proofs.operators.Signatures.{either_signature, only_signature, group_context}
 use Rattle.naga_form.proofs.operators.Signatures.{declared_for, IsCalled, by_constant, by_operator}
@@ -41,37 +41,37 @@ use Rattle.shader_runs.specs.Typing.{first_of, later_of, LogicalFits, TreeFits, 
 use Rattle.shader_runs.specs.Value.{ValueType, PointerType, Word, Spelled, PartWord, IndexWord}
 use Rattle.shader_runs.specs.Value.{Selector, MemberNamed, ShortCircuit, ShortCircuitAnd}
 use Rattle.shader_runs.specs.Value.{ShortCircuitOr, short_circuit_word}
-use Rattle.module_meaning.specs.acceptance.Accepted.{is_accepted}
-use Rattle.module_meaning.specs.acceptance.AgreeingOperators.{Group, module_operators_agree}
-use Rattle.module_meaning.specs.AlikeTypes.{type_identity, are_alike}
-use Rattle.module_meaning.specs.ExpressionOperators.{constructor, applied_operator, part_operator}
-use Rattle.module_meaning.specs.ExpressionShapes.{ModuleDeclarations, trees, tree_then, trees_of, built}
-use Rattle.module_meaning.specs.ExpressionShapes.{tree_over, tree_within, constant_tree}
-use Rattle.module_meaning.specs.ExpressionShapes.{computed_over, has_values, indexed, is_value_type}
-use Rattle.module_meaning.specs.ExpressionShapes.{joined, operated, over_two, part_selector}
-use Rattle.module_meaning.specs.ExpressionShapes.{part_tree, picked, swizzle_letters}
-use Rattle.module_meaning.specs.acceptance.ExpressionTypes.{only, is_expected, binary_type}
-use Rattle.module_meaning.specs.acceptance.ExpressionTypes.{logical_type}
-use Rattle.module_meaning.specs.TypeParts.{known_inner}
+use Rattle.module_semantics.specs.acceptance.Accepted.{is_accepted}
+use Rattle.module_semantics.specs.acceptance.AgreeingOperators.{Group, module_operators_agree}
+use Rattle.module_semantics.specs.AlikeTypes.{type_identity, are_alike}
+use Rattle.module_semantics.specs.ExpressionOperators.{constructor, applied_operator, part_operator}
+use Rattle.module_semantics.specs.ExpressionShapes.{ModuleDeclarations, trees, tree_then, trees_of, built}
+use Rattle.module_semantics.specs.ExpressionShapes.{tree_over, tree_within, constant_tree}
+use Rattle.module_semantics.specs.ExpressionShapes.{computed_over, has_values, indexed, is_value_type}
+use Rattle.module_semantics.specs.ExpressionShapes.{joined, operated, over_two, part_selector}
+use Rattle.module_semantics.specs.ExpressionShapes.{part_tree, picked, swizzle_letters}
+use Rattle.module_semantics.specs.acceptance.ExpressionTypes.{only, is_expected, binary_type}
+use Rattle.module_semantics.specs.acceptance.ExpressionTypes.{logical_type}
+use Rattle.module_semantics.specs.TypeParts.{known_inner}
 use Rattle.naga_ir.specs.Literals.{literal_scalar}
-use Rattle.module_meaning.specs.acceptance.ExpressionTypes as types
-use Rattle.module_meaning.specs.acceptance.InfoSizes.{all_paired}
-use Rattle.module_meaning.specs.acceptance.Initialisers.{initialisers_fit, constant_is_sound}
-use Rattle.module_meaning.specs.acceptance.Initialisers.{override_is_sound, global_is_sound}
-use Rattle.module_meaning.specs.Literals.{literal_value}
-use Rattle.module_meaning.specs.ModuleShapes.{module_shape}
-use Rattle.module_meaning.specs.OperatorTable.{Operator, run_word, Splat, BinarySign, asks}
-use Rattle.module_meaning.specs.acceptance.Ranges.{module_ranges_fit}
-use Rattle.module_meaning.specs.acceptance.Soundness.{module_is_sound, function_is_sound}
-use Rattle.module_meaning.specs.acceptance.Soundness.{entry_point_is_sound, declarations_are_sound}
-use Rattle.module_meaning.specs.acceptance.Soundness.{expressions_are_sound}
-use Rattle.module_meaning.specs.ExpressionContexts.{declared_over, constant_over, global_tree}
-use Rattle.module_meaning.specs.ExpressionContexts.{global_tree_within, written_constant}
-use Rattle.module_meaning.specs.ExpressionContexts.{constant_number, override_number}
-use Rattle.module_meaning.specs.ExpressionContexts.{global_types_known, zero_of_type}
-use Rattle.module_meaning.specs.Types.{type_of_values}
-use Rattle.module_meaning.proofs.ExpressionShapes.{constructor_asks}
-use Rattle.module_meaning.proofs.Lists.{list_all_at}
+use Rattle.module_semantics.specs.acceptance.ExpressionTypes as types
+use Rattle.module_semantics.specs.acceptance.InfoSizes.{all_paired}
+use Rattle.module_semantics.specs.acceptance.Initialisers.{initialisers_fit, constant_is_sound}
+use Rattle.module_semantics.specs.acceptance.Initialisers.{override_is_sound, global_is_sound}
+use Rattle.module_semantics.specs.Literals.{literal_value}
+use Rattle.module_semantics.specs.ModuleShapes.{module_shape}
+use Rattle.module_semantics.specs.OperatorTable.{Operator, run_word, Splat, BinarySign, asks}
+use Rattle.module_semantics.specs.acceptance.Ranges.{module_ranges_fit}
+use Rattle.module_semantics.specs.acceptance.Soundness.{module_is_sound, function_is_sound}
+use Rattle.module_semantics.specs.acceptance.Soundness.{entry_point_is_sound, declarations_are_sound}
+use Rattle.module_semantics.specs.acceptance.Soundness.{expressions_are_sound}
+use Rattle.module_semantics.specs.ExpressionContexts.{declared_over, constant_over, global_tree}
+use Rattle.module_semantics.specs.ExpressionContexts.{global_tree_within, written_constant}
+use Rattle.module_semantics.specs.ExpressionContexts.{constant_number, override_number}
+use Rattle.module_semantics.specs.ExpressionContexts.{global_types_known, zero_of_type}
+use Rattle.module_semantics.specs.Types.{type_of_values}
+use Rattle.module_semantics.proofs.ExpressionShapes.{constructor_asks}
+use Rattle.module_semantics.proofs.Lists.{list_all_at}
 use Rattle.naga_form.proofs.declarations.AcceptedGroups.{IsSoundGroup, own_known, types_are_counted}
 use Rattle.naga_form.proofs.declarations.AcceptedGroups.{own_group, declarations_are}
 use Rattle.naga_form.proofs.types.LiteralTypes.{literal_typed, literal_is_none}

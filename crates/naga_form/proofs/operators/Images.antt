@@ -8,12 +8,12 @@ use Rattle.std.specs.Fmt.{digits}
 use Rattle.std.specs.Prelude.{decimal, ◌||◌}
 use Rattle.std.specs.List.{AllByRecursion}
 use Rattle.std.specs.Option.{is_some, option_to_list}
-use Rattle.module_meaning.specs.ExpressionOperators.{level_of, image_sample_operator}
-use Rattle.module_meaning.specs.ExpressionShapes.{trees, written_zero}
-use Rattle.module_meaning.specs.OperatorTable.{Gather, Level, Sample, run_word, image_sample_word}
-use Rattle.module_meaning.specs.OperatorTable.{Automatic, Biased, Exact, Graded, Zero}
-use Rattle.module_meaning.specs.OperatorTable.{zero_is_written}
-use Rattle.module_meaning.specs.Sampling.{sampling_has_form}
+use Rattle.module_semantics.specs.ExpressionOperators.{level_of, image_sample_operator}
+use Rattle.module_semantics.specs.ExpressionShapes.{trees, written_zero}
+use Rattle.module_semantics.specs.OperatorTable.{Gather, Level, Sample, run_word, image_sample_word}
+use Rattle.module_semantics.specs.OperatorTable.{Automatic, Biased, Exact, Graded, Zero}
+use Rattle.module_semantics.specs.OperatorTable.{zero_is_written}
+use Rattle.module_semantics.specs.Sampling.{sampling_has_form}
 use Rattle.naga_form.proofs.operators.CalledWords.{callee_of}
 use Rattle.naga_form.proofs.operators.Operators.{AllReadLike}
 use Rattle.naga_form.proofs.statements.WrittenHandles.{all_rest}
@@ -30,14 +30,14 @@ use Rattle.shader_runs.specs.Program.{ConstantTree}
 use Rattle.shader_runs.specs.Scope.{ModuleNames}
 use Rattle.shader_runs.specs.Text.{Apply, LiteralOf, more}
 use Rattle.shader_runs.specs.Value.{Opaque}
-use Rattle.text_meaning.specs.Abstraction.{arguments_read, called_word, expression_read}
+use Rattle.text_semantics.specs.Abstraction.{arguments_read, called_word, expression_read}
 use Rattle.wgsl_text.proofs.Building.{called_words}
 use Rattle.wgsl_text.proofs.Types.{named_text}
 use Rattle.wgsl_text.specs.Expressions.{Argument, Arguments, Call, Expression, IsCallee}
 use Rattle.wgsl_text.specs.Expressions.{IsExpression, ZeroArgument, operands, operands_with_level}
 use Rattle.wgsl_text.specs.Functions.{Each}
 use Rattle.wgsl_text.specs.Keywords.{builtin_words}
-use Rattle.wgsl_text.specs.Reading.{type_layout}
+use Rattle.wgsl_text.specs.Reading.{printed_type}
 use Rattle.wgsl_text.specs.Types.{Named}
 use Rattle.wgsl_text.specs.Words.{is_builtin}
 
@@ -66,7 +66,7 @@ offset_alone P image sampler coordinate array depth level offset all =
 
 -- ---- words
 with_number : (w : List ℕ) (n : ℕ) →
-    type_layout (Named w) ++ (codes " " ++ decimal n) ≡ w ++ (codes " " ++ decimal n)
+    printed_type (Named w) ++ (codes " " ++ decimal n) ≡ w ++ (codes " " ++ decimal n)
 with_number w n = ap (λ v. v ++ (codes " " ++ decimal n)) (named_text w)
 
 -- Of a gather the component belongs to the word that is read. What is sampled has operands, so that

@@ -19,10 +19,10 @@ use Rattle.naga_ir.specs.declared.types.ArraySize.TheVariants as size
 use Rattle.naga_ir.specs.declared.types.ScalarKind.TheVariants as kind
 use Rattle.naga_ir.specs.declared.types.TypeInner.TheVariants as inner
 use Rattle.naga_ir.specs.declared.types.Type_.{Type_}
-use Rattle.module_meaning.specs.ExpressionOperators.{ExpressionContext}
-use Rattle.module_meaning.specs.ExpressionShapes.{ModuleDeclarations}
-use Rattle.module_meaning.specs.Names.{constant_name, module_names}
-use Rattle.module_meaning.specs.Types.{type_names}
+use Rattle.module_semantics.specs.ExpressionOperators.{ExpressionContext}
+use Rattle.module_semantics.specs.ExpressionShapes.{ModuleDeclarations}
+use Rattle.module_semantics.specs.Names.{constant_name, module_names}
+use Rattle.module_semantics.specs.Types.{type_names}
 use Rattle.naga_form.specs.ConstantForms.{written_constant_form}
 use Rattle.naga_form.specs.Expressions.{Source, as_reference, as_value, plain_form}
 use Rattle.naga_words.specs.Contexts.{Names as TypeNames}
@@ -30,7 +30,7 @@ use Rattle.shader_runs.specs.Program.{Function, NamedConstant}
 use Rattle.shader_runs.specs.Scope.{Handles, Inline, Naming}
 use Rattle.shader_runs.specs.Value.{OtherType}
 use Rattle.wgsl_text.specs.Expressions.{Name}
-use Rattle.wgsl_text.specs.Reading.{expression_layout}
+use Rattle.wgsl_text.specs.Reading.{printed_expression}
 
 -- Each has the type with its handle; the type after them is that of the variable `data`.
 abbrev types : List Type_
@@ -111,10 +111,10 @@ module _ (f : Function) where
   handles = λ h. Inline
 
   abbrev value : ℕ → List ℕ
-  value h = expression_layout (as_value (plain_form naming source handles h))
+  value h = printed_expression (as_value (plain_form naming source handles h))
 
   abbrev reference : ℕ → List ℕ
-  reference h = expression_layout (as_reference (plain_form naming source handles h))
+  reference h = printed_expression (as_reference (plain_form naming source handles h))
 
   -- ---- of the module
   constant_named : value 0 ≡ codes "limit"
@@ -175,7 +175,7 @@ module _ (other : ir_module.Module) (label : String Global) where
         global_expressions = expression.Literal (literal.I32 (pos 7)) ∷ [];
       }
 
-  unnamed_written : expression_layout (written_constant_form m (type_names m) 0) ≡ codes "7i"
+  unnamed_written : printed_expression (written_constant_form m (type_names m) 0) ≡ codes "7i"
   unfolding digits
   unnamed_written = refl
 

@@ -16,18 +16,18 @@ use Rattle.naga_info.specs.declared.info.ExpressionInfo.{ExpressionInfo}
 use Rattle.naga_info.specs.declared.info.ModuleInfo.{ModuleInfo}
 use Rattle.naga_info.specs.declared.info.TypeResolution.TheVariants.{Handle}
 use Rattle.naga_info.proofs.Options.{then_some}
-use Rattle.module_meaning.specs.acceptance.AgreeingOperators.{Group, function_group}
-use Rattle.module_meaning.specs.ExpressionOperators.{applied_operator, constructor, load_operator}
-use Rattle.module_meaning.specs.ExpressionShapes.{ModuleDeclarations, applied_or, built, constant_shape}
-use Rattle.module_meaning.specs.ExpressionShapes.{constant_tree, part_selector, part_shape}
-use Rattle.module_meaning.specs.ExpressionShapes.{shape_of, tree_over, tree_within, trees}
-use Rattle.module_meaning.specs.ExpressionShapes.{written_zero}
-use Rattle.module_meaning.specs.FunctionShapes.{function_shape}
-use Rattle.module_meaning.specs.ModuleShapes.{module_shape}
-use Rattle.module_meaning.specs.OperatorTable.{Operator as TableOperator, PartAt, WithoutForm, asks}
-use Rattle.module_meaning.specs.OperatorTable.{run_word}
-use Rattle.module_meaning.specs.Shapes.{operator_shape}
-use Rattle.module_meaning.proofs.Shapes.{operator_any}
+use Rattle.module_semantics.specs.acceptance.AgreeingOperators.{Group, function_group}
+use Rattle.module_semantics.specs.ExpressionOperators.{applied_operator, constructor, load_operator}
+use Rattle.module_semantics.specs.ExpressionShapes.{ModuleDeclarations, applied_or, built, constant_shape}
+use Rattle.module_semantics.specs.ExpressionShapes.{constant_tree, part_selector, part_shape}
+use Rattle.module_semantics.specs.ExpressionShapes.{shape_of, tree_over, tree_within, trees}
+use Rattle.module_semantics.specs.ExpressionShapes.{written_zero}
+use Rattle.module_semantics.specs.FunctionShapes.{function_shape}
+use Rattle.module_semantics.specs.ModuleShapes.{module_shape}
+use Rattle.module_semantics.specs.OperatorTable.{Operator as TableOperator, PartAt, WithoutForm, asks}
+use Rattle.module_semantics.specs.OperatorTable.{run_word}
+use Rattle.module_semantics.specs.Shapes.{operator_shape}
+use Rattle.module_semantics.proofs.Shapes.{operator_any}
 use Rattle.shader_runs.specs.Program.{ConstantTree, Expression, Function, Load, Module, Request}
 use Rattle.shader_runs.specs.Program.{Result, expression_of, no_constant}
 use Rattle.shader_runs.specs.Typing.{LeafTreesFit, TreeFits, TreesFit}

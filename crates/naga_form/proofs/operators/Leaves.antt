@@ -23,25 +23,25 @@ use Rattle.naga_info.specs.declared.info.ExpressionInfo.{ExpressionInfo}
 use Rattle.naga_info.specs.declared.info.ModuleInfo.{ModuleInfo}
 use Rattle.naga_info.specs.declared.info.TypeResolution.{TypeResolution}
 use Rattle.naga_info.specs.declared.info.TypeResolution.TheVariants.{Handle, Value}
-use Rattle.module_meaning.specs.acceptance.AgreeingOperators.{function_group}
-use Rattle.module_meaning.specs.AlikeTypes.{are_alike, type_identity}
-use Rattle.module_meaning.specs.ExpressionOperators.{is_atomic_pointer, constructor}
-use Rattle.module_meaning.specs.ExpressionShapes.{ModuleDeclarations, shape_of, applied_shape, applied_or}
-use Rattle.module_meaning.specs.ExpressionShapes.{part_shape, part_selector, constant_tree, trees}
-use Rattle.module_meaning.specs.ExpressionShapes.{written_zero, constant_shape, tree_over}
-use Rattle.module_meaning.specs.ExpressionShapes.{tree_within, built}
-use Rattle.module_meaning.specs.Literals.{literal_value}
-use Rattle.module_meaning.specs.acceptance.ExpressionTypes.{expression_type_fits, is_expected, only}
-use Rattle.module_meaning.specs.acceptance.ExpressionTypes.{global_type, argument_type, local_type}
-use Rattle.module_meaning.specs.acceptance.ExpressionTypes.{variable_type}
-use Rattle.module_meaning.specs.FunctionShapes.{function_shape}
-use Rattle.module_meaning.specs.acceptance.InfoSizes.{is_handle_space}
-use Rattle.module_meaning.specs.ModuleShapes.{module_shape, variable_shape}
-use Rattle.module_meaning.specs.acceptance.OperandDemands.{is_swizzled}
-use Rattle.module_meaning.specs.OperatorTable.{Operator, AtomicLoad, BinarySign, run_word}
-use Rattle.module_meaning.specs.ExpressionContexts.{declared, types_known, is_handle_variable}
-use Rattle.module_meaning.specs.ExpressionContexts.{written_constant}
-use Rattle.module_meaning.specs.Types.{declared_type, type_of_values, word_of_values, values_of}
+use Rattle.module_semantics.specs.acceptance.AgreeingOperators.{function_group}
+use Rattle.module_semantics.specs.AlikeTypes.{are_alike, type_identity}
+use Rattle.module_semantics.specs.ExpressionOperators.{is_atomic_pointer, constructor}
+use Rattle.module_semantics.specs.ExpressionShapes.{ModuleDeclarations, shape_of, applied_shape, applied_or}
+use Rattle.module_semantics.specs.ExpressionShapes.{part_shape, part_selector, constant_tree, trees}
+use Rattle.module_semantics.specs.ExpressionShapes.{written_zero, constant_shape, tree_over}
+use Rattle.module_semantics.specs.ExpressionShapes.{tree_within, built}
+use Rattle.module_semantics.specs.Literals.{literal_value}
+use Rattle.module_semantics.specs.acceptance.ExpressionTypes.{expression_type_fits, is_expected, only}
+use Rattle.module_semantics.specs.acceptance.ExpressionTypes.{global_type, argument_type, local_type}
+use Rattle.module_semantics.specs.acceptance.ExpressionTypes.{variable_type}
+use Rattle.module_semantics.specs.FunctionShapes.{function_shape}
+use Rattle.module_semantics.specs.acceptance.InfoSizes.{is_handle_space}
+use Rattle.module_semantics.specs.ModuleShapes.{module_shape, variable_shape}
+use Rattle.module_semantics.specs.acceptance.OperandDemands.{is_swizzled}
+use Rattle.module_semantics.specs.OperatorTable.{Operator, AtomicLoad, BinarySign, run_word}
+use Rattle.module_semantics.specs.ExpressionContexts.{declared, types_known, is_handle_variable}
+use Rattle.module_semantics.specs.ExpressionContexts.{written_constant}
+use Rattle.module_semantics.specs.Types.{declared_type, type_of_values, word_of_values, values_of}
 use Rattle.shader_runs.specs.Premises.{LeafFits, ConstantInRange, ConstantsInRange, IsNoPointer}
 use Rattle.shader_runs.specs.Premises.{constant_type as constant_tree_type}
 use Rattle.shader_runs.specs.Program as shapes

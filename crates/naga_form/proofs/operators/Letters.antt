@@ -8,7 +8,7 @@ use Rattle.naga_ir.specs.declared.expression.SwizzleComponent.{SwizzleComponent}
 use Rattle.naga_ir.specs.declared.expression.SwizzleComponent.TheVariants as component
 use Rattle.naga_ir.specs.declared.types.VectorSize.{VectorSize}
 use Rattle.naga_ir.specs.declared.types.VectorSize.TheVariants.{Bi, Tri, Quad}
-use Rattle.module_meaning.specs.ExpressionShapes.{letter, swizzle_letters}
+use Rattle.module_semantics.specs.ExpressionShapes.{letter, swizzle_letters}
 use Rattle.naga_form.proofs.operators.AgreeingParts.{byte, letter_is}
 use Rattle.wgsl_text.proofs.Words.{all_words, passes}
 use Rattle.wgsl_text.specs.Keywords.{reserved_words}

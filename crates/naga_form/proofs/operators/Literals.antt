@@ -17,16 +17,16 @@ use Rattle.float_numerals.proofs.Numerals.{decimal_split, decimal_float_is, deci
 use Rattle.naga_ir.specs.declared.expression.Literal.{Literal}
 use Rattle.naga_ir.specs.declared.expression.Literal as ir_literal
 use Rattle.naga_ir.specs.declared.expression.Literal.TheVariants as literal
-use Rattle.module_meaning.specs.Literals.{literal_is_within}
-use Rattle.module_meaning.specs.ExpressionForms.{literal_has_form}
+use Rattle.module_semantics.specs.Literals.{literal_is_within}
+use Rattle.module_semantics.specs.ExpressionForms.{literal_has_form}
 use Rattle.wgsl_text.specs.Literals.{Suffixed, LeastInteger, LeastLong, IsLiteral, IsFloating}
 use Rattle.wgsl_text.specs.Token.{AreDigits, IsPower, IsPrecision}
 use Rattle.wgsl_text.specs.Token.{SuffixI, SuffixLi, Precision, Half, Single}
 use Rattle.wgsl_text.proofs.Text.{own_digits}
 use Rattle.shader_runs.specs.Value.{Whole, Value, Truth, Opaque}
 use Rattle.naga_form.specs.Literals.{literal_form, power_form}
-use Rattle.module_meaning.specs.Literals.{literal_value, integer_payload, abstract_word, with_bits}
-use Rattle.text_meaning.specs.Literals.{value_read, power_value, integer_of_sign}
+use Rattle.module_semantics.specs.Literals.{literal_value, integer_payload, abstract_word, with_bits}
+use Rattle.text_semantics.specs.Literals.{value_read, power_value, integer_of_sign}
 use Rattle.std.specs.Str.{bytes_eq}
 use Rattle.naga_ir.specs.declared.types.ScalarKind.TheVariants as kind
 

@@ -6,12 +6,12 @@ use Rattle.std.specs.List.{AllByRecursion, list_all}
 use Rattle.std.specs.Prelude.{◌&&◌, ◌||◌, if◌then◌else◌, not}
 use Rattle.std.specs.Option.{option_map_or}
 use Rattle.std.proofs.lemmas.Bool.{and_from, and_parts, eqb-true, false≢true, not-true, or_parts}
-use Rattle.module_meaning.specs.OperatorTable.{Operator, UnarySign, Texel, OnlyTexel, TexelChange}
-use Rattle.module_meaning.specs.OperatorTable.{Collective, RayStep, run_word, with_type}
-use Rattle.module_meaning.specs.OperatorTable.{Unsupported, MatrixLoad, WithoutForm}
-use Rattle.module_meaning.specs.OperatorTable.{CooperativeLoad, unsupported_asks, asks, is_untyped}
-use Rattle.module_meaning.specs.OperatorTable.{one_word}
-use Rattle.module_meaning.specs.ExpressionOperators.{ExpressionContext, matrix_load}
+use Rattle.module_semantics.specs.OperatorTable.{Operator, UnarySign, Texel, OnlyTexel, TexelChange}
+use Rattle.module_semantics.specs.OperatorTable.{Collective, RayStep, run_word, with_type}
+use Rattle.module_semantics.specs.OperatorTable.{Unsupported, MatrixLoad, WithoutForm}
+use Rattle.module_semantics.specs.OperatorTable.{CooperativeLoad, unsupported_asks, asks, is_untyped}
+use Rattle.module_semantics.specs.OperatorTable.{one_word}
+use Rattle.module_semantics.specs.ExpressionOperators.{ExpressionContext, matrix_load}
 use Rattle.naga_form.proofs.operators.OperatorEvents.{keeps_asking}
 use Rattle.naga_form.proofs.operators.OperatorTable.{by_table, mathematical, others}
 use Rattle.naga_ir.specs.declared.expression.CooperativeData.{CooperativeData}
@@ -22,7 +22,7 @@ use Rattle.naga_keywords.specs.Plain.{is_identifier_char, is_word}
 use Rattle.wgsl_text.proofs.Words.{all_words, passes}
 use Rattle.wgsl_text.specs.Keywords.{builtin_words}
 use Rattle.wgsl_text.specs.Operators.{is_built_in}
-use Rattle.wgsl_text.specs.Reading.{type_layout}
+use Rattle.wgsl_text.specs.Reading.{printed_type}
 use Rattle.wgsl_text.specs.Requests.{word_before_arguments, is_request, request_words}
 use Rattle.wgsl_text.specs.Types.{Named, plain_type_words, type_templates}
 use Rattle.wgsl_text.specs.Words.{is_builtin, stands_in}
@@ -89,7 +89,7 @@ matrix_load_free a columns rows role place = load_among_free columns rows role p
 
 -- as are the types of one word, and words of types with parts, whatever these are
 pub plain_types_free :
-    all_words (λ w. operates_freely (type_layout (Named w))) plain_type_words ≡ true
+    all_words (λ w. operates_freely (printed_type (Named w))) plain_type_words ≡ true
 unfolding is_request is_built_in is_builtin builtin_words
 plain_types_free = refl
 

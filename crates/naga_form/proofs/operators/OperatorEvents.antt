@@ -11,14 +11,14 @@ use Rattle.wgsl_text.specs.Types.{TypeSpecifier, Named, is_type, TemplateRule, T
 use Rattle.wgsl_text.specs.Types.{rule_among, type_templates, IsType}
 use Rattle.wgsl_text.proofs.Words.{all_words, passes}
 use Rattle.naga_form.proofs.operators.OperatorTable.{by_table, mathematical, others}
-use Rattle.wgsl_text.specs.Reading.{type_layout}
+use Rattle.wgsl_text.specs.Reading.{printed_type}
 use Rattle.wgsl_text.specs.Requests.{request_words, is_request}
-use Rattle.module_meaning.specs.OperatorTable.{Operator, UnarySign, Sample, Gather, Texel}
-use Rattle.module_meaning.specs.OperatorTable.{OnlyTexel, Automatic, Zero, CooperativeLoad}
-use Rattle.module_meaning.specs.OperatorTable.{MakeSpelled, Convert, Reinterpret, with_type}
-use Rattle.module_meaning.specs.OperatorTable.{operator_word, own_word, run_word, one_word, asks}
-use Rattle.module_meaning.specs.OperatorTable.{is_untyped, SpellsAType, TypeIsSound, WithoutForm}
-use Rattle.module_meaning.specs.OperatorTable.{ValueOf}
+use Rattle.module_semantics.specs.OperatorTable.{Operator, UnarySign, Sample, Gather, Texel}
+use Rattle.module_semantics.specs.OperatorTable.{OnlyTexel, Automatic, Zero, CooperativeLoad}
+use Rattle.module_semantics.specs.OperatorTable.{MakeSpelled, Convert, Reinterpret, with_type}
+use Rattle.module_semantics.specs.OperatorTable.{operator_word, own_word, run_word, one_word, asks}
+use Rattle.module_semantics.specs.OperatorTable.{is_untyped, SpellsAType, TypeIsSound, WithoutForm}
+use Rattle.module_semantics.specs.OperatorTable.{ValueOf}
 use Rattle.naga_form.proofs.operators.TypedWords.{head_of, head_is, no_type_begins}
 
 pub keeps_text : (o : Operator) → operator_word (one_word o) ≡ operator_word o
@@ -114,7 +114,7 @@ no_request t is = by (stands_in request_words (head_of t)) refl
         t is refl)
     by false at = refl
 
-type_asks_nothing : (t : TypeSpecifier) → IsType t → is_request (type_layout t) ≡ false
+type_asks_nothing : (t : TypeSpecifier) → IsType t → is_request (printed_type t) ≡ false
 unfolding is_request
 type_asks_nothing t is = ap (stands_in request_words) (head_is t is.part) ∙ no_request t is
 

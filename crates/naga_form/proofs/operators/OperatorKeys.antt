@@ -17,29 +17,29 @@ use Rattle.naga_ir.specs.declared.types.TypeInner.{TypeInner}
 use Rattle.naga_ir.specs.declared.types.TypeInner.TheVariants as inner
 use Rattle.naga_info.specs.declared.info.TypeResolution.{TypeResolution}
 use Rattle.naga_info.specs.declared.info.TypeResolution.TheVariants.{Handle, Value}
-use Rattle.wgsl_text.specs.Reading.{type_layout}
+use Rattle.wgsl_text.specs.Reading.{printed_type}
 use Rattle.wgsl_text.specs.Types.{TypeSpecifier}
-use Rattle.module_meaning.specs.acceptance.AgreeingOperators.{operator_key, own_key, one_key}
-use Rattle.module_meaning.specs.acceptance.AgreeingOperators.{typed_key, unsupported_key}
-use Rattle.module_meaning.specs.acceptance.AgreeingOperators.{constructor_key, conversion_key}
-use Rattle.module_meaning.specs.acceptance.AgreeingOperators.{target_key}
-use Rattle.module_meaning.specs.AlikeTypes.{type_key, has_type_form}
-use Rattle.module_meaning.specs.Conversions.{converted_scalar}
-use Rattle.module_meaning.specs.ExpressionOperators.{ExpressionContext, applied_operator}
-use Rattle.module_meaning.specs.ExpressionOperators.{constructor, cast, cast_to}
-use Rattle.module_meaning.specs.OperatorTable.{Operator, BinarySign, UnarySign, MakeSpelled, Texel}
-use Rattle.module_meaning.specs.OperatorTable.{Convert, Reinterpret, WithoutForm, Cast, PartAt}
-use Rattle.module_meaning.specs.OperatorTable.{ValueOf, CooperativeLoad, run_word, one_word}
-use Rattle.module_meaning.specs.OperatorTable.{TypeIsSound, SpellsAType}
-use Rattle.module_meaning.specs.ExpressionContexts.{expression_context}
-use Rattle.module_meaning.specs.Types.{word_of_values, called_spelling, type_names}
-use Rattle.module_meaning.specs.Types.{spelled_resolution}
-use Rattle.module_meaning.specs.TypeIdentity.{truth_number, word_of_unspelled_type, identity}
-use Rattle.module_meaning.specs.TypeIdentity.{identity_code}
+use Rattle.module_semantics.specs.acceptance.AgreeingOperators.{operator_key, own_key, one_key}
+use Rattle.module_semantics.specs.acceptance.AgreeingOperators.{typed_key, unsupported_key}
+use Rattle.module_semantics.specs.acceptance.AgreeingOperators.{constructor_key, conversion_key}
+use Rattle.module_semantics.specs.acceptance.AgreeingOperators.{target_key}
+use Rattle.module_semantics.specs.AlikeTypes.{type_key, has_type_form}
+use Rattle.module_semantics.specs.Conversions.{converted_scalar}
+use Rattle.module_semantics.specs.ExpressionOperators.{ExpressionContext, applied_operator}
+use Rattle.module_semantics.specs.ExpressionOperators.{constructor, cast, cast_to}
+use Rattle.module_semantics.specs.OperatorTable.{Operator, BinarySign, UnarySign, MakeSpelled, Texel}
+use Rattle.module_semantics.specs.OperatorTable.{Convert, Reinterpret, WithoutForm, Cast, PartAt}
+use Rattle.module_semantics.specs.OperatorTable.{ValueOf, CooperativeLoad, run_word, one_word}
+use Rattle.module_semantics.specs.OperatorTable.{TypeIsSound, SpellsAType}
+use Rattle.module_semantics.specs.ExpressionContexts.{expression_context}
+use Rattle.module_semantics.specs.Types.{word_of_values, called_spelling, type_names}
+use Rattle.module_semantics.specs.Types.{spelled_resolution}
+use Rattle.module_semantics.specs.TypeIdentity.{truth_number, word_of_unspelled_type, identity}
+use Rattle.module_semantics.specs.TypeIdentity.{identity_code}
 use Rattle.std.specs.Prelude.{unwrap_or}
 use Rattle.naga_form.specs.TypeTrees.{resolution_tree}
-use Rattle.module_meaning.specs.TypeParts.{known_inner}
-use Rattle.module_meaning.proofs.ExpressionForms.{called_spelled}
+use Rattle.module_semantics.specs.TypeParts.{known_inner}
+use Rattle.module_semantics.proofs.ExpressionForms.{called_spelled}
 use Rattle.naga_form.proofs.types.AlikeTypes.{form_read}
 use Rattle.naga_form.proofs.types.SameValues.{TypesAreCounted, IsFit, numbers_by_words, tree_of}
 use Rattle.naga_form.proofs.types.SameValues.{spelling_of, tree_is}
@@ -108,10 +108,10 @@ module _ (m : Module) (are : TypesAreCounted m) where
 
   -- a type has a form where it is spelled
   pub form_spelled : (r : TypeResolution) → is_some (spelled_resolution (type_names m) r) ≡ has_type_form m.types r
-  form_spelled r = ap is_some (spelling_of m are r ∙ ap (option_map type_layout) (tree_of m are r))
+  form_spelled r = ap is_some (spelling_of m are r ∙ ap (option_map printed_type) (tree_of m are r))
       ∙ by (type_key m.types r)
     where
-      by : (o : Option (List ℕ)) → is_some (option_map type_layout (option_map (form_read (type_names m)) o))
+      by : (o : Option (List ℕ)) → is_some (option_map printed_type (option_map (form_read (type_names m)) o))
           ≡ is_some o
       by None = refl
       by (Some w) = refl
@@ -121,9 +121,9 @@ module _ (m : Module) (are : TypesAreCounted m) where
       SpellsAType w
   spells r fit w at = by (resolution_tree (type_names m) r) refl (sym (spelling_of m are r) ∙ at)
     where
-      by : (o : Option TypeSpecifier) → resolution_tree (type_names m) r ≡ o → option_map type_layout o
+      by : (o : Option TypeSpecifier) → resolution_tree (type_names m) r ≡ o → option_map printed_type o
           ≡ Some w → SpellsAType w
-      by (Some t) is e = (t, (tree_is m are.types r fit t is, same_Some (type_layout t) w e))
+      by (Some t) is e = (t, (tree_is m are.types r fit t is, same_Some (printed_type t) w e))
       by None is e = absurd (cc)
 
   -- what a conversion is to, or what it is where that has no form

@@ -29,24 +29,24 @@ use Rattle.naga_ir.specs.declared.operators.SubgroupOperation.TheVariants as sub
 use Rattle.naga_ir.specs.declared.operators.CollectiveOperation.{CollectiveOperation}
 use Rattle.naga_ir.specs.declared.operators.CollectiveOperation.TheVariants as collective
 use Rattle.naga_ir.specs.declared.operators.Direction.TheVariants as direction
-use Rattle.module_meaning.specs.OperatorTable.{Operator, BinarySign, UnarySign, Select}
-use Rattle.module_meaning.specs.OperatorTable.{Math, Relational, Derivative, ArrayLength}
-use Rattle.module_meaning.specs.OperatorTable.{Sample, Gather, Texel, TexelStore, TexelChange}
-use Rattle.module_meaning.specs.OperatorTable.{ImageSize, CountOf, AtomicLoad, AtomicStore}
-use Rattle.module_meaning.specs.OperatorTable.{AtomicChange, UniformLoad, Ballot, Collective}
-use Rattle.module_meaning.specs.OperatorTable.{FromSubgroup, Barrier, CooperativeLoad}
-use Rattle.module_meaning.specs.OperatorTable.{CooperativeStore, CooperativeMultiplyAdd, TraceRay}
-use Rattle.module_meaning.specs.OperatorTable.{RayStep, RayIntersection, RayCorners, MakeSpelled}
-use Rattle.module_meaning.specs.OperatorTable.{Splat, Convert, Reinterpret, Level, Automatic, Zero}
-use Rattle.module_meaning.specs.OperatorTable.{Exact, Biased, Graded, OnlyTexel, BothTexel}
-use Rattle.module_meaning.specs.OperatorTable.{ImageCount, Levels, Layers, Samples, Change, AddTo}
-use Rattle.module_meaning.specs.OperatorTable.{SubtractFrom, AndWith, OrWith, XorWith, MinimumOf}
-use Rattle.module_meaning.specs.OperatorTable.{MaximumOf, Exchange, CompareExchange, Source, First}
-use Rattle.module_meaning.specs.OperatorTable.{Indexed, Shuffled, ShuffledDown, ShuffledUp}
-use Rattle.module_meaning.specs.OperatorTable.{ShuffledXor, QuadIndexed, QuadSwapped, BarrierMemory}
-use Rattle.module_meaning.specs.OperatorTable.{StorageOrdered, WorkgroupOrdered, SubgroupOrdered}
-use Rattle.module_meaning.specs.OperatorTable.{TextureOrdered, run_word, operand_count, one_word}
-use Rattle.module_meaning.specs.OperatorTable.{is_distinguished, is_untyped, WithoutForm, ValueOf}
+use Rattle.module_semantics.specs.OperatorTable.{Operator, BinarySign, UnarySign, Select}
+use Rattle.module_semantics.specs.OperatorTable.{Math, Relational, Derivative, ArrayLength}
+use Rattle.module_semantics.specs.OperatorTable.{Sample, Gather, Texel, TexelStore, TexelChange}
+use Rattle.module_semantics.specs.OperatorTable.{ImageSize, CountOf, AtomicLoad, AtomicStore}
+use Rattle.module_semantics.specs.OperatorTable.{AtomicChange, UniformLoad, Ballot, Collective}
+use Rattle.module_semantics.specs.OperatorTable.{FromSubgroup, Barrier, CooperativeLoad}
+use Rattle.module_semantics.specs.OperatorTable.{CooperativeStore, CooperativeMultiplyAdd, TraceRay}
+use Rattle.module_semantics.specs.OperatorTable.{RayStep, RayIntersection, RayCorners, MakeSpelled}
+use Rattle.module_semantics.specs.OperatorTable.{Splat, Convert, Reinterpret, Level, Automatic, Zero}
+use Rattle.module_semantics.specs.OperatorTable.{Exact, Biased, Graded, OnlyTexel, BothTexel}
+use Rattle.module_semantics.specs.OperatorTable.{ImageCount, Levels, Layers, Samples, Change, AddTo}
+use Rattle.module_semantics.specs.OperatorTable.{SubtractFrom, AndWith, OrWith, XorWith, MinimumOf}
+use Rattle.module_semantics.specs.OperatorTable.{MaximumOf, Exchange, CompareExchange, Source, First}
+use Rattle.module_semantics.specs.OperatorTable.{Indexed, Shuffled, ShuffledDown, ShuffledUp}
+use Rattle.module_semantics.specs.OperatorTable.{ShuffledXor, QuadIndexed, QuadSwapped, BarrierMemory}
+use Rattle.module_semantics.specs.OperatorTable.{StorageOrdered, WorkgroupOrdered, SubgroupOrdered}
+use Rattle.module_semantics.specs.OperatorTable.{TextureOrdered, run_word, operand_count, one_word}
+use Rattle.module_semantics.specs.OperatorTable.{is_distinguished, is_untyped, WithoutForm, ValueOf}
 
 -- the operators of different words that take no type
 abbrev pub mathematical : List Operator

@@ -12,11 +12,11 @@ use Rattle.naga_ir.specs.declared.operators.BinaryOperator.{BinaryOperator}
 use Rattle.naga_ir.specs.declared.operators.BinaryOperator.TheVariants as operator
 use Rattle.naga_ir.specs.declared.operators.UnaryOperator.{UnaryOperator}
 use Rattle.naga_ir.specs.declared.operators.UnaryOperator.TheVariants as unary
-use Rattle.module_meaning.specs.Conversions.{conversion_target, keeps_bits}
-use Rattle.module_meaning.specs.ExpressionOperators.{ExpressionContext, applied_operator, cast}
-use Rattle.module_meaning.specs.ExpressionOperators.{cast_to, type_known, is_atomic_pointer}
-use Rattle.module_meaning.specs.ExpressionOperators.{constructor, load_operator, matrix_load}
-use Rattle.module_meaning.specs.ExpressionOperators.{own_operator, query_operator}
+use Rattle.module_semantics.specs.Conversions.{conversion_target, keeps_bits}
+use Rattle.module_semantics.specs.ExpressionOperators.{ExpressionContext, applied_operator, cast}
+use Rattle.module_semantics.specs.ExpressionOperators.{cast_to, type_known, is_atomic_pointer}
+use Rattle.module_semantics.specs.ExpressionOperators.{constructor, load_operator, matrix_load}
+use Rattle.module_semantics.specs.ExpressionOperators.{own_operator, query_operator}
 use Rattle.naga_info.specs.declared.info.TypeResolution.{TypeResolution}
 use Rattle.naga_info.specs.declared.info.TypeResolution.TheVariants.{Handle, Value}
 use Rattle.naga_words.specs.Contexts.{Names as TypeNames}
@@ -30,11 +30,11 @@ use Rattle.naga_ir.specs.declared.types.Scalar.{Scalar}
 use Rattle.naga_ir.specs.declared.types.ScalarKind.{ScalarKind}
 use Rattle.naga_ir.specs.declared.types.TypeInner.{TypeInner}
 use Rattle.naga_ir.specs.declared.types.TypeInner.TheVariants as inner
-use Rattle.module_meaning.specs.OperatorTable.{MakeSpelled, WithoutForm, ValueOf, Cast, with_type}
-use Rattle.module_meaning.specs.OperatorTable.{has_word, is_untyped, Operator, BinarySign}
-use Rattle.module_meaning.specs.OperatorTable.{UnarySign, AtomicLoad, asks, CooperativeLoad}
-use Rattle.module_meaning.specs.OperatorTable.{MatrixLoad, run_word}
-use Rattle.module_meaning.proofs.OwnOperators.{own_is_untyped}
+use Rattle.module_semantics.specs.OperatorTable.{MakeSpelled, WithoutForm, ValueOf, Cast, with_type}
+use Rattle.module_semantics.specs.OperatorTable.{has_word, is_untyped, Operator, BinarySign}
+use Rattle.module_semantics.specs.OperatorTable.{UnarySign, AtomicLoad, asks, CooperativeLoad}
+use Rattle.module_semantics.specs.OperatorTable.{MatrixLoad, run_word}
+use Rattle.module_semantics.proofs.OwnOperators.{own_is_untyped}
 use Rattle.naga_form.proofs.operators.CalledWords.{is_called, word_is_called}
 use Rattle.naga_ir.specs.declared.expression.ImageQuery.{ImageQuery}
 use Rattle.naga_ir.specs.declared.expression.ImageQuery.TheVariants as query
@@ -42,17 +42,17 @@ use Rattle.wgsl_text.specs.Expressions.{IsCallee, Call, operands, binary_pieces,
 use Rattle.wgsl_text.specs.Expressions.{IsExpression, Expression}
 use Rattle.wgsl_text.specs.Types.{IsType, TypeSpecifier, Named, NoTemplateArguments, has_gaps}
 use Rattle.wgsl_text.specs.Types.{of_one}
-use Rattle.module_meaning.specs.ExpressionShapes.{applied_shape}
-use Rattle.module_meaning.specs.ExpressionContexts.{expression_context}
-use Rattle.module_meaning.specs.ExpressionForms.{expression_has_own_form}
-use Rattle.module_meaning.specs.Types.{spelled_resolution, type_names}
-use Rattle.module_meaning.specs.Undeclared.{is_undeclared_struct}
-use Rattle.module_meaning.proofs.ExpressionForms.{declared_of_spellable}
+use Rattle.module_semantics.specs.ExpressionShapes.{applied_shape}
+use Rattle.module_semantics.specs.ExpressionContexts.{expression_context}
+use Rattle.module_semantics.specs.ExpressionForms.{expression_has_own_form}
+use Rattle.module_semantics.specs.Types.{spelled_resolution, type_names}
+use Rattle.module_semantics.specs.Undeclared.{is_undeclared_struct}
+use Rattle.module_semantics.proofs.ExpressionForms.{declared_of_spellable}
 use Rattle.naga_form.proofs.types.TypeTrees.{resolution_row}
 use Rattle.wgsl_text.proofs.Text.{text-append}
 use Rattle.naga_ir.specs.declared.module.Module.{Module}
 use Rattle.naga_info.specs.declared.info.ExpressionInfo.{ExpressionInfo}
-use Rattle.module_meaning.specs.Shapes.{operator_shape}
+use Rattle.module_semantics.specs.Shapes.{operator_shape}
 use Rattle.naga_ir.specs.Operands.{cooperative_operands, expression_operands, query_operands}
 use Rattle.wgsl_text.specs.Functions.{Each}
 use Rattle.wgsl_text.proofs.Building.{called_words}
@@ -64,9 +64,9 @@ use Rattle.shader_runs.specs.Program.{Request, no_constant}
 use Rattle.shader_runs.specs.Text.{more, no_more, Apply, LogicalOf}
 use Rattle.shader_runs.specs.Scope.{Naming}
 use Rattle.shader_runs.specs.Value.{ShortCircuitAnd, ShortCircuitOr}
-use Rattle.text_meaning.specs.Abstraction.{expression_read, arguments_read}
-use Rattle.text_meaning.specs.Abstraction.{called_word as word_read}
-use Rattle.wgsl_text.specs.Reading.{type_layout}
+use Rattle.text_semantics.specs.Abstraction.{expression_read, arguments_read}
+use Rattle.text_semantics.specs.Abstraction.{called_word as word_read}
+use Rattle.wgsl_text.specs.Reading.{printed_type}
 use Rattle.wgsl_text.specs.Text.{text, mark_text}
 use Rattle.wgsl_words.specs.Words.{operator_text, unary_text}
 
@@ -85,20 +85,20 @@ unary_row _ = refl
 -- the type by which an operator is called, if it is called by one, is spelled by the operator's word
 abbrev pub Spells : Option TypeSpecifier → Operator → Type 0
 Spells None op = Unit {0}
-Spells (Some t) op = type_layout t ≡ run_word op
+Spells (Some t) op = printed_type t ≡ run_word op
 
 abbrev pub SpellsIf : Option TypeSpecifier → Option Operator → Type 0
 SpellsIf type None = Unit {0}
 SpellsIf type (Some op) = Spells type op
 
 pub called_word : (type : Option TypeSpecifier) (op : Operator) → Spells type op →
-    type_layout (unwrap_or type (Named (run_word op))) ≡ run_word op
+    printed_type (unwrap_or type (Named (run_word op))) ≡ run_word op
 called_word None op spelled = named_text (run_word op)
 called_word (Some t) op spelled = spelled
 
 -- what is called is spelled by the operator's word
 pub callee_word : (type : Option TypeSpecifier) (op : Operator) → Spells type op →
-    type_layout (callee (notation type op)) ≡ run_word op
+    printed_type (callee (notation type op)) ≡ run_word op
 callee_word type (BinarySign op) spelled =
     named_text (text (binary_pieces (operator_form op))) ∙ sym (operator_row op)
 callee_word type (UnarySign op) spelled =
@@ -109,7 +109,7 @@ callee_word type op spelled = called_word type op spelled
 abbrev pub SpellsTypes : Module → ExpressionContext → TypeNames → Type 0
 SpellsTypes m a t =
     (r : TypeResolution) → is_undeclared_struct m r ≡ false →
-    a.spelled r ≡ option_map type_layout (resolution_tree t r)
+    a.spelled r ≡ option_map printed_type (resolution_tree t r)
 
 -- so they are under the names of a module
 pub spelled_as_trees : (m : Module) (known : ℕ → Option TypeResolution) →
@@ -121,8 +121,8 @@ spelled_as_trees m known r declared =
 -- what is spelled by a type is spelled by the tree of that
 spelled_by : (spelled : List ℕ → Operator) (other : Operator)
     (callee_of : TypeSpecifier → TypeSpecifier) →
-    ((t : TypeSpecifier) → type_layout (callee_of t) ≡ run_word (spelled (type_layout t))) →
-    (o : Option (List ℕ)) (type : Option TypeSpecifier) → o ≡ option_map type_layout type →
+    ((t : TypeSpecifier) → printed_type (callee_of t) ≡ run_word (spelled (printed_type t))) →
+    (o : Option (List ℕ)) (type : Option TypeSpecifier) → o ≡ option_map printed_type type →
     Spells (option_map callee_of type) (option_map_or spelled o other)
 spelled_by spelled other callee_of row o None e = tt
 spelled_by spelled other callee_of row o (Some t) e =
@@ -130,7 +130,7 @@ spelled_by spelled other callee_of row o (Some t) e =
 
 -- a value of a type is made by what spells the type
 pub constructor_spelled : (a : ExpressionContext) (r : TypeResolution) (components : ℕ) →
-    (type : Option TypeSpecifier) → a.spelled r ≡ option_map type_layout type →
+    (type : Option TypeSpecifier) → a.spelled r ≡ option_map printed_type type →
     Spells type (constructor a r components)
 constructor_spelled a r components None e = tt
 constructor_spelled a r components (Some t) e =
@@ -139,21 +139,21 @@ constructor_spelled a r components (Some t) e =
 
 -- a function that takes a type is spelled by its word and the type
 pub taking_text : (v : List ℕ) (t : TypeSpecifier) →
-    type_layout (of_one v t) ≡ with_type v (type_layout t)
+    printed_type (of_one v t) ≡ with_type v (printed_type t)
 taking_text v t =
     ap (λ w. v ++ (codes "<" ++ w)) (type_part_text t NoTemplateArguments (has_gaps v))
 
 pub bits_text : (t : TypeSpecifier) →
-    type_layout (of_one (codes "bitcast") t) ≡ with_type (codes "bitcast") (type_layout t)
+    printed_type (of_one (codes "bitcast") t) ≡ with_type (codes "bitcast") (printed_type t)
 bits_text t = taking_text (codes "bitcast") t
 
 pub load_text : (row_major : Bool) (t : TypeSpecifier) →
-    type_layout (load_tree row_major t) ≡ run_word (CooperativeLoad row_major (type_layout t))
+    printed_type (load_tree row_major t) ≡ run_word (CooperativeLoad row_major (printed_type t))
 load_text false t = taking_text (codes "coopLoad") t
 load_text true t = taking_text (codes "coopLoadT") t
 
 cast_text : (bits : Bool) (t : TypeSpecifier) →
-    type_layout (cast_tree bits t) ≡ run_word (cast_to bits (type_layout t))
+    printed_type (cast_tree bits t) ≡ run_word (cast_to bits (printed_type t))
 cast_text false t = refl
 cast_text true t = bits_text t
 
@@ -229,13 +229,13 @@ module _ (operand : ℕ → PlainForm) (like : ℕ → runs.Plain) where
 
   -- the word of a call is what is called: no number is among the operands
   pub word_called : (t : TypeSpecifier) (hs : List ℕ) →
-      word_read t (operands (value_forms operand hs)) ≡ type_layout t
+      word_read t (operands (value_forms operand hs)) ≡ printed_type t
   word_called t [] = refl
   word_called t (h ∷ hs) = refl
 
   call_read : (t : TypeSpecifier) (hs : List ℕ) → AllReadLike hs →
       expression_read (Call t (operands (value_forms operand hs))) ≡
-      Apply (type_layout t) (runs.value_forms like hs)
+      Apply (printed_type t) (runs.value_forms like hs)
   call_read t hs same = λ i. Apply (word_called t hs i) (operands_read hs same i)
 
   -- an operator in its notation is read as the operator over its operands
@@ -369,7 +369,7 @@ called_applied op called type spelled es =
   where
     by : (t : TypeSpecifier) (es : List Expression) →
         expression_read (Call t (operands es)) ≡
-        Apply (type_layout t) (arguments_read (operands es))
+        Apply (printed_type t) (arguments_read (operands es))
     by t [] = refl
     by t (e ∷ es) = refl
 

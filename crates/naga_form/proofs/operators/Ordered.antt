@@ -11,14 +11,14 @@ use Rattle.naga_ir.specs.declared.module.Function.{Function}
 use Rattle.naga_ir.specs.declared.module.Module.{Module}
 use Rattle.naga_info.specs.declared.info.ExpressionInfo.{ExpressionInfo}
 use Rattle.naga_info.specs.declared.info.ModuleInfo.{ModuleInfo}
-use Rattle.module_meaning.specs.ExpressionShapes.{ModuleDeclarations, shape_of, constant_tree}
-use Rattle.module_meaning.specs.FunctionShapes.{function_shape}
-use Rattle.module_meaning.specs.acceptance.Ranges.{all_below, function_in_range}
-use Rattle.module_meaning.specs.acceptance.Ranges.{expression_in_range, names_in_range}
-use Rattle.module_meaning.specs.Premises.{OperandsStandBefore}
-use Rattle.module_meaning.specs.ExpressionContexts.{declared, types_known}
-use Rattle.module_meaning.proofs.ExpressionShapes.{shape_operands}
-use Rattle.module_meaning.proofs.Lists.{placed_at}
+use Rattle.module_semantics.specs.ExpressionShapes.{ModuleDeclarations, shape_of, constant_tree}
+use Rattle.module_semantics.specs.FunctionShapes.{function_shape}
+use Rattle.module_semantics.specs.acceptance.Ranges.{all_below, function_in_range}
+use Rattle.module_semantics.specs.acceptance.Ranges.{expression_in_range, names_in_range}
+use Rattle.module_semantics.specs.Premises.{OperandsStandBefore}
+use Rattle.module_semantics.specs.ExpressionContexts.{declared, types_known}
+use Rattle.module_semantics.proofs.ExpressionShapes.{shape_operands}
+use Rattle.module_semantics.proofs.Lists.{placed_at}
 use Rattle.shader_runs.specs.Premises.{AllBelow}
 use Rattle.shader_runs.specs.Program.{ConstantTree, operands_of, expression_of}
 use Rattle.naga_form.proofs.statements.AcceptedFunctions.{ranges_are}

@@ -1,9 +1,9 @@
 -- The plain forms of handles that are written are of the grammar, where the names in scope are
 -- identifiers.
-use Rattle.module_meaning.specs.acceptance.OperandDemands.{are_operands_fit, operands_fit}
-use Rattle.module_meaning.specs.ExpressionForms.{constant_has_form, expression_has_own_form}
-use Rattle.module_meaning.specs.ExpressionShapes.{part_selector, ModuleDeclarations}
-use Rattle.module_meaning.specs.OperatorTable.{WithoutForm, PartAt, Operator}
+use Rattle.module_semantics.specs.acceptance.OperandDemands.{are_operands_fit, operands_fit}
+use Rattle.module_semantics.specs.ExpressionForms.{constant_has_form, expression_has_own_form}
+use Rattle.module_semantics.specs.ExpressionShapes.{part_selector, ModuleDeclarations}
+use Rattle.module_semantics.specs.OperatorTable.{WithoutForm, PartAt, Operator}
 use Rattle.naga_form.proofs.operators.AllowedParts.{IsWellSelected, selected, selected_well}
 use Rattle.naga_form.proofs.operators.AllowedParts.{conversion, loaded_matrix, target_fit}
 use Rattle.naga_form.specs.Expressions.{is_handle_variable, part_plain, is_pointer, selected_part}
@@ -15,7 +15,7 @@ use Rattle.naga_form.specs.Expressions.{zero_is_whole, load_tree, operator_type,
 use Rattle.shader_runs.specs.Value.{Selector, MemberNamed, ElementAt}
 use Rattle.wgsl_text.specs.Expressions.{Index, IsExpression}
 use Rattle.std.specs.Option.{option_map_or, is_some, option_to_list}
-use Rattle.module_meaning.specs.acceptance.Ranges.{function_in_range}
+use Rattle.module_semantics.specs.acceptance.Ranges.{function_in_range}
 use Rattle.naga_form.proofs.statements.AcceptedFunctions.{names_are_in_range}
 use Rattle.std.proofs.Common.{◌≡◌, ℕ, suc, Bool, true, false, List, [], ◌∷◌, ◌++◌, length, refl}
 use Rattle.std.proofs.Common.{sym, subst, zero, Option, Some, None, ◌^◌, map}
@@ -26,32 +26,32 @@ use Rattle.naga_ir.specs.declared.module.Function as ir_function
 use Rattle.naga_ir.specs.declared.module.Module.{Module}
 use Rattle.naga_info.specs.declared.info.ExpressionInfo.{ExpressionInfo}
 use Rattle.naga_info.specs.declared.info.ModuleInfo.{ModuleInfo}
-use Rattle.module_meaning.proofs.Lists.{list_all_at}
-use Rattle.module_meaning.proofs.ExpressionForms.{type_form_of_spellable, has_form_parts}
+use Rattle.module_semantics.proofs.Lists.{list_all_at}
+use Rattle.module_semantics.proofs.ExpressionForms.{type_form_of_spellable, has_form_parts}
 use Rattle.wgsl_text.specs.Words.{IsIdentifier}
 use Rattle.wgsl_text.specs.Expressions as tree_expressions
 use Rattle.wgsl_text.specs.Functions.{Each}
 use Rattle.wgsl_text.specs.Statements.{is_reference}
 use Rattle.wgsl_text.specs.Types.{TypeSpecifier}
 use Rattle.naga_names.proofs.Refusal.{element}
-use Rattle.module_meaning.specs.Names.{global_name, module_names}
-use Rattle.module_meaning.specs.Types.{type_names}
+use Rattle.module_semantics.specs.Names.{global_name, module_names}
+use Rattle.module_semantics.specs.Types.{type_names}
 use Rattle.naga_form.proofs.types.SameValues.{IsFit, TypesAreFit, global_identifier}
 use Rattle.naga_form.proofs.types.SameValues.{override_identifier, tree_is}
-use Rattle.module_meaning.specs.ExpressionOperators.{applied_operator, load_operator}
-use Rattle.module_meaning.specs.ExpressionOperators.{is_depth_image, type_known, constructor}
+use Rattle.module_semantics.specs.ExpressionOperators.{applied_operator, load_operator}
+use Rattle.module_semantics.specs.ExpressionOperators.{is_depth_image, type_known, constructor}
 use Rattle.naga_ir.specs.Operands.{expression_operands, level_operands}
 use Rattle.naga_form.specs.Operators.{notation}
 use Rattle.naga_form.proofs.operators.Operators.{HasFormAt, IsNotated, TypeIsFormed, applied_is}
 use Rattle.naga_form.proofs.operators.Operators.{cast_callee, constructor_notated, conversion_is}
 use Rattle.naga_form.proofs.operators.Operators.{load_callee, matrix_is, load_notated, notated}
-use Rattle.module_meaning.specs.Conversions.{keeps_bits}
-use Rattle.module_meaning.specs.AlikeTypes.{has_type_form as type_has_form}
+use Rattle.module_semantics.specs.Conversions.{keeps_bits}
+use Rattle.module_semantics.specs.AlikeTypes.{has_type_form as type_has_form}
 use Rattle.naga_form.proofs.operators.ConstantForms.{form_out_is}
 use Rattle.naga_form.specs.ConstantForms.{written_constant_form}
 use Rattle.naga_form.proofs.operators.Images.{offset_alone, sampling_is, without_offset}
 use Rattle.naga_form.proofs.statements.Abstraction.{AreWritten}
-use Rattle.module_meaning.specs.FunctionShapes.{function_shape}
+use Rattle.module_semantics.specs.FunctionShapes.{function_shape}
 use Rattle.naga_form.proofs.statements.WrittenHandles.{AreClosed, all_map}
 use Rattle.std.specs.List.{AllByRecursion}
 use Rattle.naga_ir.specs.declared.types.TypeInner.TheVariants as inner
@@ -62,11 +62,11 @@ use Rattle.naga_form.proofs.types.WrittenTypes.{tree_there}
 use Rattle.naga_form.proofs.operators.Literals.{literal_is}
 use Rattle.naga_form.proofs.names.Names.{item_is_identifier, argument_item, argument_there}
 use Rattle.naga_form.proofs.names.Names.{local_item, local_there}
-use Rattle.module_meaning.specs.FunctionNumbers.{all_functions}
+use Rattle.module_semantics.specs.FunctionNumbers.{all_functions}
 use Rattle.naga_ir.specs.declared.expression.Expression.TheVariants as expression
 use Rattle.shader_runs.specs.Program.{binds}
 use Rattle.shader_runs.specs.Scope.{Availability, Bound, Handles, Naming}
-use Rattle.module_meaning.specs.Namings.{function_naming}
+use Rattle.module_semantics.specs.Namings.{function_naming}
 use Rattle.naga_back.specs.declared.flags.WriterFlags.{WriterFlags}
 
 -- ---- plain forms

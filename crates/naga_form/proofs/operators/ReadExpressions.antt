@@ -6,17 +6,17 @@ use Rattle.std.specs.Prelude.{codes, slice_get, unwrap_or, ◌||◌, if◌then�
 use Rattle.std.specs.Option.{option_map_or, option_map, is_some, option_and_then, option_to_list}
 use Rattle.naga_info.specs.declared.info.TypeResolution.{TypeResolution}
 use Rattle.naga_info.specs.declared.info.TypeResolution.TheVariants.{Handle}
-use Rattle.module_meaning.specs.ExpressionOperators.{constructor, is_depth_image, level_of}
-use Rattle.module_meaning.specs.ExpressionOperators.{image_sample_operator, type_known, load_operator}
-use Rattle.module_meaning.specs.ExpressionOperators.{applied_operator}
-use Rattle.module_meaning.specs.ExpressionShapes.{constant_shape, swizzle_letters, constant_tree}
-use Rattle.module_meaning.specs.ExpressionShapes.{trees, written_zero, part_selector, part_shape}
-use Rattle.module_meaning.specs.ExpressionShapes.{shape_of, applied_or}
+use Rattle.module_semantics.specs.ExpressionOperators.{constructor, is_depth_image, level_of}
+use Rattle.module_semantics.specs.ExpressionOperators.{image_sample_operator, type_known, load_operator}
+use Rattle.module_semantics.specs.ExpressionOperators.{applied_operator}
+use Rattle.module_semantics.specs.ExpressionShapes.{constant_shape, swizzle_letters, constant_tree}
+use Rattle.module_semantics.specs.ExpressionShapes.{trees, written_zero, part_selector, part_shape}
+use Rattle.module_semantics.specs.ExpressionShapes.{shape_of, applied_or}
 use Rattle.shader_runs.specs.Text.{PartOf, Apply, Tree, Index, LiteralOf}
 use Rattle.shader_runs.specs.Value.{MemberNamed, Truth, ValueType, BooleanType, OtherType}
 use Rattle.shader_runs.specs.Value.{PointerType, Selector, ElementAt, type_at}
-use Rattle.module_meaning.specs.OperatorTable.{run_word, zero_is_written, WithoutForm, PartAt}
-use Rattle.module_meaning.specs.OperatorTable.{Operator}
+use Rattle.module_semantics.specs.OperatorTable.{run_word, zero_is_written, WithoutForm, PartAt}
+use Rattle.module_semantics.specs.OperatorTable.{Operator}
 use Rattle.shader_runs.specs.Program.{Constructed, Fixed, no_constant, ConstantTree, handle_type}
 use Rattle.naga_form.specs.Expressions.{operator_type, constant_form, value_forms, zero_is_whole}
 use Rattle.naga_form.specs.Expressions.{is_pointer_type, part_plain, is_pointer, selected_part}
@@ -26,8 +26,8 @@ use Rattle.naga_form.specs.Expressions.{own_if, Source}
 use Rattle.naga_form.proofs.operators.Operators.{SpellsIf, SpellsTypes, constructor_spelled}
 use Rattle.naga_form.proofs.operators.Operators.{operator_spelled, untyped, zero_read, AllReadLike}
 use Rattle.naga_form.proofs.operators.Operators.{applied_read}
-use Rattle.module_meaning.proofs.ExpressionForms.{declared_of_spellable}
-use Rattle.module_meaning.specs.Undeclared.{is_undeclared_struct}
+use Rattle.module_semantics.proofs.ExpressionForms.{declared_of_spellable}
+use Rattle.module_semantics.specs.Undeclared.{is_undeclared_struct}
 use Rattle.naga_form.proofs.operators.ConstantForms.{IsReadAs}
 use Rattle.naga_form.proofs.operators.Images.{sampling_read, without_offset}
 use Rattle.naga_form.specs.Images.{sampling_form}
@@ -42,17 +42,17 @@ use Rattle.naga_info.specs.Resolution.{inner_of}
 use Rattle.std.specs.Str.{bytes_eq}
 use Rattle.naga_ir.specs.declared.types.ScalarKind.{ScalarKind}
 use Rattle.naga_ir.specs.declared.types.ScalarKind.TheVariants as kind
-use Rattle.module_meaning.specs.Types.{scalar_values, type_of_values, values_of, word_of_values}
+use Rattle.module_semantics.specs.Types.{scalar_values, type_of_values, values_of, word_of_values}
 use Rattle.naga_info.specs.declared.info.ExpressionInfo.{ExpressionInfo}
 use Rattle.std.specs.List.{AllByRecursion}
 use Rattle.naga_form.proofs.statements.WrittenHandles.{all_map}
-use Rattle.module_meaning.specs.ExpressionForms.{expression_has_own_form}
+use Rattle.module_semantics.specs.ExpressionForms.{expression_has_own_form}
 use Rattle.wgsl_text.specs.Types.{TypeSpecifier}
 use Rattle.shader_runs.specs.Program as shapes
 use Rattle.shader_runs.specs.Scope.{Naming}
 use Rattle.shader_runs.specs.Form as runs
 use Rattle.naga_form.specs.TypeTrees.{type_tree}
-use Rattle.text_meaning.specs.Abstraction.{expression_read}
+use Rattle.text_semantics.specs.Abstraction.{expression_read}
 use Rattle.naga_ir.specs.declared.expression.Expression.TheVariants as expression
 use Rattle.naga_form.proofs.operators.Literals.{literal_read}
 use Rattle.wgsl_text.specs.Expressions as tree_expressions

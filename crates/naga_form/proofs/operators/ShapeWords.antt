@@ -15,19 +15,19 @@ use Rattle.naga_info.specs.declared.info.ModuleInfo.{ModuleInfo}
 use Rattle.naga_info.specs.declared.info.TypeResolution.{TypeResolution}
 use Rattle.naga_info.specs.declared.info.TypeResolution.TheVariants.{Handle}
 use Rattle.naga_info.proofs.Options.{then_some}
-use Rattle.module_meaning.specs.ExpressionOperators.{applied_operator, constructor, load_operator}
-use Rattle.module_meaning.specs.ExpressionOperators.{level_of}
-use Rattle.module_meaning.specs.ExpressionShapes.{built, constant_tree, applied_shape, applied_or}
-use Rattle.module_meaning.specs.ExpressionShapes.{part_shape, part_selector, shape_of}
-use Rattle.module_meaning.specs.FunctionShapes.{function_shape, shapes_from}
-use Rattle.module_meaning.specs.ModuleShapes.{initialiser}
-use Rattle.module_meaning.specs.OperatorTable.{Operator, WithoutForm, PartAt, run_word, asks}
-use Rattle.module_meaning.specs.OperatorTable.{TypeIsSound}
-use Rattle.module_meaning.specs.Shapes.{operator_shape}
-use Rattle.module_meaning.specs.ExpressionContexts.{declared, types_known, written_constant}
-use Rattle.module_meaning.specs.ExpressionContexts.{expression_context}
-use Rattle.module_meaning.proofs.ExpressionShapes.{constructor_asks}
-use Rattle.module_meaning.proofs.Shapes.{operator_any}
+use Rattle.module_semantics.specs.ExpressionOperators.{applied_operator, constructor, load_operator}
+use Rattle.module_semantics.specs.ExpressionOperators.{level_of}
+use Rattle.module_semantics.specs.ExpressionShapes.{built, constant_tree, applied_shape, applied_or}
+use Rattle.module_semantics.specs.ExpressionShapes.{part_shape, part_selector, shape_of}
+use Rattle.module_semantics.specs.FunctionShapes.{function_shape, shapes_from}
+use Rattle.module_semantics.specs.ModuleShapes.{initialiser}
+use Rattle.module_semantics.specs.OperatorTable.{Operator, WithoutForm, PartAt, run_word, asks}
+use Rattle.module_semantics.specs.OperatorTable.{TypeIsSound}
+use Rattle.module_semantics.specs.Shapes.{operator_shape}
+use Rattle.module_semantics.specs.ExpressionContexts.{declared, types_known, written_constant}
+use Rattle.module_semantics.specs.ExpressionContexts.{expression_context}
+use Rattle.module_semantics.proofs.ExpressionShapes.{constructor_asks}
+use Rattle.module_semantics.proofs.Shapes.{operator_any}
 use Rattle.shader_runs.specs.Program as shapes
 use Rattle.shader_runs.specs.Program.{Expression, Constant, Load, Request, Result, no_constant}
 use Rattle.shader_runs.specs.Program.{expression_of}

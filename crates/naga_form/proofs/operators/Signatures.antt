@@ -18,14 +18,14 @@ use Rattle.naga_ir.specs.declared.types.VectorSize.{VectorSize}
 use Rattle.naga_info.specs.declared.info.ModuleInfo.{ModuleInfo}
 use Rattle.naga_info.specs.declared.info.TypeResolution.TheVariants.{Handle}
 use Rattle.shader_runs.specs.Value.{Word, Spelled, PartWord, IndexWord, Selector, MemberNamed}
-use Rattle.module_meaning.specs.acceptance.AgreeingOperators.{Group}
-use Rattle.module_meaning.specs.ExpressionOperators.{ExpressionContext, applied_operator}
-use Rattle.module_meaning.specs.ExpressionOperators.{constructor}
-use Rattle.module_meaning.specs.ExpressionShapes.{ModuleDeclarations, part_selector, letter}
-use Rattle.module_meaning.specs.OperatorTable.{Operator, run_word, asks}
-use Rattle.module_meaning.specs.ExpressionContexts.{expression_context, declared}
-use Rattle.module_meaning.specs.TypeIdentity.{component_count}
-use Rattle.module_meaning.specs.Types.{type_of_values}
+use Rattle.module_semantics.specs.acceptance.AgreeingOperators.{Group}
+use Rattle.module_semantics.specs.ExpressionOperators.{ExpressionContext, applied_operator}
+use Rattle.module_semantics.specs.ExpressionOperators.{constructor}
+use Rattle.module_semantics.specs.ExpressionShapes.{ModuleDeclarations, part_selector, letter}
+use Rattle.module_semantics.specs.OperatorTable.{Operator, run_word, asks}
+use Rattle.module_semantics.specs.ExpressionContexts.{expression_context, declared}
+use Rattle.module_semantics.specs.TypeIdentity.{component_count}
+use Rattle.module_semantics.specs.Types.{type_of_values}
 use Rattle.naga_form.proofs.declarations.AcceptedGroups.{IsSoundGroup}
 use Rattle.naga_form.proofs.operators.AgreeingUses.{value_at}
 

@@ -8,15 +8,15 @@ use Rattle.naga_ir.specs.declared.module.Function.{Function}
 use Rattle.naga_ir.specs.declared.module.Module.{Module}
 use Rattle.naga_info.specs.declared.info.ExpressionInfo.{ExpressionInfo}
 use Rattle.naga_info.specs.declared.info.ModuleInfo.{ModuleInfo}
-use Rattle.module_meaning.specs.acceptance.Accepted.{is_accepted}
-use Rattle.module_meaning.specs.acceptance.AgreeingOperators.{Group, function_group}
-use Rattle.module_meaning.specs.acceptance.AgreeingOperators.{function_groups, further_groups_of}
-use Rattle.module_meaning.specs.acceptance.AgreeingOperators.{groups_of}
+use Rattle.module_semantics.specs.acceptance.Accepted.{is_accepted}
+use Rattle.module_semantics.specs.acceptance.AgreeingOperators.{Group, function_group}
+use Rattle.module_semantics.specs.acceptance.AgreeingOperators.{function_groups, further_groups_of}
+use Rattle.module_semantics.specs.acceptance.AgreeingOperators.{groups_of}
 use Rattle.naga_form.proofs.declarations.AcceptedGroups.{IsSoundGroup, functions_are}
 use Rattle.naga_form.proofs.declarations.AcceptedGroups.{entry_points_are, declarations_are}
 use Rattle.naga_form.proofs.declarations.AcceptedGroups.{own_group}
 use Rattle.naga_form.proofs.operators.AgreeingUses.{IsIn}
-use Rattle.module_meaning.proofs.Lists.{in_row}
+use Rattle.module_semantics.proofs.Lists.{in_row}
 use Rattle.naga_form.proofs.ModuleIndices.{in_image}
 
 -- where a group of functions comes from

@@ -17,21 +17,21 @@ use Rattle.naga_ir.specs.declared.types.TypeInner.{TypeInner}
 use Rattle.naga_ir.specs.declared.types.TypeInner.TheVariants as inner
 use Rattle.naga_info.specs.declared.info.TypeResolution.{TypeResolution}
 use Rattle.naga_info.specs.declared.info.TypeResolution.TheVariants.{Handle, Value}
-use Rattle.module_meaning.specs.Conversions.{converted_scalar}
-use Rattle.module_meaning.specs.ExpressionOperators.{ExpressionContext, applied_operator}
-use Rattle.module_meaning.specs.ExpressionOperators.{constructor, cast, cast_to, matrix_load}
-use Rattle.module_meaning.specs.ExpressionOperators.{load_operator, part_operator}
-use Rattle.module_meaning.specs.ExpressionOperators.{is_atomic_pointer, image_sample_operator}
-use Rattle.module_meaning.specs.ExpressionOperators.{pointee_scalar, type_known, has_parts}
-use Rattle.module_meaning.specs.OperatorTable.{Operator, MakeSpelled, CooperativeLoad, WithoutForm}
-use Rattle.module_meaning.specs.OperatorTable.{Cast, ValueOf, MatrixLoad, PartAt, AtomicLoad, Level}
-use Rattle.module_meaning.specs.OperatorTable.{Convert, Reinterpret, SpellsAType, TypeIsSound, asks}
-use Rattle.module_meaning.specs.OperatorTable.{is_untyped}
-use Rattle.module_meaning.proofs.OwnOperators.{own_is_untyped}
-use Rattle.module_meaning.specs.ExpressionContexts.{expression_context}
-use Rattle.module_meaning.specs.Types.{called_spelling, type_names, spelled_resolution}
-use Rattle.module_meaning.proofs.ExpressionForms.{called_spelled}
-use Rattle.wgsl_text.specs.Reading.{type_layout}
+use Rattle.module_semantics.specs.Conversions.{converted_scalar}
+use Rattle.module_semantics.specs.ExpressionOperators.{ExpressionContext, applied_operator}
+use Rattle.module_semantics.specs.ExpressionOperators.{constructor, cast, cast_to, matrix_load}
+use Rattle.module_semantics.specs.ExpressionOperators.{load_operator, part_operator}
+use Rattle.module_semantics.specs.ExpressionOperators.{is_atomic_pointer, image_sample_operator}
+use Rattle.module_semantics.specs.ExpressionOperators.{pointee_scalar, type_known, has_parts}
+use Rattle.module_semantics.specs.OperatorTable.{Operator, MakeSpelled, CooperativeLoad, WithoutForm}
+use Rattle.module_semantics.specs.OperatorTable.{Cast, ValueOf, MatrixLoad, PartAt, AtomicLoad, Level}
+use Rattle.module_semantics.specs.OperatorTable.{Convert, Reinterpret, SpellsAType, TypeIsSound, asks}
+use Rattle.module_semantics.specs.OperatorTable.{is_untyped}
+use Rattle.module_semantics.proofs.OwnOperators.{own_is_untyped}
+use Rattle.module_semantics.specs.ExpressionContexts.{expression_context}
+use Rattle.module_semantics.specs.Types.{called_spelling, type_names, spelled_resolution}
+use Rattle.module_semantics.proofs.ExpressionForms.{called_spelled}
+use Rattle.wgsl_text.specs.Reading.{printed_type}
 use Rattle.wgsl_text.specs.Types.{TypeSpecifier}
 use Rattle.naga_form.specs.TypeTrees.{resolution_tree}
 use Rattle.naga_form.proofs.types.SameValues.{TypesAreCounted, IsFit, spelling_of, tree_is}
@@ -49,9 +49,9 @@ module _ (m : Module) (are : TypesAreCounted m) where
       SpellsAType w
   spells r fit w at = by (resolution_tree (type_names m) r) refl (sym (spelling_of m are r) ∙ at)
     where
-      by : (o : Option TypeSpecifier) → resolution_tree (type_names m) r ≡ o → option_map type_layout o
+      by : (o : Option TypeSpecifier) → resolution_tree (type_names m) r ≡ o → option_map printed_type o
           ≡ Some w → SpellsAType w
-      by (Some t) is e = (t, (tree_is m are.types r fit t is, same_Some (type_layout t) w e))
+      by (Some t) is e = (t, (tree_is m are.types r fit t is, same_Some (printed_type t) w e))
       by None is e = absurd (cc)
 
   module _ (known : ℕ → Option TypeResolution) where

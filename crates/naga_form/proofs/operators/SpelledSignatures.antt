@@ -1,7 +1,7 @@
 -- What the program of shapes of an accepted module spells: each signature is that of an expression,
 -- or of a zero value in an initialiser.
 -- What is said of trees of constants, and of the initialisers of named ones, is a premise here.
-use Rattle.module_meaning.specs.Names.{TypesAreDistinguished}
+use Rattle.module_semantics.specs.Names.{TypesAreDistinguished}
 use Rattle.naga_form.proofs.operators.Signatures.{either_signature, only_signature, declared_for}
 use Rattle.naga_form.proofs.operators.Signatures.{IsCalled, by_operator, by_index, by_part}
 use Rattle.naga_form.proofs.operators.Signatures.{by_letters, IsOfExpression, IsOfZero}
@@ -25,21 +25,21 @@ use Rattle.naga_info.specs.declared.info.ExpressionInfo.{ExpressionInfo}
 use Rattle.naga_info.specs.declared.info.ModuleInfo.{ModuleInfo}
 use Rattle.naga_info.specs.declared.info.TypeResolution.{TypeResolution}
 use Rattle.naga_info.specs.declared.info.TypeResolution.TheVariants.{Handle}
-use Rattle.module_meaning.specs.acceptance.Accepted.{is_accepted}
-use Rattle.module_meaning.specs.acceptance.AgreeingOperators.{Group, function_group}
-use Rattle.module_meaning.specs.ExpressionOperators.{applied_operator, constructor, load_operator}
-use Rattle.module_meaning.specs.ExpressionOperators.{type_with, is_composite, has_parts}
-use Rattle.module_meaning.specs.ExpressionOperators.{part_operator}
-use Rattle.module_meaning.specs.ExpressionShapes.{ModuleDeclarations, constant_tree, tree_over, tree_within}
-use Rattle.module_meaning.specs.ExpressionShapes.{built, trees, applied_or, own_selector, selector}
-use Rattle.module_meaning.specs.ExpressionShapes.{part_selector, part_shape, written_zero, shape_of}
-use Rattle.module_meaning.specs.ExpressionShapes.{letter}
-use Rattle.module_meaning.specs.FunctionShapes.{function_shape}
-use Rattle.module_meaning.specs.ModuleShapes.{module_shape}
-use Rattle.module_meaning.specs.OperatorTable.{Operator as TableOperator, BinarySign, WithoutForm}
-use Rattle.module_meaning.specs.OperatorTable.{PartAt, run_word, asks}
-use Rattle.module_meaning.specs.Shapes.{operator_shape}
-use Rattle.module_meaning.specs.TypeIdentity.{component_count}
+use Rattle.module_semantics.specs.acceptance.Accepted.{is_accepted}
+use Rattle.module_semantics.specs.acceptance.AgreeingOperators.{Group, function_group}
+use Rattle.module_semantics.specs.ExpressionOperators.{applied_operator, constructor, load_operator}
+use Rattle.module_semantics.specs.ExpressionOperators.{type_with, is_composite, has_parts}
+use Rattle.module_semantics.specs.ExpressionOperators.{part_operator}
+use Rattle.module_semantics.specs.ExpressionShapes.{ModuleDeclarations, constant_tree, tree_over, tree_within}
+use Rattle.module_semantics.specs.ExpressionShapes.{built, trees, applied_or, own_selector, selector}
+use Rattle.module_semantics.specs.ExpressionShapes.{part_selector, part_shape, written_zero, shape_of}
+use Rattle.module_semantics.specs.ExpressionShapes.{letter}
+use Rattle.module_semantics.specs.FunctionShapes.{function_shape}
+use Rattle.module_semantics.specs.ModuleShapes.{module_shape}
+use Rattle.module_semantics.specs.OperatorTable.{Operator as TableOperator, BinarySign, WithoutForm}
+use Rattle.module_semantics.specs.OperatorTable.{PartAt, run_word, asks}
+use Rattle.module_semantics.specs.Shapes.{operator_shape}
+use Rattle.module_semantics.specs.TypeIdentity.{component_count}
 use Rattle.shader_runs.specs.Premises.{handle_types}
 use Rattle.shader_runs.specs.Program.{ConstantTree, Fixed, no_constant, Expression, Function, Load}
 use Rattle.shader_runs.specs.Program.{Module, Request, Result, expression_of, handle_type}

@@ -10,16 +10,16 @@ use Rattle.naga_info.specs.declared.info.TypeResolution.TheVariants.{Handle}
 use Rattle.naga_ir.specs.declared.module.Module.{Module}
 use Rattle.naga_ir.specs.declared.types.Type_.{Type_}
 use Rattle.naga_names.specs.declared.key.NameKey.TheVariants as key
-use Rattle.module_meaning.specs.ExpressionContexts.{expression_context}
-use Rattle.module_meaning.specs.ExpressionOperators.{constructor, ExpressionContext}
-use Rattle.module_meaning.specs.Names.{module_names, name_in}
-use Rattle.module_meaning.specs.OperatorTable.{MakeSpelled, Operator, run_word, ValueOf, WithoutForm}
-use Rattle.module_meaning.specs.Types.{spelled_resolution, type_names}
-use Rattle.module_meaning.specs.Undeclared.{is_declared, is_undeclared, is_undeclared_struct}
+use Rattle.module_semantics.specs.ExpressionContexts.{expression_context}
+use Rattle.module_semantics.specs.ExpressionOperators.{constructor, ExpressionContext}
+use Rattle.module_semantics.specs.Names.{module_names, name_in}
+use Rattle.module_semantics.specs.OperatorTable.{MakeSpelled, Operator, run_word, ValueOf, WithoutForm}
+use Rattle.module_semantics.specs.Types.{spelled_resolution, type_names}
+use Rattle.module_semantics.specs.Undeclared.{is_declared, is_undeclared, is_undeclared_struct}
 use Rattle.naga_words.specs.Spelling.{is_struct}
 use Rattle.wgsl_text.proofs.Text.{text-append}
 use Rattle.wgsl_text.proofs.Types.{named_text}
-use Rattle.wgsl_text.specs.Reading.{type_layout}
+use Rattle.wgsl_text.specs.Reading.{printed_type}
 use Rattle.wgsl_text.specs.Types.{Named, TypeSpecifier}
 use Rattle.naga_form.specs.TypeTrees.{resolution_tree}
 use Rattle.naga_form.proofs.operators.OperatingWords.{unsupported_free, operates_freely}
@@ -51,13 +51,13 @@ module _ (m : Module) (types : TypesAreFit m) (W : List ℕ → Type 0)
       λ i. is i && not (told i)
 
   layout_is : (r : TypeResolution) (t : TypeSpecifier) → is_undeclared_struct m r ≡ false →
-      (operates_freely (type_layout t) ≡ true) ⊎ IsStructNamed (type_names m) r t →
-      W (type_layout t)
-  layout_is r t declared (inl is) = free (type_layout t) is
+      (operates_freely (printed_type t) ≡ true) ⊎ IsStructNamed (type_names m) r t →
+      W (printed_type t)
+  layout_is r t declared (inl is) = free (printed_type t) is
   layout_is r t declared (inr is) =
       subst W
       (sym
-      (ap type_layout (is.named ∙ ap Named (struct_name is.handle))
+      (ap printed_type (is.named ∙ ap Named (struct_name is.handle))
       ∙ named_text (name_in (module_names m) (key.Type_ is.handle))))
       (structs is.handle is.type is.there
       (is_told r is.handle is.type is.at is.there is.is declared))
@@ -71,17 +71,17 @@ module _ (m : Module) (types : TypesAreFit m) (W : List ℕ → Type 0)
   spelled_words r fit P makes without is none = declared_or_not (is_undeclared_struct m r) refl
     where
       row : spelled_resolution (type_names m) r
-          ≡ option_map type_layout (resolution_tree (type_names m) r)
+          ≡ option_map printed_type (resolution_tree (type_names m) r)
       row = resolution_row text-append (type_names m) (λ handle. true) r
 
       by : is_undeclared_struct m r ≡ false → (o : Option TypeSpecifier) →
           resolution_tree (type_names m) r ≡ o →
           P (option_map_or makes (spelled_resolution (type_names m) r) without)
       by declared (Some t) at =
-          subst (λ o. P (option_map_or makes o without)) (sym (row ∙ ap (option_map type_layout) at))
-          (is (type_layout t) (layout_is r t declared (free_form m types r fit t at)))
+          subst (λ o. P (option_map_or makes o without)) (sym (row ∙ ap (option_map printed_type) at))
+          (is (printed_type t) (layout_is r t declared (free_form m types r fit t at)))
       by declared None at =
-          subst (λ o. P (option_map_or makes o without)) (sym (row ∙ ap (option_map type_layout) at))
+          subst (λ o. P (option_map_or makes o without)) (sym (row ∙ ap (option_map printed_type) at))
           none
 
       declared_or_not : (b : Bool) → is_undeclared_struct m r ≡ b →

@@ -18,17 +18,17 @@ use Rattle.naga_info.specs.declared.info.ModuleInfo.{ModuleInfo}
 use Rattle.naga_info.specs.declared.info.TypeResolution.{TypeResolution}
 use Rattle.naga_info.specs.declared.info.TypeResolution.TheVariants.{Handle}
 use Rattle.naga_info.proofs.Options.{then_some, map_some}
-use Rattle.module_meaning.specs.ExpressionOperators.{applied_operator, constructor}
-use Rattle.module_meaning.specs.ExpressionShapes.{ModuleDeclarations, trees, tree_then, trees_of, built}
-use Rattle.module_meaning.specs.ExpressionShapes.{tree_over, computed_over, constant_tree}
-use Rattle.module_meaning.specs.ExpressionShapes.{tree_within, written_zero}
-use Rattle.module_meaning.specs.Literals.{literal_value}
-use Rattle.module_meaning.specs.ModuleShapes.{initialiser}
-use Rattle.module_meaning.specs.OperatorTable.{Operator, Splat, asks, run_word}
-use Rattle.module_meaning.specs.ExpressionContexts.{constant_number, constant_over, declared}
-use Rattle.module_meaning.specs.ExpressionContexts.{declared_over, global_tree, global_tree_within}
-use Rattle.module_meaning.specs.ExpressionContexts.{global_types_known, expression_context}
-use Rattle.module_meaning.specs.ExpressionContexts.{written_constant, zero_of_type}
+use Rattle.module_semantics.specs.ExpressionOperators.{applied_operator, constructor}
+use Rattle.module_semantics.specs.ExpressionShapes.{ModuleDeclarations, trees, tree_then, trees_of, built}
+use Rattle.module_semantics.specs.ExpressionShapes.{tree_over, computed_over, constant_tree}
+use Rattle.module_semantics.specs.ExpressionShapes.{tree_within, written_zero}
+use Rattle.module_semantics.specs.Literals.{literal_value}
+use Rattle.module_semantics.specs.ModuleShapes.{initialiser}
+use Rattle.module_semantics.specs.OperatorTable.{Operator, Splat, asks, run_word}
+use Rattle.module_semantics.specs.ExpressionContexts.{constant_number, constant_over, declared}
+use Rattle.module_semantics.specs.ExpressionContexts.{declared_over, global_tree, global_tree_within}
+use Rattle.module_semantics.specs.ExpressionContexts.{global_types_known, expression_context}
+use Rattle.module_semantics.specs.ExpressionContexts.{written_constant, zero_of_type}
 use Rattle.shader_runs.specs.Program.{ConstantTree, Fixed, NamedConstant, Constructed}
 use Rattle.shader_runs.specs.Premises.{EachWord, EachWordOf}
 use Rattle.shader_runs.specs.Value.{Truth}

@@ -18,19 +18,19 @@ use Rattle.wgsl_text.specs.Types.{type_templates, fits, IsTemplateArgument, IsTy
 use Rattle.naga_form.proofs.operators.OperatorTable.{mathematical, others, first_with, operator_of}
 use Rattle.naga_form.proofs.operators.OperatorTable.{distinguished, untyped_one_word}
 use Rattle.wgsl_text.proofs.Types.{fits_none, type_template, named_text}
-use Rattle.wgsl_text.specs.Reading.{type_layout}
+use Rattle.wgsl_text.specs.Reading.{printed_type}
 use Rattle.wgsl_text.specs.Text.{text}
 use Rattle.wgsl_text.specs.Requests.{word_before_arguments, is_request, request_words}
 use Rattle.wgsl_text.specs.Keywords.{builtin_words}
 use Rattle.wgsl_text.proofs.Words.{passes}
-use Rattle.module_meaning.specs.OperatorTable.{Operator, CooperativeLoad, MakeSpelled, Convert}
-use Rattle.module_meaning.specs.OperatorTable.{Reinterpret, with_type, run_word, one_word}
-use Rattle.module_meaning.specs.OperatorTable.{is_untyped, SpellsAType, TypeIsSound, Unsupported}
-use Rattle.module_meaning.specs.OperatorTable.{Cast, PartAt, ValueOf, MatrixLoad, WithoutForm}
-use Rattle.module_meaning.specs.OperatorTable.{unsupported_code, unsupported_word, one_unsupported}
-use Rattle.module_meaning.proofs.TypeIdentity.{kind_of, kind_distinguished, cooperative_of}
-use Rattle.module_meaning.proofs.TypeIdentity.{cooperative_distinguished, role_of}
-use Rattle.module_meaning.proofs.TypeIdentity.{role_distinguished, truth_of, truth_distinguished}
+use Rattle.module_semantics.specs.OperatorTable.{Operator, CooperativeLoad, MakeSpelled, Convert}
+use Rattle.module_semantics.specs.OperatorTable.{Reinterpret, with_type, run_word, one_word}
+use Rattle.module_semantics.specs.OperatorTable.{is_untyped, SpellsAType, TypeIsSound, Unsupported}
+use Rattle.module_semantics.specs.OperatorTable.{Cast, PartAt, ValueOf, MatrixLoad, WithoutForm}
+use Rattle.module_semantics.specs.OperatorTable.{unsupported_code, unsupported_word, one_unsupported}
+use Rattle.module_semantics.proofs.TypeIdentity.{kind_of, kind_distinguished, cooperative_of}
+use Rattle.module_semantics.proofs.TypeIdentity.{cooperative_distinguished, role_of}
+use Rattle.module_semantics.proofs.TypeIdentity.{role_distinguished, truth_of, truth_distinguished}
 
 -- ---- the head of a word
 word_byte_goes_on : (b : ℕ) → is_word_byte b ≡ true → (nat_eq b 60 || nat_eq b 32) ≡ false
@@ -126,7 +126,7 @@ no_request w is = by (stands_in request_words w) refl
     by false at = ap (stands_in request_words) (head_alone w (word_bytes w is.word.text)) ∙ at
     by true at = absurd (true≢false (sym (passes is_builtin request_words w refl at) ∙ is.own))
 
--- what a type's layout begins with, up to its parts
+-- what a printed type begins with, up to its parts
 abbrev pub head_of : TypeSpecifier → List ℕ
 head_of (Named w) = w
 head_of (Template w parts) = w
@@ -135,7 +135,7 @@ pub head_text : (t : TypeSpecifier) → IsTemplateArgument t → is_word_text (h
 head_text (Named w) is = is.text
 head_text (Template w parts) is = (type_template w parts is.0).word.text
 
-pub head_is : (t : TypeSpecifier) → IsTemplateArgument t → word_before_arguments (type_layout t) ≡ head_of t
+pub head_is : (t : TypeSpecifier) → IsTemplateArgument t → word_before_arguments (printed_type t) ≡ head_of t
 head_is (Named w) is = ap word_before_arguments (named_text w) ∙ head_alone w (word_bytes w is.text)
 head_is (Template w parts) is = head_before w (text (template_pieces parts (has_gaps w)))
     (word_bytes w (head_text (Template w parts) is))
@@ -151,14 +151,14 @@ any_after (b ∷ bytes) rest = by (nat_eq 60 b) (any_after bytes rest)
     by false e = e
 
 template_opens : (w : List ℕ) (parts : TemplateArguments) → IsTemplateArgument (Template w parts) →
-    not_open (type_layout (Template w parts)) ≡ false
+    not_open (printed_type (Template w parts)) ≡ false
 unfolding not_open
 template_opens w parts is =
     let following = text (template_pieces parts (has_gaps w)) in
     λ i. not ((ap is_word_text (head_is (Template w parts) is) ∙ head_text (Template w parts) is) i
     && any_after w following i)
 
-named_is_none : (w : List ℕ) → IsType (Named w) → is_function (type_layout (Named w)) ≡ false
+named_is_none : (w : List ℕ) → IsType (Named w) → is_function (printed_type (Named w)) ≡ false
 named_is_none w is =
     ap is_function (named_text w) ∙ by (is_word_text w) is.part.text (stands_in plain_type_words w)
     (is_builtin w) is.whole
@@ -171,10 +171,10 @@ named_is_none w is =
     by true e false true whole = absurd (false≢true whole)
     by false e plain builtin whole = absurd (false≢true e)
 
-type_is_none : (t : TypeSpecifier) → IsType t → operator_of (type_layout t) ≡ None
-type_is_none (Named w) is = no_operator is_function (type_layout (Named w))
+type_is_none : (t : TypeSpecifier) → IsType t → operator_of (printed_type t) ≡ None
+type_is_none (Named w) is = no_operator is_function (printed_type (Named w))
     (named_is_none w is) functions_others functions_mathematical
-type_is_none (Template w parts) is = no_operator not_open (type_layout (Template w parts))
+type_is_none (Template w parts) is = no_operator not_open (printed_type (Template w parts))
     (template_opens w parts is.part) none_open_others none_open_mathematical
 
 open_is_none : (w : List ℕ) → not_open w ≡ false → operator_of w ≡ None

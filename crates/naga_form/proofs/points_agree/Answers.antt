@@ -1,7 +1,7 @@
 use Rattle.std.proofs.Common.{subst}
-use Rattle.module_meaning.specs.ModuleShapes.{module_shape}
-use Rattle.module_meaning.specs.Names.{module_names}
-use Rattle.module_meaning.specs.Namings.{outer_names}
+use Rattle.module_semantics.specs.ModuleShapes.{module_shape}
+use Rattle.module_semantics.specs.Names.{module_names}
+use Rattle.module_semantics.specs.Namings.{outer_names}
 use Rattle.shader_runs.specs.Correct.{ModuleFits}
 use Rattle.shader_runs.proofs.Points.{points_agree}
 use Rattle.naga_form.proofs.ModuleFits.{module_fits_under}

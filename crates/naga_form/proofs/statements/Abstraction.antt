@@ -10,9 +10,9 @@ use Rattle.naga_names.proofs.Refusal.{element}
 use Rattle.naga_info.specs.declared.info.TypeResolution.TheVariants.{Handle, Value}
 use Rattle.naga_form.proofs.operators.Operators.{spelled_as_trees, SpellsTypes, operands_read}
 use Rattle.naga_form.proofs.operators.Operators.{word_called}
-use Rattle.module_meaning.proofs.ExpressionForms.{type_form_of_spellable, has_form_parts}
-use Rattle.module_meaning.specs.Sampling.{offset_has_form}
-use Rattle.module_meaning.specs.WrittenOut.{is_written_out}
+use Rattle.module_semantics.proofs.ExpressionForms.{type_form_of_spellable, has_form_parts}
+use Rattle.module_semantics.specs.Sampling.{offset_has_form}
+use Rattle.module_semantics.specs.WrittenOut.{is_written_out}
 use Rattle.naga_form.proofs.operators.ConstantForms.{IsReadAs, constants_read, names_are_read}
 use Rattle.naga_form.proofs.operators.ConstantForms.{read_out}
 use Rattle.naga_form.specs.ConstantForms.{written_constant_form}
@@ -40,14 +40,14 @@ use Rattle.naga_ir.specs.declared.types.TypeInner.TheVariants as inner
 use Rattle.naga_info.specs.declared.info.ExpressionInfo.{ExpressionInfo}
 use Rattle.naga_info.specs.declared.info.ModuleInfo.{ModuleInfo}
 use Rattle.std.specs.List.{AllByRecursion, filter}
-use Rattle.module_meaning.specs.Written.{block_handles, cases_handles, simple_handles, statement_handles}
-use Rattle.module_meaning.specs.Written.{IsWrittenIn, OfLocal, WrittenHaveForms}
+use Rattle.module_semantics.specs.Written.{block_handles, cases_handles, simple_handles, statement_handles}
+use Rattle.module_semantics.specs.Written.{IsWrittenIn, OfLocal, WrittenHaveForms}
 use Rattle.naga_form.proofs.statements.WrittenHandles.{AreClosed, all_front, all_map}
 use Rattle.naga_form.proofs.statements.WrittenHandles.{written_are_closed, all_rest}
-use Rattle.module_meaning.specs.ExpressionForms.{expression_has_form, constant_has_form}
-use Rattle.module_meaning.specs.ExpressionContexts.{types_known, written_constant}
+use Rattle.module_semantics.specs.ExpressionForms.{expression_has_form, constant_has_form}
+use Rattle.module_semantics.specs.ExpressionContexts.{types_known, written_constant}
 use Rattle.naga_names.specs.Keys.{NameMap}
-use Rattle.wgsl_text.specs.Reading.{type_layout}
+use Rattle.wgsl_text.specs.Reading.{printed_type}
 use Rattle.wgsl_text.specs.Types.{TypeSpecifier, Named, pointer_tree}
 use Rattle.wgsl_text.proofs.Text.{text-append}
 use Rattle.shader_runs.specs.Program as shapes
@@ -66,25 +66,25 @@ use Rattle.naga_form.specs.Statements.{barrier_lines, shape_form}
 use Rattle.naga_form.proofs.statements.SimpleShapes.{has_no_blocks, no_blocks, shape_handles}
 use Rattle.naga_form.proofs.statements.SimpleShapes.{handles_are}
 use Rattle.shader_runs.specs.ProgramRun.{barrier_words}
-use Rattle.module_meaning.specs.Names.{function_name, argument_name, module_names}
+use Rattle.module_semantics.specs.Names.{function_name, argument_name, module_names}
 use Rattle.naga_form.specs.Types.{type_form, annotated_type, LocalsHaveForms}
 use Rattle.naga_form.specs.TypeTrees.{type_tree}
 use Rattle.naga_form.proofs.types.TypeTrees.{inner_tree_row}
 use Rattle.naga_form.proofs.types.WrittenTypes.{tree_there}
-use Rattle.module_meaning.specs.Types.{local_pointer, declared_type, type_names}
-use Rattle.module_meaning.specs.TypeIdentity.{identity, word_of_unspelled_type}
-use Rattle.module_meaning.specs.ExpressionShapes.{ModuleDeclarations}
-use Rattle.module_meaning.specs.FunctionShapes.{statement_shape, statements_shape, cases_shape}
-use Rattle.module_meaning.specs.FunctionShapes.{function_shape}
-use Rattle.module_meaning.specs.Namings.{function_naming, outer_names}
-use Rattle.module_meaning.specs.Shapes.{case_value_shape}
-use Rattle.module_meaning.specs.StatementShapes.{simple_shape}
+use Rattle.module_semantics.specs.Types.{local_pointer, declared_type, type_names}
+use Rattle.module_semantics.specs.TypeIdentity.{identity, word_of_unspelled_type}
+use Rattle.module_semantics.specs.ExpressionShapes.{ModuleDeclarations}
+use Rattle.module_semantics.specs.FunctionShapes.{statement_shape, statements_shape, cases_shape}
+use Rattle.module_semantics.specs.FunctionShapes.{function_shape}
+use Rattle.module_semantics.specs.Namings.{function_naming, outer_names}
+use Rattle.module_semantics.specs.Shapes.{case_value_shape}
+use Rattle.module_semantics.specs.StatementShapes.{simple_shape}
 use Rattle.wgsl_text.proofs.Types.{named_text}
 use Rattle.naga_form.proofs.ModuleIndices.{expression_is, shapes_length}
-use Rattle.text_meaning.specs.Abstraction.{expression_read, case_value_read, case_values_read}
-use Rattle.text_meaning.specs.Abstraction.{called_word, arguments_read, statements_read}
-use Rattle.text_meaning.specs.Abstraction.{optional_read, cases_read, function_read, statement_read}
-use Rattle.text_meaning.specs.Abstraction.{local_pointer_read, variable_read}
+use Rattle.text_semantics.specs.Abstraction.{expression_read, case_value_read, case_values_read}
+use Rattle.text_semantics.specs.Abstraction.{called_word, arguments_read, statements_read}
+use Rattle.text_semantics.specs.Abstraction.{optional_read, cases_read, function_read, statement_read}
+use Rattle.text_semantics.specs.Abstraction.{local_pointer_read, variable_read}
 use Rattle.wgsl_text.specs.Expressions.{operands}
 use Rattle.naga_ir.specs.declared.expression.Expression.TheVariants as expression
 use Rattle.naga_form.proofs.Fits.{mapped_at, mapped_length}
@@ -112,15 +112,15 @@ case_value_reads (switch_value.U32 n) = refl
 case_value_reads switch_value.Default = refl
 
 -- a case value after others
-case_values_with : (labels : List tree.CaseValue) (value : SwitchValue) →
-    map case_value_read (labels ++ case_value_form value ∷ []) ≡ map case_value_read labels
+case_values_with : (case_values : List tree.CaseValue) (value : SwitchValue) →
+    map case_value_read (case_values ++ case_value_form value ∷ []) ≡ map case_value_read case_values
     ++ case_value_shape value ∷ []
-case_values_with labels value =
-    map-append case_value_read labels (case_value_form value ∷ [])
-    ∙ ap (λ l. map case_value_read labels ++ l ∷ []) (case_value_reads value)
+case_values_with case_values value =
+    map-append case_value_read case_values (case_value_form value ∷ [])
+    ∙ ap (λ l. map case_value_read case_values ++ l ∷ []) (case_value_reads value)
 
-case_values_read_as : (labels : List tree.CaseValue) (value : SwitchValue) →
-    case_values_read (case_values_form labels (case_value_form value)) ≡ map case_value_read labels
+case_values_read_as : (case_values : List tree.CaseValue) (value : SwitchValue) →
+    case_values_read (case_values_form case_values (case_value_form value)) ≡ map case_value_read case_values
     ++ case_value_shape value ∷ []
 case_values_read_as [] value = ap (λ l. l ∷ []) (case_value_reads value)
 case_values_read_as (l ∷ ls) value = ap (λ more. case_value_read l ∷ more) (case_values_read_as ls value)
@@ -427,21 +427,21 @@ module _ (flags : WriterFlags) (named : ℕ → List ℕ) (m : Module) (info : M
         (lines_read annotated (named_by own.function (statement_shape d.context st) k) b
         (after own k (statement_shape d.context st) s) more)
 
-    cases_read_as : (annotated : ℕ → Option TypeSpecifier) (k : ℕ) (labels : List tree.CaseValue)
+    cases_read_as : (annotated : ℕ → Option TypeSpecifier) (k : ℕ) (case_values : List tree.CaseValue)
         (cs : CaseTrees) (s : Handles) → Writes (cases_handles bound cs) →
-        cases_read (cases_form own annotated source k labels cs s) ≡
-        runs.form_cases own k (map case_value_read labels) (cases_shape d.context cs) s
-    cases_read_as annotated k labels no_cases s w = refl
-    cases_read_as annotated k labels (case value body true cs) s w =
+        cases_read (cases_form own annotated source k case_values cs s) ≡
+        runs.form_cases own k (map case_value_read case_values) (cases_shape d.context cs) s
+    cases_read_as annotated k case_values no_cases s w = refl
+    cases_read_as annotated k case_values (case value body true cs) s w =
         let following = named_by_all own.function (statements_shape d.context body) k in
-        cases_read_as annotated following (labels ++ case_value_form value ∷ []) cs s
+        cases_read_as annotated following (case_values ++ case_value_form value ∷ []) cs s
         (all_rest W (block_handles bound body) (cases_handles bound cs) w)
-        ∙ ap (λ ls. runs.form_cases own following ls (cases_shape d.context cs) s) (case_values_with labels value)
-    cases_read_as annotated k labels (case value body false cs) s w =
+        ∙ ap (λ ls. runs.form_cases own following ls (cases_shape d.context cs) s) (case_values_with case_values value)
+    cases_read_as annotated k case_values (case value body false cs) s w =
         let following = named_by_all own.function (statements_shape d.context body) k in
         let one = all_front W (block_handles bound body) (cases_handles bound cs) w in
         let more = all_rest W (block_handles bound body) (cases_handles bound cs) w in
-        λ i. group (case_values_read_as labels value i) (lines_read annotated k body s one i)
+        λ i. group (case_values_read_as case_values value i) (lines_read annotated k body s one i)
         (cases_read_as annotated following [] cs s more i)
 
 -- the declared type of a local tells the spelling of a pointer to it
@@ -451,7 +451,7 @@ pointer_reads m ty t at =
     ap (λ o. local_pointer_read (unwrap_or o (TypeSpecifier.Named []))) at
     ∙ sym (ap (λ o. unwrap_or o (word_of_unspelled_type (identity m.types (Value (inner.Pointer ty space.Function)))))
     (inner_tree_row text-append (type_names m) (λ handle. true) (inner.Pointer ty space.Function)
-    ∙ ap (λ o. option_map type_layout (option_map (pointer_tree (codes "function") None) o)) at))
+    ∙ ap (λ o. option_map printed_type (option_map (pointer_tree (codes "function") None) o)) at))
 
 module _ (flags : WriterFlags) (named : ℕ → List ℕ) (m : Module) (info : ModuleInfo) (g : ℕ) (f : ir_function.Function)
     (es : List ExpressionInfo) (size : length f.expressions ≡ length es) (W : ℕ → Type 0)

@@ -2,17 +2,17 @@
 -- the program of shapes.
 use Rattle.naga_ir.specs.Operands.{expression_operands}
 use Rattle.naga_ir.specs.declared.expression.Expression.{Expression}
-use Rattle.module_meaning.specs.acceptance.Ranges.{expression_in_range, names_in_range, all_below}
-use Rattle.module_meaning.specs.acceptance.Ranges.{module_ranges_fit, module_in_range, is_below}
-use Rattle.module_meaning.specs.acceptance.Ranges.{function_in_range, entry_point_in_range}
-use Rattle.module_meaning.specs.acceptance.Ranges.{signature_fits, signature_types_fit, names_fit}
-use Rattle.module_meaning.specs.acceptance.Ranges.{local_in_range, expressions_in_range}
-use Rattle.module_meaning.specs.acceptance.Ranges.{block_in_range}
-use Rattle.module_meaning.proofs.FunctionNumbers.{after_left, in_append, which_function, IsNumbered}
-use Rattle.module_meaning.proofs.FunctionNumbers.{OfEntryPoint, OfFunction}
-use Rattle.module_meaning.proofs.SideBySide.{paired_at, zip_at, zip_parts}
-use Rattle.module_meaning.specs.FunctionNumbers.{IsFunctionOf, all_functions, all_infos}
-use Rattle.module_meaning.specs.FunctionNumbers.{callee_count, entry_functions, function_number}
+use Rattle.module_semantics.specs.acceptance.Ranges.{expression_in_range, names_in_range, all_below}
+use Rattle.module_semantics.specs.acceptance.Ranges.{module_ranges_fit, module_in_range, is_below}
+use Rattle.module_semantics.specs.acceptance.Ranges.{function_in_range, entry_point_in_range}
+use Rattle.module_semantics.specs.acceptance.Ranges.{signature_fits, signature_types_fit, names_fit}
+use Rattle.module_semantics.specs.acceptance.Ranges.{local_in_range, expressions_in_range}
+use Rattle.module_semantics.specs.acceptance.Ranges.{block_in_range}
+use Rattle.module_semantics.proofs.FunctionNumbers.{after_left, in_append, which_function, IsNumbered}
+use Rattle.module_semantics.proofs.FunctionNumbers.{OfEntryPoint, OfFunction}
+use Rattle.module_semantics.proofs.SideBySide.{paired_at, zip_at, zip_parts}
+use Rattle.module_semantics.specs.FunctionNumbers.{IsFunctionOf, all_functions, all_infos}
+use Rattle.module_semantics.specs.FunctionNumbers.{callee_count, entry_functions, function_number}
 use Rattle.naga_back.specs.declared.context.FunctionType.{FunctionType}
 use Rattle.naga_back.specs.declared.context.FunctionType.TheVariants as item
 use Rattle.std.proofs.Common.{◌≡◌, ℕ, ◌≤◌, ◌+◌, Bool, true, List, sym, ap, ◌∙◌, length, Some}
@@ -28,16 +28,16 @@ use Rattle.naga_ir.specs.declared.module.Function.{Function}
 use Rattle.naga_ir.specs.declared.module.Module.{Module}
 use Rattle.naga_info.specs.declared.info.ExpressionInfo.{ExpressionInfo}
 use Rattle.naga_info.specs.declared.info.ModuleInfo.{ModuleInfo}
-use Rattle.module_meaning.specs.acceptance.Accepted.{is_accepted}
-use Rattle.module_meaning.specs.acceptance.AgreeingOperators.{module_operators_agree}
-use Rattle.module_meaning.specs.acceptance.AgreeingOperators.{function_group}
-use Rattle.module_meaning.specs.acceptance.InfoSizes.{all_paired, function_size_fits, sizes_fit}
-use Rattle.module_meaning.specs.acceptance.Numbers.{signature_fits_32_bits, workgroup_fits_32_bits}
-use Rattle.module_meaning.specs.acceptance.Initialisers.{locals_are_sound}
-use Rattle.module_meaning.specs.acceptance.Soundness.{expressions_are_sound, module_is_sound}
-use Rattle.module_meaning.specs.acceptance.Soundness.{function_is_sound, entry_point_is_sound}
-use Rattle.module_meaning.specs.acceptance.StatementsFit.{body_is_sound}
-use Rattle.module_meaning.proofs.Lists.{list_all_at, placed_at}
+use Rattle.module_semantics.specs.acceptance.Accepted.{is_accepted}
+use Rattle.module_semantics.specs.acceptance.AgreeingOperators.{module_operators_agree}
+use Rattle.module_semantics.specs.acceptance.AgreeingOperators.{function_group}
+use Rattle.module_semantics.specs.acceptance.InfoSizes.{all_paired, function_size_fits, sizes_fit}
+use Rattle.module_semantics.specs.acceptance.Numbers.{signature_fits_32_bits, workgroup_fits_32_bits}
+use Rattle.module_semantics.specs.acceptance.Initialisers.{locals_are_sound}
+use Rattle.module_semantics.specs.acceptance.Soundness.{expressions_are_sound, module_is_sound}
+use Rattle.module_semantics.specs.acceptance.Soundness.{function_is_sound, entry_point_is_sound}
+use Rattle.module_semantics.specs.acceptance.StatementsFit.{body_is_sound}
+use Rattle.module_semantics.proofs.Lists.{list_all_at, placed_at}
 use Rattle.naga_names.proofs.Refusal.{element}
 use Rattle.naga_form.proofs.declarations.AcceptedGroups.{IsSoundGroup, functions_are}
 use Rattle.naga_form.proofs.declarations.AcceptedGroups.{entry_points_are}

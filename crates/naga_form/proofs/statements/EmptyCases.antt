@@ -4,11 +4,11 @@ use Rattle.std.proofs.lemmas.Bool.{and_parts}
 use Rattle.naga_ir.specs.StatementTree.{SimpleStatement, store, StatementTree, simple, block}
 use Rattle.naga_ir.specs.StatementTree.{branch, switch, loop, BlockTree, no_statements, statement}
 use Rattle.naga_ir.specs.StatementTree.{has_no_statements, CaseTrees, no_cases, case}
-use Rattle.module_meaning.specs.ExpressionOperators.{ExpressionContext, is_atomic_pointer}
-use Rattle.module_meaning.specs.FunctionShapes.{statement_shape, statements_shape, cases_shape}
-use Rattle.module_meaning.specs.StatementForms.{statement_has_form, block_has_forms}
-use Rattle.module_meaning.specs.StatementForms.{cases_have_forms}
-use Rattle.module_meaning.specs.StatementShapes.{simple_shape, store_shape}
+use Rattle.module_semantics.specs.ExpressionOperators.{ExpressionContext, is_atomic_pointer}
+use Rattle.module_semantics.specs.FunctionShapes.{statement_shape, statements_shape, cases_shape}
+use Rattle.module_semantics.specs.StatementForms.{statement_has_form, block_has_forms}
+use Rattle.module_semantics.specs.StatementForms.{cases_have_forms}
+use Rattle.module_semantics.specs.StatementShapes.{simple_shape, store_shape}
 use Rattle.shader_runs.specs.Premises.{FallsEmpty, OnlyEmptyFalls, OnlyEmptyFallIn}
 use Rattle.shader_runs.specs.Premises.{OnlyEmptyCasesFall}
 

@@ -26,18 +26,18 @@ use Rattle.shader_runs.specs.Text.{TextFunction}
 use Rattle.shader_runs.proofs.OneRun.{first_numbered}
 use Rattle.shader_runs.proofs.Names.{length-form_functions, length-functions_of}
 use Rattle.shader_runs.proofs.ScopeRules.{scope_check_is_the_rules}
-use Rattle.text_meaning.specs.Abstraction.{function_read, program_read}
-use Rattle.module_meaning.specs.acceptance.Accepted.{is_accepted}
-use Rattle.module_meaning.specs.ExpressionContexts.{declared, types_known}
-use Rattle.module_meaning.specs.FunctionNumbers.{all_functions, all_infos}
-use Rattle.module_meaning.specs.FunctionShapes.{function_shape}
-use Rattle.module_meaning.specs.ModuleShapes.{module_shape}
-use Rattle.module_meaning.specs.Names.{AreLabelNames, LabelNames, module_names}
-use Rattle.module_meaning.specs.Namings.{function_naming, namings_from, outer_names}
-use Rattle.module_meaning.specs.Premises.{ScopeHoldsIn, ScopesHoldBefore}
-use Rattle.module_meaning.specs.Written.{WrittenHaveForms, WrittenHaveFormsAt}
-use Rattle.module_meaning.specs.Written.{WrittenHaveFormsBefore}
-use Rattle.module_meaning.proofs.SideBySide.{zip_parts}
+use Rattle.text_semantics.specs.Abstraction.{function_read, program_read}
+use Rattle.module_semantics.specs.acceptance.Accepted.{is_accepted}
+use Rattle.module_semantics.specs.ExpressionContexts.{declared, types_known}
+use Rattle.module_semantics.specs.FunctionNumbers.{all_functions, all_infos}
+use Rattle.module_semantics.specs.FunctionShapes.{function_shape}
+use Rattle.module_semantics.specs.ModuleShapes.{module_shape}
+use Rattle.module_semantics.specs.Names.{AreLabelNames, LabelNames, module_names}
+use Rattle.module_semantics.specs.Namings.{function_naming, namings_from, outer_names}
+use Rattle.module_semantics.specs.Premises.{ScopeHoldsIn, ScopesHoldBefore}
+use Rattle.module_semantics.specs.Written.{WrittenHaveForms, WrittenHaveFormsAt}
+use Rattle.module_semantics.specs.Written.{WrittenHaveFormsBefore}
+use Rattle.module_semantics.proofs.SideBySide.{zip_parts}
 use Rattle.naga_form.specs.Functions.{function_form, functions_under}
 use Rattle.naga_form.proofs.statements.Abstraction.{function_reads, reads_where}
 use Rattle.naga_form.proofs.statements.AcceptedFunctions.{accepted_at, functions_known, of_number}

@@ -13,16 +13,16 @@ use Rattle.naga_ir.specs.StatementTree.{has_no_statements, CaseTrees, no_cases, 
 use Rattle.naga_ir.specs.declared.module.Function.{Function}
 use Rattle.naga_ir.specs.declared.module.Module.{Module}
 use Rattle.naga_info.specs.declared.info.TypeResolution.{TypeResolution}
-use Rattle.module_meaning.specs.ExpressionOperators.{ExpressionContext, is_atomic_pointer}
-use Rattle.module_meaning.specs.acceptance.Numbers.{case_value_fits_32_bits}
-use Rattle.module_meaning.specs.acceptance.Ranges.{block_in_range, cases_in_range, is_below}
-use Rattle.module_meaning.specs.acceptance.Ranges.{simple_in_range, statement_in_range}
-use Rattle.module_meaning.specs.StatementForms.{block_has_forms, cases_have_forms, simple_has_form}
-use Rattle.module_meaning.specs.StatementForms.{statement_has_form}
-use Rattle.module_meaning.specs.StatementShapes.{act_operator, asked, simple_shape, store_shape}
-use Rattle.module_meaning.specs.acceptance.StatementsFit.{block_is_sound, body_is_sound}
-use Rattle.module_meaning.specs.acceptance.StatementsFit.{cases_are_sound, is_condition}
-use Rattle.module_meaning.specs.acceptance.StatementsFit.{is_selection, statement_is_sound}
+use Rattle.module_semantics.specs.ExpressionOperators.{ExpressionContext, is_atomic_pointer}
+use Rattle.module_semantics.specs.acceptance.Numbers.{case_value_fits_32_bits}
+use Rattle.module_semantics.specs.acceptance.Ranges.{block_in_range, cases_in_range, is_below}
+use Rattle.module_semantics.specs.acceptance.Ranges.{simple_in_range, statement_in_range}
+use Rattle.module_semantics.specs.StatementForms.{block_has_forms, cases_have_forms, simple_has_form}
+use Rattle.module_semantics.specs.StatementForms.{statement_has_form}
+use Rattle.module_semantics.specs.StatementShapes.{act_operator, asked, simple_shape, store_shape}
+use Rattle.module_semantics.specs.acceptance.StatementsFit.{block_is_sound, body_is_sound}
+use Rattle.module_semantics.specs.acceptance.StatementsFit.{cases_are_sound, is_condition}
+use Rattle.module_semantics.specs.acceptance.StatementsFit.{is_selection, statement_is_sound}
 use Rattle.shader_runs.specs.Form.{word_of}
 use Rattle.shader_runs.specs.Program as shapes
 use Rattle.shader_runs.specs.Program.{Act}
@@ -30,10 +30,10 @@ use Rattle.shader_runs.specs.Scope.{Naming}
 use Rattle.wgsl_text.specs.Expressions.{IsCallee}
 use Rattle.wgsl_text.specs.Types.{Named}
 use Rattle.wgsl_text.specs.Words.{IsIdentifier}
-use Rattle.module_meaning.specs.OperatorTable.{Operator, AtomicStore, has_word, is_untyped}
+use Rattle.module_semantics.specs.OperatorTable.{Operator, AtomicStore, has_word, is_untyped}
 use Rattle.naga_form.proofs.operators.CalledWords.{is_called, word_is_called}
 use Rattle.naga_form.proofs.statements.Switches.{HasOneDefault, has_one_default}
-use Rattle.module_meaning.proofs.StatementRanges.{result_below}
+use Rattle.module_semantics.proofs.StatementRanges.{result_below}
 
 -- ---- statements without blocks
 -- the name to which a result is bound is an identifier
@@ -149,15 +149,19 @@ module _ (n : Naming) (a : ExpressionContext) (callees expressions : ℕ)
           cases_are_sound m f known true continues cs ≡ true → cases_have_forms cs ≡ true → CasesFit n a cs
       cases_fit continues no_cases within sound has = tt
       cases_fit continues (case value body falls cs) within sound has =
-          let labels = and_parts (case_value_fits_32_bits value) _ within in
+          let case_values = and_parts (case_value_fits_32_bits value) _ within in
           let ranges = and_parts (block_in_range callees expressions body)
-          (cases_in_range callees expressions cs) labels.1 in
+          (cases_in_range callees expressions cs) case_values.1 in
           let one = and_parts (block_is_sound m f known true continues body)
           (cases_are_sound m f known true continues cs) sound in
           let empty = and_parts (not falls || has_no_statements body)
           (block_has_forms body && cases_have_forms cs) has in
           let forms = and_parts (block_has_forms body) (cases_have_forms cs) empty.1 in
-          (labels.0, all_fit true continues body ranges.0 one.0 forms.0, cases_fit continues cs ranges.1 one.1 forms.1)
+          (
+            case_values.0,
+            all_fit true continues body ranges.0 one.0 forms.0,
+            cases_fit continues cs ranges.1 one.1 forms.1,
+          )
 
     -- all statements of the function
     pub body_fits : block_in_range callees expressions f.body ≡ true → body_is_sound m f known ≡ true →

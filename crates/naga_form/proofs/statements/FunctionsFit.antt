@@ -1,8 +1,8 @@
 -- What the law of runs asks of the functions of every accepted module, as far as acceptance gives it:
 -- their operands stand before, leaves have their types and statements are regular. What is left is
 -- said of names, words, constants and scope.
-use Rattle.module_meaning.specs.StatementForms.{block_has_forms}
-use Rattle.module_meaning.specs.Names.{TypesAreDistinguished}
+use Rattle.module_semantics.specs.StatementForms.{block_has_forms}
+use Rattle.module_semantics.specs.Names.{TypesAreDistinguished}
 use Rattle.std.proofs.Common.{◌≡◌, ℕ, suc, ◌<◌, ◌≤◌, ◌+◌, ◌||◌, Bool, true, false, List, [], ◌∷◌}
 use Rattle.std.proofs.Common.{Option, Some, refl, sym, ap, ◌∙◌, subst, slice_get, length, map}
 use Rattle.std.proofs.Common.{arith, nat_eq, cond}
@@ -16,10 +16,10 @@ use Rattle.naga_ir.specs.declared.module.Function.{Function}
 use Rattle.naga_ir.specs.declared.module.Module.{Module}
 use Rattle.naga_info.specs.declared.info.ExpressionInfo.{ExpressionInfo}
 use Rattle.naga_info.specs.declared.info.ModuleInfo.{ModuleInfo}
-use Rattle.module_meaning.specs.acceptance.Accepted.{is_accepted}
-use Rattle.module_meaning.specs.FunctionShapes.{function_shape}
-use Rattle.module_meaning.specs.ModuleShapes.{module_shape}
-use Rattle.module_meaning.specs.ExpressionContexts.{declared, types_known}
+use Rattle.module_semantics.specs.acceptance.Accepted.{is_accepted}
+use Rattle.module_semantics.specs.FunctionShapes.{function_shape}
+use Rattle.module_semantics.specs.ModuleShapes.{module_shape}
+use Rattle.module_semantics.specs.ExpressionContexts.{declared, types_known}
 use Rattle.shader_runs.specs.Form.{functions_of}
 use Rattle.shader_runs.specs.Premises.{FunctionFits, AllFit, WordFits, AreDistinct, AreRegular}
 use Rattle.shader_runs.specs.Premises.{OnlyEmptyFallIn}
@@ -29,7 +29,7 @@ use Rattle.shader_runs.specs.Scope.{ModuleNames, Names, Naming, fits_function}
 use Rattle.naga_form.proofs.statements.AcceptedFunctions.{functions_known, accepted_at, group_at}
 use Rattle.naga_form.proofs.statements.AcceptedFunctions.{function_there, ranges_are, soundness_is}
 use Rattle.naga_form.proofs.declarations.AcceptedGroups.{types_are_counted}
-use Rattle.module_meaning.proofs.FunctionNumbers.{function_among}
+use Rattle.module_semantics.proofs.FunctionNumbers.{function_among}
 use Rattle.naga_form.proofs.operators.Leaves.{ConstantsAreTyped, leaves}
 use Rattle.naga_form.proofs.operators.Ordered.{ordered}
 use Rattle.naga_form.proofs.statements.Regular.{AreWorded, StandAfter, regular}

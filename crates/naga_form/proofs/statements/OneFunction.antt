@@ -27,23 +27,23 @@ use Rattle.shader_runs.proofs.NamedLets.{function_binds_as_meant}
 use Rattle.shader_runs.proofs.Calls.{numbered_within}
 use Rattle.shader_runs.proofs.OneRun.{one_runs_alike}
 use Rattle.shader_runs.proofs.Resolution.{function_resolves_as_meant}
-use Rattle.text_meaning.specs.Abstraction.{function_read, functions_of, program_read}
-use Rattle.text_meaning.specs.Abstraction.{statements_read}
-use Rattle.text_meaning.specs.Resolution.{hides_no_type}
+use Rattle.text_semantics.specs.Abstraction.{function_read, functions_of, program_read}
+use Rattle.text_semantics.specs.Abstraction.{statements_read}
+use Rattle.text_semantics.specs.Resolution.{hides_no_type}
 use Rattle.wgsl_text.specs.Functions.{Function}
-use Rattle.module_meaning.specs.acceptance.Accepted.{is_accepted}
-use Rattle.module_meaning.specs.FunctionLets.{BindsAt}
-use Rattle.module_meaning.specs.DeclarationForms.{ItemsHaveForms}
-use Rattle.module_meaning.specs.Faithful.{RunsAt}
-use Rattle.module_meaning.specs.FunctionNumbers.{all_functions, all_infos, callee_count}
-use Rattle.module_meaning.specs.FunctionNumbers.{function_type}
-use Rattle.module_meaning.specs.FunctionShapes.{function_shapes, function_shape}
-use Rattle.module_meaning.specs.ModuleShapes.{module_shape}
-use Rattle.module_meaning.specs.Names.{AreLabelNames, LabelNames, function_name, module_names}
-use Rattle.module_meaning.specs.Namings.{function_naming, namings_from, outer_names}
-use Rattle.module_meaning.specs.Premises.{ScopeHoldsIn, ScopesHoldBefore}
-use Rattle.module_meaning.specs.Resolution.{BodyResolves, ResolvesAt}
-use Rattle.module_meaning.specs.Written.{WrittenHaveFormsAt, WrittenHaveFormsBefore}
+use Rattle.module_semantics.specs.acceptance.Accepted.{is_accepted}
+use Rattle.module_semantics.specs.FunctionLets.{BindsAt}
+use Rattle.module_semantics.specs.DeclarationForms.{ItemsHaveForms}
+use Rattle.module_semantics.specs.Faithful.{RunsAt}
+use Rattle.module_semantics.specs.FunctionNumbers.{all_functions, all_infos, callee_count}
+use Rattle.module_semantics.specs.FunctionNumbers.{function_type}
+use Rattle.module_semantics.specs.FunctionShapes.{function_shapes, function_shape}
+use Rattle.module_semantics.specs.ModuleShapes.{module_shape}
+use Rattle.module_semantics.specs.Names.{AreLabelNames, LabelNames, function_name, module_names}
+use Rattle.module_semantics.specs.Namings.{function_naming, namings_from, outer_names}
+use Rattle.module_semantics.specs.Premises.{ScopeHoldsIn, ScopesHoldBefore}
+use Rattle.module_semantics.specs.Resolution.{BodyResolves, ResolvesAt}
+use Rattle.module_semantics.specs.Written.{WrittenHaveFormsAt, WrittenHaveFormsBefore}
 use Rattle.naga_form.specs.Declarations.{program_under}
 use Rattle.naga_form.specs.Functions.{function_form, functions_under}
 use Rattle.naga_form.proofs.names.DeclaredNames.{one_vocabulary}
@@ -65,7 +65,7 @@ use Rattle.naga_form.proofs.names.HiddenNames.{function_hides_none}
 use Rattle.naga_form.proofs.names.Resolution.{leaves_are_own}
 use Rattle.naga_form.proofs.declarations.TextItems.{are_forms, items_fit, n, p, reads_items}
 use Rattle.naga_form.proofs.declarations.TextItems.{reads_names}
-use Rattle.module_meaning.proofs.SideBySide.{zip_at}
+use Rattle.module_semantics.proofs.SideBySide.{zip_at}
 use Rattle.naga_back.specs.declared.flags.WriterFlags.{WriterFlags}
 use Rattle.naga_back.specs.Flags.{annotates_types}
 

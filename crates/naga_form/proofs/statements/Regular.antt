@@ -24,31 +24,31 @@ use Rattle.naga_info.specs.declared.info.ExpressionInfo.{ExpressionInfo}
 use Rattle.naga_info.specs.declared.info.ModuleInfo.{ModuleInfo}
 use Rattle.naga_info.specs.declared.info.TypeResolution.{TypeResolution}
 use Rattle.naga_info.specs.declared.info.TypeResolution.TheVariants.{Handle}
-use Rattle.module_meaning.specs.acceptance.Numbers.{case_value_fits_32_bits}
-use Rattle.module_meaning.specs.acceptance.AgreeingOperators.{function_group}
-use Rattle.module_meaning.specs.AlikeTypes.{are_alike}
-use Rattle.module_meaning.specs.ExpressionOperators.{is_atomic_pointer}
-use Rattle.module_meaning.specs.ExpressionShapes.{ModuleDeclarations, shape_of}
-use Rattle.module_meaning.specs.acceptance.ExpressionTypes.{is_expected, only, result_type}
-use Rattle.module_meaning.specs.FunctionShapes.{function_shape, statement_shape, statements_shape}
-use Rattle.module_meaning.specs.FunctionShapes.{cases_shape}
-use Rattle.module_meaning.specs.acceptance.Ranges.{simple_in_range, statement_in_range}
-use Rattle.module_meaning.specs.acceptance.Ranges.{block_in_range, cases_in_range, is_below}
-use Rattle.module_meaning.specs.StatementShapes.{act_operator, asked, simple_shape, store_shape}
-use Rattle.module_meaning.specs.OperatorTable.{Operator}
-use Rattle.module_meaning.specs.acceptance.StatementsFit.{value_has_type, is_returned, are_passed}
-use Rattle.module_meaning.specs.acceptance.StatementsFit.{calls, is_call, is_answered, is_result}
-use Rattle.module_meaning.specs.acceptance.StatementsFit.{is_result_if, is_result_of}
-use Rattle.module_meaning.specs.acceptance.StatementsFit.{is_atomic_result, is_uniform_load_result}
-use Rattle.module_meaning.specs.acceptance.StatementsFit.{is_ballot_result, is_subgroup_result}
-use Rattle.module_meaning.specs.acceptance.StatementsFit.{simple_is_sound, statement_is_sound}
-use Rattle.module_meaning.specs.acceptance.StatementsFit.{block_is_sound, cases_are_sound}
-use Rattle.module_meaning.specs.acceptance.StatementsFit.{last_falls_through, is_condition}
-use Rattle.module_meaning.specs.acceptance.StatementsFit.{is_selection, body_is_sound}
-use Rattle.module_meaning.specs.TypeParts.{points_to_atomic}
-use Rattle.module_meaning.specs.acceptance.OperandDemands.{operand_is}
-use Rattle.module_meaning.specs.ExpressionContexts.{declared, types_known}
-use Rattle.module_meaning.specs.Types.{type_of_values}
+use Rattle.module_semantics.specs.acceptance.Numbers.{case_value_fits_32_bits}
+use Rattle.module_semantics.specs.acceptance.AgreeingOperators.{function_group}
+use Rattle.module_semantics.specs.AlikeTypes.{are_alike}
+use Rattle.module_semantics.specs.ExpressionOperators.{is_atomic_pointer}
+use Rattle.module_semantics.specs.ExpressionShapes.{ModuleDeclarations, shape_of}
+use Rattle.module_semantics.specs.acceptance.ExpressionTypes.{is_expected, only, result_type}
+use Rattle.module_semantics.specs.FunctionShapes.{function_shape, statement_shape, statements_shape}
+use Rattle.module_semantics.specs.FunctionShapes.{cases_shape}
+use Rattle.module_semantics.specs.acceptance.Ranges.{simple_in_range, statement_in_range}
+use Rattle.module_semantics.specs.acceptance.Ranges.{block_in_range, cases_in_range, is_below}
+use Rattle.module_semantics.specs.StatementShapes.{act_operator, asked, simple_shape, store_shape}
+use Rattle.module_semantics.specs.OperatorTable.{Operator}
+use Rattle.module_semantics.specs.acceptance.StatementsFit.{value_has_type, is_returned, are_passed}
+use Rattle.module_semantics.specs.acceptance.StatementsFit.{calls, is_call, is_answered, is_result}
+use Rattle.module_semantics.specs.acceptance.StatementsFit.{is_result_if, is_result_of}
+use Rattle.module_semantics.specs.acceptance.StatementsFit.{is_atomic_result, is_uniform_load_result}
+use Rattle.module_semantics.specs.acceptance.StatementsFit.{is_ballot_result, is_subgroup_result}
+use Rattle.module_semantics.specs.acceptance.StatementsFit.{simple_is_sound, statement_is_sound}
+use Rattle.module_semantics.specs.acceptance.StatementsFit.{block_is_sound, cases_are_sound}
+use Rattle.module_semantics.specs.acceptance.StatementsFit.{last_falls_through, is_condition}
+use Rattle.module_semantics.specs.acceptance.StatementsFit.{is_selection, body_is_sound}
+use Rattle.module_semantics.specs.TypeParts.{points_to_atomic}
+use Rattle.module_semantics.specs.acceptance.OperandDemands.{operand_is}
+use Rattle.module_semantics.specs.ExpressionContexts.{declared, types_known}
+use Rattle.module_semantics.specs.Types.{type_of_values}
 use Rattle.shader_runs.specs.Premises.{IsRegular, AreRegular, CasesAreRegular, FallsFrom}
 use Rattle.shader_runs.specs.Premises.{ReturnFits, ResultFits, ActionFits, CallFits, UsedResultFits}
 use Rattle.shader_runs.specs.Premises.{IsResult, AsksBy, EachAsks, IsNoName, handle_types}

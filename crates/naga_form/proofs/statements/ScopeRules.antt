@@ -7,7 +7,7 @@ use Rattle.std.proofs.lemmas.Bool.{and_from}
 use Rattle.indexmap.proofs.ReorderLemmas.{map-reverse}
 use Rattle.naga_ir.specs.declared.module.Module.{Module}
 use Rattle.naga_info.specs.declared.info.ModuleInfo.{ModuleInfo}
-use Rattle.module_meaning.specs.acceptance.Accepted.{is_accepted}
+use Rattle.module_semantics.specs.acceptance.Accepted.{is_accepted}
 use Rattle.naga_names.specs.Keys.{NameMap}
 use Rattle.shader_runs.specs.Program as shapes
 use Rattle.shader_runs.specs.Program.{expression_of, operands_of}
@@ -16,13 +16,13 @@ use Rattle.shader_runs.specs.Form.{functions_of}
 use Rattle.shader_runs.specs.Premises.{AllBelow}
 use Rattle.shader_runs.proofs.ScopeRules.{scope_check_is_the_rules}
 use Rattle.shader_runs.proofs.Update.{and_left, and_right}
-use Rattle.module_meaning.specs.FunctionNumbers.{all_functions, all_infos}
-use Rattle.module_meaning.specs.Names.{expression_name, LabelNames, module_names}
-use Rattle.module_meaning.specs.Premises.{EachScopeHolds, scope_holds, scope_holds_under}
-use Rattle.module_meaning.specs.Premises.{ScopesHold}
-use Rattle.module_meaning.specs.FunctionShapes.{function_shapes}
-use Rattle.module_meaning.specs.Namings.{namings_from, namings_under}
-use Rattle.module_meaning.specs.ModuleShapes.{module_shape}
+use Rattle.module_semantics.specs.FunctionNumbers.{all_functions, all_infos}
+use Rattle.module_semantics.specs.Names.{expression_name, LabelNames, module_names}
+use Rattle.module_semantics.specs.Premises.{EachScopeHolds, scope_holds, scope_holds_under}
+use Rattle.module_semantics.specs.Premises.{ScopesHold}
+use Rattle.module_semantics.specs.FunctionShapes.{function_shapes}
+use Rattle.module_semantics.specs.Namings.{namings_from, namings_under}
+use Rattle.module_semantics.specs.ModuleShapes.{module_shape}
 use Rattle.naga_form.proofs.statements.AcceptedFunctions.{accepted_at}
 use Rattle.naga_form.proofs.statements.FunctionsFit.{AllAfter, all_from, all_distinguished}
 use Rattle.naga_form.proofs.statements.FunctionsFit.{shape_numbered, Tells}

@@ -15,15 +15,15 @@ use Rattle.naga_ir.specs.declared.module.Function as ir_function
 use Rattle.naga_ir.specs.declared.module.Module.{Module}
 use Rattle.naga_info.specs.declared.info.ExpressionInfo.{ExpressionInfo}
 use Rattle.naga_info.specs.declared.info.ModuleInfo.{ModuleInfo}
-use Rattle.module_meaning.specs.ExpressionOperators.{is_atomic_pointer}
-use Rattle.module_meaning.specs.ExpressionLabels.{block_labels, cases_labels, expression_labels}
-use Rattle.module_meaning.specs.ExpressionLabels.{label_of, labels_in, labels_of_each}
-use Rattle.module_meaning.specs.ExpressionShapes.{ModuleDeclarations, shape_of}
-use Rattle.module_meaning.specs.FunctionShapes.{statement_shape, statements_shape}
-use Rattle.module_meaning.specs.Names.{module_names, numbered_name}
-use Rattle.module_meaning.specs.Namings.{function_naming}
-use Rattle.module_meaning.specs.StatementShapes.{simple_shape, store_shape}
-use Rattle.module_meaning.specs.Written.{block_handles, cases_handles, statement_handles}
+use Rattle.module_semantics.specs.ExpressionOperators.{is_atomic_pointer}
+use Rattle.module_semantics.specs.ExpressionLabels.{block_labels, cases_labels, expression_labels}
+use Rattle.module_semantics.specs.ExpressionLabels.{label_of, labels_in, labels_of_each}
+use Rattle.module_semantics.specs.ExpressionShapes.{ModuleDeclarations, shape_of}
+use Rattle.module_semantics.specs.FunctionShapes.{statement_shape, statements_shape}
+use Rattle.module_semantics.specs.Names.{module_names, numbered_name}
+use Rattle.module_semantics.specs.Namings.{function_naming}
+use Rattle.module_semantics.specs.StatementShapes.{simple_shape, store_shape}
+use Rattle.module_semantics.specs.Written.{block_handles, cases_handles, statement_handles}
 use Rattle.shader_runs.specs.Form.{word_of}
 use Rattle.shader_runs.specs.Program as shapes
 use Rattle.shader_runs.specs.Program.{Act, Barrier, Emit, Return, Store, binds, binds_as}
@@ -60,7 +60,7 @@ use Rattle.naga_form.proofs.names.NumberedNames.{numbered_is}
 use Rattle.naga_form.proofs.operators.PlainForms.{IsPlainForm, NamesAre, reference_is_one}
 use Rattle.naga_form.proofs.operators.PlainForms.{value_is_one, values_are}
 use Rattle.naga_form.proofs.statements.SimpleShapes.{handles_are, shape_handles}
-use Rattle.naga_form.proofs.statements.Switches.{labels_are, case_values_more, one_is_written}
+use Rattle.naga_form.proofs.statements.Switches.{case_values_are, case_values_more, one_is_written}
 use Rattle.naga_form.proofs.statements.WrittenHandles.{all_front, all_map, all_rest}
 use Rattle.naga_back.specs.declared.flags.WriterFlags.{WriterFlags}
 
@@ -383,17 +383,17 @@ module _ (flags : WriterFlags) (m : Module) (info : ModuleInfo) (g : ℕ) (f : i
           line_is k st fit.0 s well here (lines_form own annotated source following b after_it)
           (lines_are following b fit.1 after_it (after_is k st fit.0 s well here) (room_after k st b room) more) one
 
-      cases_are : (k : ℕ) (labels : List tree.CaseValue) → Each IsCaseValue labels → (cs : CaseTrees) →
+      cases_are : (k : ℕ) (case_values : List tree.CaseValue) → Each IsCaseValue case_values → (cs : CaseTrees) →
           CasesFit own d.context cs → (s : Handles) → NamesAre s → HasRoom k (cases_labels f cs) →
-          Writes (cases_handles bound cs) → IsCases (cases_form own annotated source k labels cs s)
-      cases_are k labels are no_cases fit s well room w = tt
-      cases_are k labels are (case value body true cs) fit s well room w =
+          Writes (cases_handles bound cs) → IsCases (cases_form own annotated source k case_values cs s)
+      cases_are k case_values are no_cases fit s well room w = tt
+      cases_are k case_values are (case value body true cs) fit s well room w =
           cases_are (named_by_all own.function (statements_shape d.context body) k)
-          (labels ++ case_value_form value ∷ []) (case_values_more labels value are fit.0) cs fit.2 s well
+          (case_values ++ case_value_form value ∷ []) (case_values_more case_values value are fit.0) cs fit.2 s well
           (room_beyond k body (cases_labels f cs) room)
           (all_rest W (block_handles bound body) (cases_handles bound cs) w)
-      cases_are k labels are (case value body false cs) fit s well room w = (
-        labels_are labels value are fit.0,
+      cases_are k case_values are (case value body false cs) fit s well room w = (
+        case_values_are case_values value are fit.0,
         lines_are k body fit.1 s well (room_front k (block_labels f body) (cases_labels f cs) room)
             (all_front W (block_handles bound body) (cases_handles bound cs) w),
         cases_are (named_by_all own.function (statements_shape d.context body) k) [] tt cs fit.2 s well

@@ -2,7 +2,7 @@
 -- no switch's last case falls through, nor one with statements. So it is with accepted functions
 -- that have a form.
 --
--- Throughout, k is how many names have been given, labels are those that wait for the next case, s
+-- Throughout, k is how many names have been given, case_values are those that wait for the next case, s
 -- are the handles in scope, and rest is what follows.
 use Rattle.std.proofs.Common.{◌≡◌, ℕ, Bool, true, false, not, ◌&&◌, ◌||◌, List, [], ◌∷◌, ◌++◌}
 use Rattle.std.proofs.Common.{Option, Some, None, map, refl, sym, ap, ◌∙◌, true≢false, append_assoc}
@@ -18,24 +18,24 @@ use Rattle.naga_ir.specs.declared.module.Module.{Module}
 use Rattle.naga_ir.specs.declared.statement.SwitchValue.{SwitchValue}
 use Rattle.naga_ir.specs.declared.statement.SwitchValue.TheVariants as switch_value
 use Rattle.naga_info.specs.declared.info.TypeResolution.{TypeResolution}
-use Rattle.module_meaning.specs.FunctionShapes.{statement_shape, statements_shape}
-use Rattle.module_meaning.specs.StatementForms.{block_has_forms, cases_have_forms}
-use Rattle.module_meaning.specs.StatementForms.{statement_has_form}
-use Rattle.module_meaning.specs.StatementShapes.{simple_shape}
-use Rattle.module_meaning.specs.acceptance.StatementsFit.{block_is_sound, cases_are_sound}
-use Rattle.module_meaning.specs.acceptance.StatementsFit.{is_condition, is_selection}
-use Rattle.module_meaning.specs.acceptance.StatementsFit.{last_falls_through, statement_is_sound}
-use Rattle.module_meaning.specs.Switches.{block_switches, own_case_values, case_switches}
-use Rattle.module_meaning.specs.Switches.{case_value_interface, switches_in}
+use Rattle.module_semantics.specs.FunctionShapes.{statement_shape, statements_shape}
+use Rattle.module_semantics.specs.StatementForms.{block_has_forms, cases_have_forms}
+use Rattle.module_semantics.specs.StatementForms.{statement_has_form}
+use Rattle.module_semantics.specs.StatementShapes.{simple_shape}
+use Rattle.module_semantics.specs.acceptance.StatementsFit.{block_is_sound, cases_are_sound}
+use Rattle.module_semantics.specs.acceptance.StatementsFit.{is_condition, is_selection}
+use Rattle.module_semantics.specs.acceptance.StatementsFit.{last_falls_through, statement_is_sound}
+use Rattle.module_semantics.specs.Switches.{block_switches, own_case_values, case_switches}
+use Rattle.module_semantics.specs.Switches.{case_value_interface, switches_in}
 use Rattle.shader_runs.specs.Form.{word_of}
 use Rattle.shader_runs.specs.Program as shapes
 use Rattle.shader_runs.specs.Program.{binds, from}
 use Rattle.shader_runs.specs.ProgramRun.{barrier_words}
 use Rattle.shader_runs.specs.Scope.{Handles, Naming, after, after_all, after_one, bound_name}
 use Rattle.shader_runs.specs.Scope.{named_after, named_by, named_by_all}
-use Rattle.text_meaning.specs.Switches.{all_case_values_read, own_case_values_read, cases_switches}
-use Rattle.text_meaning.specs.Switches.{case_value_interface_read, optional_switches}
-use Rattle.text_meaning.specs.Switches.{statement_switches, statements_switches}
+use Rattle.text_semantics.specs.Switches.{all_case_values_read, own_case_values_read, cases_switches}
+use Rattle.text_semantics.specs.Switches.{case_value_interface_read, optional_switches}
+use Rattle.text_semantics.specs.Switches.{statement_switches, statements_switches}
 use Rattle.wgsl_text.specs.Expressions.{Arguments, Call, Expression, operands}
 use Rattle.wgsl_text.specs.Statements as tree
 use Rattle.wgsl_text.specs.Types.{Named, TypeSpecifier}
@@ -117,16 +117,16 @@ case_value_told (switch_value.U32 n) = refl
 case_value_told switch_value.Default = refl
 
 -- a case value after those that wait
-waiting_told : (labels : List tree.CaseValue) (value : SwitchValue) →
-    map case_value_interface_read (labels ++ case_value_form value ∷ []) ≡
-    map case_value_interface_read labels ++ case_value_interface value ∷ []
-waiting_told labels value =
-    map-append case_value_interface_read labels (case_value_form value ∷ [])
-    ∙ ap (λ l. map case_value_interface_read labels ++ l ∷ []) (case_value_told value)
+waiting_told : (case_values : List tree.CaseValue) (value : SwitchValue) →
+    map case_value_interface_read (case_values ++ case_value_form value ∷ []) ≡
+    map case_value_interface_read case_values ++ case_value_interface value ∷ []
+waiting_told case_values value =
+    map-append case_value_interface_read case_values (case_value_form value ∷ [])
+    ∙ ap (λ l. map case_value_interface_read case_values ++ l ∷ []) (case_value_told value)
 
-group_told : (labels : List tree.CaseValue) (value : SwitchValue) →
-    own_case_values_read (case_values_form labels (case_value_form value)) ≡
-    map case_value_interface_read labels ++ case_value_interface value ∷ []
+group_told : (case_values : List tree.CaseValue) (value : SwitchValue) →
+    own_case_values_read (case_values_form case_values (case_value_form value)) ≡
+    map case_value_interface_read case_values ++ case_value_interface value ∷ []
 group_told [] value = ap (λ l. l ∷ []) (case_value_told value)
 group_told (l ∷ ls) value = ap (λ more. case_value_interface_read l ∷ more) (group_told ls value)
 
@@ -138,22 +138,22 @@ empty_tells (statement s b) empty = absurd cc
 -- ---- what is written
 module _ (n : Naming) (annotated : ℕ → Option TypeSpecifier) (source : Source) where
   -- values wait only where a case before fell through
-  cases_told : (k : ℕ) (labels : List tree.CaseValue) (before : Bool) → (before ≡ false → labels ≡ []) →
+  cases_told : (k : ℕ) (case_values : List tree.CaseValue) (before : Bool) → (before ≡ false → case_values ≡ []) →
       (cs : CaseTrees) → last_falls_through before cs ≡ false → (s : Handles) →
-      all_case_values_read (cases_form n annotated source k labels cs s) ≡
-      map case_value_interface_read labels ++ own_case_values cs
-  cases_told k labels before none no_cases last s =
+      all_case_values_read (cases_form n annotated source k case_values cs s) ≡
+      map case_value_interface_read case_values ++ own_case_values cs
+  cases_told k case_values before none no_cases last s =
       ap (λ ls. map case_value_interface_read ls ++ []) (sym (none last))
-  cases_told k labels before none (case value body true cs) last s =
+  cases_told k case_values before none (case value body true cs) last s =
       let following = named_by_all n.function (statements_shape source.declared.context body) k in
-      cases_told following (labels ++ case_value_form value ∷ []) true (λ e. absurd (true≢false e)) cs last s
-      ∙ ap (λ ls. ls ++ own_case_values cs) (waiting_told labels value)
-      ∙ append_assoc (map case_value_interface_read labels) (case_value_interface value ∷ []) (own_case_values cs)
-  cases_told k labels before none (case value body false cs) last s =
+      cases_told following (case_values ++ case_value_form value ∷ []) true (λ e. absurd (true≢false e)) cs last s
+      ∙ ap (λ ls. ls ++ own_case_values cs) (waiting_told case_values value)
+      ∙ append_assoc (map case_value_interface_read case_values) (case_value_interface value ∷ []) (own_case_values cs)
+  cases_told k case_values before none (case value body false cs) last s =
       let following = named_by_all n.function (statements_shape source.declared.context body) k in
       let more = cases_told following [] false (λ e. refl) cs last s in
-      (λ i. group_told labels value i ++ more i)
-      ∙ append_assoc (map case_value_interface_read labels) (case_value_interface value ∷ []) (own_case_values cs)
+      (λ i. group_told case_values value i ++ more i)
+      ∙ append_assoc (map case_value_interface_read case_values) (case_value_interface value ∷ []) (own_case_values cs)
 
   let_tells : (type : Option TypeSpecifier) (x : List ℕ) (e : Expression) →
       statement_switches (let_form type x e) ≡ []
@@ -229,8 +229,8 @@ module _ (n : Naming) (annotated : ℕ → Option TypeSpecifier) (source : Sourc
         let other = optional_tells following reject s ∙ lines_tell following reject ends.1 s in
         λ i. (lines_tell k accept ends.0 s i ++ other i) ++ statements_switches rest
     line_tells k (switch selector cs) ends s rest =
-        let labels = cases_told k [] false (λ e. refl) cs ends.0 s in
-        λ i. (labels i ∷ cases_tell k [] cs ends.1 s i) ++ statements_switches rest
+        let case_values = cases_told k [] false (λ e. refl) cs ends.0 s in
+        λ i. (case_values i ∷ cases_tell k [] cs ends.1 s i) ++ statements_switches rest
     line_tells k (loop body continuing break_if) ends s rest =
         let following = named_by_all n.function (statements_shape source.declared.context body) k in
         let inside = after_all n k (statements_shape source.declared.context body) s in
@@ -251,13 +251,13 @@ module _ (n : Naming) (annotated : ℕ → Option TypeSpecifier) (source : Sourc
         line_tells k st ends.0 s (lines_form n annotated source following b (after n k shape s))
         ∙ ap (λ l. switches_in st ++ l) (lines_tell following b ends.1 (after n k shape s))
 
-    cases_tell : (k : ℕ) (labels : List tree.CaseValue) (cs : CaseTrees) → CasesEnd cs → (s : Handles) →
-        cases_switches (cases_form n annotated source k labels cs s) ≡ case_switches cs
-    cases_tell k labels no_cases ends s = refl
-    cases_tell k labels (case value body true cs) ends s =
+    cases_tell : (k : ℕ) (case_values : List tree.CaseValue) (cs : CaseTrees) → CasesEnd cs → (s : Handles) →
+        cases_switches (cases_form n annotated source k case_values cs s) ≡ case_switches cs
+    cases_tell k case_values no_cases ends s = refl
+    cases_tell k case_values (case value body true cs) ends s =
         let following = named_by_all n.function (statements_shape source.declared.context body) k in
-        cases_tell following (labels ++ case_value_form value ∷ []) cs ends.2 s
+        cases_tell following (case_values ++ case_value_form value ∷ []) cs ends.2 s
         ∙ ap (λ l. l ++ case_switches cs) (sym (empty_tells body ends.0))
-    cases_tell k labels (case value body false cs) ends s =
+    cases_tell k case_values (case value body false cs) ends s =
         let following = named_by_all n.function (statements_shape source.declared.context body) k in
         λ i. lines_tell k body ends.1 s i ++ cases_tell following [] cs ends.2 s i

@@ -13,13 +13,13 @@ use Rattle.naga_ir.specs.declared.types.TypeInner.{TypeInner}
 use Rattle.naga_ir.specs.declared.types.TypeInner.TheVariants as inner
 use Rattle.naga_ir.specs.declared.types.Type_.{Type_}
 use Rattle.naga_info.specs.declared.info.TypeResolution.{TypeResolution}
-use Rattle.module_meaning.specs.acceptance.Numbers.{case_value_fits_32_bits}
-use Rattle.module_meaning.specs.acceptance.StatementsFit.{has_case_value, is_selection}
-use Rattle.module_meaning.specs.acceptance.StatementsFit.{case_values_are_of, case_values_differ}
-use Rattle.module_meaning.specs.acceptance.StatementsFit.{case_values_fit, last_falls_through}
-use Rattle.module_meaning.specs.acceptance.StatementsFit.{selection_fits, is_selector_type}
+use Rattle.module_semantics.specs.acceptance.Numbers.{case_value_fits_32_bits}
+use Rattle.module_semantics.specs.acceptance.StatementsFit.{has_case_value, is_selection}
+use Rattle.module_semantics.specs.acceptance.StatementsFit.{case_values_are_of, case_values_differ}
+use Rattle.module_semantics.specs.acceptance.StatementsFit.{case_values_fit, last_falls_through}
+use Rattle.module_semantics.specs.acceptance.StatementsFit.{selection_fits, is_selector_type}
 use Rattle.wgsl_text.specs.Functions.{Each}
-use Rattle.module_meaning.specs.FunctionShapes.{statements_shape}
+use Rattle.module_semantics.specs.FunctionShapes.{statements_shape}
 use Rattle.shader_runs.specs.Scope.{Handles, Naming, named_by_all}
 use Rattle.wgsl_text.specs.Statements.{IsCaseValue, AreCaseValues, default_count, defaults_among}
 use Rattle.wgsl_text.specs.Statements.{defaults_at}
@@ -30,21 +30,21 @@ use Rattle.naga_form.specs.Statements.{cases_form, case_value_form, case_values_
 use Rattle.naga_form.proofs.statements.WellFormed.{operand_at}
 
 -- ---- case values
-label_is : (value : SwitchValue) → case_value_fits_32_bits value ≡ true → IsCaseValue (case_value_form value)
-label_is (switch_value.I32 (pos n)) fits = ltb-true n (2 ^ 31) fits
-label_is (switch_value.I32 (negsuc n)) fits = ltb-true n (2 ^ 31) fits
-label_is (switch_value.U32 n) fits = ltb-true n (2 ^ 32) fits
-label_is switch_value.Default fits = tt
+case_value_is : (value : SwitchValue) → case_value_fits_32_bits value ≡ true → IsCaseValue (case_value_form value)
+case_value_is (switch_value.I32 (pos n)) fits = ltb-true n (2 ^ 31) fits
+case_value_is (switch_value.I32 (negsuc n)) fits = ltb-true n (2 ^ 31) fits
+case_value_is (switch_value.U32 n) fits = ltb-true n (2 ^ 32) fits
+case_value_is switch_value.Default fits = tt
 
 -- a case value after those that wait for it
-pub labels_are : (labels : List tree.CaseValue) (value : SwitchValue) → Each IsCaseValue labels →
-    case_value_fits_32_bits value ≡ true → AreCaseValues (case_values_form labels (case_value_form value))
-labels_are [] value are fits = label_is value fits
-labels_are (l ∷ ls) value are fits = (are.0, labels_are ls value are.1 fits)
+pub case_values_are : (case_values : List tree.CaseValue) (value : SwitchValue) → Each IsCaseValue case_values →
+    case_value_fits_32_bits value ≡ true → AreCaseValues (case_values_form case_values (case_value_form value))
+case_values_are [] value are fits = case_value_is value fits
+case_values_are (l ∷ ls) value are fits = (are.0, case_values_are ls value are.1 fits)
 
-pub case_values_more : (labels : List tree.CaseValue) (value : SwitchValue) → Each IsCaseValue labels →
-    case_value_fits_32_bits value ≡ true → Each IsCaseValue (labels ++ case_value_form value ∷ [])
-case_values_more [] value are fits = (label_is value fits, tt)
+pub case_values_more : (case_values : List tree.CaseValue) (value : SwitchValue) → Each IsCaseValue case_values →
+    case_value_fits_32_bits value ≡ true → Each IsCaseValue (case_values ++ case_value_form value ∷ [])
+case_values_more [] value are fits = (case_value_is value fits, tt)
 case_values_more (l ∷ ls) value are fits = (are.0, case_values_more ls value are.1 fits)
 
 -- ---- the default
@@ -111,38 +111,38 @@ waiting_defaults [] = 0
 waiting_defaults (l ∷ ls) = defaults_at l + waiting_defaults ls
 
 -- a case value after those that wait
-waiting_more : (labels : List tree.CaseValue) (l : tree.CaseValue) →
-    waiting_defaults (labels ++ l ∷ []) ≡ waiting_defaults labels + defaults_at l
+waiting_more : (case_values : List tree.CaseValue) (l : tree.CaseValue) →
+    waiting_defaults (case_values ++ l ∷ []) ≡ waiting_defaults case_values + defaults_at l
 waiting_more [] l = add-zero (defaults_at l) ∙ sym (zero-add (defaults_at l))
-waiting_more (one ∷ labels) l =
-    ap (λ count. defaults_at one + count) (waiting_more labels l)
-    ∙ sym (add_assoc (defaults_at one) (waiting_defaults labels) (defaults_at l))
+waiting_more (one ∷ case_values) l =
+    ap (λ count. defaults_at one + count) (waiting_more case_values l)
+    ∙ sym (add_assoc (defaults_at one) (waiting_defaults case_values) (defaults_at l))
 
-group_defaults : (labels : List tree.CaseValue) (l : tree.CaseValue) →
-    defaults_among (case_values_form labels l) ≡ waiting_defaults labels + defaults_at l
+group_defaults : (case_values : List tree.CaseValue) (l : tree.CaseValue) →
+    defaults_among (case_values_form case_values l) ≡ waiting_defaults case_values + defaults_at l
 group_defaults [] l = sym (zero-add (defaults_at l))
-group_defaults (one ∷ labels) l =
-    ap (λ count. defaults_at one + count) (group_defaults labels l)
-    ∙ sym (add_assoc (defaults_at one) (waiting_defaults labels) (defaults_at l))
+group_defaults (one ∷ case_values) l =
+    ap (λ count. defaults_at one + count) (group_defaults case_values l)
+    ∙ sym (add_assoc (defaults_at one) (waiting_defaults case_values) (defaults_at l))
 
 module _ (n : Naming) (annotated : ℕ → Option TypeSpecifier) (source : Source) where
   -- values wait only where a case before fell through
-  defaults_kept : (k : ℕ) (labels : List tree.CaseValue) (before : Bool) → (before ≡ false → labels ≡ []) →
+  defaults_kept : (k : ℕ) (case_values : List tree.CaseValue) (before : Bool) → (before ≡ false → case_values ≡ []) →
       (cs : CaseTrees) → last_falls_through before cs ≡ false → (s : Handles) →
-      default_count (cases_form n annotated source k labels cs s) ≡
-      waiting_defaults labels + defaults_in cs
-  defaults_kept k labels before none no_cases last s =
+      default_count (cases_form n annotated source k case_values cs s) ≡
+      waiting_defaults case_values + defaults_in cs
+  defaults_kept k case_values before none no_cases last s =
       ap (λ ls. waiting_defaults ls + 0) (sym (none last))
-  defaults_kept k labels before none (case value body true cs) last s =
+  defaults_kept k case_values before none (case value body true cs) last s =
       let following = named_by_all n.function (statements_shape source.declared.context body) k in
-      defaults_kept following (labels ++ case_value_form value ∷ []) true (λ e. absurd (true≢false e)) cs last s
-      ∙ ap (λ count. count + defaults_in cs) (waiting_more labels (case_value_form value))
-      ∙ add_assoc (waiting_defaults labels) (defaults_at (case_value_form value)) (defaults_in cs)
-  defaults_kept k labels before none (case value body false cs) last s =
+      defaults_kept following (case_values ++ case_value_form value ∷ []) true (λ e. absurd (true≢false e)) cs last s
+      ∙ ap (λ count. count + defaults_in cs) (waiting_more case_values (case_value_form value))
+      ∙ add_assoc (waiting_defaults case_values) (defaults_at (case_value_form value)) (defaults_in cs)
+  defaults_kept k case_values before none (case value body false cs) last s =
       let following = named_by_all n.function (statements_shape source.declared.context body) k in
       let more = defaults_kept following [] false (λ e. refl) cs last s ∙ zero-add (defaults_in cs) in
-      (λ i. group_defaults labels (case_value_form value) i + more i)
-      ∙ add_assoc (waiting_defaults labels) (defaults_at (case_value_form value)) (defaults_in cs)
+      (λ i. group_defaults case_values (case_value_form value) i + more i)
+      ∙ add_assoc (waiting_defaults case_values) (defaults_at (case_value_form value)) (defaults_in cs)
 
   -- what is written has one default
   pub one_is_written : (k : ℕ) (cs : CaseTrees) → HasOneDefault cs → (s : Handles) →

@@ -30,36 +30,36 @@ use Rattle.naga_info.specs.declared.info.ModuleInfo.{ModuleInfo}
 use Rattle.naga_info.specs.declared.info.TypeResolution.{TypeResolution}
 use Rattle.naga_info.specs.declared.info.TypeResolution.TheVariants.{Handle, Value}
 use Rattle.wgsl_words.specs.Words.{scalar_word, scalar_word_of}
-use Rattle.wgsl_text.specs.Reading.{type_layout}
+use Rattle.wgsl_text.specs.Reading.{printed_type}
 use Rattle.wgsl_text.specs.Types.{Named}
 use Rattle.wgsl_text.proofs.Text.{text-append}
-use Rattle.module_meaning.specs.acceptance.Accepted.{is_accepted}
-use Rattle.module_meaning.specs.ExpressionOperators.{ExpressionContext, is_atomic_pointer}
-use Rattle.module_meaning.specs.ExpressionShapes.{ModuleDeclarations, shape_of, applied_shape, part_shape}
-use Rattle.module_meaning.specs.ExpressionShapes.{part_selector, applied_or}
-use Rattle.module_meaning.specs.acceptance.ExpressionTypes.{is_bool, is_bool_of, have_their_types}
-use Rattle.module_meaning.specs.FunctionShapes.{function_shape, statement_shape, statements_shape}
-use Rattle.module_meaning.specs.FunctionShapes.{cases_shape}
-use Rattle.module_meaning.specs.ModuleShapes.{module_shape}
-use Rattle.module_meaning.specs.acceptance.OperandDemands.{operand_is, operands_fit}
-use Rattle.module_meaning.specs.acceptance.OperandDemands.{are_operands_fit}
-use Rattle.module_meaning.specs.OperatorTable.{Operator, AtomicLoad, BinarySign, asks, run_word}
-use Rattle.module_meaning.specs.Shapes.{operator_shape}
-use Rattle.module_meaning.specs.acceptance.Soundness.{function_is_sound}
-use Rattle.module_meaning.specs.StatementShapes.{simple_shape, store_shape}
-use Rattle.module_meaning.specs.acceptance.StatementsFit.{value_has_type, is_condition}
-use Rattle.module_meaning.specs.acceptance.StatementsFit.{is_selector_type, case_values_fit}
-use Rattle.module_meaning.specs.acceptance.StatementsFit.{selection_fits, is_selection, is_stored}
-use Rattle.module_meaning.specs.acceptance.StatementsFit.{simple_is_sound, statement_is_sound}
-use Rattle.module_meaning.specs.acceptance.StatementsFit.{block_is_sound, cases_are_sound}
-use Rattle.module_meaning.specs.acceptance.StatementsFit.{is_signed, is_unsigned}
-use Rattle.module_meaning.specs.ExpressionContexts.{declared, types_known}
-use Rattle.module_meaning.specs.Types.{type_of_values, word_of_values, values_of, scalar_values}
-use Rattle.module_meaning.specs.Types.{type_names, spelled_resolution}
-use Rattle.module_meaning.specs.TypeIdentity.{identity, word_of_unspelled_type}
-use Rattle.module_meaning.specs.TypeParts.{known_inner, pointee_type, known_pointee}
-use Rattle.module_meaning.proofs.Lists.{list_all_at}
-use Rattle.module_meaning.proofs.Shapes.{operator_any}
+use Rattle.module_semantics.specs.acceptance.Accepted.{is_accepted}
+use Rattle.module_semantics.specs.ExpressionOperators.{ExpressionContext, is_atomic_pointer}
+use Rattle.module_semantics.specs.ExpressionShapes.{ModuleDeclarations, shape_of, applied_shape, part_shape}
+use Rattle.module_semantics.specs.ExpressionShapes.{part_selector, applied_or}
+use Rattle.module_semantics.specs.acceptance.ExpressionTypes.{is_bool, is_bool_of, have_their_types}
+use Rattle.module_semantics.specs.FunctionShapes.{function_shape, statement_shape, statements_shape}
+use Rattle.module_semantics.specs.FunctionShapes.{cases_shape}
+use Rattle.module_semantics.specs.ModuleShapes.{module_shape}
+use Rattle.module_semantics.specs.acceptance.OperandDemands.{operand_is, operands_fit}
+use Rattle.module_semantics.specs.acceptance.OperandDemands.{are_operands_fit}
+use Rattle.module_semantics.specs.OperatorTable.{Operator, AtomicLoad, BinarySign, asks, run_word}
+use Rattle.module_semantics.specs.Shapes.{operator_shape}
+use Rattle.module_semantics.specs.acceptance.Soundness.{function_is_sound}
+use Rattle.module_semantics.specs.StatementShapes.{simple_shape, store_shape}
+use Rattle.module_semantics.specs.acceptance.StatementsFit.{value_has_type, is_condition}
+use Rattle.module_semantics.specs.acceptance.StatementsFit.{is_selector_type, case_values_fit}
+use Rattle.module_semantics.specs.acceptance.StatementsFit.{selection_fits, is_selection, is_stored}
+use Rattle.module_semantics.specs.acceptance.StatementsFit.{simple_is_sound, statement_is_sound}
+use Rattle.module_semantics.specs.acceptance.StatementsFit.{block_is_sound, cases_are_sound}
+use Rattle.module_semantics.specs.acceptance.StatementsFit.{is_signed, is_unsigned}
+use Rattle.module_semantics.specs.ExpressionContexts.{declared, types_known}
+use Rattle.module_semantics.specs.Types.{type_of_values, word_of_values, values_of, scalar_values}
+use Rattle.module_semantics.specs.Types.{type_names, spelled_resolution}
+use Rattle.module_semantics.specs.TypeIdentity.{identity, word_of_unspelled_type}
+use Rattle.module_semantics.specs.TypeParts.{known_inner, pointee_type, known_pointee}
+use Rattle.module_semantics.proofs.Lists.{list_all_at}
+use Rattle.module_semantics.proofs.Shapes.{operator_any}
 use Rattle.shader_runs.specs.Program as shapes
 use Rattle.shader_runs.specs.Program.{Load, Request, no_constant, expression_of, handle_type}
 use Rattle.shader_runs.specs.Progress.{IsPointer, IsInteger, IsBoolean, LoadFits, BreakIfFits}
@@ -106,18 +106,18 @@ values_are m r it is =
 -- a scalar is spelled by its word
 scalar_spelled : (m : Module) (r : TypeResolution) (s : Scalar) →
     inner_of r m.types ≡ Some (inner.Scalar s) →
-    spelled_resolution (type_names m) r ≡ option_map type_layout (scalar_tree s)
+    spelled_resolution (type_names m) r ≡ option_map printed_type (scalar_tree s)
 unfolding type_tree
 scalar_spelled m (Handle h) s is =
     let found = map_some (λ t. t.inner) (slice_get m.types h) (inner.Scalar s) is in
     type_row text-append (type_names m) (λ handle. true) h ∙
-    (ap (λ o. option_map type_layout (found_tree_by (type_names m) (tree_within h (type_names m)) h o))
+    (ap (λ o. option_map printed_type (found_tree_by (type_names m) (tree_within h (type_names m)) h o))
     found.1 ∙
-    ap (λ it. option_map type_layout (named_tree_by (type_names m) (tree_within h (type_names m)) h it))
+    ap (λ it. option_map printed_type (named_tree_by (type_names m) (tree_within h (type_names m)) h it))
     found.2)
 scalar_spelled m (Value it) s is =
     inner_tree_row text-append (type_names m) (λ handle. true) it ∙
-    ap (λ it. option_map type_layout (inner_tree (type_names m) it))
+    ap (λ it. option_map printed_type (inner_tree (type_names m) it))
     (same_Some it (inner.Scalar s) is)
 
 -- the values of a scalar that has this word
@@ -128,7 +128,7 @@ scalar_is m r s w is word =
     values_are m r (inner.Scalar s) is ∙
     ap (scalar_values s.kind)
     (ap (λ o. unwrap_or o (word_of_unspelled_type (identity m.types r)))
-    (scalar_spelled m r s is ∙ ap (λ o. option_map type_layout (option_map Named o)) word) ∙
+    (scalar_spelled m r s is ∙ ap (λ o. option_map printed_type (option_map Named o)) word) ∙
     append-nil w)
 
 -- ---- which values types have

@@ -11,19 +11,19 @@ use Rattle.naga_ir.specs.StatementTree.{call, StatementTree, simple, block, bran
 use Rattle.naga_ir.specs.StatementTree.{BlockTree, no_statements, statement, CaseTrees, no_cases}
 use Rattle.naga_ir.specs.StatementTree.{case, has_no_statements}
 use Rattle.wgsl_text.specs.Requests.{is_request}
-use Rattle.module_meaning.specs.acceptance.Numbers.{case_value_fits_32_bits}
-use Rattle.module_meaning.specs.ExpressionOperators.{ExpressionContext, is_atomic_pointer}
-use Rattle.module_meaning.specs.FunctionShapes.{statement_shape, statements_shape, cases_shape}
-use Rattle.module_meaning.specs.OperatorTable.{Operator, AtomicStore, Barrier, StorageOrdered}
-use Rattle.module_meaning.specs.OperatorTable.{WorkgroupOrdered, SubgroupOrdered, TextureOrdered, asks}
-use Rattle.module_meaning.specs.OperatorTable.{has_word, is_untyped, operator_word, own_word}
-use Rattle.module_meaning.specs.OperatorTable.{run_word, TypeIsSound}
-use Rattle.module_meaning.specs.acceptance.Ranges.{simple_in_range, statement_in_range}
-use Rattle.module_meaning.specs.acceptance.Ranges.{block_in_range, cases_in_range, is_below}
-use Rattle.module_meaning.specs.StatementShapes.{act_operator, asked, barrier_bits, simple_shape}
-use Rattle.module_meaning.specs.StatementShapes.{store_shape}
-use Rattle.module_meaning.specs.StatementForms.{simple_has_form, statement_has_form}
-use Rattle.module_meaning.specs.StatementForms.{block_has_forms, cases_have_forms}
+use Rattle.module_semantics.specs.acceptance.Numbers.{case_value_fits_32_bits}
+use Rattle.module_semantics.specs.ExpressionOperators.{ExpressionContext, is_atomic_pointer}
+use Rattle.module_semantics.specs.FunctionShapes.{statement_shape, statements_shape, cases_shape}
+use Rattle.module_semantics.specs.OperatorTable.{Operator, AtomicStore, Barrier, StorageOrdered}
+use Rattle.module_semantics.specs.OperatorTable.{WorkgroupOrdered, SubgroupOrdered, TextureOrdered, asks}
+use Rattle.module_semantics.specs.OperatorTable.{has_word, is_untyped, operator_word, own_word}
+use Rattle.module_semantics.specs.OperatorTable.{run_word, TypeIsSound}
+use Rattle.module_semantics.specs.acceptance.Ranges.{simple_in_range, statement_in_range}
+use Rattle.module_semantics.specs.acceptance.Ranges.{block_in_range, cases_in_range, is_below}
+use Rattle.module_semantics.specs.StatementShapes.{act_operator, asked, barrier_bits, simple_shape}
+use Rattle.module_semantics.specs.StatementShapes.{store_shape}
+use Rattle.module_semantics.specs.StatementForms.{simple_has_form, statement_has_form}
+use Rattle.module_semantics.specs.StatementForms.{block_has_forms, cases_have_forms}
 use Rattle.shader_runs.specs.Premises.{AsksBy, EachAsks, IsNoName}
 use Rattle.shader_runs.specs.Program as shapes
 use Rattle.shader_runs.specs.Program.{BarrierBits}

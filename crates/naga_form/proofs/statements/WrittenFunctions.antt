@@ -15,10 +15,10 @@ use Rattle.naga_info.specs.declared.info.ExpressionInfo.{ExpressionInfo}
 use Rattle.naga_info.specs.declared.info.ModuleInfo.{ModuleInfo}
 use Rattle.naga_names.specs.Keys.{NameMap}
 use Rattle.wgsl_text.specs.Functions.{EntryPoint, Function}
-use Rattle.text_meaning.specs.Abstraction.{functions_of}
-use Rattle.module_meaning.specs.DeclarationForms.{entry_point_numbered}
-use Rattle.module_meaning.specs.FunctionNumbers.{all_functions, all_infos, entry_functions}
-use Rattle.module_meaning.specs.Names.{LabelNames, module_names}
+use Rattle.text_semantics.specs.Abstraction.{functions_of}
+use Rattle.module_semantics.specs.DeclarationForms.{entry_point_numbered}
+use Rattle.module_semantics.specs.FunctionNumbers.{all_functions, all_infos, entry_functions}
+use Rattle.module_semantics.specs.Names.{LabelNames, module_names}
 use Rattle.naga_form.specs.Declarations.{entry_points_under, program_under}
 use Rattle.naga_form.specs.Functions.{function_form, functions_under}
 use Rattle.naga_back.specs.declared.flags.WriterFlags.{WriterFlags}

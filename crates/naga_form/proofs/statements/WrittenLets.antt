@@ -2,7 +2,7 @@
 use Rattle.std.proofs.Common.{◌≡◌, ℕ, ◌+◌, Bool, true, false, List, [], ◌∷◌, ◌++◌, map, Option}
 use Rattle.std.proofs.Common.{Some, None, refl, sym, ap, ◌∙◌}
 use Rattle.std.specs.Prelude.{IsTrue, slice_get, cond, if◌then◌else◌}
-use Rattle.module_meaning.specs.Undeclared.{names_undeclared}
+use Rattle.module_semantics.specs.Undeclared.{names_undeclared}
 use Rattle.std.proofs.lemmas.List.{map-append}
 use Rattle.naga_ir.specs.StatementTree.{StatementTree, simple, block, branch, switch, loop}
 use Rattle.naga_ir.specs.StatementTree.{BlockTree, no_statements, statement, CaseTrees, no_cases}
@@ -11,8 +11,8 @@ use Rattle.naga_ir.specs.declared.module.Function as ir_function
 use Rattle.naga_ir.specs.declared.module.Module.{Module}
 use Rattle.naga_info.specs.declared.info.ExpressionInfo.{ExpressionInfo}
 use Rattle.naga_info.specs.declared.info.ModuleInfo.{ModuleInfo}
-use Rattle.module_meaning.specs.acceptance.Accepted.{is_accepted}
-use Rattle.module_meaning.specs.DeclarationForms.{DeclarationsHaveForms}
+use Rattle.module_semantics.specs.acceptance.Accepted.{is_accepted}
+use Rattle.module_semantics.specs.DeclarationForms.{DeclarationsHaveForms}
 use Rattle.naga_names.specs.Keys.{NameMap}
 use Rattle.naga_words.specs.Contexts.{names_of, Names as TypeNames}
 use Rattle.shader_runs.specs.Program.{binds, from}
@@ -40,42 +40,42 @@ use Rattle.naga_form.proofs.types.TypeTrees.{resolution_row}
 use Rattle.wgsl_text.specs.Expressions as tree_expressions
 use Rattle.wgsl_text.specs.Functions as tree_functions
 use Rattle.wgsl_text.specs.Statements as tree
-use Rattle.wgsl_text.specs.Reading.{type_layout}
+use Rattle.wgsl_text.specs.Reading.{printed_type}
 use Rattle.std.specs.Option.{option_map, option_and_then}
 use Rattle.naga_info.specs.declared.info.TypeResolution.{TypeResolution}
 use Rattle.naga_form.specs.TypeTrees.{resolution_tree}
 use Rattle.naga_form.specs.Types.{annotated_type}
-use Rattle.module_meaning.specs.Types.{annotated_spelling, spelled_resolution}
-use Rattle.module_meaning.specs.Names.{expression_name, LabelNames, module_names}
-use Rattle.module_meaning.specs.FunctionShapes.{statement_shape, statements_shape, cases_shape}
-use Rattle.module_meaning.specs.FunctionShapes.{function_shapes}
-use Rattle.module_meaning.specs.ModuleShapes.{module_shape}
-use Rattle.module_meaning.specs.Namings.{function_naming, namings_from, namings_under, outer_names}
-use Rattle.module_meaning.specs.StatementShapes.{simple_shape}
-use Rattle.text_meaning.specs.LetTypes.{statement_annotations, statements_annotations}
-use Rattle.text_meaning.specs.LetTypes.{optional_annotations, cases_annotations}
-use Rattle.module_meaning.specs.FunctionLets.{BindsAs, BindsUnder, lets_read, module_annotations}
-use Rattle.module_meaning.specs.FunctionLets.{module_lets}
-use Rattle.module_meaning.specs.FunctionNumbers.{all_functions, all_infos}
+use Rattle.module_semantics.specs.Types.{annotated_spelling, spelled_resolution}
+use Rattle.module_semantics.specs.Names.{expression_name, LabelNames, module_names}
+use Rattle.module_semantics.specs.FunctionShapes.{statement_shape, statements_shape, cases_shape}
+use Rattle.module_semantics.specs.FunctionShapes.{function_shapes}
+use Rattle.module_semantics.specs.ModuleShapes.{module_shape}
+use Rattle.module_semantics.specs.Namings.{function_naming, namings_from, namings_under, outer_names}
+use Rattle.module_semantics.specs.StatementShapes.{simple_shape}
+use Rattle.text_semantics.specs.LetTypes.{statement_annotations, statements_annotations}
+use Rattle.text_semantics.specs.LetTypes.{optional_annotations, cases_annotations}
+use Rattle.module_semantics.specs.FunctionLets.{BindsAs, BindsUnder, lets_read, module_annotations}
+use Rattle.module_semantics.specs.FunctionLets.{module_lets}
+use Rattle.module_semantics.specs.FunctionNumbers.{all_functions, all_infos}
 use Rattle.naga_form.proofs.statements.AcceptedFunctions.{functions_counted}
 use Rattle.naga_form.proofs.Runs.{reads_as_shapes_under}
 use Rattle.naga_form.proofs.statements.WrittenFunctions.{all_functions_under}
-use Rattle.module_meaning.specs.Written.{AllWrittenHaveForms}
+use Rattle.module_semantics.specs.Written.{AllWrittenHaveForms}
 use Rattle.naga_back.specs.declared.flags.WriterFlags.{WriterFlags}
 use Rattle.naga_back.specs.Flags.{annotates_types}
 
 module _ (n : Naming) (annotated : ℕ → Option TypeSpecifier) (source : Source) where
   -- what the `let`s of bound handles tell
   abbrev annotated_of : List NamedLet → List (Option (List ℕ))
-  annotated_of bs = map (λ b. option_map type_layout (annotated b.handle)) bs
+  annotated_of bs = map (λ b. option_map printed_type (annotated b.handle)) bs
 
   annotated_both : {us vs : List (Option (List ℕ))} (first second : List NamedLet) → us ≡ annotated_of first →
       vs ≡ annotated_of second → us ++ vs ≡ annotated_of (first ++ second)
   annotated_both first second a b = (λ i. a i ++ b i)
-      ∙ sym (map-append (λ b. option_map type_layout (annotated b.handle)) first second)
+      ∙ sym (map-append (λ b. option_map printed_type (annotated b.handle)) first second)
 
   let_tells : (t : Option TypeSpecifier) (x : List ℕ) (e : tree_expressions.Expression) →
-      statement_annotations (let_form t x e) ≡ option_map type_layout t ∷ []
+      statement_annotations (let_form t x e) ≡ option_map printed_type t ∷ []
   let_tells None x e = refl
   let_tells (Some t) x e = refl
 
@@ -186,34 +186,34 @@ module _ (n : Naming) (annotated : ℕ → Option TypeSpecifier) (source : Sourc
         (statements_named_lets n k1 (statements_shape source.declared.context b)) refl
         (lines_tell k1 b (after n k (statement_shape source.declared.context st) s))
 
-    cases_tell : (k : ℕ) (labels : List tree.CaseValue) (cs : CaseTrees) (s : Handles) →
-        cases_annotations (cases_form n annotated source k labels cs s) ≡
+    cases_tell : (k : ℕ) (case_values : List tree.CaseValue) (cs : CaseTrees) (s : Handles) →
+        cases_annotations (cases_form n annotated source k case_values cs s) ≡
         annotated_of (cases_named_lets n k (cases_shape source.declared.context cs))
-    cases_tell k labels no_cases s = refl
-    cases_tell k labels (case value body true cs) s =
+    cases_tell k case_values no_cases s = refl
+    cases_tell k case_values (case value body true cs) s =
         cases_tell (named_by_all n.function (statements_shape source.declared.context body) k)
-        (labels ++ case_value_form value ∷ []) cs s
-    cases_tell k labels (case value body false cs) s =
+        (case_values ++ case_value_form value ∷ []) cs s
+    cases_tell k case_values (case value body false cs) s =
         let k1 = named_by_all n.function (statements_shape source.declared.context body) k in
         annotated_both (statements_named_lets n k (statements_shape source.declared.context body))
         (cases_named_lets n k1 (cases_shape source.declared.context cs))
         (lines_tell k body s) (cases_tell k1 [] cs s)
 
--- the layout of a type that a `let` tells is the spelling of its handle's type
+-- a type that a `let` tells is printed as the spelling of its handle's type
 annotated_spells : (explicit : Bool) (m : Module) (t : TypeNames) (es : List ExpressionInfo)
     (h : ℕ) →
-    option_map type_layout (annotated_type explicit m t es h) ≡ annotated_spelling explicit m t es h
+    option_map printed_type (annotated_type explicit m t es h) ≡ annotated_spelling explicit m t es h
 annotated_spells false m t es h = refl
 annotated_spells true m t es h = by (slice_get es h)
   where
     row : (r : TypeResolution) → (undeclared : Bool) →
-        option_map type_layout (if undeclared then None else resolution_tree t r) ≡
+        option_map printed_type (if undeclared then None else resolution_tree t r) ≡
         (if undeclared then None else spelled_resolution t r)
     row r true = refl
     row r false = sym (resolution_row text-append t (λ handle. true) r)
 
     by : (e : Option ExpressionInfo) →
-        option_map type_layout
+        option_map printed_type
         (option_and_then (λ k. if names_undeclared m k.ty then None else resolution_tree t k.ty) e) ≡
         option_and_then (λ k. if names_undeclared m k.ty then None else spelled_resolution t k.ty) e
     by None = refl

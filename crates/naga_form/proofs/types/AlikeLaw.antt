@@ -13,14 +13,14 @@ use Rattle.naga_info.specs.Resolution.{inner_of}
 use Rattle.naga_ir.specs.declared.types.Type_.{Type_}
 use Rattle.naga_ir.specs.declared.types.TypeInner.{TypeInner}
 use Rattle.naga_words.specs.Spelling.{is_struct}
-use Rattle.module_meaning.specs.AlikeTypes.{are_alike, type_key, type_identity, handle_key}
-use Rattle.module_meaning.specs.AlikeTypes.{found_key_by, key_within, inner_key_by}
-use Rattle.module_meaning.specs.acceptance.InfoSizes.{type_is_fit, resolution_is_fit}
-use Rattle.module_meaning.specs.acceptance.InfoSizes.{is_handle_pointer}
-use Rattle.module_meaning.specs.TypeIdentity.{level, Identity, Nothing, StructAt, Itself, identity}
-use Rattle.module_meaning.specs.TypeIdentity.{identity_at, identity_code, word_of_unspelled_type}
-use Rattle.module_meaning.proofs.Lists.{list_all_at}
-use Rattle.module_meaning.proofs.TypeIdentity.{word_tells}
+use Rattle.module_semantics.specs.AlikeTypes.{are_alike, type_key, type_identity, handle_key}
+use Rattle.module_semantics.specs.AlikeTypes.{found_key_by, key_within, inner_key_by}
+use Rattle.module_semantics.specs.acceptance.InfoSizes.{type_is_fit, resolution_is_fit}
+use Rattle.module_semantics.specs.acceptance.InfoSizes.{is_handle_pointer}
+use Rattle.module_semantics.specs.TypeIdentity.{level, Identity, Nothing, StructAt, Itself, identity}
+use Rattle.module_semantics.specs.TypeIdentity.{identity_at, identity_code, word_of_unspelled_type}
+use Rattle.module_semantics.proofs.Lists.{list_all_at}
+use Rattle.module_semantics.proofs.TypeIdentity.{word_tells}
 use Rattle.naga_form.specs.Readable.{AreAlike, SpelledAlike, Unsupported, handle_names}
 use Rattle.naga_form.proofs.types.AlikeTypes.{form_read, form_is_read, other_read}
 use Rattle.naga_form.proofs.types.AlikeNumbers.{tree_numbers, own_handle, handles_are_distinguished}

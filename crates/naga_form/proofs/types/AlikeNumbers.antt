@@ -43,15 +43,15 @@ use Rattle.wgsl_words.specs.Words.{store_bit, load_bit}
 use Rattle.naga_words.specs.Words.{vector_word, matrix_word, cooperative_word, image_word}
 use Rattle.naga_words.specs.Words.{sampler_word}
 use Rattle.naga_words.specs.Spelling.{is_struct}
-use Rattle.module_meaning.specs.acceptance.InfoSizes.{is_handle_pointer, is_handle_space}
-use Rattle.module_meaning.specs.acceptance.InfoSizes.{resolution_is_fit}
-use Rattle.module_meaning.specs.TypeIdentity.{level, kind_number, component_count}
-use Rattle.module_meaning.specs.TypeIdentity.{cooperative_number, matrix_role_number, dimension_number}
-use Rattle.module_meaning.specs.TypeIdentity.{truth_number}
-use Rattle.module_meaning.proofs.TypeIdentity.{formats}
-use Rattle.module_meaning.specs.AlikeTypes.{value_key, scalar_key, pointer_key, value_pointer_key}
-use Rattle.module_meaning.specs.AlikeTypes.{array_key, image_key, inner_key_by, found_key_by}
-use Rattle.module_meaning.specs.AlikeTypes.{key_within, handle_key, type_key}
+use Rattle.module_semantics.specs.acceptance.InfoSizes.{is_handle_pointer, is_handle_space}
+use Rattle.module_semantics.specs.acceptance.InfoSizes.{resolution_is_fit}
+use Rattle.module_semantics.specs.TypeIdentity.{level, kind_number, component_count}
+use Rattle.module_semantics.specs.TypeIdentity.{cooperative_number, matrix_role_number, dimension_number}
+use Rattle.module_semantics.specs.TypeIdentity.{truth_number}
+use Rattle.module_semantics.proofs.TypeIdentity.{formats}
+use Rattle.module_semantics.specs.AlikeTypes.{value_key, scalar_key, pointer_key, value_pointer_key}
+use Rattle.module_semantics.specs.AlikeTypes.{array_key, image_key, inner_key_by, found_key_by}
+use Rattle.module_semantics.specs.AlikeTypes.{key_within, handle_key, type_key}
 use Rattle.naga_form.specs.TypeTrees.{scalar_tree, value_tree, pointer_tree_in, array_tree}
 use Rattle.naga_form.specs.TypeTrees.{value_pointer_tree_in, image_tree, ray_tree, inner_tree_by}
 use Rattle.naga_form.specs.TypeTrees.{found_tree_by, tree_within, type_tree, resolution_tree}

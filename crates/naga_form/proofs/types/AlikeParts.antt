@@ -34,22 +34,22 @@ use Rattle.naga_info.specs.declared.info.TypeResolution.{TypeResolution}
 use Rattle.naga_info.specs.declared.info.TypeResolution.TheVariants.{Handle, Value}
 use Rattle.wgsl_words.specs.Words.{scalar_word, space_word}
 use Rattle.naga_ir.specs.declared.types.ScalarKind.TheVariants as kind
-use Rattle.module_meaning.specs.AlikeTypes.{type_key, type_identity, handle_key}
-use Rattle.module_meaning.specs.AlikeTypes.{key_within, found_key_by, named_key_by, inner_key_by}
-use Rattle.module_meaning.specs.AlikeTypes.{over_scalar, value_key, pointer_key, value_pointer_key}
-use Rattle.module_meaning.specs.AlikeTypes.{array_key, image_key, access_number}
-use Rattle.module_meaning.specs.acceptance.InfoSizes.{is_handle_space, is_handle_pointer}
-use Rattle.module_meaning.specs.acceptance.InfoSizes.{resolution_is_fit}
+use Rattle.module_semantics.specs.AlikeTypes.{type_key, type_identity, handle_key}
+use Rattle.module_semantics.specs.AlikeTypes.{key_within, found_key_by, named_key_by, inner_key_by}
+use Rattle.module_semantics.specs.AlikeTypes.{over_scalar, value_key, pointer_key, value_pointer_key}
+use Rattle.module_semantics.specs.AlikeTypes.{array_key, image_key, access_number}
+use Rattle.module_semantics.specs.acceptance.InfoSizes.{is_handle_space, is_handle_pointer}
+use Rattle.module_semantics.specs.acceptance.InfoSizes.{resolution_is_fit}
 use Rattle.naga_words.specs.Spelling.{is_struct}
-use Rattle.module_meaning.specs.acceptance.Ranges.{parts_before, parts_stand_before}
-use Rattle.module_meaning.proofs.Lists.{placed_at}
-use Rattle.module_meaning.specs.TypeIdentity.{identity, identity_code, word_of_unspelled_type}
-use Rattle.module_meaning.specs.TypeIdentity.{level, kind_number, length_kind, length_number}
-use Rattle.module_meaning.specs.TypeIdentity.{component_count, space_number, truth_number}
-use Rattle.module_meaning.specs.TypeIdentity.{dimension_number}
-use Rattle.module_meaning.specs.TypeParts.{part_type, pointed_part, member_type, inner_at}
-use Rattle.module_meaning.specs.TypeParts.{element_count}
-use Rattle.module_meaning.proofs.TypeIdentity.{word_tells}
+use Rattle.module_semantics.specs.acceptance.Ranges.{parts_before, parts_stand_before}
+use Rattle.module_semantics.proofs.Lists.{placed_at}
+use Rattle.module_semantics.specs.TypeIdentity.{identity, identity_code, word_of_unspelled_type}
+use Rattle.module_semantics.specs.TypeIdentity.{level, kind_number, length_kind, length_number}
+use Rattle.module_semantics.specs.TypeIdentity.{component_count, space_number, truth_number}
+use Rattle.module_semantics.specs.TypeIdentity.{dimension_number}
+use Rattle.module_semantics.specs.TypeParts.{part_type, pointed_part, member_type, inner_at}
+use Rattle.module_semantics.specs.TypeParts.{element_count}
+use Rattle.module_semantics.proofs.TypeIdentity.{word_tells}
 use Rattle.naga_form.proofs.types.AlikeLaw.{form_apart, distinguished_by_itself, each_named, itself}
 use Rattle.naga_form.proofs.types.AlikeLaw.{itself_back}
 use Rattle.naga_form.proofs.types.SameValues.{TypesAreCounted, IsFit}

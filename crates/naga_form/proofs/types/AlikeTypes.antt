@@ -27,16 +27,16 @@ use Rattle.wgsl_words.specs.Words.{format_word, matrix_role_word, has, atomic_bi
 use Rattle.naga_words.specs.Words.{vector_word, matrix_word, cooperative_word, image_word}
 use Rattle.naga_words.specs.Words.{sampler_word}
 use Rattle.naga_words.specs.Spelling.{is_struct}
-use Rattle.module_meaning.specs.TypeIdentity.{level, kind_number, space_number}
-use Rattle.module_meaning.proofs.TypeIdentity.{truth_of, truth_distinguished, kind_of}
-use Rattle.module_meaning.proofs.TypeIdentity.{kind_distinguished, vector_of, vector_distinguished}
-use Rattle.module_meaning.proofs.TypeIdentity.{cooperative_of, cooperative_distinguished, role_of}
-use Rattle.module_meaning.proofs.TypeIdentity.{role_distinguished, dimension_of}
-use Rattle.module_meaning.proofs.TypeIdentity.{dimension_distinguished, formats}
-use Rattle.module_meaning.proofs.TypeIdentity.{format_distinguished}
-use Rattle.module_meaning.specs.AlikeTypes.{over_scalar, value_key, access_number, pointer_key}
-use Rattle.module_meaning.specs.AlikeTypes.{value_pointer_key, array_key, image_key, inner_key_by}
-use Rattle.module_meaning.specs.AlikeTypes.{found_key_by, key_within, handle_key, type_key}
+use Rattle.module_semantics.specs.TypeIdentity.{level, kind_number, space_number}
+use Rattle.module_semantics.proofs.TypeIdentity.{truth_of, truth_distinguished, kind_of}
+use Rattle.module_semantics.proofs.TypeIdentity.{kind_distinguished, vector_of, vector_distinguished}
+use Rattle.module_semantics.proofs.TypeIdentity.{cooperative_of, cooperative_distinguished, role_of}
+use Rattle.module_semantics.proofs.TypeIdentity.{role_distinguished, dimension_of}
+use Rattle.module_semantics.proofs.TypeIdentity.{dimension_distinguished, formats}
+use Rattle.module_semantics.proofs.TypeIdentity.{format_distinguished}
+use Rattle.module_semantics.specs.AlikeTypes.{over_scalar, value_key, access_number, pointer_key}
+use Rattle.module_semantics.specs.AlikeTypes.{value_pointer_key, array_key, image_key, inner_key_by}
+use Rattle.module_semantics.specs.AlikeTypes.{found_key_by, key_within, handle_key, type_key}
 use Rattle.naga_form.specs.TypeTrees.{value_tree, pointer_tree_in, array_tree}
 use Rattle.naga_form.specs.TypeTrees.{value_pointer_tree_in, image_tree, ray_tree, inner_tree_by}
 use Rattle.naga_form.specs.TypeTrees.{found_tree_by, tree_within, type_tree, resolution_tree}

@@ -32,14 +32,14 @@ use Rattle.naga_names.specs.Keys.{NameMap}
 use Rattle.naga_names.specs.Reset.{members_of}
 use Rattle.naga_words.specs.Contexts.{Names as TypeNames}
 use Rattle.naga_words.specs.Words.{matrix_word, vector_word}
-use Rattle.module_meaning.specs.Layouts.{concerned_members, concerned_of, concerned_only, layout_in}
-use Rattle.module_meaning.specs.Layouts.{module_rule, size_among, span_at, span_of, written_size}
-use Rattle.module_meaning.specs.Names.{module_names}
-use Rattle.module_meaning.specs.Types.{type_names}
-use Rattle.module_meaning.specs.Undeclared.{is_declared, is_undeclared}
-use Rattle.text_meaning.specs.Attributes.{size_read}
-use Rattle.text_meaning.specs.Layout.{member_laid, members_laid, members_named, struct_named}
-use Rattle.text_meaning.specs.Layout.{struct_within, scalar_or_struct, type_layout_by}
+use Rattle.module_semantics.specs.Layouts.{concerned_members, concerned_of, concerned_only, layout_in}
+use Rattle.module_semantics.specs.Layouts.{module_rule, size_among, span_at, span_of, written_size}
+use Rattle.module_semantics.specs.Names.{module_names}
+use Rattle.module_semantics.specs.Types.{type_names}
+use Rattle.module_semantics.specs.Undeclared.{is_declared, is_undeclared}
+use Rattle.text_semantics.specs.Attributes.{size_read}
+use Rattle.text_semantics.specs.Layout.{member_laid, members_laid, members_named, struct_named}
+use Rattle.text_semantics.specs.Layout.{struct_within, scalar_or_struct, type_layout_by}
 use Rattle.wgsl_layout.proofs.Concerned.{HaveLayoutsOf, kept_concerned, sized_have_layouts}
 use Rattle.wgsl_layout.specs.Members.{are_kept, greatest_placed, is_concerned, written_members}
 use Rattle.wgsl_layout.specs.Rules.{Member, array_layout, matrix_layout, scalar_layout}

@@ -3,7 +3,7 @@
 --
 -- Throughout, m is a module, of which info is known, h is the handle of a type ty, ks are the members of
 -- a struct as the module places them, k is the first of them, xs are items or structs, n is how many are
--- taken, i a place, w a word, s a struct that is written, and labels tells the names of the labels that
+-- taken, i an index, w a word, s a struct that is written, and labels tells the names of the labels that
 -- front ends gave.
 use Rattle.std.proofs.Common.{◌≡◌, ◌≤◌, ℕ, zero, suc, Bool, true, false, List, [], ◌∷◌, Some, None}
 use Rattle.std.proofs.Common.{refl, sym, ap, subst, ◌∙◌, arith, length, map, take}
@@ -27,18 +27,18 @@ use Rattle.naga_layout.specs.Types.{StandInOrder, kept_members, kept_struct, lay
 use Rattle.naga_layout.specs.Types.{named_layout_by, placed_members, user_rule}
 use Rattle.naga_names.specs.Reset.{members_of}
 use Rattle.naga_names.specs.declared.key.NameKey.TheVariants as key
-use Rattle.module_meaning.proofs.Layouts.{stand_in_order}
-use Rattle.module_meaning.specs.acceptance.Accepted.{is_accepted}
-use Rattle.module_meaning.specs.DeclarationForms.{DeclarationsHaveForms}
-use Rattle.module_meaning.specs.DeclaredItems.{struct_number}
-use Rattle.module_meaning.specs.Layouts.{KeepsLayout, KeepsLayouts, TellsLayouts, concerned_members}
-use Rattle.module_meaning.specs.Layouts.{concerned_of, layout_in, module_rule, span_at, span_of}
-use Rattle.module_meaning.specs.Names.{LabelNames, module_names, name_in}
-use Rattle.module_meaning.specs.acceptance.Ranges.{parts_stand_before}
-use Rattle.module_meaning.specs.Types.{type_names}
-use Rattle.module_meaning.specs.Undeclared.{is_declared, is_undeclared}
-use Rattle.text_meaning.specs.Layout.{struct_layout_read, struct_named}
-use Rattle.text_meaning.specs.Resolution.{index_among}
+use Rattle.module_semantics.proofs.Layouts.{stand_in_order}
+use Rattle.module_semantics.specs.acceptance.Accepted.{is_accepted}
+use Rattle.module_semantics.specs.DeclarationForms.{DeclarationsHaveForms}
+use Rattle.module_semantics.specs.DeclaredItems.{struct_number}
+use Rattle.module_semantics.specs.Layouts.{KeepsLayout, KeepsLayouts, TellsLayouts, concerned_members}
+use Rattle.module_semantics.specs.Layouts.{concerned_of, layout_in, module_rule, span_at, span_of}
+use Rattle.module_semantics.specs.Names.{LabelNames, module_names, name_in}
+use Rattle.module_semantics.specs.acceptance.Ranges.{parts_stand_before}
+use Rattle.module_semantics.specs.Types.{type_names}
+use Rattle.module_semantics.specs.Undeclared.{is_declared, is_undeclared}
+use Rattle.text_semantics.specs.Layout.{struct_layout_read, struct_named}
+use Rattle.text_semantics.specs.Resolution.{index_among}
 use Rattle.wgsl_layout.proofs.Faults.{all_kept}
 use Rattle.wgsl_layout.proofs.Kept.{AllAligned, offsets_kept, span_kept, struct_kept}
 use Rattle.wgsl_layout.specs.Members.{are_kept, ended, greatest_placed, is_concerned}
@@ -116,20 +116,20 @@ module _ {X : Type 0} (test : X → Bool) where
 -- a struct stands where its name does
 stands_there : (w : List ℕ) (xs : List Struct) (i : ℕ) (s : Struct) → index_among w (map (λ s. s.name) xs) ≡ Some i →
     slice_get xs i ≡ Some s → find (λ s. bytes_eq s.name w) xs ≡ Some s
-stands_there w [] i s place at = absurd cc
-stands_there w (x ∷ xs) i s place at = by (bytes_eq w x.name) refl place (λ i. stands_there w xs i s)
+stands_there w [] i s found at = absurd cc
+stands_there w (x ∷ xs) i s found at = by (bytes_eq w x.name) refl found (λ i. stands_there w xs i s)
   where
     by : (b : Bool) → bytes_eq w x.name ≡ b →
         (if b then Some 0 else option_map (λ i. suc i) (index_among w (map (λ s. s.name) xs))) ≡ Some i →
         ((i : ℕ) → index_among w (map (λ s. s.name) xs) ≡ Some i → slice_get xs i ≡ Some s →
         find (λ s. bytes_eq s.name w) xs ≡ Some s) →
         (if bytes_eq x.name w then Some x else find (λ s. bytes_eq s.name w) xs) ≡ Some s
-    by true same place left =
+    by true same found left =
         ap (λ b. if b then Some x else find (λ s. bytes_eq s.name w) xs)
         ((bytes_eq-Decides x.name w).1 (sym ((bytes_eq-Decides w x.name).0 same)))
-        ∙ (ap (slice_get (x ∷ xs)) (same_Some 0 i place) ∙ at)
-    by false other place left =
-        let k = map_some (λ (i : ℕ). suc i) (index_among w (map (λ s. s.name) xs)) i place in
+        ∙ (ap (slice_get (x ∷ xs)) (same_Some 0 i found) ∙ at)
+    by false other found left =
+        let k = map_some (λ (i : ℕ). suc i) (index_among w (map (λ s. s.name) xs)) i found in
         ap (λ b. if b then Some x else find (λ s. bytes_eq s.name w) xs)
         (false_from_ne_true (bytes_eq x.name w)
         (λ e. false≢true (sym other ∙ (bytes_eq-Decides w x.name).1 (sym ((bytes_eq-Decides x.name w).0 e)))))

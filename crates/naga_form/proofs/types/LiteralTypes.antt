@@ -6,8 +6,8 @@ use Rattle.naga_ir.specs.declared.module.Module.{Module}
 use Rattle.naga_ir.specs.declared.types.TypeInner.TheVariants as inner
 use Rattle.naga_info.specs.declared.info.TypeResolution.TheVariants.{Value}
 use Rattle.naga_ir.specs.Literals.{literal_scalar}
-use Rattle.module_meaning.specs.Literals.{literal_value}
-use Rattle.module_meaning.specs.Types.{type_of_values}
+use Rattle.module_semantics.specs.Literals.{literal_value}
+use Rattle.module_semantics.specs.Types.{type_of_values}
 use Rattle.shader_runs.specs.Premises.{literal_type, IsLiteral}
 
 module _ (m : Module) where

@@ -25,15 +25,15 @@ use Rattle.naga_info.specs.declared.info.TypeResolution.TheVariants.{Handle, Val
 use Rattle.wgsl_words.specs.Words.{scalar_word}
 use Rattle.shader_runs.specs.Typing.{LogicalFits}
 use Rattle.shader_runs.specs.Value.{ValueType, BooleanType, OtherType}
-use Rattle.module_meaning.specs.acceptance.AgreeingOperators.{Group}
-use Rattle.module_meaning.specs.AlikeTypes.{type_key, type_identity, handle_key, inner_key}
-use Rattle.module_meaning.specs.AlikeTypes.{key_within, found_key_by, named_key_by, scalar_key}
-use Rattle.module_meaning.specs.acceptance.ExpressionTypes.{is_bool, is_bool_of, logical_type}
-use Rattle.module_meaning.specs.acceptance.ExpressionTypes.{binary_type, expected_type, Anything}
-use Rattle.module_meaning.specs.acceptance.ExpressionTypes.{LikeThis, is_expected}
-use Rattle.module_meaning.specs.TypeIdentity.{identity, word_of_unspelled_type, level, kind_number}
-use Rattle.module_meaning.specs.TypeParts.{known_inner}
-use Rattle.module_meaning.specs.Types.{type_of_values, word_of_values, values_of}
+use Rattle.module_semantics.specs.acceptance.AgreeingOperators.{Group}
+use Rattle.module_semantics.specs.AlikeTypes.{type_key, type_identity, handle_key, inner_key}
+use Rattle.module_semantics.specs.AlikeTypes.{key_within, found_key_by, named_key_by, scalar_key}
+use Rattle.module_semantics.specs.acceptance.ExpressionTypes.{is_bool, is_bool_of, logical_type}
+use Rattle.module_semantics.specs.acceptance.ExpressionTypes.{binary_type, expected_type, Anything}
+use Rattle.module_semantics.specs.acceptance.ExpressionTypes.{LikeThis, is_expected}
+use Rattle.module_semantics.specs.TypeIdentity.{identity, word_of_unspelled_type, level, kind_number}
+use Rattle.module_semantics.specs.TypeParts.{known_inner}
+use Rattle.module_semantics.specs.Types.{type_of_values, word_of_values, values_of}
 use Rattle.naga_form.proofs.declarations.AcceptedGroups.{IsSoundGroup, operands_known, own_known}
 use Rattle.naga_form.proofs.types.SameValues.{TypesAreCounted, IsFit, numbers_by_values}
 use Rattle.naga_form.proofs.types.SameValues.{values_by_numbers}

@@ -18,12 +18,12 @@ use Rattle.naga_names.specs.Keys.{NameMap}
 use Rattle.naga_names.specs.declared.key.NameKey.TheVariants as key
 use Rattle.naga_words.specs.Contexts.{name_or_nothing}
 use Rattle.naga_words.specs.Spelling.{end_of_base, length_within}
-use Rattle.module_meaning.proofs.Lists.{placed_at}
-use Rattle.module_meaning.specs.acceptance.Accepted.{is_accepted}
-use Rattle.module_meaning.specs.acceptance.InfoSizes.{resolution_is_fit}
-use Rattle.module_meaning.specs.Names.{HasNamesOf, module_names}
-use Rattle.module_meaning.specs.acceptance.Ranges.{parts_before, numbers_in_range}
-use Rattle.module_meaning.specs.acceptance.Ranges.{parts_stand_before, resolution_fits}
+use Rattle.module_semantics.proofs.Lists.{placed_at}
+use Rattle.module_semantics.specs.acceptance.Accepted.{is_accepted}
+use Rattle.module_semantics.specs.acceptance.InfoSizes.{resolution_is_fit}
+use Rattle.module_semantics.specs.Names.{HasNamesOf, module_names}
+use Rattle.module_semantics.specs.acceptance.Ranges.{parts_before, numbers_in_range}
+use Rattle.module_semantics.specs.acceptance.Ranges.{parts_stand_before, resolution_fits}
 use Rattle.naga_form.proofs.declarations.AcceptedGroups.{types_are_fit, types_range}
 use Rattle.naga_form.proofs.types.SameValues.{or_nothing}
 use Rattle.naga_form.proofs.types.WrittenTypes.{AreNamedAlike}

@@ -3,7 +3,7 @@
 -- give `bool`.
 use Rattle.naga_form.proofs.operators.AgreeingUses.{value_at, value_is}
 use Rattle.naga_form.proofs.types.LogicalTypes.{logical_fits as values_are_logical}
-use Rattle.module_meaning.specs.Names.{ItemsAreDistinguished}
+use Rattle.module_semantics.specs.Names.{ItemsAreDistinguished}
 use Rattle.std.proofs.Common.{◌≡◌, ℕ, Bool, true, false, List, [], ◌∷◌, refl, sym, ap, ◌∙◌, subst}
 use Rattle.std.proofs.Common.{length, Option, Some, None, slice_get, if◌then◌else◌}
 use Rattle.std.specs.Prelude.{IsTrue, ℤ, pos}
@@ -32,34 +32,34 @@ use Rattle.shader_runs.specs.Program.{expression_of, handle_type}
 use Rattle.shader_runs.specs.Typing.{AccessFits, AccessIndexFits, IsPart, LogicalFits, PartsFit}
 use Rattle.shader_runs.specs.Value.{Bytes, Selector, step_at, step_to, PartTypes, ValueType}
 use Rattle.shader_runs.specs.Value.{IntegerType, PointerType}
-use Rattle.module_meaning.specs.acceptance.Accepted.{is_accepted}
-use Rattle.module_meaning.specs.acceptance.AgreeingOperators.{Group, function_group}
-use Rattle.module_meaning.specs.AlikeTypes.{type_identity}
-use Rattle.module_meaning.specs.ExpressionOperators.{constructor, cast, cast_to, type_known}
-use Rattle.module_meaning.specs.ExpressionOperators.{is_atomic_pointer, matrix_load, query_operator}
-use Rattle.module_meaning.specs.ExpressionShapes.{part_selector, selector, part_shape, shape_of}
-use Rattle.module_meaning.specs.ExpressionShapes.{applied_or}
-use Rattle.module_meaning.specs.acceptance.ExpressionTypes.{logical_type, binary_type}
-use Rattle.module_meaning.specs.acceptance.ExpressionTypes.{expected_type, LikeThis, is_expected}
-use Rattle.module_meaning.specs.acceptance.ExpressionTypes.{if_any, only}
-use Rattle.module_meaning.specs.FunctionShapes.{function_shape}
-use Rattle.module_meaning.specs.acceptance.OperandDemands.{operand_is, is_integer, is_integer_kind}
-use Rattle.module_meaning.specs.OperatorTable.{Operator as TableOperator, BinarySign, WithoutForm}
-use Rattle.module_meaning.specs.OperatorTable.{Unsupported, ValueOf, MakeSpelled, CooperativeLoad}
-use Rattle.module_meaning.specs.OperatorTable.{AtomicLoad, asks, run_word}
-use Rattle.module_meaning.specs.Shapes.{operator_shape}
-use Rattle.module_meaning.specs.ExpressionContexts.{declared, expression_context, types_known}
-use Rattle.module_meaning.specs.Types.{scalar_values, type_of_values, word_of_values}
-use Rattle.module_meaning.specs.Types.{called_spelling}
-use Rattle.module_meaning.specs.TypeIdentity.{identity, identity_code, level}
-use Rattle.module_meaning.specs.TypeParts.{known_inner, has_computed_parts, is_part_number}
-use Rattle.module_meaning.specs.TypeParts.{part_type}
+use Rattle.module_semantics.specs.acceptance.Accepted.{is_accepted}
+use Rattle.module_semantics.specs.acceptance.AgreeingOperators.{Group, function_group}
+use Rattle.module_semantics.specs.AlikeTypes.{type_identity}
+use Rattle.module_semantics.specs.ExpressionOperators.{constructor, cast, cast_to, type_known}
+use Rattle.module_semantics.specs.ExpressionOperators.{is_atomic_pointer, matrix_load, query_operator}
+use Rattle.module_semantics.specs.ExpressionShapes.{part_selector, selector, part_shape, shape_of}
+use Rattle.module_semantics.specs.ExpressionShapes.{applied_or}
+use Rattle.module_semantics.specs.acceptance.ExpressionTypes.{logical_type, binary_type}
+use Rattle.module_semantics.specs.acceptance.ExpressionTypes.{expected_type, LikeThis, is_expected}
+use Rattle.module_semantics.specs.acceptance.ExpressionTypes.{if_any, only}
+use Rattle.module_semantics.specs.FunctionShapes.{function_shape}
+use Rattle.module_semantics.specs.acceptance.OperandDemands.{operand_is, is_integer, is_integer_kind}
+use Rattle.module_semantics.specs.OperatorTable.{Operator as TableOperator, BinarySign, WithoutForm}
+use Rattle.module_semantics.specs.OperatorTable.{Unsupported, ValueOf, MakeSpelled, CooperativeLoad}
+use Rattle.module_semantics.specs.OperatorTable.{AtomicLoad, asks, run_word}
+use Rattle.module_semantics.specs.Shapes.{operator_shape}
+use Rattle.module_semantics.specs.ExpressionContexts.{declared, expression_context, types_known}
+use Rattle.module_semantics.specs.Types.{scalar_values, type_of_values, word_of_values}
+use Rattle.module_semantics.specs.Types.{called_spelling}
+use Rattle.module_semantics.specs.TypeIdentity.{identity, identity_code, level}
+use Rattle.module_semantics.specs.TypeParts.{known_inner, has_computed_parts, is_part_number}
+use Rattle.module_semantics.specs.TypeParts.{part_type}
 use Rattle.naga_form.proofs.declarations.AcceptedGroups.{IsSoundGroup, types_are_counted}
 use Rattle.naga_form.proofs.declarations.AcceptedGroups.{operands_known, own_known}
 use Rattle.naga_form.proofs.ModuleIndices.{expression_is, handle_type_is}
 use Rattle.naga_form.proofs.types.SameValues.{TypesAreCounted, IsFit}
-use Rattle.module_meaning.specs.ModuleShapes.{module_shape}
-use Rattle.module_meaning.specs.PlaceParts.{place_parts}
+use Rattle.module_semantics.specs.ModuleShapes.{module_shape}
+use Rattle.module_semantics.specs.PlaceParts.{place_parts}
 use Rattle.naga_form.proofs.types.PlaceParts.{IsPointer, element_at, element_to, member_to}
 use Rattle.naga_form.proofs.types.PointerParts.{points_as, some_there, part_of, IsPart as NamedPart}
 use Rattle.naga_form.proofs.types.PointerParts.{ElementPart, MemberPart, member_is}
@@ -137,7 +137,7 @@ module _ (m : ir_module.Module) (info : ModuleInfo) (accepted : IsTrue (is_accep
         let k = points_as m b.r whole values in
         record {
           group = g;
-          group_there = sound.place;
+          group_there = sound.among;
           handle = base;
           known = b.there;
           fit = b.fit;

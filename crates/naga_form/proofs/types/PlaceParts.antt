@@ -26,22 +26,22 @@ use Rattle.shader_runs.specs.Value.{Bytes, NoParts, Members, At, Field, Selector
 use Rattle.shader_runs.specs.Value.{step_at, step_to, member_pointer, same_bytes, same_type}
 use Rattle.shader_runs.proofs.Update.{same_type_true, same_type_self, same_bytes_true}
 use Rattle.shader_runs.proofs.Update.{same_bytes_self}
-use Rattle.module_meaning.specs.acceptance.Accepted.{is_accepted}
-use Rattle.module_meaning.specs.acceptance.AgreeingOperators.{Group, groups_of}
-use Rattle.module_meaning.specs.AlikeTypes.{type_identity, type_key, handle_key, has_type_form}
-use Rattle.module_meaning.specs.AlikeTypes.{pointer_key}
-use Rattle.module_meaning.specs.acceptance.InfoSizes.{is_handle_space}
-use Rattle.module_meaning.specs.Names.{ItemsAreDistinguished}
-use Rattle.module_meaning.specs.PlaceParts.{place_spaces, column_pointers, pointers_to, pointers_in}
-use Rattle.module_meaning.specs.PlaceParts.{own_types, pointer_types, pointer_spelled}
-use Rattle.module_meaning.specs.PlaceParts.{members_taken, member_word, member_part, parts_at}
-use Rattle.module_meaning.specs.PlaceParts.{pointee_parts, place_parts}
-use Rattle.module_meaning.specs.TypeIdentity.{identity, word_of_unspelled_type}
-use Rattle.module_meaning.specs.TypeParts.{inner_at, part_type}
-use Rattle.module_meaning.specs.Types.{type_of_values, word_of_values}
+use Rattle.module_semantics.specs.acceptance.Accepted.{is_accepted}
+use Rattle.module_semantics.specs.acceptance.AgreeingOperators.{Group, groups_of}
+use Rattle.module_semantics.specs.AlikeTypes.{type_identity, type_key, handle_key, has_type_form}
+use Rattle.module_semantics.specs.AlikeTypes.{pointer_key}
+use Rattle.module_semantics.specs.acceptance.InfoSizes.{is_handle_space}
+use Rattle.module_semantics.specs.Names.{ItemsAreDistinguished}
+use Rattle.module_semantics.specs.PlaceParts.{place_spaces, column_pointers, pointers_to, pointers_in}
+use Rattle.module_semantics.specs.PlaceParts.{own_types, pointer_types, pointer_spelled}
+use Rattle.module_semantics.specs.PlaceParts.{members_taken, member_word, member_part, parts_at}
+use Rattle.module_semantics.specs.PlaceParts.{pointee_parts, place_parts}
+use Rattle.module_semantics.specs.TypeIdentity.{identity, word_of_unspelled_type}
+use Rattle.module_semantics.specs.TypeParts.{inner_at, part_type}
+use Rattle.module_semantics.specs.Types.{type_of_values, word_of_values}
 use Rattle.naga_names.specs.Reset.{members_of}
-use Rattle.module_meaning.proofs.FunctionNumbers.{in_left}
-use Rattle.module_meaning.proofs.Lists.{list_all_at, in_row}
+use Rattle.module_semantics.proofs.FunctionNumbers.{in_left}
+use Rattle.module_semantics.proofs.Lists.{list_all_at, in_row}
 use Rattle.naga_form.proofs.declarations.AcceptedGroups.{IsSoundGroup, types_are_counted}
 use Rattle.naga_form.proofs.operators.AgreeingSignatures.{types_stand}
 use Rattle.naga_form.proofs.operators.AgreeingUses.{IsIn, in_flat_map}
@@ -152,13 +152,13 @@ module _ (m : ir_module.Module) (info : ModuleInfo) (accepted : IsTrue (is_accep
       others (inr there) =
           let k = in_some (pointers_in m) place_spaces there.0 r there.1 in
           let p = in_some (pointers_to k.item) (enumerate_from 0 m.types) k.inside.0 r k.inside.1 in
-          made k.item (place_space k.place k.item k.there) p.item p.inside.0 p.inside.1
+          made k.item (place_space k.number k.item k.there) p.item p.inside.0 p.inside.1
 
       by : ((k : ℕ) × (slice_get (flat_map (λ g. g.known) (groups_of m info)) k ≡ Some r)) ⊎
           ((k : ℕ) × (slice_get (own_types m ++ flat_map (pointers_in m) place_spaces) k ≡ Some r)) → IsFit m r
       by (inl here) =
           let k = in_some (λ g. g.known) (groups_of m info) here.0 r here.1 in
-          known (groups_are m info accepted k.item (k.place, k.there)) k.inside
+          known (groups_are m info accepted k.item (k.number, k.there)) k.inside
       by (inr there) = others (in_row (own_types m) (flat_map (pointers_in m) place_spaces) there.0 r there.1)
 
   -- a pointer that is known of an expression

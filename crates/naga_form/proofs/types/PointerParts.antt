@@ -23,14 +23,14 @@ use Rattle.naga_ir.specs.declared.types.ScalarKind.TheVariants as kind
 use Rattle.shader_runs.specs.Value.{Bytes, Selector, MemberNamed, ElementAt, At, BooleanType}
 use Rattle.shader_runs.specs.Value.{PointerType, OtherType, Parts, NoParts, Elements, Components}
 use Rattle.shader_runs.specs.Value.{step_to, step_to_component, step_to_element, component_number}
-use Rattle.module_meaning.specs.ExpressionShapes.{ModuleDeclarations, own_selector, selector}
-use Rattle.module_meaning.specs.ExpressionShapes.{component_letters}
-use Rattle.module_meaning.specs.ExpressionContexts.{declared}
-use Rattle.module_meaning.specs.PlaceParts.{parts_at, pointee_parts, member_word}
-use Rattle.module_meaning.specs.TypeIdentity.{component_count}
-use Rattle.module_meaning.specs.Types.{type_of_values, word_of_values, values_of, scalar_values}
-use Rattle.module_meaning.specs.TypeParts.{part_type, pointed_part, inner_at, member_type}
-use Rattle.module_meaning.specs.TypeParts.{is_part_number, value_part_count, element_count}
+use Rattle.module_semantics.specs.ExpressionShapes.{ModuleDeclarations, own_selector, selector}
+use Rattle.module_semantics.specs.ExpressionShapes.{component_letters}
+use Rattle.module_semantics.specs.ExpressionContexts.{declared}
+use Rattle.module_semantics.specs.PlaceParts.{parts_at, pointee_parts, member_word}
+use Rattle.module_semantics.specs.TypeIdentity.{component_count}
+use Rattle.module_semantics.specs.Types.{type_of_values, word_of_values, values_of, scalar_values}
+use Rattle.module_semantics.specs.TypeParts.{part_type, pointed_part, inner_at, member_type}
+use Rattle.module_semantics.specs.TypeParts.{is_part_number, value_part_count, element_count}
 use Rattle.naga_form.proofs.types.AlikeParts.{is_pointer, PartKind, NoKind, ElementKind}
 use Rattle.naga_form.proofs.types.AlikeParts.{ComponentKind, kind_at, pointee_kind}
 

@@ -34,28 +34,28 @@ use Rattle.naga_names.proofs.NamedItems.{Stands, constant_stands, global_stands,
 use Rattle.naga_names.proofs.NamedItems.{type_stands}
 use Rattle.naga_words.specs.Contexts.{Names, name_or_nothing}
 use Rattle.naga_words.specs.Spelling.{is_struct, size_within, length_within}
-use Rattle.wgsl_text.specs.Reading.{type_layout, ReadsType}
+use Rattle.wgsl_text.specs.Reading.{printed_type, ReadsType}
 use Rattle.wgsl_text.specs.Text.{tokens}
 use Rattle.wgsl_text.specs.Types.{TypeSpecifier, IsType}
 use Rattle.wgsl_text.specs.Words.{IsIdentifier}
 use Rattle.wgsl_text.proofs.Reading.{type_has_one_reading}
 use Rattle.shader_runs.specs.Value.{ValueType, BooleanType, IntegerType, PointerType, OtherType}
-use Rattle.module_meaning.specs.AlikeTypes.{type_key, type_identity, handle_key, inner_key_by}
-use Rattle.module_meaning.specs.AlikeTypes.{key_within, found_key_by, named_key_by, over_scalar}
-use Rattle.module_meaning.specs.AlikeTypes.{image_key, pointer_key, value_key, access_number}
+use Rattle.module_semantics.specs.AlikeTypes.{type_key, type_identity, handle_key, inner_key_by}
+use Rattle.module_semantics.specs.AlikeTypes.{key_within, found_key_by, named_key_by, over_scalar}
+use Rattle.module_semantics.specs.AlikeTypes.{image_key, pointer_key, value_key, access_number}
 use Rattle.naga_ir.specs.declared.image.ImageClass.{ImageClass}
 use Rattle.naga_ir.specs.declared.image.ImageClass.TheVariants as class
 use Rattle.naga_ir.specs.declared.image.ImageDimension.{ImageDimension}
-use Rattle.module_meaning.specs.acceptance.InfoSizes.{type_is_fit, resolution_is_fit}
-use Rattle.module_meaning.specs.Names.{TypesAreDistinguished, constant_name, global_name}
-use Rattle.module_meaning.specs.Names.{module_names, name_in, wgsl_names}
-use Rattle.module_meaning.specs.Types.{type_of_values, word_of_values, values_of, scalar_values}
-use Rattle.module_meaning.specs.Types.{type_names, spelled_resolution}
-use Rattle.module_meaning.specs.TypeIdentity.{identity, identity_code, word_of_unspelled_type}
-use Rattle.module_meaning.specs.TypeIdentity.{level, kind_number, truth_number, dimension_number}
-use Rattle.module_meaning.specs.TypeIdentity.{component_count, cooperative_number, matrix_role_number}
-use Rattle.module_meaning.specs.TypeIdentity.{space_number, length_kind, length_number}
-use Rattle.module_meaning.proofs.TypeIdentity.{word_tells}
+use Rattle.module_semantics.specs.acceptance.InfoSizes.{type_is_fit, resolution_is_fit}
+use Rattle.module_semantics.specs.Names.{TypesAreDistinguished, constant_name, global_name}
+use Rattle.module_semantics.specs.Names.{module_names, name_in, wgsl_names}
+use Rattle.module_semantics.specs.Types.{type_of_values, word_of_values, values_of, scalar_values}
+use Rattle.module_semantics.specs.Types.{type_names, spelled_resolution}
+use Rattle.module_semantics.specs.TypeIdentity.{identity, identity_code, word_of_unspelled_type}
+use Rattle.module_semantics.specs.TypeIdentity.{level, kind_number, truth_number, dimension_number}
+use Rattle.module_semantics.specs.TypeIdentity.{component_count, cooperative_number, matrix_role_number}
+use Rattle.module_semantics.specs.TypeIdentity.{space_number, length_kind, length_number}
+use Rattle.module_semantics.proofs.TypeIdentity.{word_tells}
 use Rattle.naga_form.specs.Readable.{AreNamed, ResolutionIsWithin, LengthIsWithin, InnerIsWithin}
 use Rattle.naga_form.specs.TypeTrees.{resolution_tree}
 use Rattle.naga_form.proofs.types.AlikeLaw.{form_apart, distinguished_by_itself, each_named}
@@ -335,21 +335,22 @@ module _ (m : Module) (are : TypesAreCounted m) where
   tree_of r = form_is_read names r
 
   -- the spelling by the tree
-  pub spelling_of : (r : TypeResolution) → spelled_resolution names r ≡ option_map type_layout (resolution_tree names r)
+  pub spelling_of : (r : TypeResolution) →
+      spelled_resolution names r ≡ option_map printed_type (resolution_tree names r)
   spelling_of r = resolution_row text-append names (λ handle. true) r
 
-  pub one_layout : (t u : TypeSpecifier) → IsType t → IsType u → type_layout t ≡ type_layout u → t ≡ u
+  pub one_layout : (t u : TypeSpecifier) → IsType t → IsType u → printed_type t ≡ printed_type u → t ≡ u
   one_layout t u p q e =
       let one = type_has_one_reading t p in let two = type_has_one_reading u q in
       two.only t (subst (λ w. ReadsType (tokens w) t) e one.read)
 
   -- a spelling begins with no blank
-  no_blank_in : (t : TypeSpecifier) → IsType t → (code : List ℕ) → type_layout t ≡ 32 ∷ code → ⊥
-  no_blank_in t is code e = no_blank (type_layout t) code (t, (is, refl)) e
+  no_blank_in : (t : TypeSpecifier) → IsType t → (code : List ℕ) → printed_type t ≡ 32 ∷ code → ⊥
+  no_blank_in t is code e = no_blank (printed_type t) code (t, (is, refl)) e
 
   -- ---- words and numbers
   abbrev word_of : Option TypeSpecifier → TypeResolution → List ℕ
-  word_of o r = unwrap_or (option_map type_layout o) (word_of_unspelled_type (identity m.types r))
+  word_of o r = unwrap_or (option_map printed_type o) (word_of_unspelled_type (identity m.types r))
 
   abbrev identity_of : Option TypeSpecifier → TypeResolution → List ℕ
   identity_of o r = unwrap_or (option_map (tree_numbers handle_named) o) (word_of_unspelled_type (identity m.types r))
@@ -380,7 +381,7 @@ module _ (m : Module) (are : TypesAreCounted m) where
 
   -- and the other way
   abbrev form_word : Option (List ℕ) → TypeResolution → List ℕ
-  form_word o r = unwrap_or (option_map type_layout (option_map (form_read names) o))
+  form_word o r = unwrap_or (option_map printed_type (option_map (form_read names) o))
       (word_of_unspelled_type (identity m.types r))
 
   word_by_form : (r : TypeResolution) → word_of_values m r ≡ form_word (type_key m.types r) r
@@ -404,7 +405,7 @@ module _ (m : Module) (are : TypesAreCounted m) where
           unwrap_or y (word_of_unspelled_type (identity m.types b)) → AlikeForms a b
       by (Some x) at (Some y) bt e = record {
         words = word_by_form a ∙ (ap (λ o. form_word o a) at
-            ∙ (ap (λ z. type_layout (form_read names z)) e ∙ sym (word_by_form b ∙ ap (λ o. form_word o b) bt)));
+            ∙ (ap (λ z. printed_type (form_read names z)) e ∙ sym (word_by_form b ∙ ap (λ o. form_word o b) bt)));
         kinds = (at ∙ (ap Some e ∙ sym bt), λ none. absurd (cc));
       }
       by (Some x) at None bt e = absurd (apart a p x (identity_code (identity m.types b)) at e)

@@ -1,6 +1,6 @@
 -- The members that expressions take: in an accepted module all expressions that take one member, of
 -- pointers spelled alike, have one type.
-use Rattle.module_meaning.proofs.SideBySide.{zip_at, zip_parts}
+use Rattle.module_semantics.proofs.SideBySide.{zip_at, zip_parts}
 use Rattle.std.proofs.Common.{◌≡◌, ◌⊎◌, inl, inr, ℕ, zero, suc, Bool, true, false, List, [], ◌∷◌}
 use Rattle.std.proofs.Common.{refl, sym, ap, ◌∙◌, Option, Some, None, slice_get, if◌then◌else◌}
 use Rattle.std.specs.Prelude.{IsTrue, unwrap_or}
@@ -19,26 +19,26 @@ use Rattle.shader_runs.specs.Value.{Bytes, Selector, MemberNamed, ElementAt, sam
 use Rattle.shader_runs.specs.Value.{PartWord}
 use Rattle.shader_runs.proofs.Update.{same_type_true, same_type_self, same_bytes_true}
 use Rattle.shader_runs.proofs.Update.{same_bytes_self}
-use Rattle.module_meaning.specs.acceptance.Accepted.{is_accepted}
-use Rattle.module_meaning.specs.acceptance.AgreeingOperators.{Group, groups_of}
-use Rattle.module_meaning.specs.ExpressionShapes.{part_selector}
-use Rattle.module_meaning.specs.Names.{ItemsAreDistinguished}
-use Rattle.module_meaning.specs.PlaceParts.{points_so, selects_member, takes_member, member_taken}
-use Rattle.module_meaning.specs.PlaceParts.{members_taken}
-use Rattle.module_meaning.specs.Types.{type_of_values}
+use Rattle.module_semantics.specs.acceptance.Accepted.{is_accepted}
+use Rattle.module_semantics.specs.acceptance.AgreeingOperators.{Group, groups_of}
+use Rattle.module_semantics.specs.ExpressionShapes.{part_selector}
+use Rattle.module_semantics.specs.Names.{ItemsAreDistinguished}
+use Rattle.module_semantics.specs.PlaceParts.{points_so, selects_member, takes_member, member_taken}
+use Rattle.module_semantics.specs.PlaceParts.{members_taken}
+use Rattle.module_semantics.specs.Types.{type_of_values}
 use Rattle.naga_form.proofs.declarations.AcceptedGroups.{IsSoundGroup}
 use Rattle.naga_form.proofs.operators.AgreeingSignatures.{signatures_agree}
 use Rattle.naga_form.proofs.operators.AgreeingUses.{IsIn, in_flat_map, value_at, value_is}
-use Rattle.module_meaning.proofs.Lists.{in_row}
+use Rattle.module_semantics.proofs.Lists.{in_row}
 use Rattle.naga_form.proofs.operators.Signatures.{declared_for, by_part}
 use Rattle.naga_form.proofs.operators.SoundGroups.{groups_are}
 
 -- ---- lists
 -- where an item of lists in a row comes from
 pub record IsInFlat {X Y : Type 0} (f : X → List Y) (xs : List X) (y : Y) : Type 0 where
-  pub place : ℕ
+  pub number : ℕ
   pub item : X
-  pub there : slice_get xs place ≡ Some item
+  pub there : slice_get xs number ≡ Some item
   pub inside : IsIn (f item) y
 
 pub in_some : {X Y : Type 0} (f : X → List Y) (xs : List X) (i : ℕ) (y : Y) → slice_get (flat_map f xs) i
@@ -48,10 +48,10 @@ in_some f (x ∷ xs) i y at = by (in_row (f x) (flat_map f xs) i y at) (in_some 
   where
     by : ((k : ℕ) × (slice_get (f x) k ≡ Some y)) ⊎ ((k : ℕ) × (slice_get (flat_map f xs) k ≡ Some y)) →
         ((k : ℕ) (z : _) → slice_get (flat_map f xs) k ≡ Some z → IsInFlat f xs z) → IsInFlat f (x ∷ xs) y
-    by (inl here) more = record { place = 0; item = x; there = refl; inside = here }
+    by (inl here) more = record { number = 0; item = x; there = refl; inside = here }
     by (inr later) more =
         let k = more later.0 y later.1 in record {
-          place = suc k.place;
+          number = suc k.number;
           item = k.item;
           there = k.there;
           inside = k.inside;
@@ -147,7 +147,7 @@ module _ (m : ir_module.Module) (info : ModuleInfo) (accepted : IsTrue (is_accep
   in_all : (r : TypeResolution) → IsTaking r → IsIn all r
   in_all r a =
       let e : ir.Expression = expression.AccessIndex a.base a.index in
-      in_flat_map (members_taken m info whole word) (groups_of m info) a.sound.place.0 a.group r a.sound.place.1
+      in_flat_map (members_taken m info whole word) (groups_of m info) a.sound.among.0 a.group r a.sound.among.1
       (in_flat_map (member_taken (declared_for m info a.group) whole word)
       (zip a.group.expressions a.group.known) a.handle (e, r) r
       (zip_at a.group.expressions a.group.known a.handle e r a.there a.known) (
@@ -163,14 +163,14 @@ module _ (m : ir_module.Module) (info : ModuleInfo) (accepted : IsTrue (is_accep
       (zip k.item.expressions k.item.known) k.inside.0 r k.inside.1 in
       let own = only_there (takes_member (declared_for m info k.item) whole word p.item.0) p.item.1 p.inside.0 r
       p.inside.1 in
-      let sides = zip_parts k.item.expressions k.item.known p.place p.item p.there in
-      let sound = groups_are m info accepted k.item (k.place, k.there) in
+      let sides = zip_parts k.item.expressions k.item.known p.number p.item p.there in
+      let sound = groups_are m info accepted k.item (k.number, k.there) in
       let e = taken k.item p.item.0 own.0 in
       record {
         function = sound.0;
         group = k.item;
         sound = sound.1;
-        handle = p.place;
+        handle = p.number;
         base = e.base;
         index = e.index;
         there = sides.0 ∙ ap Some e.itself;
@@ -226,5 +226,5 @@ module _ (m : ir_module.Module) (info : ModuleInfo) (accepted : IsTrue (is_accep
   pub type_of_first : (r : TypeResolution) → IsTaking r → (other : TypeResolution) → type_of_values m r
       ≡ type_of_values m (unwrap_or (slice_get all 0) other)
   type_of_first r a other =
-      let place = in_all r a in let first = first_there all place.0 r place.1 in
+      let entry = in_all r a in let first = first_there all entry.0 r entry.1 in
       one_type r first.0 a (of_all 0 first.0 first.1) ∙ sym (ap (λ o. type_of_values m (unwrap_or o other)) first.1)

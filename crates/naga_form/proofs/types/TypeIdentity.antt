@@ -5,13 +5,13 @@ use Rattle.std.proofs.lemmas.Slice.Eq.{bytes_eq-Decides}
 use Rattle.naga_info.specs.declared.info.ModuleInfo.{ModuleInfo}
 use Rattle.naga_info.specs.declared.info.TypeResolution.{TypeResolution}
 use Rattle.naga_ir.specs.declared.module.Module.{Module}
-use Rattle.module_meaning.specs.acceptance.Accepted.{is_accepted}
-use Rattle.module_meaning.specs.AlikeTypes.{are_alike, type_identity}
-use Rattle.module_meaning.specs.Names.{TypesAreDistinguished}
-use Rattle.module_meaning.specs.acceptance.Ranges.{resolution_fits}
-use Rattle.module_meaning.specs.TypeIdentity.{identity, word_of_unspelled_type}
-use Rattle.module_meaning.specs.Types.{spelled_resolution, type_names, type_of_values}
-use Rattle.module_meaning.proofs.TypeIdentity.{word_tells}
+use Rattle.module_semantics.specs.acceptance.Accepted.{is_accepted}
+use Rattle.module_semantics.specs.AlikeTypes.{are_alike, type_identity}
+use Rattle.module_semantics.specs.Names.{TypesAreDistinguished}
+use Rattle.module_semantics.specs.acceptance.Ranges.{resolution_fits}
+use Rattle.module_semantics.specs.TypeIdentity.{identity, word_of_unspelled_type}
+use Rattle.module_semantics.specs.Types.{spelled_resolution, type_names, type_of_values}
+use Rattle.module_semantics.proofs.TypeIdentity.{word_tells}
 use Rattle.naga_form.proofs.declarations.AcceptedGroups.{fit_of, types_are_counted}
 use Rattle.naga_form.proofs.types.SameValues.{numbers_by_values, values_by_numbers}
 use Rattle.naga_form.proofs.types.SameValues.{word_in, word_of_type}

@@ -39,14 +39,14 @@ use Rattle.wgsl_text.specs.Types.{TakesElements, TakesFormat, TakesRole, of_one,
 use Rattle.wgsl_text.specs.Types.{plain_type_words, pointer_tree, rule_among, type_templates}
 use Rattle.wgsl_text.specs.Words.{stands_in}
 use Rattle.shader_runs.specs.Resolution.{ConstantTarget}
-use Rattle.text_meaning.specs.Resolution.{Item, StructItem, ValueItem, length_items, part_items}
-use Rattle.text_meaning.specs.Resolution.{type_items}
-use Rattle.module_meaning.specs.DeclaredItems.{handle_items, items_by, items_within, length_meant}
-use Rattle.module_meaning.specs.DeclaredItems.{resolution_items, struct_number}
-use Rattle.module_meaning.specs.ExpressionContexts.{override_number}
-use Rattle.module_meaning.specs.Types.{type_names}
-use Rattle.module_meaning.specs.Undeclared.{is_undeclared, names_undeclared, names_undeclared_by}
-use Rattle.module_meaning.specs.Undeclared.{names_undeclared_within}
+use Rattle.text_semantics.specs.Resolution.{Item, StructItem, ValueItem, length_items, part_items}
+use Rattle.text_semantics.specs.Resolution.{type_items}
+use Rattle.module_semantics.specs.DeclaredItems.{handle_items, items_by, items_within, length_meant}
+use Rattle.module_semantics.specs.DeclaredItems.{resolution_items, struct_number}
+use Rattle.module_semantics.specs.ExpressionContexts.{override_number}
+use Rattle.module_semantics.specs.Types.{type_names}
+use Rattle.module_semantics.specs.Undeclared.{is_undeclared, names_undeclared, names_undeclared_by}
+use Rattle.module_semantics.specs.Undeclared.{names_undeclared_within}
 use Rattle.naga_form.proofs.types.TypeTrees.{cooperative_rule, depth_is_plain, storage_rule}
 use Rattle.naga_form.specs.TypeTrees.{array_tree, found_tree_by, image_tree, inner_tree_by}
 use Rattle.naga_form.specs.TypeTrees.{pointer_tree_in, ray_tree, resolution_tree, scalar_tree}

@@ -1,4 +1,4 @@
--- The text of a spelling is the layout of its tree, and the tree is a type of the grammar.
+-- The text of a spelling is its tree as printed, and the tree is a type of the grammar.
 use Rattle.std.proofs.Common.{◌≡◌, ℕ, suc, Bool, true, false, not, ◌&&◌, List, [], ◌∷◌, ◌++◌, refl}
 use Rattle.std.proofs.Common.{sym, ap, subst, ◌∙◌, append_assoc, zero, codes, Option, Some, None}
 use Rattle.std.proofs.Common.{slice_get, if◌then◌else◌}
@@ -12,7 +12,7 @@ use Rattle.wgsl_text.specs.Types.{is_type, TakesScalar, TakesSampled, TakesEleme
 use Rattle.wgsl_text.specs.Types.{TakesRole, rule_among, type_templates, IsType, of_one, of_two}
 use Rattle.wgsl_text.specs.Types.{pointer_tree}
 use Rattle.wgsl_text.specs.Text.{text}
-use Rattle.wgsl_text.specs.Reading.{type_layout}
+use Rattle.wgsl_text.specs.Reading.{printed_type}
 use Rattle.naga_ir.specs.declared.types.Type_.{Type_}
 use Rattle.naga_ir.specs.declared.types.TypeInner.{TypeInner}
 use Rattle.naga_ir.specs.declared.types.TypeInner.TheVariants as inner
@@ -123,19 +123,19 @@ known_append (Missing ∷ ps) qs s t e h = cc
 -- each row
 
 scalar_row : (o : Option (List ℕ)) (kind : ScalarKind) → known_text (scalar_segments_of true o kind)
-    ≡ option_map type_layout (option_map Named o)
+    ≡ option_map printed_type (option_map Named o)
 scalar_row None kind = refl
 scalar_row (Some s) kind = refl
 
 template_row : (w : List ℕ) (o : Option (List ℕ)) (kind : ScalarKind) →
     known_text (template_segments w (scalar_segments_of true o kind) (codes ">")) ≡
-    option_map type_layout (option_map (of_one w) (option_map Named o))
+    option_map printed_type (option_map (of_one w) (option_map Named o))
 template_row w None kind = refl
 template_row w (Some s) kind = refl
 
 cooperative_row : (columns rows : CooperativeSize) (role : CooperativeRole) (o : Option (List ℕ)) (kind : ScalarKind) →
     known_text (template_segments (cooperative_word columns rows) (scalar_segments_of true o kind)
-    (matrix_role_tail role)) ≡ option_map type_layout
+    (matrix_role_tail role)) ≡ option_map printed_type
     (option_map (λ s. of_two (cooperative_word columns rows) s (Named (matrix_role_word role)))
     (option_map Named o))
 cooperative_row columns rows role None kind = refl
@@ -155,7 +155,7 @@ cooperative_row Sixteen Sixteen C (Some s) kind = refl
 storage_row : (dim : ImageDimension) (arrayed : Bool) (format access : List ℕ) →
     known_text (storage_image_segments (image_word (codes "texture_storage_") false dim arrayed)
     format access) ≡
-    Some (type_layout (of_two (image_word (codes "texture_storage_") false dim arrayed)
+    Some (printed_type (of_two (image_word (codes "texture_storage_") false dim arrayed)
     (Named format) (Named access)))
 storage_row D1 true format access = refl
 storage_row D1 false format access = refl
@@ -167,7 +167,7 @@ storage_row Cube true format access = refl
 storage_row Cube false format access = refl
 
 image_row : (dim : ImageDimension) (arrayed : Bool) (it : ImageClass) →
-    known_text (image_segments true dim arrayed it) ≡ option_map type_layout (image_tree dim arrayed it)
+    known_text (image_segments true dim arrayed it) ≡ option_map printed_type (image_tree dim arrayed it)
 image_row dim arrayed (class.Sampled kind multi) =
     template_row (image_word (codes "texture_") multi dim arrayed)
     (scalar_word (record { kind = kind; width = 4 })) kind
@@ -177,16 +177,17 @@ image_row dim arrayed (class.Storage format access) = storage_row dim arrayed (f
     (image_access_word access)
 
 ray_row : (b : Bool) → known_text (Word (acceleration_structure_text b) ∷ [])
-    ≡ Some (type_layout (ray_tree (codes "acceleration_structure") b))
+    ≡ Some (printed_type (ray_tree (codes "acceleration_structure") b))
 ray_row true = refl
 ray_row false = refl
 
-query_row : (b : Bool) → known_text (Word (ray_query_text b) ∷ []) ≡ Some (type_layout (ray_tree (codes "ray_query") b))
+query_row : (b : Bool) →
+    known_text (Word (ray_query_text b) ∷ []) ≡ Some (printed_type (ray_tree (codes "ray_query") b))
 query_row true = refl
 query_row false = refl
 
 value_row : (size : Option VectorSize) (scalar : Scalar) → known_text (value_segments true size scalar)
-    ≡ option_map type_layout (value_tree size scalar)
+    ≡ option_map printed_type (value_tree size scalar)
 value_row None scalar = scalar_row (scalar_word scalar) scalar.kind
 value_row (Some size) scalar = template_row (vector_word size) (scalar_word scalar) scalar.kind
 
@@ -200,57 +201,57 @@ two_words a b o e = rw e refl
 
 module _ (text_of_appended : (first second : List Piece) → text (first ++ second) ≡ text first ++ text second) where
   pointer_row : (space : List ℕ) (access : Option (List ℕ)) (ps : List Segment)
-      (o : Option TypeSpecifier) → known_text ps ≡ option_map type_layout o →
-      known_text (pointer_in space access ps) ≡ option_map type_layout
+      (o : Option TypeSpecifier) → known_text ps ≡ option_map printed_type o →
+      known_text (pointer_in space access ps) ≡ option_map printed_type
       (option_map (pointer_tree space access) o)
   pointer_row space access ps None e = three_words (codes "ptr<") space (codes ", ") _
       (known_none ps (access_segments access) e)
   pointer_row space None ps (Some t) e =
-      rw (known_append ps (access_segments None) (type_layout t) _ e refl)
+      rw (known_append ps (access_segments None) (printed_type t) _ e refl)
       (rw (text_of_appended (type_pieces t) (mark GreaterThan ∷ [])) refl)
   pointer_row space (Some a) ps (Some t) e =
-      rw (known_append ps (access_segments (Some a)) (type_layout t) _ e refl)
+      rw (known_append ps (access_segments (Some a)) (printed_type t) _ e refl)
       (rw (text_of_appended (type_pieces t) (mark Comma ∷ Blank ∷ word a ∷ mark GreaterThan ∷ [])) refl)
 
   pointer_in_row : (space access : Option (List ℕ)) (ps : List Segment) (o : Option TypeSpecifier) →
-      known_text ps ≡ option_map type_layout o → known_text (pointer_segments space access ps) ≡
-      option_map type_layout (pointer_tree_in space access o)
+      known_text ps ≡ option_map printed_type o → known_text (pointer_segments space access ps) ≡
+      option_map printed_type (pointer_tree_in space access o)
   pointer_in_row None access ps o e = e
   pointer_in_row (Some space) access ps o e = pointer_row space access ps o e
 
   value_pointer_row : (space access : Option (List ℕ)) (ps : List Segment)
-      (o : Option TypeSpecifier) → known_text ps ≡ option_map type_layout o →
-      known_text (value_pointer_segments true space access ps) ≡ option_map type_layout
+      (o : Option TypeSpecifier) → known_text ps ≡ option_map printed_type o →
+      known_text (value_pointer_segments true space access ps) ≡ option_map printed_type
       (value_pointer_tree_in space access o)
   value_pointer_row None access ps o e = refl
   value_pointer_row (Some space) access ps o e = pointer_row space access ps o e
 
   array_row : (n : Names) (knows : ℕ → Bool) (w : List ℕ) → has_gaps w ≡ true →
       (it : ArraySize) (ps : List Segment) (o : Option TypeSpecifier) →
-      known_text ps ≡ option_map type_layout o →
-      known_text (array_segments (writer_context n knows) w ps it) ≡ option_map type_layout
+      known_text ps ≡ option_map printed_type o →
+      known_text (array_segments (writer_context n knows) w ps it) ≡ option_map printed_type
       (option_map (array_tree n w it) o)
   array_row n knows w gaps it ps None e =
       two_words w (codes "<") _ (known_none ps (length_segments (writer_context n knows) it) e)
   array_row n knows w gaps (size.Constant number) ps (Some t) e =
-      rw (known_append ps (length_segments (writer_context n knows) (size.Constant number)) (type_layout t) _ e refl)
+      rw (known_append ps (length_segments (writer_context n knows) (size.Constant number)) (printed_type t) _ e refl)
       (rw gaps (rw (text_of_appended (type_pieces t)
       (mark Comma ∷ Blank ∷ plain (non_zero_u32_get number) ∷ mark GreaterThan ∷ []))
-      (ap (λ v. Some (w ++ (codes "<" ++ (type_layout t ++ (codes ", " ++ (v ++ (codes ">" ++ [])))))))
+      (ap (λ v. Some (w ++ (codes "<" ++ (printed_type t ++ (codes ", " ++ (v ++ (codes ">" ++ [])))))))
       (sym (append-nil (decimal (non_zero_u32_get number)))))))
   array_row n knows w gaps (size.Pending handle) ps (Some t) e =
-      rw (known_append ps (length_segments (writer_context n knows) (size.Pending handle)) (type_layout t) _ e refl)
+      rw (known_append ps (length_segments (writer_context n knows) (size.Pending handle)) (printed_type t) _ e refl)
       (rw gaps (rw (text_of_appended (type_pieces t)
       (mark Comma ∷ Blank ∷ word (n.override_name handle) ∷ mark GreaterThan ∷ [])) refl))
   array_row n knows w gaps size.Dynamic ps (Some t) e =
-      rw (known_append ps (length_segments (writer_context n knows) size.Dynamic) (type_layout t) _ e refl)
+      rw (known_append ps (length_segments (writer_context n knows) size.Dynamic) (printed_type t) _ e refl)
       (rw (text_of_appended (type_pieces t) (mark GreaterThan ∷ [])) refl)
 
   -- a type, from the types that it names
   inner_row : (n : Names) (knows : ℕ → Bool) (f : ℕ → List Segment) (g : ℕ → Option TypeSpecifier) →
-      ((k : ℕ) → known_text (f k) ≡ option_map type_layout (g k)) →
+      ((k : ℕ) → known_text (f k) ≡ option_map printed_type (g k)) →
       (it : TypeInner) → known_text (inner_segments_by (writer_context n knows) f it) ≡
-      option_map type_layout (inner_tree_by n g it)
+      option_map printed_type (inner_tree_by n g it)
   inner_row n knows f g same (inner.Scalar scalar) = scalar_row (scalar_word scalar) scalar.kind
   inner_row n knows f g same (inner.Vector size scalar) =
       template_row (vector_word size) (scalar_word scalar) scalar.kind
@@ -275,15 +276,15 @@ module _ (text_of_appended : (first second : List Piece) → text (first ++ seco
       array_row n knows (codes "binding_array") refl size (f base) (g base) (same base)
 
   choice_row : (b : Bool) (name : List ℕ) (ps : List Segment) (o : Option TypeSpecifier) →
-      known_text ps ≡ option_map type_layout o → known_text (if b then Word name ∷ [] else ps) ≡
-      option_map type_layout (if b then Some (Named name) else o)
+      known_text ps ≡ option_map printed_type o → known_text (if b then Word name ∷ [] else ps) ≡
+      option_map printed_type (if b then Some (Named name) else o)
   choice_row true name ps o e = refl
   choice_row false name ps o e = e
 
   found_row : (n : Names) (knows : ℕ → Bool) (f : ℕ → List Segment) (g : ℕ → Option TypeSpecifier) →
-      ((k : ℕ) → known_text (f k) ≡ option_map type_layout (g k)) →
+      ((k : ℕ) → known_text (f k) ≡ option_map printed_type (g k)) →
       (handle : ℕ) (t : Option Type_) →
-      known_text (found_segments_by (writer_context n knows) f handle t) ≡ option_map type_layout
+      known_text (found_segments_by (writer_context n knows) f handle t) ≡ option_map printed_type
       (found_tree_by n g handle t)
   found_row n knows f g same handle None = refl
   found_row n knows f g same handle (Some t) = choice_row (is_struct t.inner) (n.struct_name handle) _ _
@@ -291,23 +292,23 @@ module _ (text_of_appended : (first second : List Piece) → text (first ++ seco
 
   within_row : (n : Names) (knows : ℕ → Bool) (levels handle : ℕ) →
       known_text (segments_within levels (writer_context n knows) handle)
-      ≡ option_map type_layout (tree_within levels n handle)
+      ≡ option_map printed_type (tree_within levels n handle)
   within_row n knows zero handle = refl
   within_row n knows (suc levels) handle = found_row n knows (segments_within levels (writer_context n knows))
       (tree_within levels n) (within_row n knows levels) handle (slice_get n.types handle)
 
   pub type_row : (n : Names) (knows : ℕ → Bool) (handle : ℕ) →
-      known_text (type_segments (writer_context n knows) handle) ≡ option_map type_layout (type_tree n handle)
+      known_text (type_segments (writer_context n knows) handle) ≡ option_map printed_type (type_tree n handle)
   unfolding type_segments type_tree
   type_row n knows handle = within_row n knows (suc handle) handle
 
   pub inner_tree_row : (n : Names) (knows : ℕ → Bool) (it : TypeInner) →
-      known_text (inner_segments (writer_context n knows) it) ≡ option_map type_layout (inner_tree n it)
+      known_text (inner_segments (writer_context n knows) it) ≡ option_map printed_type (inner_tree n it)
   inner_tree_row n knows it = inner_row n knows (type_segments (writer_context n knows)) (type_tree n)
       (type_row n knows) it
 
   pub resolution_row : (n : Names) (knows : ℕ → Bool) (r : TypeResolution) →
-      known_text (resolution_segments (writer_context n knows) r) ≡ option_map type_layout (resolution_tree n r)
+      known_text (resolution_segments (writer_context n knows) r) ≡ option_map printed_type (resolution_tree n r)
   resolution_row n knows (resolution.Handle ty) = type_row n knows ty
   resolution_row n knows (resolution.Value it) = inner_tree_row n knows it
 

@@ -20,11 +20,11 @@ use Rattle.naga_names.specs.Reset.{members_of}
 use Rattle.wgsl_layout.specs.Members.{gap_size, is_concerned, sized_members}
 use Rattle.wgsl_layout.specs.declared.layouts.Layout.{Layout}
 use Rattle.wgsl_layout.specs.declared.layouts.Placed.{Placed}
-use Rattle.module_meaning.specs.Layouts.{concerned_of, concerned_only, layout_in, size_among}
-use Rattle.module_meaning.specs.Layouts.{span_of, written_size}
-use Rattle.module_meaning.specs.acceptance.Numbers.{binding_fits_32_bits, fits_32_bits}
-use Rattle.module_meaning.specs.acceptance.Numbers.{member_fits_32_bits, type_fits_32_bits}
-use Rattle.module_meaning.specs.Undeclared.{is_declared}
+use Rattle.module_semantics.specs.Layouts.{concerned_of, concerned_only, layout_in, size_among}
+use Rattle.module_semantics.specs.Layouts.{span_of, written_size}
+use Rattle.module_semantics.specs.acceptance.Numbers.{binding_fits_32_bits, fits_32_bits}
+use Rattle.module_semantics.specs.acceptance.Numbers.{member_fits_32_bits, type_fits_32_bits}
+use Rattle.module_semantics.specs.Undeclared.{is_declared}
 
 -- ---- offsets
 -- each is at an offset of 32 bits

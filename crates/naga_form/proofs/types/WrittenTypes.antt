@@ -29,15 +29,15 @@ use Rattle.naga_names.specs.Keys.{NameMap}
 use Rattle.naga_words.specs.Contexts.{Names, names_of}
 use Rattle.naga_words.specs.Spelling.{is_struct, length_within, size_within}
 use Rattle.naga_words.specs.Words.{sampler_word}
-use Rattle.module_meaning.specs.AlikeTypes.{has_type_form, type_key as form_numbers}
-use Rattle.module_meaning.specs.acceptance.InfoSizes.{is_handle_pointer, is_handle_space}
-use Rattle.module_meaning.specs.acceptance.InfoSizes.{resolution_is_fit}
-use Rattle.module_meaning.specs.Undeclared.{names_undeclared}
-use Rattle.module_meaning.specs.Types.{type_names}
+use Rattle.module_semantics.specs.AlikeTypes.{has_type_form, type_key as form_numbers}
+use Rattle.module_semantics.specs.acceptance.InfoSizes.{is_handle_pointer, is_handle_space}
+use Rattle.module_semantics.specs.acceptance.InfoSizes.{resolution_is_fit}
+use Rattle.module_semantics.specs.Undeclared.{names_undeclared}
+use Rattle.module_semantics.specs.Types.{type_names}
 use Rattle.wgsl_text.proofs.Building.{in_front}
 use Rattle.wgsl_text.proofs.ValueWords.{value_words}
 use Rattle.wgsl_text.proofs.Words.{all_words, passes}
-use Rattle.wgsl_text.specs.Reading.{type_layout}
+use Rattle.wgsl_text.specs.Reading.{printed_type}
 use Rattle.wgsl_text.specs.Tables.{depth_image_words, ray_words, sampler_words, scalar_words}
 use Rattle.wgsl_text.specs.Types.{IsType, Named, TemplateRule, Template, TemplateArguments}
 use Rattle.wgsl_text.specs.Types.{TypeSpecifier, fits, has_gaps, of_one, of_two, template_pieces}
@@ -306,15 +306,15 @@ of_rows_free rest (row ∷ rows) all w parts is =
 
 template_free : (w : List ℕ) (parts : TemplateArguments) →
     fits (rule_among type_templates w) parts ≡ true →
-    operates_freely (type_layout (Template w parts)) ≡ true
+    operates_freely (printed_type (Template w parts)) ≡ true
 template_free w parts is =
     let rest = text (template_pieces parts (has_gaps w)) in
     of_rows_free rest type_templates (templates_free rest) w parts is
 
 free_tree : (t : TypeSpecifier) → IsType t → is_plain t ≡ true →
-    operates_freely (type_layout t) ≡ true
+    operates_freely (printed_type t) ≡ true
 free_tree (Named w) is plain =
-    passes (λ v. operates_freely (type_layout (Named v))) plain_type_words w plain_types_free plain
+    passes (λ v. operates_freely (printed_type (Named v))) plain_type_words w plain_types_free plain
 free_tree (Template w parts) is plain = template_free w parts is.part.0
 
 -- ---- types of a module
@@ -352,11 +352,11 @@ module _ (m : Module) (types : TypesAreFit m) where
   -- the tree of a type is spelled as no name is, or it names a struct
   pub free_form : (r : TypeResolution) → IsFit m r →
       (t : TypeSpecifier) → resolution_tree (type_names m) r ≡ Some t →
-      (operates_freely (type_layout t) ≡ true) ⊎ IsStructNamed (type_names m) r t
+      (operates_freely (printed_type t) ≡ true) ⊎ IsStructNamed (type_names m) r t
   free_form r fit t is =
       by (resolution_plain (type_names m) (each_named m.types types.fits) r (is_fit m r fit) t is)
     where
       by : (is_plain t ≡ true) ⊎ IsStructNamed (type_names m) r t →
-          (operates_freely (type_layout t) ≡ true) ⊎ IsStructNamed (type_names m) r t
+          (operates_freely (printed_type t) ≡ true) ⊎ IsStructNamed (type_names m) r t
       by (inl plain) = inl (free_tree t (tree_is m types r fit t is) plain)
       by (inr named) = inr named

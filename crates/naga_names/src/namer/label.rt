@@ -1,4 +1,4 @@
-//! The base of a label: the part of an identifier that comes from the label alone.
+//! The stem of a label: the part of an identifier that comes from the label alone.
 ghost use Rattle.std.specs.Prelude.{◌≡◌, ℕ, ◌<◌, length, false, true, slice_index, codes, ◌⊎◌};
 ghost use Rattle.std.specs.Prelude.{IfSome, IsTrue, List, ◌∷◌, [], ◌++◌, ◌||◌, ◌==◌, map, IfOk};
 ghost use Rattle.std.specs.Prelude.{OnOk, string_bytes};
@@ -8,7 +8,7 @@ ghost use Rattle.std.specs.Char.{is_ascii_alphanumeric};
 ghost use Rattle.std.specs.Str.{chars};
 ghost use Rattle.naga_names.specs.Label.{is_numeric, is_mark, is_foreign, by_number};
 ghost use Rattle.naga_names.specs.Label.{after_numerics, ascii_of, with_separator};
-ghost use Rattle.naga_names.specs.Label.{without_last_separators, or_unnamed, base_of};
+ghost use Rattle.naga_names.specs.Label.{without_last_separators, or_unnamed, stem_of};
 ghost use Rattle.naga_names.specs.Label.{ends_separated, IsPlain, StaysSame};
 ghost use Rattle.naga_names.specs.Naming.{ends_in_digit};
 
@@ -16,28 +16,28 @@ use std::alloc::{AllocError, Global};
 use std::fmt::Write;
 use ucd_category::{GeneralCategory, GeneralCategoryGroup};
 
-/// The base of the label, where identifiers keep off the prefixes.
-#[tactic(auto, unfolding(crate::specs::Label::base_of))]
-pub fn base(alloc: Global, prefixes: &[&'static str], label: &str) -> Result<String, AllocError>
-    ensures { IfOk result (λ base. string_bytes base
-        ≡ base_of (map (λ p. p.now) prefixes.now) (chars label.now)) }
+/// The stem of the label, where identifiers keep off the prefixes.
+#[tactic(auto, unfolding(crate::specs::Label::stem_of))]
+pub fn stem(alloc: Global, prefixes: &[&'static str], label: &str) -> Result<String, AllocError>
+    ensures { IfOk result (λ stem. string_bytes stem
+        ≡ stem_of (map (λ p. p.now) prefixes.now) (chars label.now)) }
 {
-    let base = finished(spell(alloc, label)?)?;
-    if begins_reserved(base.as_str(), prefixes) {
-        return format!(in alloc; "gen_{base}");
+    let stem = finished(spell(alloc, label)?)?;
+    if begins_reserved(stem.as_str(), prefixes) {
+        return format!(in alloc; "gen_{stem}");
     }
-    Ok(base)
+    Ok(stem)
 }
 
-/// The base of the label, where identifiers keep off the prefixes, if it is seen to stand in the
+/// The stem of the label, where identifiers keep off the prefixes, if it is seen to stand in the
 /// label itself: then it needs no text of its own.
-pub fn own_base<'a>(prefixes: &[&'static str], label: &'a str) -> Option<&'a str>
-    ensures { IfSome result (λ base.
-        base.now ≡ base_of (map (λ p. p.now) prefixes.now) (chars label.now)) }
+pub fn own_stem<'a>(prefixes: &[&'static str], label: &'a str) -> Option<&'a str>
+    ensures { IfSome result (λ stem.
+        stem.now ≡ stem_of (map (λ p. p.now) prefixes.now) (chars label.now)) }
 {
-    let base = without_last_separator(label);
-    if is_plain(base) && !begins_reserved(base, prefixes) {
-        Some(base)
+    let stem = without_last_separator(label);
+    if is_plain(stem) && !begins_reserved(stem, prefixes) {
+        Some(stem)
     } else {
         None
     }

@@ -1,4 +1,4 @@
-//! How often each base was used.
+//! How often each stem was used.
 ghost use Rattle.std.specs.Prelude.{◌≡◌, ℕ, ◌+◌, ◌^◌, ◌<◌, map, IfSome, IfOk, IfErr, IsErr, OnOk};
 ghost use Rattle.std.specs.Prelude.{OnErr, string_bytes};
 ghost use Rattle.std.specs.Option.{IfNone, option_map};
@@ -7,7 +7,7 @@ ghost use Rattle.std.specs.Coded.{coded_ℕ, coded_list};
 ghost use Rattle.std.specs.FinMap as finite;
 ghost use Rattle.std.specs.Ordering.{nat_cmp};
 ghost use Rattle.naga_names.specs.Naming.{GivesLaterName, later_name, uses_of};
-ghost use Rattle.naga_names.specs.Refusal.{IsRefusalOfBase};
+ghost use Rattle.naga_names.specs.Refusal.{IsRefusalOfStem};
 
 use crate::namer::NamerError;
 use itoa::Buffer;
@@ -15,10 +15,10 @@ use std::alloc::{AllocError, Global};
 use std::collections::HashMap;
 use std::marker::Model;
 
-/// A counter for each base. Contracts see it as the finite map from each base to its uses.
+/// A counter for each stem. Contracts see it as the finite map from each stem to its uses.
 #[derive(Drop)]
 pub struct Uses {
-    // How often each base was used after its first use.
+    // How often each stem was used after its first use.
     later: HashMap<String, u32>,
 }
 
@@ -32,7 +32,7 @@ impl Model for Uses {
 }
 
 impl Uses {
-    /// No base was used.
+    /// No stem was used.
     pub fn new(alloc: Global) -> Self
         ensures { result ≡ finite.empty }
     {
@@ -41,32 +41,32 @@ impl Uses {
         }
     }
 
-    /// The next name of a base that was used before, and one more use of it. A base that was never
+    /// The next name of a stem that was used before, and one more use of it. A stem that was never
     /// used has none. A refused call changes nothing.
-    pub fn later_name(&mut self, alloc: Global, base: &str) -> Result<Option<String>, NamerError>
+    pub fn later_name(&mut self, alloc: Global, stem: &str) -> Result<Option<String>, NamerError>
         ensures ok { IfOk result (λ name.
-            GivesLaterName self.old base.now (option_map string_bytes name) self.new) }
+            GivesLaterName self.old stem.now (option_map string_bytes name) self.new) }
         ensures err { OnErr result (self.new ≡ self.old) }
-        ensures reason { IfErr result (IsRefusalOfBase self.old base.now) }
-        ensures full { uses_of self.old base.now ≡ 2 ^ 32 → IsErr result }
+        ensures reason { IfErr result (IsRefusalOfStem self.old stem.now) }
+        ensures full { uses_of self.old stem.now ≡ 2 ^ 32 → IsErr result }
     {
-        let Some(later) = self.later.get_mut(base) else {
+        let Some(later) = self.later.get_mut(stem) else {
             return Ok(None);
         };
         let Some(number) = number_after(*later) else {
             return Err(NamerError::Full);
         };
-        let name = numbered(alloc, base, number)?;
+        let name = numbered(alloc, stem, number)?;
         *later = number;
         Ok(Some(name))
     }
 
-    /// The first use of the base.
-    pub fn begin(&mut self, base: String) -> Result<(), AllocError>
-        ensures ok { OnOk result (self.new ≡ finite.insert self.old (string_bytes base) 1) }
+    /// The first use of the stem.
+    pub fn begin(&mut self, stem: String) -> Result<(), AllocError>
+        ensures ok { OnOk result (self.new ≡ finite.insert self.old (string_bytes stem) 1) }
         ensures err { OnErr result (self.new ≡ self.old) }
     {
-        self.later.insert(base, 0)?;
+        self.later.insert(stem, 0)?;
         Ok(())
     }
 }
@@ -79,14 +79,14 @@ fn number_after(later: u32) -> Option<u32>
     later.checked_add(1)
 }
 
-/// The base with `_` and the number after it.
-fn numbered(alloc: Global, base: &str, number: u32) -> Result<String, AllocError>
-    ensures { IfOk result (λ name. string_bytes name ≡ later_name base.now number) }
+/// The stem with `_` and the number after it.
+fn numbered(alloc: Global, stem: &str, number: u32) -> Result<String, AllocError>
+    ensures { IfOk result (λ name. string_bytes name ≡ later_name stem.now number) }
 {
     let mut buffer = Buffer::new();
     let digits = buffer.format(number);
-    let mut name = String::with_capacity(alloc, base.len() + 1 + digits.len())?;
-    name.push_str(base)?;
+    let mut name = String::with_capacity(alloc, stem.len() + 1 + digits.len())?;
+    name.push_str(stem)?;
     name.push('_')?;
     name.push_str(digits)?;
     Ok(name)

@@ -2,7 +2,7 @@
 
 ghost use Rattle.std.specs.Prelude.{◌≡◌, ◌<◌, IsFalse, length, not};
 ghost use Rattle.std.specs.List.{find};
-ghost use Rattle.module_meaning.specs.ExpressionForms.{constant_has_form, global_has_form};
+ghost use Rattle.module_semantics.specs.ExpressionForms.{constant_has_form, global_has_form};
 ghost use Rattle.naga_scope.specs.Marks.{GlobalsStandInOrder};
 ghost use Rattle.naga_scope.specs.Tables.{AreTablesOf};
 ghost use Rattle.naga_wgsl_fns.specs.Carried.{CarriesOfConstant, CarriesOfGlobal};

@@ -1,7 +1,7 @@
 //! The constructs for which declarations are refused, and their refusals.
 
 ghost use Rattle.std.specs.Prelude.{ℕ, IsTrue};
-ghost use Rattle.module_meaning.specs.acceptance.Accepted.{is_accepted};
+ghost use Rattle.module_semantics.specs.acceptance.Accepted.{is_accepted};
 ghost use Rattle.naga_info.specs.declared.info.ModuleInfo.{ModuleInfo};
 ghost use Rattle.naga_ir.specs.declared.module.Module.{Module};
 ghost use Rattle.naga_scope.specs.Declarations.{IsUnsupportedDeclaration, IsUnsupportedHead};

@@ -1,11 +1,11 @@
 //! The constructs for which expressions, statements and types have no form.
 
 ghost use Rattle.std.specs.Prelude.{Bool, IsFalse, List, None, ◌&&◌};
-ghost use Rattle.module_meaning.specs.ExpressionForms.{expression_has_form, literal_has_form};
-ghost use Rattle.module_meaning.specs.ExpressionForms.{known_passes};
-ghost use Rattle.module_meaning.specs.ExpressionOperators.{has_parts, pointee_scalar};
-ghost use Rattle.module_meaning.specs.Conversions.{conversion_target};
-ghost use Rattle.module_meaning.specs.Sampling.{sampling_has_form};
+ghost use Rattle.module_semantics.specs.ExpressionForms.{expression_has_form, literal_has_form};
+ghost use Rattle.module_semantics.specs.ExpressionForms.{known_passes};
+ghost use Rattle.module_semantics.specs.ExpressionOperators.{has_parts, pointee_scalar};
+ghost use Rattle.module_semantics.specs.Conversions.{conversion_target};
+ghost use Rattle.module_semantics.specs.Sampling.{sampling_has_form};
 ghost use Rattle.naga_ir.specs.declared.expression.Expression.{Expression};
 ghost use Rattle.naga_scope.specs.Forms.{AreKnownIn};
 ghost use Rattle.naga_scope.specs.Marks.{GlobalsStandInOrder};
@@ -22,7 +22,7 @@ ghost use Rattle.naga_wgsl_fns.specs.Refusals.{NamesItemsOf, pointed_scalar};
 use crate::refusals::constants::unsupported_constant;
 use crate::refusals::construct::Construct;
 use crate::refusals::lacking::lacking_scalar;
-use module_meaning::type_parts::{converted_scalar, known_has_parts};
+use module_semantics::type_parts::{converted_scalar, known_has_parts};
 use naga_info::{FunctionInfo, TypeResolution};
 use naga_ir::{
     Expression, Handle, Literal, Module, SampleLevel, ScalarKind, SwizzleComponent, Type_,

@@ -1,7 +1,7 @@
 //! Which scalar without a word keeps a type from having a form.
 
 ghost use Rattle.std.specs.Prelude.{◌≡◌};
-ghost use Rattle.module_meaning.specs.LackingScalars.{handle_lacks, lacking_scalar};
+ghost use Rattle.module_semantics.specs.LackingScalars.{handle_lacks, lacking_scalar};
 
 use naga_info::TypeResolution;
 use naga_ir::{Handle, Scalar, Type_, UniqueArena};

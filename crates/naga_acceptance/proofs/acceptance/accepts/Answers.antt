@@ -1,6 +1,6 @@
 use Rattle.std.proofs.Common.{◌≡◌, ◌∙◌, Bool, true, false, not, sym, Option, Some, None}
 use Rattle.std.specs.Option.{is_none, is_some}
-use Rattle.module_meaning.proofs.Layouts.{accepted_in_order}
+use Rattle.module_semantics.proofs.Layouts.{accepted_in_order}
 use Rattle.naga_acceptance.proofs.acceptance.accepts.Goals as goal
 
 none_reported : {X : Type 0} (o : Option X) (answer accepted : Bool) → is_some o ≡ not answer →

@@ -1,5 +1,5 @@
 use Rattle.std.proofs.Common.{ℕ, ◌+◌, ◌-◌, ◌/◌, ◌<◌, ◌≤◌, arith, subst, sym}
-use Rattle.module_meaning.specs.acceptance.AgreeingOperators.{groups_of}
+use Rattle.module_semantics.specs.acceptance.AgreeingOperators.{groups_of}
 use Rattle.naga_acceptance.specs.Uses.{IsFirstDisagreement, is_in}
 use Rattle.naga_acceptance.proofs.OperatorShares.{first_of_halves}
 use Rattle.naga_acceptance.proofs.agreeing.+first_disagreement.Goals as goal

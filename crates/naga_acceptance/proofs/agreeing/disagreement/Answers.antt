@@ -1,5 +1,5 @@
 use Rattle.std.proofs.Common.{◌-◌, refl}
-use Rattle.module_meaning.specs.acceptance.AgreeingOperators.{groups_of}
+use Rattle.module_semantics.specs.acceptance.AgreeingOperators.{groups_of}
 use Rattle.naga_acceptance.specs.declared.agreeing.Share.{Share}
 use Rattle.naga_acceptance.specs.declared.agreeing.TheConstants.{REMAINDERS}
 use Rattle.naga_acceptance.proofs.OperatorShares.{agree_before, all_in, all_or_first}

@@ -1,8 +1,8 @@
 use Rattle.std.proofs.Common.{◌≡◌, ◌≤◌, ◌<◌, ◌+◌, ap, sym, ◌∙◌, suc, length, arith, refl, ℕ, true}
 use Rattle.std.specs.Option.{is_none}
 use Rattle.std.proofs.lemmas.Option.{slice_get_within}
-use Rattle.module_meaning.specs.acceptance.AgreeingOperators.{groups_of}
-use Rattle.module_meaning.specs.acceptance.Operations.{all_agree}
+use Rattle.module_semantics.specs.acceptance.AgreeingOperators.{groups_of}
+use Rattle.module_semantics.specs.acceptance.Operations.{all_agree}
 use Rattle.naga_acceptance.specs.Uses.{group_of, group_uses, share_uses}
 use Rattle.naga_ir.proofs.Listed.{past_end}
 use Rattle.naga_acceptance.proofs.Remembering.{none_remembered, remembers_same}

@@ -1,6 +1,6 @@
 use Rattle.std.proofs.Common.{◌≡◌, ◌≤◌, ◌-◌, true, length}
-use Rattle.module_meaning.specs.acceptance.AgreeingOperators.{groups_of}
-use Rattle.module_meaning.specs.acceptance.Operations.{all_agree}
+use Rattle.module_semantics.specs.acceptance.AgreeingOperators.{groups_of}
+use Rattle.module_semantics.specs.acceptance.Operations.{all_agree}
 use Rattle.naga_acceptance.specs.Uses.{Remembers, group_uses, share_uses}
 use Rattle.naga_acceptance.proofs.agreeing.disagreement_by.Given as goal
 

@@ -1,6 +1,6 @@
 use Rattle.std.proofs.Common.{◌≡◌, true, false, ap, sym, ◌∙◌}
 use Rattle.std.specs.Option.{is_some}
-use Rattle.module_meaning.specs.acceptance.AgreeingOperators.{groups_of}
+use Rattle.module_semantics.specs.acceptance.AgreeingOperators.{groups_of}
 use Rattle.naga_acceptance.specs.Uses.{first_answer, first_uses, group_of, group_uses, operation}
 use Rattle.naga_acceptance.proofs.Agreement.{found_in_front, none_in_front}
 use Rattle.naga_acceptance.proofs.agreeing.earlier_answer.Goals as goal

@@ -1,6 +1,6 @@
 use Rattle.std.proofs.Common.{◌≡◌, ◌≤◌, ◌+◌, ℕ, true, ap, sym, ◌∙◌, suc, length, arith}
-use Rattle.module_meaning.specs.acceptance.AgreeingOperators.{groups_of}
-use Rattle.module_meaning.specs.acceptance.Operations.{all_agree}
+use Rattle.module_semantics.specs.acceptance.AgreeingOperators.{groups_of}
+use Rattle.module_semantics.specs.acceptance.Operations.{all_agree}
 use Rattle.naga_acceptance.specs.Uses.{earlier_uses, group_of, group_uses, share_uses}
 use Rattle.naga_acceptance.proofs.Groups.{group_end}
 use Rattle.naga_acceptance.proofs.Remembering.{remembers_same}

@@ -1,6 +1,6 @@
 use Rattle.std.proofs.Common.{◌≡◌, true}
-use Rattle.module_meaning.specs.acceptance.AgreeingOperators.{groups_of}
-use Rattle.module_meaning.specs.acceptance.Operations.{all_agree}
+use Rattle.module_semantics.specs.acceptance.AgreeingOperators.{groups_of}
+use Rattle.module_semantics.specs.acceptance.Operations.{all_agree}
 use Rattle.naga_acceptance.specs.Uses.{Remembers, earlier_uses, group_of, share_uses}
 use Rattle.naga_acceptance.proofs.agreeing.first_disagreeing.Given as goal
 

@@ -1,6 +1,6 @@
 use Rattle.std.proofs.Common.{◌≡◌, ◌<◌, length, min, Some, ap, sym, ◌∙◌, arith, slice_get}
 use Rattle.std.proofs.lemmas.Option.{slice_get_read}
-use Rattle.module_meaning.specs.acceptance.AgreeingOperators.{function_group}
+use Rattle.module_semantics.specs.acceptance.AgreeingOperators.{function_group}
 use Rattle.naga_acceptance.proofs.Groups.{entry_point_there, own_there, none_there}
 use Rattle.naga_acceptance.proofs.agreeing.further_group_at.Goals as goal
 

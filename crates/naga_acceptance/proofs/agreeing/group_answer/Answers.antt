@@ -1,6 +1,6 @@
 use Rattle.std.proofs.Common.{ap, ◌∙◌, []}
 use Rattle.std.specs.Option.{option_map_or}
-use Rattle.module_meaning.specs.acceptance.AgreeingOperators.{uses_of}
+use Rattle.module_semantics.specs.acceptance.AgreeingOperators.{uses_of}
 use Rattle.naga_acceptance.specs.Uses.{first_answer, first_uses, group_of, operation}
 use Rattle.naga_acceptance.proofs.Groups.{all_uses}
 use Rattle.naga_acceptance.proofs.agreeing.group_answer.Goals as goal

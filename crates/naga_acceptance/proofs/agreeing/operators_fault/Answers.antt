@@ -1,6 +1,6 @@
 use Rattle.std.proofs.Common.{◌<◌, ◌∙◌, ap, length, arith, subst, sym}
 use Rattle.std.proofs.lemmas.Option.{slice_get_within}
-use Rattle.module_meaning.specs.acceptance.AgreeingOperators.{groups_of}
+use Rattle.module_semantics.specs.acceptance.AgreeingOperators.{groups_of}
 use Rattle.naga_acceptance.specs.Faults.{DisagreesAt, site_of}
 use Rattle.naga_acceptance.proofs.Groups.{groups_within}
 use Rattle.naga_acceptance.proofs.agreeing.operators_fault.Goals as goal

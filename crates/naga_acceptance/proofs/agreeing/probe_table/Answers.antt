@@ -1,6 +1,6 @@
 use Rattle.std.proofs.Common.{◌≡◌, ◌+◌, ◌%◌, ap, sym, ◌∙◌, arith, Some, None, slice_index_or}
 use Rattle.std.specs.Option.{is_some}
-use Rattle.module_meaning.specs.acceptance.AgreeingOperators.{groups_of}
+use Rattle.module_semantics.specs.acceptance.AgreeingOperators.{groups_of}
 use Rattle.naga_acceptance.specs.Uses.{operation, site_after, site_answer, slot_after}
 use Rattle.naga_acceptance.proofs.Remembering.{passed_further}
 use Rattle.naga_acceptance.proofs.agreeing.probe_table.Goals as goal

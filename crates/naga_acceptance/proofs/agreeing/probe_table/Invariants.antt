@@ -1,4 +1,4 @@
-use Rattle.module_meaning.specs.acceptance.AgreeingOperators.{groups_of}
+use Rattle.module_semantics.specs.acceptance.AgreeingOperators.{groups_of}
 use Rattle.naga_acceptance.specs.Uses.{ArePassed, operation}
 use Rattle.naga_acceptance.proofs.agreeing.probe_table.Given as goal
 

@@ -1,5 +1,5 @@
 use Rattle.std.proofs.Common.{sym, ◌∙◌}
-use Rattle.module_meaning.specs.acceptance.AgreeingOperators.{groups_of}
+use Rattle.module_semantics.specs.acceptance.AgreeingOperators.{groups_of}
 use Rattle.naga_acceptance.specs.Uses.{operation}
 use Rattle.naga_acceptance.proofs.Remembering.{other_site}
 use Rattle.naga_acceptance.proofs.agreeing.site_answer.Goals as goal

@@ -1,7 +1,7 @@
 use Rattle.std.proofs.Common.{◌≡◌, ap, sym, ◌∙◌, arith, Some, true}
 use Rattle.std.specs.Option.{option_and_then}
 use Rattle.std.specs.Prelude.{unwrap_or}
-use Rattle.module_meaning.specs.acceptance.AgreeingOperators.{groups_of}
+use Rattle.module_semantics.specs.acceptance.AgreeingOperators.{groups_of}
 use Rattle.naga_acceptance.specs.declared.agreeing.Site.{Site}
 use Rattle.naga_acceptance.specs.Uses.{earlier_uses, group_of, has_hash, is_in, operation}
 use Rattle.naga_acceptance.specs.Uses.{share_uses, use_at, use_in}

@@ -1,5 +1,5 @@
 use Rattle.std.proofs.Common.{◌++◌, ◌∙◌, ap, sym}
-use Rattle.module_meaning.specs.AlikeTypes.{inner_key_by}
+use Rattle.module_semantics.specs.AlikeTypes.{inner_key_by}
 use Rattle.std.specs.Option.{option_map}
 use Rattle.naga_acceptance.specs.Views.{bases, numbers}
 use Rattle.naga_acceptance.proofs.alike.inner_top.Goals as goal

@@ -1,6 +1,6 @@
 use Rattle.std.proofs.Common.{◌≡◌, ◌++◌, sym, ap, ◌∙◌, rules}
 use Rattle.naga_ir.specs.StatementViews.{cases_of}
-use Rattle.module_meaning.specs.acceptance.StatementsFit.{case_values_differ}
+use Rattle.module_semantics.specs.acceptance.StatementsFit.{case_values_differ}
 use Rattle.naga_acceptance.proofs.CaseValueNumbers.{once_joined}
 use Rattle.naga_acceptance.proofs.case_value_numbers.none_is_repeated.Goals as goal
 

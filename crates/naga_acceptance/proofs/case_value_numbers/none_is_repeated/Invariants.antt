@@ -1,6 +1,6 @@
 use Rattle.std.proofs.Common.{◌≡◌, length}
 use Rattle.naga_ir.specs.StatementViews.{cases_of}
-use Rattle.module_meaning.specs.acceptance.StatementsFit.{case_values_differ}
+use Rattle.module_semantics.specs.acceptance.StatementsFit.{case_values_differ}
 use Rattle.naga_acceptance.proofs.case_value_numbers.none_is_repeated.Given as goal
 
 abbrev pub invariant-loop-rest : goal.invariant-loop-rest

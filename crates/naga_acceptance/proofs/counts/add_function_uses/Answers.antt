@@ -9,7 +9,7 @@ pub loop-expression-init : goal.loop-expression-init
 loop-expression-init c =
     ap (λ ps. with_uses c.args.infos.now (flat_map (λ p. expression_operands p.1) ps))
     (c.into_iter-expression-iterator.ensures.into_iter_gives ∙ c.iter-expression-items.ensures)
-    ∙ ap (λ places. with_uses c.args.infos.now places) (operands_of_pairs 0 c.args.expressions.now)
+    ∙ ap (λ positions. with_uses c.args.infos.now positions) (operands_of_pairs 0 c.args.expressions.now)
 
 pub loop-expression-preserved : goal.loop-expression-preserved
 loop-expression-preserved c =

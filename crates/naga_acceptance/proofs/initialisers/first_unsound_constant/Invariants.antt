@@ -1,7 +1,7 @@
 use Rattle.std.proofs.Common.{◌≡◌}
 use Rattle.std.specs.List.{enumerate_from}
 use Rattle.naga_acceptance.specs.Searching.{first_unfit}
-use Rattle.module_meaning.specs.acceptance.Initialisers.{constant_is_sound}
+use Rattle.module_semantics.specs.acceptance.Initialisers.{constant_is_sound}
 use Rattle.naga_acceptance.specs.KnownTypes.{known_types}
 use Rattle.naga_acceptance.proofs.initialisers.first_unsound_constant.Given as goal
 

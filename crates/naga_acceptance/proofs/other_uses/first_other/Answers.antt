@@ -1,7 +1,7 @@
 use Rattle.std.proofs.Common.{◌≡◌, ◌≤◌, ◌<◌, ◌+◌, ap, sym, ◌∙◌, length, arith, refl, slice_get, None, Some}
 use Rattle.std.proofs.lemmas.Option.{slice_get_within}
 use Rattle.std.specs.Option.{option_and_then}
-use Rattle.module_meaning.specs.acceptance.AgreeingOperators.{groups_of}
+use Rattle.module_semantics.specs.acceptance.AgreeingOperators.{groups_of}
 use Rattle.naga_acceptance.specs.FirstUses.{first_below, first_other_at, first_other_in}
 use Rattle.naga_acceptance.specs.OtherUses.{seen}
 use Rattle.naga_acceptance.specs.Uses.{group_of, operation}

@@ -1,5 +1,5 @@
 use Rattle.std.proofs.Common.{◌≡◌, ◌≤◌, ◌-◌, length, None}
-use Rattle.module_meaning.specs.acceptance.AgreeingOperators.{groups_of}
+use Rattle.module_semantics.specs.acceptance.AgreeingOperators.{groups_of}
 use Rattle.naga_acceptance.specs.FirstUses.{first_below, first_other_at}
 use Rattle.naga_acceptance.specs.Uses.{operation}
 use Rattle.naga_acceptance.proofs.other_uses.first_other.Given as goal

@@ -1,7 +1,7 @@
 use Rattle.std.proofs.Common.{◌≡◌}
 use Rattle.std.specs.List.{enumerate_from}
 use Rattle.naga_acceptance.specs.Searching.{first_unfit}
-use Rattle.module_meaning.specs.acceptance.Ranges.{global_in_range}
+use Rattle.module_semantics.specs.acceptance.Ranges.{global_in_range}
 use Rattle.naga_acceptance.proofs.ranges.first_global_out_of_range.Given as goal
 
 abbrev pub invariant-loop-handle : goal.invariant-loop-handle

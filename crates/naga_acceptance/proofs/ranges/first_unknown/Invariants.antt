@@ -1,7 +1,7 @@
 use Rattle.std.proofs.Common.{◌≡◌, drop}
 use Rattle.std.specs.List.{enumerate_from}
 use Rattle.naga_acceptance.specs.Searching.{first_unfit}
-use Rattle.module_meaning.specs.acceptance.Ranges.{resolution_fits}
+use Rattle.module_semantics.specs.acceptance.Ranges.{resolution_fits}
 use Rattle.naga_acceptance.proofs.ranges.first_unknown.Given as goal
 
 abbrev pub invariant-loop-index : goal.invariant-loop-index

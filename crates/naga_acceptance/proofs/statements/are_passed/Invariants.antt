@@ -1,5 +1,5 @@
 use Rattle.std.proofs.Common.{◌≡◌, drop}
-use Rattle.module_meaning.specs.acceptance.StatementsFit.{are_passed}
+use Rattle.module_semantics.specs.acceptance.StatementsFit.{are_passed}
 use Rattle.naga_acceptance.specs.KnownTypes.{known_types}
 use Rattle.naga_acceptance.proofs.statements.are_passed.Given as goal
 

@@ -1,6 +1,6 @@
 use Rattle.std.proofs.Common.{◌≡◌, drop}
 use Rattle.naga_ir.specs.StatementViews.{cases_of}
-use Rattle.module_meaning.specs.acceptance.StatementsFit.{case_values_are_of}
+use Rattle.module_semantics.specs.acceptance.StatementsFit.{case_values_are_of}
 use Rattle.naga_acceptance.proofs.statements.case_values_are_of.Given as goal
 
 abbrev pub invariant-loop-case : goal.invariant-loop-case

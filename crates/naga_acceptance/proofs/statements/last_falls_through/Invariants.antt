@@ -1,6 +1,6 @@
 use Rattle.std.proofs.Common.{◌≡◌, drop, false}
 use Rattle.naga_ir.specs.StatementViews.{cases_of}
-use Rattle.module_meaning.specs.acceptance.StatementsFit.{last_falls_through}
+use Rattle.module_semantics.specs.acceptance.StatementsFit.{last_falls_through}
 use Rattle.naga_acceptance.proofs.statements.last_falls_through.Given as goal
 
 abbrev pub invariant-loop-case : goal.invariant-loop-case

@@ -1,8 +1,8 @@
 use Rattle.std.proofs.Common.{◌≡◌}
 use Rattle.std.specs.Prelude.{map}
 use Rattle.naga_ir.specs.Operands.{expression_operands}
-use Rattle.module_meaning.specs.acceptance.AgreeingOperators.{identity_at}
-use Rattle.module_meaning.specs.acceptance.Operations.{are_same_words}
+use Rattle.module_semantics.specs.acceptance.AgreeingOperators.{identity_at}
+use Rattle.module_semantics.specs.acceptance.Operations.{are_same_words}
 use Rattle.naga_acceptance.specs.KnownTypes.{known_types}
 use Rattle.naga_acceptance.proofs.uses.are_operands_alike.Given as goal
 

@@ -1,7 +1,7 @@
 use Rattle.std.proofs.Common.{◌≡◌}
 use Rattle.std.specs.Prelude.{map}
 use Rattle.naga_ir.specs.Operands.{expression_operands}
-use Rattle.module_meaning.specs.acceptance.AgreeingOperators.{identity_at}
+use Rattle.module_semantics.specs.acceptance.AgreeingOperators.{identity_at}
 use Rattle.naga_acceptance.specs.KnownTypes.{known_types}
 use Rattle.naga_acceptance.specs.OperatorKeys.{key}
 use Rattle.naga_acceptance.specs.Uses.{all_mixed, lists_mixed}

@@ -4,6 +4,6 @@ use Rattle.naga_form.proofs.types.forms_are_types.Goals as goal
 pub returns : goal.returns
 returns c = record {
   form = resolution_is;
-  reading = λ n overrides named r within t is. c.one_reading_of_a_type.ensures.layout t
+  reading = λ n overrides named r within t is. c.one_reading_of_a_type.ensures.printed t
       (resolution_is n overrides named r within t is);
 }

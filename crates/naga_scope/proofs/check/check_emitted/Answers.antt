@@ -1,6 +1,6 @@
 use Rattle.std.proofs.Common.{[], ap, false, refl, sym, true, ◌∙◌}
 use Rattle.shader_runs.specs.Scope.{is_new}
-use Rattle.module_meaning.specs.Names.{numbered_name}
+use Rattle.module_semantics.specs.Names.{numbered_name}
 use Rattle.naga_scope.specs.Availabilities.{availability_of, is_emittable_kind, operands_at}
 use Rattle.naga_scope.specs.KnownFunctions.{handles_at, shape_of}
 use Rattle.naga_scope.specs.ScopeChecks.{check_operands}

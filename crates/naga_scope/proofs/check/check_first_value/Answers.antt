@@ -1,5 +1,5 @@
 use Rattle.std.proofs.Common.{ap, false, sym, true, ◌∙◌}
-use Rattle.module_meaning.specs.FunctionShapes.{function_shape}
+use Rattle.module_semantics.specs.FunctionShapes.{function_shape}
 use Rattle.naga_scope.specs.Availabilities.{handles_of}
 use Rattle.naga_scope.specs.ScopeChecks.{check_first}
 use Rattle.naga_scope.proofs.FirstValues.{first_checked}

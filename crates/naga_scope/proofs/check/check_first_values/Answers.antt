@@ -1,6 +1,6 @@
 use Rattle.std.proofs.Common.{ap, sym, ◌∙◌}
 use Rattle.std.specs.Result.{result_and}
-use Rattle.module_meaning.specs.FunctionShapes.{function_shape}
+use Rattle.module_semantics.specs.FunctionShapes.{function_shape}
 use Rattle.naga_scope.proofs.FirstValues.{all_checked, all_listed}
 use Rattle.naga_scope.proofs.ScopeChecks.{given_back}
 use Rattle.naga_scope.proofs.check.check_first_values.Goals as goal

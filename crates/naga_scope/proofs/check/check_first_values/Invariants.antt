@@ -4,7 +4,7 @@ use Rattle.naga_info.specs.declared.info.ModuleInfo.{ModuleInfo}
 use Rattle.naga_info.specs.declared.info.ExpressionInfo.{ExpressionInfo}
 use Rattle.shader_runs.specs.Scope.{at_start}
 use Rattle.naga_scope.specs.ScopeChecks.{check_first_values}
-use Rattle.module_meaning.specs.FunctionShapes.{function_shape}
+use Rattle.module_semantics.specs.FunctionShapes.{function_shape}
 use Rattle.naga_scope.specs.Availabilities.{handles_of}
 use Rattle.naga_scope.proofs.FirstValues.{all_checked}
 use Rattle.naga_scope.proofs.check.check_first_values.Given as goal

@@ -1,6 +1,6 @@
 use Rattle.std.proofs.Common.{[], ap, sym, ◌∙◌}
-use Rattle.module_meaning.specs.Names.{numbered_name}
-use Rattle.module_meaning.specs.Namings.{inner_names}
+use Rattle.module_semantics.specs.Names.{numbered_name}
+use Rattle.module_semantics.specs.Namings.{inner_names}
 use Rattle.shader_runs.specs.Scope.{after_result, is_new}
 use Rattle.naga_scope.specs.Availabilities.{availability_of}
 use Rattle.naga_scope.specs.KnownFunctions.{handles_at}

@@ -1,7 +1,7 @@
 use Rattle.std.proofs.Common.{◌∙◌, length, refl, sym}
 use Rattle.std.specs.Prelude.{IsTrue}
 use Rattle.std.proofs.lemmas.Option.{slice_get_read}
-use Rattle.module_meaning.specs.Layouts.{module_rule}
+use Rattle.module_semantics.specs.Layouts.{module_rule}
 use Rattle.naga_ir.specs.declared.types.StructMember.{StructMember}
 use Rattle.naga_layout.specs.Types.{arrays_are_kept}
 use Rattle.naga_scope.proofs.Searching.{all_passed, one_passed}

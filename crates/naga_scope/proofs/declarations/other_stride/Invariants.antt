@@ -1,5 +1,5 @@
 use Rattle.std.specs.Prelude.{IsTrue}
-use Rattle.module_meaning.specs.Layouts.{module_rule}
+use Rattle.module_semantics.specs.Layouts.{module_rule}
 use Rattle.naga_layout.specs.Types.{arrays_are_kept}
 use Rattle.naga_scope.proofs.Searching.{Passed}
 use Rattle.naga_scope.proofs.declarations.other_stride.Given as goal

@@ -44,44 +44,44 @@ returns-in-Some-unsupported_in_entry_points-clause-some c =
     (subst (λ ps. FindsFirst ps (λ i. EntryPointHasForm) (λ i. i) (λ i. IsUnsupportedEntryPoint)
     (Some (step.index, step.head))) c.deref.ensures.value step.ensures)).some
 
-pub returns-in-Some-clause-place : goal.returns-in-Some-clause-place
-returns-in-Some-clause-place c = (of_types c.args.module.now c.in-Some.unsupported c.in-Some.ensures).place
+pub returns-in-Some-clause-stands : goal.returns-in-Some-clause-stands
+returns-in-Some-clause-stands c = (of_types c.args.module.now c.in-Some.unsupported c.in-Some.ensures).stands
 
-pub returns-in-Some-unsupported_in_constants-clause-place : goal.returns-in-Some-unsupported_in_constants-clause-place
-returns-in-Some-unsupported_in_constants-clause-place c =
+pub returns-in-Some-unsupported_in_constants-clause-stands : goal.returns-in-Some-unsupported_in_constants-clause-stands
+returns-in-Some-unsupported_in_constants-clause-stands c =
     let step = c.in-Some-unsupported_in_constants in
     (of_constants c.args.module.now c.in_default.ensures
-    step.unsupported step.ensures).place
+    step.unsupported step.ensures).stands
 
-pub returns-in-Some-unsupported_in_overrides-clause-place : goal.returns-in-Some-unsupported_in_overrides-clause-place
-returns-in-Some-unsupported_in_overrides-clause-place c =
+pub returns-in-Some-unsupported_in_overrides-clause-stands : goal.returns-in-Some-unsupported_in_overrides-clause-stands
+returns-in-Some-unsupported_in_overrides-clause-stands c =
     let step = c.in-Some-unsupported_in_overrides in
     (of_overrides c.args.module.now c.in_default.ensures c.in_default-unsupported_in_constants.ensures
-    step.unsupported step.ensures).place
+    step.unsupported step.ensures).stands
 
-pub returns-in-Some-unsupported_in_variables-clause-place : goal.returns-in-Some-unsupported_in_variables-clause-place
-returns-in-Some-unsupported_in_variables-clause-place c =
+pub returns-in-Some-unsupported_in_variables-clause-stands : goal.returns-in-Some-unsupported_in_variables-clause-stands
+returns-in-Some-unsupported_in_variables-clause-stands c =
     let step = c.in-Some-unsupported_in_variables in
     (of_variables c.args.module.now c.in_default.ensures c.in_default-unsupported_in_constants.ensures
     c.in_default-unsupported_in_overrides.ensures
-    step.unsupported step.ensures).place
+    step.unsupported step.ensures).stands
 
-pub returns-in-Some-unsupported_in_functions-clause-place : goal.returns-in-Some-unsupported_in_functions-clause-place
-returns-in-Some-unsupported_in_functions-clause-place c =
+pub returns-in-Some-unsupported_in_functions-clause-stands : goal.returns-in-Some-unsupported_in_functions-clause-stands
+returns-in-Some-unsupported_in_functions-clause-stands c =
     let step = c.in-Some-unsupported_in_functions in
     (of_functions c.args.module.now c.in_default.ensures c.in_default-unsupported_in_constants.ensures
     c.in_default-unsupported_in_overrides.ensures
-    c.in_default-unsupported_in_variables.ensures step.unsupported step.ensures).place
+    c.in_default-unsupported_in_variables.ensures step.unsupported step.ensures).stands
 
-pub returns-in-Some-unsupported_in_entry_points-clause-place :
-    goal.returns-in-Some-unsupported_in_entry_points-clause-place
-returns-in-Some-unsupported_in_entry_points-clause-place c =
+pub returns-in-Some-unsupported_in_entry_points-clause-stands :
+    goal.returns-in-Some-unsupported_in_entry_points-clause-stands
+returns-in-Some-unsupported_in_entry_points-clause-stands c =
     let step = c.in-Some-unsupported_in_entry_points in
     (of_entry_points c.args.module.now c.in_default.ensures c.in_default-unsupported_in_constants.ensures
     c.in_default-unsupported_in_overrides.ensures
     c.in_default-unsupported_in_variables.ensures c.in_default-unsupported_in_functions.ensures (step.index, step.head)
     (subst (λ ps. FindsFirst ps (λ i. EntryPointHasForm) (λ i. i) (λ i. IsUnsupportedEntryPoint)
-    (Some (step.index, step.head))) c.deref.ensures.value step.ensures)).place
+    (Some (step.index, step.head))) c.deref.ensures.value step.ensures)).stands
 
 pub returns-in-Some-clause-first : goal.returns-in-Some-clause-first
 returns-in-Some-clause-first c = (of_types c.args.module.now c.in-Some.unsupported c.in-Some.ensures).first

@@ -1,8 +1,8 @@
 use Rattle.std.proofs.Common.{subst, sym}
 use Rattle.std.specs.Prelude.{IfNone, IfSome}
 use Rattle.std.proofs.lemmas.Option.{slice_get_read}
-use Rattle.module_meaning.specs.DeclarationForms.{HeadHasForm}
-use Rattle.module_meaning.specs.FunctionNumbers.{IsFunctionOf, function_number}
+use Rattle.module_semantics.specs.DeclarationForms.{HeadHasForm}
+use Rattle.module_semantics.specs.FunctionNumbers.{IsFunctionOf, function_number}
 use Rattle.naga_scope.proofs.UnsupportedDeclarations.{entry_point_with, entry_point_without}
 use Rattle.naga_scope.proofs.UnsupportedDeclarations.{function_head, function_lacks}
 use Rattle.naga_scope.specs.Declarations.{IsUnsupportedHead}

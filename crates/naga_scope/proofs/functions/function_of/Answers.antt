@@ -1,10 +1,10 @@
 use Rattle.std.proofs.Common.{◌≡◌, ◌<◌, ap, arith, length, slice_get, subst, sym, ◌+◌, ◌∙◌}
 use Rattle.std.proofs.lemmas.Option.{slice_get_read}
 use Rattle.naga_form.proofs.statements.AcceptedFunctions.{entry_points_counted, functions_counted}
-use Rattle.module_meaning.proofs.FunctionNumbers.{after_left, entry_point_among, function_among}
-use Rattle.module_meaning.proofs.FunctionNumbers.{info_among}
-use Rattle.module_meaning.specs.FunctionNumbers.{IsFunctionOf, all_functions, all_infos}
-use Rattle.module_meaning.specs.FunctionNumbers.{function_number}
+use Rattle.module_semantics.proofs.FunctionNumbers.{after_left, entry_point_among, function_among}
+use Rattle.module_semantics.proofs.FunctionNumbers.{info_among}
+use Rattle.module_semantics.specs.FunctionNumbers.{IsFunctionOf, all_functions, all_infos}
+use Rattle.module_semantics.specs.FunctionNumbers.{function_number}
 use Rattle.naga_scope.proofs.functions.function_of.Goals as goal
 
 pub index-requires-in-Function : goal.index-requires-in-Function

@@ -1,6 +1,6 @@
 use Rattle.std.proofs.Common.{◌+◌, ◌-◌, ◌++◌, ◌≡◌, ap, ◌∙◌, sym}
 use Rattle.std.specs.Option.{option_to_list}
-use Rattle.module_meaning.specs.ExpressionLabels.{label_of, labels_of_each}
+use Rattle.module_semantics.specs.ExpressionLabels.{label_of, labels_of_each}
 use Rattle.shader_runs.specs.Program.{from}
 use Rattle.naga_names.proofs.Reset.{if_err}
 use Rattle.naga_scope.specs.ExpressionNames.{RefusesLabels}

@@ -1,5 +1,5 @@
 use Rattle.std.proofs.Common.{◌-◌, map, string_bytes}
-use Rattle.module_meaning.specs.ExpressionLabels.{labels_of_each}
+use Rattle.module_semantics.specs.ExpressionLabels.{labels_of_each}
 use Rattle.shader_runs.specs.Program.{from}
 use Rattle.naga_scope.proofs.ExpressionNames.{NamedSoFar}
 use Rattle.naga_scope.proofs.named.name_emitted.Given as goal

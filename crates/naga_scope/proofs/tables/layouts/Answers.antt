@@ -1,4 +1,4 @@
-use Rattle.module_meaning.proofs.Layouts.{stand_in_order}
+use Rattle.module_semantics.proofs.Layouts.{stand_in_order}
 use Rattle.naga_scope.proofs.tables.layouts.Goals as goal
 
 pub layouts_of-requires : goal.layouts_of-requires

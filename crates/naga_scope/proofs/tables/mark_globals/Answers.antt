@@ -1,6 +1,6 @@
 use Rattle.std.proofs.Common.{◌≡◌, ◌<◌, ap, arith, length, sym, subst, ◌∙◌}
 use Rattle.std.specs.Prelude.{slice_get}
-use Rattle.module_meaning.specs.ExpressionForms.{global_has_form}
+use Rattle.module_semantics.specs.ExpressionForms.{global_has_form}
 use Rattle.naga_scope.proofs.WrittenConstants.{MarksBelow, all_below, global_by, no_global_beyond}
 use Rattle.naga_scope.proofs.WrittenConstants.{none_below, one_below}
 use Rattle.naga_scope.proofs.tables.mark_globals.Goals as goal

@@ -1,5 +1,5 @@
 use Rattle.std.proofs.Common.{length}
-use Rattle.module_meaning.specs.ExpressionForms.{global_has_form}
+use Rattle.module_semantics.specs.ExpressionForms.{global_has_form}
 use Rattle.naga_scope.proofs.WrittenConstants.{MarksBelow}
 use Rattle.naga_scope.proofs.tables.mark_globals.Given as goal
 

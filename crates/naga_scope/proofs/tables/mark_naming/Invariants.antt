@@ -1,5 +1,5 @@
 use Rattle.std.proofs.Common.{length}
-use Rattle.module_meaning.specs.Undeclared.{handle_names_undeclared}
+use Rattle.module_semantics.specs.Undeclared.{handle_names_undeclared}
 use Rattle.naga_scope.proofs.WrittenConstants.{MarksBelow}
 use Rattle.naga_scope.proofs.tables.mark_naming.Given as goal
 

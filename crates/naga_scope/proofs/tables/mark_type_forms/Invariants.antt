@@ -1,5 +1,5 @@
 use Rattle.std.proofs.Common.{length}
-use Rattle.module_meaning.specs.AlikeTypes.{has_type_form}
+use Rattle.module_semantics.specs.AlikeTypes.{has_type_form}
 use Rattle.naga_info.specs.declared.info.TypeResolution.TheVariants.{Handle}
 use Rattle.naga_scope.proofs.WrittenConstants.{MarksBelow}
 use Rattle.naga_scope.proofs.tables.mark_type_forms.Given as goal

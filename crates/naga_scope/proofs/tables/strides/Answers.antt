@@ -1,4 +1,4 @@
-use Rattle.module_meaning.proofs.Layouts.{stand_in_order}
+use Rattle.module_semantics.proofs.Layouts.{stand_in_order}
 use Rattle.naga_scope.proofs.tables.strides.Goals as goal
 
 pub strides_of-requires-clause-ordered : goal.strides_of-requires-clause-ordered

@@ -1,5 +1,5 @@
 use Rattle.std.proofs.Common.{length}
-use Rattle.module_meaning.specs.WrittenOut.{is_written_out}
+use Rattle.module_semantics.specs.WrittenOut.{is_written_out}
 use Rattle.naga_scope.proofs.WrittenConstants.{MarksBelow}
 use Rattle.naga_scope.proofs.written.mark_constants.Given as goal
 

@@ -1,6 +1,6 @@
 use Rattle.std.proofs.Common.{◌≡◌, ◌<◌, ◌≤◌, ◌-◌, suc, arith, ap, sym, subst, ◌∙◌, length}
 use Rattle.std.proofs.Common.{slice_get}
-use Rattle.module_meaning.specs.ExpressionForms.{expression_has_form}
+use Rattle.module_semantics.specs.ExpressionForms.{expression_has_form}
 use Rattle.naga_scope.proofs.EarliestFound.{FoundFrom, SweptTo, found_all, found_begun, found_next, found_passed}
 use Rattle.naga_scope.proofs.EarliestFound.{swept_begun, swept_next, swept_passed}
 use Rattle.naga_scope.proofs.FirstLines.{size_kept}

@@ -1,5 +1,5 @@
 use Rattle.std.proofs.Common.{◌≡◌, ◌≤◌, ℕ, List, length}
-use Rattle.module_meaning.specs.ExpressionForms.{expression_has_form}
+use Rattle.module_semantics.specs.ExpressionForms.{expression_has_form}
 use Rattle.naga_scope.proofs.EarliestFound.{FoundFrom, SweptTo}
 use Rattle.naga_scope.specs.FirstLines.{WritesJust}
 use Rattle.naga_scope.specs.declared.lines.Line.{Line}

@@ -4,7 +4,7 @@ use Rattle.std.specs.Option.{option_map_or}
 use Rattle.naga_scope.specs.Availabilities.{TextPoint, handles_of}
 use Rattle.naga_scope.specs.Changes.{block_changes}
 use Rattle.naga_scope.specs.Log.{HasRoom}
-use Rattle.module_meaning.specs.FunctionNumbers.{function_number}
+use Rattle.module_semantics.specs.FunctionNumbers.{function_number}
 use Rattle.naga_words.proofs.Writing.{content_begun_as, content_whole_as, never_unsupported}
 use Rattle.naga_words.proofs.Writing.{reason_known, same_sink, writes_as}
 use Rattle.naga_scope.proofs.Planned.{plan_found}

@@ -1,7 +1,7 @@
 use Rattle.std.proofs.Common.{length, subst}
 use Rattle.std.specs.Prelude.{IfOk}
-use Rattle.module_meaning.specs.FunctionNumbers.{function_number}
-use Rattle.module_meaning.specs.Written.{OfFunctionAt}
+use Rattle.module_semantics.specs.FunctionNumbers.{function_number}
+use Rattle.module_semantics.specs.Written.{OfFunctionAt}
 use Rattle.naga_form.proofs.declarations.AcceptedGroups.{fits_in_range, known_is_fit}
 use Rattle.naga_scope.proofs.Planned.{of_the_ok}
 use Rattle.naga_scope.proofs.WrittenConstants.{globals_in_order}

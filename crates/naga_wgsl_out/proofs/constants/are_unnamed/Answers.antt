@@ -1,7 +1,7 @@
 use Rattle.std.proofs.Common.{◌∙◌, ap}
 use Rattle.std.specs.List.{list_all}
 use Rattle.std.specs.Option.{is_none}
-use Rattle.module_meaning.proofs.Fitting.{list_all-pairs}
+use Rattle.module_semantics.proofs.Fitting.{list_all-pairs}
 use Rattle.naga_wgsl_out.proofs.constants.are_unnamed.Goals as goal
 
 pub loop-constant-init : goal.loop-constant-init

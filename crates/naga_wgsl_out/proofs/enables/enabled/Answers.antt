@@ -1,5 +1,5 @@
 use Rattle.std.proofs.Common.{◌∙◌, ap, sym}
-use Rattle.module_meaning.specs.Enables.{is_enabled}
+use Rattle.module_semantics.specs.Enables.{is_enabled}
 use Rattle.naga_wgsl_out.specs.Enables.{either, enables_of, in_each_text}
 use Rattle.naga_wgsl_out.proofs.enables.enabled.Goals as goal
 

@@ -2,7 +2,7 @@ use Rattle.std.proofs.Common.{false}
 use Rattle.std.proofs.lemmas.List.{drop_all}
 use Rattle.std.specs.Option.{option_map_or}
 use Rattle.naga_ir.specs.declared.module.FunctionArgument.{FunctionArgument}
-use Rattle.module_meaning.specs.Enables.{Extension}
+use Rattle.module_semantics.specs.Enables.{Extension}
 use Rattle.naga_wgsl_out.proofs.FoundEnables.{found_all, found_at}
 use Rattle.naga_wgsl_out.proofs.enables.of_arguments.Goals as goal
 

@@ -1,5 +1,5 @@
 use Rattle.std.proofs.lemmas.List.{drop_all}
-use Rattle.module_meaning.specs.Enables.{entry_point_needs}
+use Rattle.module_semantics.specs.Enables.{entry_point_needs}
 use Rattle.naga_wgsl_out.proofs.FoundEnables.{found_all, found_at}
 use Rattle.naga_wgsl_out.proofs.enables.of_entry_points.Goals as goal
 

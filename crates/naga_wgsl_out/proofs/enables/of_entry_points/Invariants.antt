@@ -1,5 +1,5 @@
 use Rattle.std.proofs.Common.{◌≡◌, drop}
-use Rattle.module_meaning.specs.Enables.{entry_point_needs}
+use Rattle.module_semantics.specs.Enables.{entry_point_needs}
 use Rattle.naga_wgsl_out.specs.Enables.{either}
 use Rattle.naga_wgsl_out.proofs.FoundEnables.{enables_among}
 use Rattle.naga_wgsl_out.proofs.enables.of_entry_points.Given as goal

@@ -1,6 +1,6 @@
 use Rattle.std.proofs.Common.{◌∙◌, ℕ}
 use Rattle.naga_ir.specs.declared.types.Type_.{Type_}
-use Rattle.module_meaning.specs.Enables.{Extension, type_needs}
+use Rattle.module_semantics.specs.Enables.{Extension, type_needs}
 use Rattle.naga_wgsl_out.proofs.FoundEnables.{found_all, found_in_pairs, found_next}
 use Rattle.naga_wgsl_out.proofs.enables.of_types.Goals as goal
 

@@ -1,5 +1,5 @@
 use Rattle.std.proofs.Common.{◌≡◌}
-use Rattle.module_meaning.specs.Enables.{type_needs}
+use Rattle.module_semantics.specs.Enables.{type_needs}
 use Rattle.naga_wgsl_out.specs.Enables.{either}
 use Rattle.naga_wgsl_out.proofs.FoundEnables.{enables_among}
 use Rattle.naga_wgsl_out.proofs.enables.of_types.Given as goal

@@ -1,5 +1,5 @@
 use Rattle.std.proofs.Common.{◌≡◌, ◌∙◌, Some, ap, arith, subst}
-use Rattle.module_meaning.specs.Enables.{is_enabled}
+use Rattle.module_semantics.specs.Enables.{is_enabled}
 use Rattle.naga_back.specs.Flags.{is_portable}
 use Rattle.naga_words.proofs.Writing.{content_begun_as, content_whole_as, never_failed}
 use Rattle.naga_words.proofs.Writing.{never_unsupported, reason_known, same_sink, writes_as}

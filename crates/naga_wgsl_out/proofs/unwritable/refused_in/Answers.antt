@@ -1,6 +1,6 @@
 use Rattle.std.proofs.Common.{refl}
-use Rattle.module_meaning.proofs.FunctionNumbers.{number_within}
-use Rattle.module_meaning.specs.FunctionNumbers.{all_functions, function_number}
+use Rattle.module_semantics.proofs.FunctionNumbers.{number_within}
+use Rattle.module_semantics.specs.FunctionNumbers.{all_functions, function_number}
 use Rattle.naga_back.specs.Flags.{annotates_types}
 use Rattle.naga_names.proofs.Refusal.{element}
 use Rattle.naga_wgsl_out.proofs.ExpressionNames.{named_plan, none_full}

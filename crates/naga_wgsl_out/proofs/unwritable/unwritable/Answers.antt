@@ -11,7 +11,7 @@ pub returns-in-Some-clause-stands : goal.returns-in-Some-clause-stands
 returns-in-Some-clause-stands c =
     let found = c.in-Some.ensures in (
       c.in-Some.declaration,
-      found.place,
+      found.stands,
       c.unsupported_construct.ensures.names,
       c.unsupported_construct.ensures.carries,
     )

@@ -1,5 +1,5 @@
 use Rattle.std.proofs.Common.{◌≡◌, ◌+◌, ◌<◌, arith, length, subst, sym}
-use Rattle.module_meaning.proofs.FunctionNumbers.{number_within}
+use Rattle.module_semantics.proofs.FunctionNumbers.{number_within}
 use Rattle.naga_back.specs.declared.context.FunctionType.TheVariants as item
 use Rattle.naga_wgsl_out.proofs.Functions.{failed_as, last_entry_point, points_counted, up_to_all}
 use Rattle.naga_wgsl_out.proofs.Functions.{up_to_as, up_to_failed, up_to_more, up_to_none, wrote_as}

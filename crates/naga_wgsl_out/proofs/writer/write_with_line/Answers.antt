@@ -1,6 +1,6 @@
 use Rattle.std.proofs.Common.{◌≡◌, ◌∙◌, ◌++◌, ℕ, ap, subst, sym}
-use Rattle.module_meaning.proofs.FunctionNumbers.{one_type}
-use Rattle.module_meaning.specs.FunctionNumbers.{function_number}
+use Rattle.module_semantics.proofs.FunctionNumbers.{one_type}
+use Rattle.module_semantics.specs.FunctionNumbers.{function_number}
 use Rattle.naga_back.specs.declared.flags.WriterFlags.{WriterFlags}
 use Rattle.naga_info.specs.declared.info.ModuleInfo.{ModuleInfo}
 use Rattle.naga_ir.specs.declared.module.Module.{Module}

@@ -2,7 +2,7 @@ use Rattle.std.proofs.Common.{IfErr, IfOk, length, subst, string_bytes, ◌≤�
 use Rattle.std.specs.Prelude.{IsTrue}
 use Rattle.module_answers.specs.Within.{IsUnwritten}
 use Rattle.module_answers.specs.WriteOutcomes.{AnswersWriting}
-use Rattle.module_meaning.specs.acceptance.Accepted.{is_accepted}
+use Rattle.module_semantics.specs.acceptance.Accepted.{is_accepted}
 use Rattle.naga_wgsl_out.specs.Checked.{IsCounted}
 use Rattle.yorwethul_c.specs.Answers.{deepest_nesting, longest_text}
 use Rattle.yorwethul_c.proofs.Told.{as_given, at_most_seven, not_written, wrote}

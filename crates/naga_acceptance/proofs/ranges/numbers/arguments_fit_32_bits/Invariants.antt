@@ -1,7 +1,7 @@
 use Rattle.std.proofs.Common.{◌≡◌, drop, true}
 use Rattle.std.specs.List.{list_all}
 use Rattle.std.specs.Option.{option_map_or}
-use Rattle.module_meaning.specs.acceptance.Numbers.{binding_fits_32_bits}
+use Rattle.module_semantics.specs.acceptance.Numbers.{binding_fits_32_bits}
 use Rattle.naga_acceptance.proofs.ranges.numbers.arguments_fit_32_bits.Given as goal
 
 abbrev pub invariant-loop-argument : goal.invariant-loop-argument

@@ -1,6 +1,6 @@
 use Rattle.std.proofs.Common.{◌≡◌, drop}
 use Rattle.std.specs.List.{list_all}
-use Rattle.module_meaning.specs.acceptance.Numbers.{member_fits_32_bits}
+use Rattle.module_semantics.specs.acceptance.Numbers.{member_fits_32_bits}
 use Rattle.naga_acceptance.proofs.ranges.numbers.members_fit_32_bits.Given as goal
 
 abbrev pub invariant-loop-member : goal.invariant-loop-member

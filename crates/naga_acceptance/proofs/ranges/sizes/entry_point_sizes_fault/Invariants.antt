@@ -1,7 +1,7 @@
 use Rattle.std.proofs.Common.{◌≡◌, drop}
 use Rattle.std.specs.List.{enumerate_from, zip}
 use Rattle.naga_acceptance.specs.Searching.{first_unfit}
-use Rattle.module_meaning.specs.acceptance.InfoSizes.{entry_point_size_fits}
+use Rattle.module_semantics.specs.acceptance.InfoSizes.{entry_point_size_fits}
 use Rattle.naga_acceptance.proofs.ranges.sizes.entry_point_sizes_fault.Given as goal
 
 abbrev pub invariant-loop-index : goal.invariant-loop-index

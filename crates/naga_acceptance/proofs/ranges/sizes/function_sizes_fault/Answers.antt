@@ -7,7 +7,7 @@ use Rattle.naga_acceptance.specs.Searching.{first_unfit, unless}
 use Rattle.naga_acceptance.specs.declared.faults.Fault.TheVariants as fault
 use Rattle.naga_acceptance.specs.declared.faults.FaultPosition.TheVariants as item
 use Rattle.naga_acceptance.specs.declared.faults.FunctionPosition.TheVariants as part
-use Rattle.module_meaning.specs.acceptance.InfoSizes.{function_size_fits}
+use Rattle.module_semantics.specs.acceptance.InfoSizes.{function_size_fits}
 use Rattle.naga_acceptance.proofs.Pairing.{unfit_here, unfit_next}
 use Rattle.naga_acceptance.proofs.ranges.sizes.function_sizes_fault.Goals as goal
 

@@ -1,7 +1,7 @@
 use Rattle.std.proofs.Common.{◌≡◌}
 use Rattle.naga_ir.specs.Operands.{own_operands}
 use Rattle.naga_ir.specs.StatementViews.{tree_of}
-use Rattle.module_meaning.specs.acceptance.Ranges.{all_below}
+use Rattle.module_semantics.specs.acceptance.Ranges.{all_below}
 use Rattle.naga_acceptance.proofs.ranges.statements.operands_in_range.Given as goal
 
 abbrev pub invariant-loop-operand : goal.invariant-loop-operand

@@ -1,7 +1,7 @@
 use Rattle.std.proofs.Common.{◌≡◌}
 use Rattle.std.specs.List.{enumerate_from}
 use Rattle.naga_acceptance.specs.Searching.{first_unfit}
-use Rattle.module_meaning.specs.acceptance.Ranges.{parts_before}
+use Rattle.module_semantics.specs.acceptance.Ranges.{parts_before}
 use Rattle.naga_acceptance.proofs.ranges.types.first_early.Given as goal
 
 abbrev pub invariant-loop-handle : goal.invariant-loop-handle

@@ -4,7 +4,7 @@ use Rattle.naga_names.proofs.namer.uses.numbered.Goals as goal
 
 pub returns : goal.returns
 returns c =
-    let written : string_bytes c.push_str-2.new.self ≡ c.args.base.now ++ codes "_" ++ decimal c.args.number =
+    let written : string_bytes c.push_str-2.new.self ≡ c.args.stem.now ++ codes "_" ++ decimal c.args.number =
     search rules in
-    written ∙ ap (λ digits. c.args.base.now ++ codes "_" ++ digits)
+    written ∙ ap (λ digits. c.args.stem.now ++ codes "_" ++ digits)
     (sym (numeral_is_decimal c.args.number (omega arith)))

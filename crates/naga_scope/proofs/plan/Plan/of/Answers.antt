@@ -1,8 +1,8 @@
 use Rattle.std.proofs.Common.{[], ◌≡◌, ap, length, subst, sym}
 use Rattle.std.specs.Option.{option_map_or}
-use Rattle.module_meaning.specs.ExpressionLabels.{expression_labels}
-use Rattle.module_meaning.specs.FunctionNumbers.{function_number}
-use Rattle.module_meaning.specs.Names.{labels_named_in}
+use Rattle.module_semantics.specs.ExpressionLabels.{expression_labels}
+use Rattle.module_semantics.specs.FunctionNumbers.{function_number}
+use Rattle.module_semantics.specs.Names.{labels_named_in}
 use Rattle.naga_scope.proofs.Results.{results_fit}
 use Rattle.naga_form.proofs.declarations.AcceptedGroups.{fits_in_range, known_is_fit}
 use Rattle.naga_form.proofs.statements.AcceptedFunctions.{of_number, ranges_are}

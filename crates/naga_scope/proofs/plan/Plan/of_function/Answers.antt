@@ -5,7 +5,7 @@ use Rattle.std.specs.Borrow.{Bor}
 use Rattle.std.specs.List.{flat_map}
 use Rattle.std.specs.Prelude.{Err, Ok, OnErr, Result, sum_by}
 use Rattle.std.specs.declared.string.String.{String}
-use Rattle.module_meaning.specs.ExpressionLabels.{expression_labels}
+use Rattle.module_semantics.specs.ExpressionLabels.{expression_labels}
 use Rattle.naga_form.proofs.Fits.{mapped_length}
 use Rattle.naga_ir.specs.StatementTree.{StatementTree}
 use Rattle.naga_ir.specs.StatementViews.{tree_of}

@@ -4,7 +4,7 @@ use Rattle.naga_ir.specs.declared.module.Module.{Module}
 use Rattle.naga_info.specs.declared.info.ModuleInfo.{ModuleInfo}
 use Rattle.naga_info.specs.declared.info.ExpressionInfo.{ExpressionInfo}
 use Rattle.shader_runs.specs.Scope.{usable_all}
-use Rattle.module_meaning.specs.FunctionShapes.{function_shape}
+use Rattle.module_semantics.specs.FunctionShapes.{function_shape}
 use Rattle.naga_scope.specs.Availabilities.{handles_of}
 use Rattle.naga_scope.proofs.points.Scope.are_usable.Given as goal
 

@@ -1,8 +1,8 @@
 use Rattle.std.proofs.Common.{◌≡◌, ap, length, slice_set, subst, sym, take, ◌∙◌}
 use Rattle.std.specs.Prelude.{IsTrue, get_or}
 use Rattle.std.specs.Option.{is_some}
-use Rattle.module_meaning.specs.ExpressionLabels.{label_of}
-use Rattle.module_meaning.specs.FunctionShapes.{function_shape}
+use Rattle.module_semantics.specs.ExpressionLabels.{label_of}
+use Rattle.module_semantics.specs.FunctionShapes.{function_shape}
 use Rattle.shader_runs.specs.Program.{expression_of, is_pure, operands_of}
 use Rattle.shader_runs.specs.Scope.{usable_all}
 use Rattle.naga_scope.specs.Availabilities.{TextPoint, emitted_availability, handles_of, next_name}

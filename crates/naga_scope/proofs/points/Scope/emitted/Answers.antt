@@ -2,13 +2,13 @@ use Rattle.std.proofs.Common.{false, get_or, true, ap, subst, sym, ◌∙◌}
 use Rattle.std.specs.Prelude.{IsTrue}
 use Rattle.shader_runs.specs.Program.{expression_of, operands_of, is_pure}
 use Rattle.shader_runs.specs.Scope.{usable_all}
-use Rattle.module_meaning.specs.FunctionShapes.{function_shape}
+use Rattle.module_semantics.specs.FunctionShapes.{function_shape}
 use Rattle.naga_scope.specs.Log.{grows}
 use Rattle.naga_scope.specs.declared.points.Availability.TheVariants.{Absent}
 use Rattle.naga_scope.specs.declared.points.BoundName.TheVariants.{Numbered}
 use Rattle.naga_scope.proofs.Logs.{bound_grows, emitted_grows, grows_refl}
 use Rattle.std.specs.Option.{is_some}
-use Rattle.module_meaning.specs.ExpressionLabels.{label_of}
+use Rattle.module_semantics.specs.ExpressionLabels.{label_of}
 use Rattle.naga_scope.specs.Availabilities.{handles_of, emitted_availability, is_pure_kind}
 use Rattle.naga_scope.specs.Availabilities.{next_name, unbound_availability}
 use Rattle.naga_scope.proofs.ShapeKinds.{pure_at, pure_operands}

@@ -2,7 +2,7 @@ use Rattle.std.proofs.Common.{[], ap, sym, ◌∙◌}
 use Rattle.std.specs.Option.{option_map, option_map_or}
 use Rattle.naga_ir.specs.Operands.{expression_operands}
 use Rattle.shader_runs.specs.Scope.{usable_all}
-use Rattle.module_meaning.specs.FunctionShapes.{function_shape}
+use Rattle.module_semantics.specs.FunctionShapes.{function_shape}
 use Rattle.naga_scope.specs.Availabilities.{handles_of}
 use Rattle.naga_scope.proofs.points.Scope.has_operands.Goals as goal
 

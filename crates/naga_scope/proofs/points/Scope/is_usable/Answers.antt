@@ -1,5 +1,5 @@
 use Rattle.std.proofs.Common.{ap₂, sym, ◌∙◌}
-use Rattle.module_meaning.specs.Names.{numbered_name}
+use Rattle.module_semantics.specs.Names.{numbered_name}
 use Rattle.naga_scope.specs.Availabilities.{handles_of, availability_of, usable_by}
 use Rattle.naga_scope.proofs.ShapeKinds.{usable_is}
 use Rattle.naga_scope.proofs.points.Scope.is_usable.Goals as goal

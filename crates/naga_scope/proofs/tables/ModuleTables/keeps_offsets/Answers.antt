@@ -1,6 +1,6 @@
 use Rattle.std.proofs.Common.{◌∙◌, ap, subst, sym}
 use Rattle.std.specs.Option.{is_some}
-use Rattle.module_meaning.proofs.Layouts.{rules_alike}
+use Rattle.module_semantics.proofs.Layouts.{rules_alike}
 use Rattle.naga_layout.specs.Tables.{written_rule}
 use Rattle.naga_layout.specs.Types.{kept_struct, layout_at}
 use Rattle.wgsl_layout.specs.Capped.{capped}

@@ -1,5 +1,5 @@
 use Rattle.std.proofs.Common.{◌∙◌, ap}
-use Rattle.module_meaning.specs.Layouts.{module_rule}
+use Rattle.module_semantics.specs.Layouts.{module_rule}
 use Rattle.naga_layout.proofs.Left.{cell_aligned}
 use Rattle.naga_layout.specs.Tables.{cell_at}
 use Rattle.naga_scope.specs.Tables.{Tables}

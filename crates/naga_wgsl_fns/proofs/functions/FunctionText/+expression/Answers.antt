@@ -4,7 +4,7 @@ use Rattle.naga_ir.specs.Operands.{expression_operands, level_operands}
 use Rattle.std.specs.List.{AllByRecursion}
 use Rattle.naga_words.proofs.Writing.{leaves_as, leaves_last, leaves_more, leaves_start, writes_as}
 use Rattle.naga_words.proofs.Writing.{writes_nothing, writes_then}
-use Rattle.module_meaning.specs.Sampling.{offset_has_form, own_offset_has_form, sampling_has_form}
+use Rattle.module_semantics.specs.Sampling.{offset_has_form, own_offset_has_form, sampling_has_form}
 use Rattle.naga_wgsl_fns.proofs.ImageRows.{furthers_none, furthers_one, furthers_two, no_offset}
 use Rattle.naga_wgsl_fns.proofs.ImageRows.{offset_row, sampling_whole}
 use Rattle.naga_wgsl_fns.proofs.Preconditions.{all_in_text, highest_below, sampled_in}
@@ -17,8 +17,8 @@ use Rattle.naga_wgsl_fns.proofs.VariableRows.{handle_variable_reference, kept_re
 use Rattle.naga_wgsl_fns.specs.Names.{name_of_override}
 use Rattle.naga_wgsl_fns.specs.Expressions.{next_operand_text, operands_left, operands_text}
 use Rattle.naga_wgsl_fns.specs.FunctionText.{AreInText, expressions}
-use Rattle.module_meaning.specs.ExpressionOperators.{level_of}
-use Rattle.module_meaning.specs.OperatorTable.{zero_is_written}
+use Rattle.module_semantics.specs.ExpressionOperators.{level_of}
+use Rattle.module_semantics.specs.OperatorTable.{zero_is_written}
 use Rattle.naga_wgsl_fns.specs.Images.{furthers_text, offset_text, zero_text}
 use Rattle.naga_wgsl_fns.proofs.PartRows.{base_pointed, base_signed, base_unpointed, base_unsigned}
 use Rattle.naga_wgsl_fns.proofs.PartRows.{element_end, plain_row, reference_pointed}

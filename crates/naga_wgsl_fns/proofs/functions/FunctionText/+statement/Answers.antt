@@ -324,10 +324,10 @@ write_cases-returns-clause-text g t c =
     let n = c.loop-index.index in
     let k = c.loop-index.at.scope.named in
     let s = handles_in self c.args.at.now.scope.table in
-    let labels = case_values_between c.loop-index.first n items in
+    let case_values = case_values_between c.loop-index.first n items in
     leaves_none _ _ _ _ c.loop-index.invariant.leaves
-    (ap (cases_text self k s c.args.at.now.indent labels)
-    (ap cases_of (drop_all n items c.loop-index-test.false)) ∙ cases_none self k s c.args.at.now.indent labels)
+    (ap (cases_text self k s c.args.at.now.indent case_values)
+    (ap cases_of (drop_all n items c.loop-index-test.false)) ∙ cases_none self k s c.args.at.now.indent case_values)
 
 -- ---- a body in two parts
 pub write_loop_body-write_lines-requires : goal.write_loop_body-write_lines-requires

@@ -96,7 +96,7 @@ invariant-write_lines-loop-statement g l = record {
   indent : l.at.indent ≡ l.initial.at.indent;
 }
 
--- the labels of the cases from the first on wait for the next case that doesn't fall through
+-- the case_values of the cases from the first on wait for the next case that doesn't fall through
 abbrev pub invariant-write_cases-loop-index : goal.invariant-write_cases-loop-index
 invariant-write_cases-loop-index g l = record {
   leaves : Leaves (output_view g.W.TextSink.text g.W.TextSink.failures l.initial.out)

@@ -1,6 +1,6 @@
 use Rattle.std.proofs.Common.{Option, None, ap, sym, ◌∙◌}
 use Rattle.std.specs.Prelude.{Bool, List, ℕ, if◌then◌else◌, slice_get}
-use Rattle.module_meaning.specs.ExpressionShapes.{component_letters}
+use Rattle.module_semantics.specs.ExpressionShapes.{component_letters}
 use Rattle.naga_wgsl_fns.proofs.Preconditions.{component_is}
 use Rattle.naga_wgsl_fns.proofs.functions.FunctionText.component.Goals as goal
 

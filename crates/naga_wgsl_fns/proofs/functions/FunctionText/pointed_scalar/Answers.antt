@@ -1,7 +1,7 @@
 use Rattle.std.proofs.Common.{◌∙◌, ap, sym}
 use Rattle.std.proofs.lemmas.Bool.{false≢true}
 use Rattle.std.specs.Option.{is_some, option_and_then}
-use Rattle.module_meaning.specs.ExpressionOperators.{pointee_scalar}
+use Rattle.module_semantics.specs.ExpressionOperators.{pointee_scalar}
 use Rattle.naga_wgsl_fns.proofs.functions.FunctionText.pointed_scalar.Goals as goal
 
 pub unreachable-requires : goal.unreachable-requires

@@ -1,6 +1,6 @@
 use Rattle.std.proofs.Common.{◌∙◌, ◌≡◌, ap, subst, sym, refl, length, arith}
 use Rattle.std.specs.Option.{option_to_list}
-use Rattle.module_meaning.specs.Names.{module_names}
+use Rattle.module_semantics.specs.Names.{module_names}
 use Rattle.naga_ir.specs.Operands.{own_operands, own_result}
 use Rattle.naga_ir.specs.StatementViews.{tree_of}
 use Rattle.naga_scope.proofs.Logs.{extends_refl}

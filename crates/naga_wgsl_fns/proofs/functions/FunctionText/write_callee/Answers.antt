@@ -1,6 +1,6 @@
 use Rattle.std.proofs.Common.{◌≡◌, true, sym, subst, ◌∙◌, length}
 use Rattle.std.proofs.lemmas.Option.{same_Some}
-use Rattle.module_meaning.specs.AlikeTypes.{has_type_form}
+use Rattle.module_semantics.specs.AlikeTypes.{has_type_form}
 use Rattle.naga_info.specs.declared.info.TypeResolution.TheVariants.{Value}
 use Rattle.naga_words.proofs.Writing.{writes_as}
 use Rattle.naga_wgsl_fns.proofs.ConversionRows.{callee_row, target_fits}

@@ -1,5 +1,5 @@
 use Rattle.std.proofs.Common.{ap, ◌∙◌}
-use Rattle.module_meaning.specs.ExpressionForms.{constant_has_form}
+use Rattle.module_semantics.specs.ExpressionForms.{constant_has_form}
 use Rattle.naga_words.proofs.Writing.{writes_as}
 use Rattle.naga_wgsl_fns.proofs.ModuleTexts.{can_in}
 use Rattle.naga_wgsl_fns.specs.Constants.{constant_text}

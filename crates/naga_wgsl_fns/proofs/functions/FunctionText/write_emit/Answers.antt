@@ -3,7 +3,7 @@ use Rattle.std.proofs.Common.{length}
 use Rattle.std.specs.List.{filter}
 use Rattle.shader_runs.specs.Program.{from}
 use Rattle.shader_runs.specs.Scope.{after_emit, after_one, named_after, named_after_all}
-use Rattle.module_meaning.specs.Names.{module_names}
+use Rattle.module_semantics.specs.Names.{module_names}
 use Rattle.naga_scope.proofs.Emitting.{range_more, range_none}
 use Rattle.naga_scope.proofs.Logs.{extends_refl, extends_then}
 use Rattle.naga_words.proofs.Writing.{leaves_more, leaves_none, leaves_start, writes_as}

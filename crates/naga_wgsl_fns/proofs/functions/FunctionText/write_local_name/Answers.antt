@@ -1,5 +1,5 @@
 use Rattle.std.proofs.Common.{ap, subst, sym, ◌∙◌}
-use Rattle.module_meaning.specs.Names.{module_names, name_in}
+use Rattle.module_semantics.specs.Names.{module_names, name_in}
 use Rattle.naga_words.proofs.Writing.{writes_as}
 use Rattle.naga_wgsl_fns.proofs.OwnNames.{IsNamed, local_is, local_is_named}
 use Rattle.naga_wgsl_fns.proofs.functions.FunctionText.write_local_name.Goals as goal

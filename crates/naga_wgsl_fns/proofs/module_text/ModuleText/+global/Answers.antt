@@ -1,6 +1,6 @@
 use Rattle.std.proofs.Common.{[], ◌≤◌, arith, ap, ◌∙◌, subst, sym, true}
 use Rattle.std.specs.Option.{option_map_or}
-use Rattle.module_meaning.specs.ExpressionForms.{global_has_form}
+use Rattle.module_semantics.specs.ExpressionForms.{global_has_form}
 use Rattle.naga_ir.specs.Operands.{expression_operands}
 use Rattle.naga_words.proofs.Writing.{leaves_as, leaves_last, leaves_more, leaves_start, writes_as}
 use Rattle.naga_wgsl_fns.proofs.ConstantRows.{ArePartsBelow, composed_passes, composed_row}

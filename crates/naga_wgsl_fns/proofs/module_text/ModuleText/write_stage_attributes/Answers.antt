@@ -1,5 +1,5 @@
 use Rattle.std.proofs.Common.{◌≡◌, ◌∙◌, List, ℕ, ap, sym}
-use Rattle.module_meaning.specs.Names.{module_names}
+use Rattle.module_semantics.specs.Names.{module_names}
 use Rattle.naga_form.specs.Attributes.{stage_attributes}
 use Rattle.naga_ir.specs.declared.module.EntryPoint.{EntryPoint}
 use Rattle.naga_ir.specs.declared.module.Module.{Module}

@@ -1,7 +1,7 @@
 use Rattle.std.proofs.Common.{◌<◌, ◌≤◌, arith, ap, length, subst, sym, ◌∙◌, Some, None, refl}
 use Rattle.std.specs.List.{find}
 use Rattle.std.specs.Prelude.{Bool, ℕ, cond, not}
-use Rattle.module_meaning.specs.ExpressionForms.{global_has_form}
+use Rattle.module_semantics.specs.ExpressionForms.{global_has_form}
 use Rattle.naga_ir.specs.declared.expression.Expression.TheVariants as expression
 use Rattle.naga_ir.specs.declared.module.Module.{Module}
 use Rattle.naga_wgsl_fns.proofs.UnsupportedConstants as unsupported

@@ -1,7 +1,7 @@
 use Rattle.std.proofs.Common.{ap, sym, ◌∙◌, ℕ}
 use Rattle.std.specs.List.{find}
 use Rattle.std.specs.Prelude.{not}
-use Rattle.module_meaning.specs.ExpressionForms.{global_has_form}
+use Rattle.module_semantics.specs.ExpressionForms.{global_has_form}
 use Rattle.naga_scope.proofs.SpelledTypes.{found_here, not_here}
 use Rattle.naga_wgsl_fns.proofs.UnsupportedConstants.{as_it_is}
 use Rattle.naga_wgsl_fns.proofs.refusals.constants.first_unwritten.Goals as goal

@@ -1,7 +1,7 @@
 use Rattle.std.proofs.Common.{◌≡◌, drop, map}
 use Rattle.std.specs.List.{find}
 use Rattle.std.specs.Prelude.{not, ℕ}
-use Rattle.module_meaning.specs.ExpressionForms.{global_has_form}
+use Rattle.module_semantics.specs.ExpressionForms.{global_has_form}
 use Rattle.naga_wgsl_fns.proofs.refusals.constants.first_unwritten.Given as goal
 
 abbrev pub invariant-loop-handle : goal.invariant-loop-handle

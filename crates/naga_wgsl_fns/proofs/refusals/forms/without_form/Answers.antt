@@ -1,7 +1,7 @@
 use Rattle.std.proofs.Common.{◌&&◌, Bool, subst, sym}
 use Rattle.std.specs.Prelude.{IsFalse}
-use Rattle.module_meaning.specs.ExpressionForms.{expression_has_form}
-use Rattle.module_meaning.specs.Sampling.{sampling_has_form}
+use Rattle.module_semantics.specs.ExpressionForms.{expression_has_form}
+use Rattle.module_semantics.specs.Sampling.{sampling_has_form}
 use Rattle.naga_wgsl_fns.specs.Constructs.{Tells}
 use Rattle.naga_wgsl_fns.specs.Refusals.{NamesExpression, NamesSampling}
 use Rattle.naga_wgsl_fns.proofs.refusals.forms.without_form.Goals as goal

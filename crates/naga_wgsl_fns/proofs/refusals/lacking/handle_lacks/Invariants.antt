@@ -1,5 +1,5 @@
 use Rattle.std.proofs.Common.{◌≡◌}
-use Rattle.module_meaning.specs.LackingScalars.{handle_lacks, lacks_within}
+use Rattle.module_semantics.specs.LackingScalars.{handle_lacks, lacks_within}
 use Rattle.naga_wgsl_fns.proofs.refusals.lacking.handle_lacks.Given as goal
 
 abbrev pub invariant-loop-levels : goal.invariant-loop-levels

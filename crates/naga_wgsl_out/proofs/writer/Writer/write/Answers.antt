@@ -85,7 +85,7 @@ returns-in-Some-clause-leaves g c =
     (declaration_tells_of_none m error c.declaration_without_form.ensures.names)
     (λ of. record {
       refusal = record { construct = told.0; position = position.Declaration _ };
-      stands = (c.in-Some.declaration, found.place, told.1, told.2);
+      stands = (c.in-Some.declaration, found.stands, told.1, told.2);
       first = found.first;
       told = told.3;
     })

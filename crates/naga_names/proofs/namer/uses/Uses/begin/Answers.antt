@@ -5,6 +5,6 @@ use Rattle.naga_names.proofs.namer.uses.Uses.begin.Goals as goal
 
 pub returns-clause-ok : goal.returns-clause-ok
 returns-clause-ok c =
-    uses_in-insert (string_bytes c.args.base) 0 c.self.inside.later c.insert.new.self
+    uses_in-insert (string_bytes c.args.stem) 0 c.self.inside.later c.insert.new.self
     c.in_ok-insert.ensures.updates
-    ∙ ap (λ uses. finite.insert uses (string_bytes c.args.base) 1) c.self.view_is
+    ∙ ap (λ uses. finite.insert uses (string_bytes c.args.stem) 1) c.self.view_is

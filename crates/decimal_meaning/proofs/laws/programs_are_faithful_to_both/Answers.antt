@@ -1,5 +1,0 @@
-use Rattle.decimal_meaning.proofs.DecimalFaithfully.{interface_of_both, runs_of_both}
-use Rattle.decimal_meaning.proofs.laws.programs_are_faithful_to_both.Goals as goal
-
-pub returns : goal.returns
-returns c = record { interface = interface_of_both; runs = runs_of_both }

@@ -1,8 +1,0 @@
-use Rattle.std.proofs.Common.{◌≡◌, drop}
-use Rattle.std.specs.List.{list_any}
-use Rattle.module_meaning.specs.Halves.{value_is_over_halves}
-use Rattle.module_meaning.proofs.extensions.values_over_halves.Given as goal
-
-abbrev pub invariant-loop-ty : goal.invariant-loop-ty
-invariant-loop-ty l =
-    list_any value_is_over_halves (drop l.ty-index l.known) ≡ list_any value_is_over_halves l.known

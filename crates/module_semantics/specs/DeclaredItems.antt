@@ -1,0 +1,84 @@
+-- What a module means by the names of its declarations: in types, in initialisers, and with them
+-- by the words there, and in the attributes of entry points.
+--
+-- Throughout, m is a module, of which info is known, h is the handle of a type, it a type by
+-- itself, own tells the items of the types that stand before it, e is an entry point, and t a type.
+use Rattle.std.specs.Prelude.{ℕ, zero, suc, List, [], ◌∷◌, ◌++◌, Option, length, map, take}
+use Rattle.std.specs.Prelude.{slice_get}
+use Rattle.std.specs.List.{enumerate_from, filter}
+use Rattle.std.specs.Option.{option_and_then, option_map_or, option_to_list}
+use Rattle.naga_ir.specs.declared.module.EntryPoint.{EntryPoint}
+use Rattle.naga_ir.specs.declared.module.Module.{Module}
+use Rattle.naga_ir.specs.declared.module.ShaderStage.{ShaderStage}
+use Rattle.naga_ir.specs.declared.module.ShaderStage.TheVariants as stage
+use Rattle.naga_ir.specs.declared.types.ArraySize.{ArraySize}
+use Rattle.naga_ir.specs.declared.types.ArraySize.TheVariants as size
+use Rattle.naga_ir.specs.declared.types.TypeInner.{TypeInner}
+use Rattle.naga_ir.specs.declared.types.TypeInner.TheVariants as inner
+use Rattle.naga_info.specs.declared.info.ModuleInfo.{ModuleInfo}
+use Rattle.naga_info.specs.declared.info.TypeResolution.{TypeResolution}
+use Rattle.naga_info.specs.declared.info.TypeResolution.TheVariants.{Handle, Value}
+use Rattle.module_semantics.specs.ExpressionContexts.{global_tree, override_number}
+use Rattle.module_semantics.specs.Undeclared.{is_declared}
+use Rattle.shader_runs.specs.Resolution.{ConstantTarget, GlobalTarget, Target, constant_targets}
+use Rattle.text_semantics.specs.Resolution.{Item, StructItem, ValueItem}
+
+-- ---- types
+-- the number of a struct among those that a text declares
+abbrev pub struct_number : Module → (h : ℕ) → ℕ
+struct_number m h =
+    length (filter (λ p. is_declared m.special_types p.0 p.1.inner)
+    (enumerate_from 0 (take h m.types)))
+
+-- a length names its override
+abbrev pub length_meant : Module → ArraySize → List Item
+length_meant m (size.Pending o) = ValueItem (ConstantTarget (override_number m o)) ∷ []
+length_meant m _ = []
+
+-- a struct is named, and what is over another type names what that names
+abbrev pub items_by : Module → (own : ℕ → List Item) → (h : ℕ) → TypeInner → List Item
+items_by m own h (inner.Struct members span) = StructItem (struct_number m h) ∷ []
+items_by m own h (inner.Pointer base space) = own base
+items_by m own h (inner.Array base size stride) = own base ++ length_meant m size
+items_by m own h (inner.BindingArray base size) = own base ++ length_meant m size
+items_by m own h _ = []
+
+-- the items that the spelling of a type names, in their order, at most so many levels deep
+abbrev pub items_within : (levels : ℕ) → Module → (h : ℕ) → List Item
+items_within zero m h = []
+items_within (suc levels) m h =
+    option_map_or (λ t. items_by m (items_within levels m) h t.inner) (slice_get m.types h) []
+
+abbrev pub handle_items : Module → (h : ℕ) → List Item
+handle_items m h = items_within (suc h) m h
+
+-- those of the type of an expression; a struct by itself has no name
+abbrev pub resolution_items : Module → TypeResolution → List Item
+resolution_items m (Handle h) = handle_items m h
+resolution_items m (Value it) = items_by m (handle_items m) 0 it
+
+-- ---- initialisers and attributes
+-- what an initialiser means, if there is one
+abbrev pub initialiser_meant : Module → ModuleInfo → Option ℕ → List Target
+initialiser_meant m info init =
+    option_map_or constant_targets (option_and_then (global_tree m info) init) []
+
+-- of each override, and then of each variable
+abbrev pub module_initialiser_targets : Module → ModuleInfo → List (List Target)
+module_initialiser_targets m info =
+    map (λ o. initialiser_meant m info o.init) m.overrides ++
+    map (λ g. initialiser_meant m info g.init) m.global_variables
+
+-- the variables that the attributes of an entry point name, in their order
+abbrev pub stage_variables : EntryPoint → ShaderStage → List ℕ
+stage_variables e stage.Mesh =
+    map (λ i. i.output_variable) (option_to_list e.mesh_info) ++ option_to_list e.task_payload
+stage_variables e stage.Task = option_to_list e.task_payload
+stage_variables e stage.AnyHit = option_to_list e.incoming_ray_payload
+stage_variables e stage.ClosestHit = option_to_list e.incoming_ray_payload
+stage_variables e stage.Miss = option_to_list e.incoming_ray_payload
+stage_variables e _ = []
+
+abbrev pub module_stage_targets : Module → List (List Target)
+module_stage_targets m =
+    map (λ e. map GlobalTarget (stage_variables e e.stage)) m.entry_points.items
