@@ -42,7 +42,9 @@ fn case_value(number: u32, step: u32) -> SwitchValue {
 fn case_values(rt: &impl Abort, alloc: Global, count: u32, step: u32) -> Vec<SwitchValue> {
     let mut case_values = Vec::new(alloc);
     for number in (0..count).rev() {
-        case_values.push(case_value(number, step)).expect(rt, "memory");
+        case_values
+            .push(case_value(number, step))
+            .expect(rt, "memory");
     }
     case_values.push(SwitchValue::Default).expect(rt, "memory");
     case_values
@@ -77,7 +79,9 @@ fn is_accepted(rt: &impl Abort, alloc: Global, case_values: &[SwitchValue]) -> b
 /// another default.
 fn check(rt: &impl Abort, alloc: Global, case_values: &mut Vec<SwitchValue>, again: u32) {
     assert!(rt; is_accepted(rt, alloc, case_values), "{again}");
-    case_values.push(SwitchValue::U32(again)).expect(rt, "memory");
+    case_values
+        .push(SwitchValue::U32(again))
+        .expect(rt, "memory");
     assert!(rt; !is_accepted(rt, alloc, case_values), "{again}");
     case_values.pop();
     case_values.push(SwitchValue::Default).expect(rt, "memory");

@@ -8,9 +8,9 @@ mod back;
 #[cfg(test)]
 mod builders;
 #[cfg(test)]
-mod ir;
-#[cfg(test)]
 mod case_values;
+#[cfg(test)]
+mod ir;
 #[cfg(test)]
 mod layouts;
 #[cfg(test)]

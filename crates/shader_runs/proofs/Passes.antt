@@ -459,8 +459,7 @@ module _ (p : Module) (c : Call) (n : Names) (d : Respond) (facts : Facts p c n 
       falls_to rest k case_values s x
       (among_append x case_values l ∙ or_right (among x case_values) (same_case_value x l) q) m
   comes_to {x} (other_case {l = l} {b = b} {falls = false} q rest) k case_values s e m =
-      let w = comes_to rest (named_by_all c.function b k) [] s refl m.2 in
-      (
+      let w = comes_to rest (named_by_all c.function b k) [] s refl m.2 in (
         (other_group (among_append x case_values l ∙ ap (λ a. a || same_case_value x l) e ∙ q) w.0.0, w.0.1, w.0.2),
         w.1,
         w.2,

@@ -156,8 +156,7 @@ module _ (n : Naming) (a : ExpressionContext) (callees expressions : ℕ)
           (cases_are_sound m f known true continues cs) sound in
           let empty = and_parts (not falls || has_no_statements body)
           (block_has_forms body && cases_have_forms cs) has in
-          let forms = and_parts (block_has_forms body) (cases_have_forms cs) empty.1 in
-          (
+          let forms = and_parts (block_has_forms body) (cases_have_forms cs) empty.1 in (
             case_values.0,
             all_fit true continues body ranges.0 one.0 forms.0,
             cases_fit continues cs ranges.1 one.1 forms.1,

@@ -1,15 +1,15 @@
+mod rows;
+
 use super::{answer, run};
 use bitflags::Flags;
 use naga_wgsl_out::builder::ModuleBuilder;
 use naga_wgsl_out::wgsl::WriterFlags;
+use rows::{BRANCH_ROWS, DECLARATION_ROWS, LAYOUT_ROWS, LOOP_ROWS};
 use sample_modules::SampleModule;
 use std::alloc::{AllocError, Global};
 use std::io;
 use std::io::Write;
 use std::test::Fail;
-
-mod rows;
-use rows::{BRANCH_ROWS, DECLARATION_ROWS, LAYOUT_ROWS, LOOP_ROWS};
 
 const IDENTITY: &str = "fn f(x: i32) -> i32 {\n    return x;\n}\n\n";
 
