@@ -107,7 +107,7 @@ no_operator p w fails one two =
     ap (λ o. option_or o (first_with w mathematical)) (none_among p w fails others one)
     ∙ none_among p w fails mathematical two
 
--- ---- the layouts of types
+-- ---- printed types
 word_bytes : (w : List ℕ) → is_word_text w ≡ true → all_word_bytes w ≡ true
 word_bytes [] e = refl
 word_bytes (b ∷ bytes) e = letter_first b bytes (and_parts (is_letter b) (all_word_bytes bytes) e)
