@@ -169,7 +169,7 @@ def square():
         picture.text((left + 170 + middle) / 2, rows[row] + centre - 8, "form")
         picture.text((left + 170 + middle) / 2, rows[row] + centre + 18, caption, size=11, colour=PALE)
     picture.arrow((middle + 170, rows[0] + 18), (right, rows[0] + 18))
-    picture.text((middle + 170 + right) / 2, rows[0] + 10, "layout")
+    picture.text((middle + 170 + right) / 2, rows[0] + 10, "printed")
     picture.arrow((right, rows[0] + 38), (middle + 170, rows[0] + 38))
     picture.text((middle + 170 + right) / 2, rows[0] + 55, "one reading")
     for x, word, caption in ((left, "reduced", "module_semantics"), (middle, "reduced", "text_semantics")):
