@@ -30,7 +30,7 @@ use Rattle.yorwethul_c.specs.Answers.{IsAccepted, IsNotAccepted, IsRefused, IsTo
 use Rattle.yorwethul_c.specs.Answers.{IsWritten, LacksMemory, Says, SaysOfError, SaysOfUnwritten}
 use Rattle.yorwethul_c.specs.Answers.{SaysOfWritten, SaysThat, TellsAnyRefusal, deepest_nesting}
 use Rattle.yorwethul_c.specs.Answers.{longest_text, TellsOfChecking, TellsOfLayouts, TellsOfReading}
-use Rattle.yorwethul_c.specs.Answers.{TellsOfWriting, IsAsAsked, asks_decimal_floats}
+use Rattle.yorwethul_c.specs.Answers.{TellsOfWriting, IsAsAsked, WasAsked, asks_decimal_floats}
 use Rattle.yorwethul_c.specs.declared.status.Status.{Status}
 use Rattle.yorwethul_c.specs.declared.status.Status.TheVariants as status
 
@@ -145,7 +145,7 @@ not_written json flags writer given m read info (unwritten.NotAccepted fault) to
           (subst (λ read. TellsFaultAt root.Member m read fault text) is.3 line);
     }) refl says
 not_written json flags writer given m read info unwritten.TooLong told text known bits asked is says =
-    let long : IsTooLong flags =
+    let was_asked : WasAsked flags =
     record {
       flags_are_known = known;
       writer = writer;
@@ -157,8 +157,8 @@ not_written json flags writer given m read info unwritten.TooLong told text know
       info = info;
       accepted = is.accepted;
       counted = is.counted;
-      longer = is.longer;
     } in
+    let long : IsTooLong flags = record { asked = was_asked; longer = is.longer } in
     said (TellsOfWriting json flags) status.TooLong told text long refl says.0
 not_written json flags writer given m read info (unwritten.Memory error) told text known bits asked is says =
     said (TellsOfWriting json flags) status.OutOfMemory told text (says.1 refl) refl says.0
@@ -208,13 +208,8 @@ module _ (json : List ℕ) (flags : ℕ) (writer : WriterFlags) (given m : Modul
     (content : List ℕ) (known : flags ≤ 7) (bits : bits_of writer ≡ flags % 4)
     (asked : IsAsAsked (asks_decimal_floats flags) given m) (accepted : IsTrue (is_accepted given read))
     (counted : IsCounted m read info) where
-  -- an error that tells of the module is a refusal, which is told beside it
-  refusing : (e : Error) (refusal : Option Refusal) (text : List ℕ) →
-      FaithfulWriting writer m info (Err e) [] content 0 0 →
-      TellsBeside (annotates_types writer) m info (Err e) refusal → TellsOfModule e →
-      TellsAnyRefusal m refusal text → IsRefused flags text
-  refusing e None text faithful beside tells line = absurd (beside tells)
-  refusing e (Some refusal) text faithful beside tells line = record {
+  abbrev was_asked : WasAsked flags
+  was_asked = record {
     flags_are_known = known;
     writer = writer;
     has_bits = bits;
@@ -223,10 +218,20 @@ module _ (json : List ℕ) (flags : ℕ) (writer : WriterFlags) (given m : Modul
     is_as_asked = asked;
     read = read;
     info = info;
-    error = e;
-    beginning = content;
     accepted = accepted;
     counted = counted;
+  }
+
+  -- an error that tells of the module is a refusal, which is told beside it
+  refusing : (e : Error) (refusal : Option Refusal) (text : List ℕ) →
+      FaithfulWriting writer m info (Err e) [] content 0 0 →
+      TellsBeside (annotates_types writer) m info (Err e) refusal → TellsOfModule e →
+      TellsAnyRefusal m refusal text → IsRefused flags text
+  refusing e None text faithful beside tells line = absurd (beside tells)
+  refusing e (Some refusal) text faithful beside tells line = record {
+    asked = was_asked;
+    error = e;
+    beginning = content;
     faithful = faithful;
     refusal = refusal;
     beside = beside;
@@ -240,16 +245,7 @@ module _ (json : List ℕ) (flags : ℕ) (writer : WriterFlags) (given m : Modul
   wrote (Ok tt) refusal told text faithful appends beside within is =
       let done : IsWritten flags text =
       record {
-        flags_are_known = known;
-        writer = writer;
-        has_bits = bits;
-        given = given;
-        m = m;
-        is_as_asked = asked;
-        read = read;
-        info = info;
-        accepted = accepted;
-        counted = counted;
+        asked = was_asked;
         faithful = subst (λ now. FaithfulWriting writer m info (Ok tt) [] now 0 0) (sym is.1) faithful;
         text_is = is.1 ∙ appends;
         is_within = subst (λ t. length t ≤ longest_text) (sym is.1) within;

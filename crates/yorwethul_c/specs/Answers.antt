@@ -96,8 +96,9 @@ IsAsAsked false given m = m ≡ given
 abbrev pub asks_decimal_floats : (flags : ℕ) → Bool
 asks_decimal_floats flags = nat_le 4 flags
 
--- The text is that of an accepted module, written as asked, and faithfully.
-pub record IsWritten (flags : ℕ) (text : List ℕ) : Type 0 where
+-- The writer was asked under these flags for the text of m, which is the given module, or that with
+-- its floats made decimal. The given one is accepted.
+pub record WasAsked (flags : ℕ) : Type 0 where
   pub flags_are_known : flags ≤ 7
   pub writer : WriterFlags
   pub has_bits : bits_of writer ≡ flags % 4
@@ -108,43 +109,30 @@ pub record IsWritten (flags : ℕ) (text : List ℕ) : Type 0 where
   pub info : ModuleInfo
   pub accepted : IsTrue (is_accepted given read)
   pub counted : IsCounted m read info
-  pub faithful : FaithfulWriting writer m info (Ok tt) [] text 0 0
-  pub text_is : text ≡ printed_program (written_program m info writer)
+
+-- The text is that of an accepted module, written as asked, and faithfully.
+pub record IsWritten (flags : ℕ) (text : List ℕ) : Type 0 where
+  pub asked : WasAsked flags
+  pub faithful : FaithfulWriting asked.writer asked.m asked.info (Ok tt) [] text 0 0
+  pub text_is : text ≡ printed_program (written_program asked.m asked.info asked.writer)
   pub is_within : length text ≤ longest_text
 
 -- The text of an accepted module, written as asked, would be longer than it may be.
 pub record IsTooLong (flags : ℕ) : Type 0 where
-  pub flags_are_known : flags ≤ 7
-  pub writer : WriterFlags
-  pub has_bits : bits_of writer ≡ flags % 4
-  pub given : Module
-  pub m : Module
-  pub is_as_asked : IsAsAsked (asks_decimal_floats flags) given m
-  pub read : ModuleInfo
-  pub info : ModuleInfo
-  pub accepted : IsTrue (is_accepted given read)
-  pub counted : IsCounted m read info
-  pub longer : longest_text < length (printed_program (written_program m info writer))
+  pub asked : WasAsked flags
+  pub longer :
+      longest_text < length (printed_program (written_program asked.m asked.info asked.writer))
 
 -- The writer refused an accepted module, for a listed construct that stands there and is the first,
 -- and this line tells it with its position.
 pub record IsRefused (flags : ℕ) (text : List ℕ) : Type 0 where
-  pub flags_are_known : flags ≤ 7
-  pub writer : WriterFlags
-  pub has_bits : bits_of writer ≡ flags % 4
-  pub given : Module
-  pub m : Module
-  pub is_as_asked : IsAsAsked (asks_decimal_floats flags) given m
-  pub read : ModuleInfo
-  pub info : ModuleInfo
+  pub asked : WasAsked flags
   pub error : Error
   pub beginning : List ℕ
-  pub accepted : IsTrue (is_accepted given read)
-  pub counted : IsCounted m read info
-  pub faithful : FaithfulWriting writer m info (Err error) [] beginning 0 0
+  pub faithful : FaithfulWriting asked.writer asked.m asked.info (Err error) [] beginning 0 0
   pub refusal : Refusal
-  pub beside : TellsRefusal (annotates_types writer) m info (Err error) refusal
-  pub line : TellsRefusalAt root.Member m refusal text
+  pub beside : TellsRefusal (annotates_types asked.writer) asked.m asked.info (Err error) refusal
+  pub line : TellsRefusalAt root.Member asked.m refusal text
 
 -- A module was read of which this is nested too deep.
 pub record IsTooDeep : Type 0 where
