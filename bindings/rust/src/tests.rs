@@ -99,7 +99,7 @@ fn each_status_is_told() {
 }
 
 #[test]
-fn a_place_is_apart_from_its_reason() {
+fn a_position_is_apart_from_its_reason() {
     let error = told(
         sys::NOT_ACCEPTED,
         "module.functions[0], statement 3: no: such",

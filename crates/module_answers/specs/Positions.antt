@@ -12,7 +12,7 @@ use Rattle.std.specs.Prelude.{◌≡◌, ℕ, List, [], ◌++◌, codes, decimal
 use Rattle.std.specs.Fmt.{◌++?◌, debug_str}
 use Rattle.module_answers.specs.Roles.{Role}
 use Rattle.module_answers.specs.declared.positions.JsonHolder.{JsonHolder}
-use Rattle.module_answers.specs.declared.positions.JsonHolder.TheVariants as root
+use Rattle.module_answers.specs.declared.positions.JsonHolder.TheVariants as holder
 use Rattle.naga_acceptance.specs.declared.faults.FunctionPosition.{FunctionPosition}
 use Rattle.naga_acceptance.specs.declared.faults.FunctionPosition.TheVariants as position
 use Rattle.naga_acceptance.specs.declared.faults.FaultPosition.{FaultPosition}
@@ -44,8 +44,8 @@ statement_text n = codes ", statement " ++ decimal n
 
 -- what stands in front of a member of the module
 abbrev pub holder_text : JsonHolder → List ℕ
-holder_text root.Member = codes "module."
-holder_text root.Module = []
+holder_text holder.Member = codes "module."
+holder_text holder.Module = []
 
 -- functions and entry points, as members of the module
 abbrev pub function_text : (h : ℕ) → List ℕ

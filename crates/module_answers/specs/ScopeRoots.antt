@@ -90,8 +90,8 @@ giver_text (Skipped n) =
     codes "statement " ++ decimal n ++ codes " gives it, where a continue may skip it"
 giver_text (Later n) = codes "statement " ++ decimal n ++ codes " gives it, too late"
 
-abbrev pub holder_text : ScopeRoot → List ℕ
-holder_text root =
+abbrev pub root_text : ScopeRoot → List ℕ
+root_text root =
     if root.is_operand then giver_text root.giver
     else codes "expressions["
     ++ (decimal root.expression
@@ -101,4 +101,4 @@ holder_text root =
 -- after all else that is told of a refusal
 abbrev pub root_after : Option ScopeRoot → List ℕ
 root_after None = []
-root_after (Some root) = codes ": " ++ holder_text root
+root_after (Some root) = codes ": " ++ root_text root

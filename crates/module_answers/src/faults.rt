@@ -22,13 +22,13 @@ pub fn fault_line(
     module: &Module,
     info: &ModuleInfo,
     unaccepted: Unaccepted,
-    root: JsonHolder,
+    holder: JsonHolder,
 ) -> Result<String, AllocError>
-    ensures { IfOk result (λ line. TellsFaultAt root «module».now info.now unaccepted
+    ensures { IfOk result (λ line. TellsFaultAt holder «module».now info.now unaccepted
         (string_bytes line)) }
 {
-    let position = labelled_position(alloc, module, unaccepted.item, root)?;
-    let fault = fault_text(alloc, module, info, unaccepted, root)?;
+    let position = labelled_position(alloc, module, unaccepted.item, holder)?;
+    let fault = fault_text(alloc, module, info, unaccepted, holder)?;
     format!(in alloc; "{position}: {fault}")
 }
 
@@ -38,12 +38,12 @@ pub fn labelled_position(
     alloc: Global,
     module: &Module,
     item: FaultPosition,
-    root: JsonHolder,
+    holder: JsonHolder,
 ) -> Result<String, AllocError>
-    ensures { IfOk result (λ text. TellsPosition root «module».now item (string_bytes text)) }
+    ensures { IfOk result (λ text. TellsPosition holder «module».now item (string_bytes text)) }
 {
     let label = label_text(alloc, label_of(module, &item))?;
-    format!(in alloc; "{}{label}", JsonPosition(root, item))
+    format!(in alloc; "{}{label}", JsonPosition(holder, item))
 }
 
 /// A label, told after a position; nothing where there is none.
@@ -62,14 +62,14 @@ pub fn fault_text(
     module: &Module,
     info: &ModuleInfo,
     unaccepted: Unaccepted,
-    root: JsonHolder,
+    holder: JsonHolder,
 ) -> Result<String, AllocError>
-    ensures { IfOk result (λ text. TellsFault root «module».now info.now unaccepted
+    ensures { IfOk result (λ text. TellsFault holder «module».now info.now unaccepted
         (string_bytes text)) }
 {
     let fault = unaccepted.fault;
     let expected = explain(alloc, module, info, unaccepted)?;
-    kind_text(alloc, module, fault, expected, root)
+    kind_text(alloc, module, fault, expected, holder)
 }
 
 /// A kind of fault with what was expected.
@@ -78,14 +78,14 @@ fn kind_text(
     module: &Module,
     fault: Fault,
     expected: Option<Mismatch>,
-    root: JsonHolder,
+    holder: JsonHolder,
 ) -> Result<String, AllocError>
-    ensures { IfOk result (λ text. TellsKind root «module».now fault expected
+    ensures { IfOk result (λ text. TellsKind holder «module».now fault expected
         (string_bytes text)) }
 {
     match expected {
         Some(expected) => {
-            let reason = mismatch_text(alloc, module, expected, root)?;
+            let reason = mismatch_text(alloc, module, expected, holder)?;
             format!(in alloc; "{fault}: {reason}")
         }
         None => format!(in alloc; "{fault}"),
@@ -98,9 +98,9 @@ pub fn mismatch_text(
     alloc: Global,
     module: &Module,
     mismatch: Mismatch,
-    root: JsonHolder,
+    holder: JsonHolder,
 ) -> Result<String, AllocError>
-    ensures { IfOk result (λ text. TellsMismatch root «module».now mismatch
+    ensures { IfOk result (λ text. TellsMismatch holder «module».now mismatch
         (string_bytes text)) }
 {
     match mismatch {
@@ -109,7 +109,7 @@ pub fn mismatch_text(
             expected,
             got,
         } => {
-            let position = labelled_position(alloc, module, item, root)?;
+            let position = labelled_position(alloc, module, item, holder)?;
             format!(in alloc; "expected {expected} as at {position}, got {got}")
         }
         other => format!(in alloc; "{other}"),

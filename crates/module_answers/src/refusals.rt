@@ -21,12 +21,12 @@ pub fn refusal_line(
     alloc: Global,
     module: &Module,
     refusal: Refusal,
-    root: JsonHolder,
+    holder: JsonHolder,
 ) -> Result<String, AllocError>
-    ensures { IfOk result (λ line. TellsRefusalAt root «module».now refusal
+    ensures { IfOk result (λ line. TellsRefusalAt holder «module».now refusal
         (string_bytes line)) }
 {
-    let mut line = positioned_construct(alloc, module, refusal, root)?;
+    let mut line = positioned_construct(alloc, module, refusal, holder)?;
     let more = root_after(alloc, root_at(alloc, module, &refusal.position)?)?;
     line.push_str(more.as_str())?;
     Ok(line)
@@ -39,13 +39,13 @@ fn positioned_construct(
     alloc: Global,
     module: &Module,
     refusal: Refusal,
-    root: JsonHolder,
+    holder: JsonHolder,
 ) -> Result<String, AllocError>
-    ensures { IfOk result (λ text. TellsConstructAt root «module».now refusal
+    ensures { IfOk result (λ text. TellsConstructAt holder «module».now refusal
         (string_bytes text)) }
 {
     let construct = construct_text(alloc, refusal.construct)?;
-    let position = JsonRefusalPosition::of(root, module, refusal.position);
+    let position = JsonRefusalPosition::of(holder, module, refusal.position);
     let label = label_text(alloc, label_at(module, refusal.position))?;
     format!(in alloc; "{construct}: {position}{label}")
 }

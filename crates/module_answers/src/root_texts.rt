@@ -4,7 +4,7 @@
 ghost use Rattle.std.specs.Prelude.{◌≡◌, IfOk, Some, string_bytes};
 ghost use Rattle.module_answers.specs.ScopeRoots.{asked_by, asked_root};
 ghost use Rattle.module_answers.specs.ScopeRoots.{giver_by, giver_text, root_after, root_end};
-ghost use Rattle.module_answers.specs.ScopeRoots.{root_in, holder_text, scope_root, told_root};
+ghost use Rattle.module_answers.specs.ScopeRoots.{root_in, root_text, scope_root, told_root};
 
 use crate::roots::{Root, Stop, Value, root_by, root_of, value_at, values_at};
 use naga_listing::{Spot, entry_point_at, giver_of, item_at};
@@ -210,7 +210,7 @@ impl fmt::Display for Giver {
 /// `expressions[12] has no value at statement 8; statement 4 gives it, in a block that has ended`,
 /// and of the operand itself what gives it alone.
 impl fmt::Display for ScopeRoot {
-    ghost output = { λ root. Some (holder_text root) };
+    ghost output = { λ root. Some (root_text root) };
 
     fn fmt<W: fmt::Write>(&self, f: &mut fmt::Formatter<W>) -> fmt::Result {
         if self.is_operand {

@@ -62,10 +62,10 @@ function_handles binds f =
     flat_map (λ l. option_to_list l.init) f.local_variables ++ block_handles binds f.body
 
 -- these, and the operands of what is written
-pub data IsWritten (es : List Expression) (roots : List ℕ) : ℕ → Type 0 where
-  Root : (h : ℕ) → IsAmong roots h → IsWritten es roots h
-  OperandOf : (h x : ℕ) (e : Expression) → IsWritten es roots h → slice_get es h ≡ Some e →
-      IsAmong (expression_operands e) x → IsWritten es roots x
+pub data IsWritten (es : List Expression) (starts : List ℕ) : ℕ → Type 0 where
+  Start : (h : ℕ) → IsAmong starts h → IsWritten es starts h
+  OperandOf : (h x : ℕ) (e : Expression) → IsWritten es starts h → slice_get es h ≡ Some e →
+      IsAmong (expression_operands e) x → IsWritten es starts x
 
 -- the handle is written in a function of a module
 abbrev pub IsWrittenIn : Module → ModuleInfo → Function → List ExpressionInfo → ℕ → Type 0

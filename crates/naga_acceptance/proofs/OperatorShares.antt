@@ -362,9 +362,9 @@ pub same_share : (share : Share) (v w : Operation) → is_same_operator w v ≡ 
 same_share share v w same own = ap (has_hash share) (same_hash w v same) ∙ own
 
 -- the remainder of a use of a share
-in_bounds : (share : Share) (v : Operation) → is_in share v ≡ true →
+in_limits : (share : Share) (v : Operation) → is_in share v ≡ true →
     (share.first ≤ hash_of v % REMAINDERS) × (hash_of v % REMAINDERS ≤ share.last)
-in_bounds share v own =
+in_limits share v own =
     let parts = and_parts (leb share.first (hash_of v % REMAINDERS)) (leb (hash_of v % REMAINDERS) share.last) own
     in (
       leb-true share.first (hash_of v % REMAINDERS) parts.0,
@@ -372,9 +372,9 @@ in_bounds share v own =
     )
 
 -- a use with such a remainder is of it
-from_bounds : (share : Share) (v : Operation) → share.first ≤ hash_of v % REMAINDERS →
+from_limits : (share : Share) (v : Operation) → share.first ≤ hash_of v % REMAINDERS →
     hash_of v % REMAINDERS ≤ share.last → is_in share v ≡ true
-from_bounds share v above below =
+from_limits share v above below =
     and_from (leb share.first (hash_of v % REMAINDERS)) (leb (hash_of v % REMAINDERS) share.last)
     (le-leb share.first (hash_of v % REMAINDERS) above)
     (le-leb (hash_of v % REMAINDERS) share.last below)
@@ -382,79 +382,79 @@ from_bounds share v above below =
 -- all operators are of the share with all remainders
 pub all_in : (share : Share) → share.first ≡ 0 → share.last + 1 ≡ REMAINDERS → (v : Operation) →
     is_in share v ≡ true
-all_in share from to v = from_bounds share v (omega (arith, from)) (omega (arith, to))
+all_in share from to v = from_limits share v (omega (arith, from)) (omega (arith, to))
 
 module _ (share : Share) (middle : ℕ) (above : share.first ≤ middle) (below : middle < share.last) where
   -- the half up to the middle
-  abbrev pub front_half : Share
-  front_half = record { first = share.first; last = middle }
+  abbrev pub front_share : Share
+  front_share = record { first = share.first; last = middle }
 
   -- the half after it
-  abbrev pub back_half : Share
-  back_half = record { first = middle + 1; last = share.last }
+  abbrev pub back_share : Share
+  back_share = record { first = middle + 1; last = share.last }
 
   -- what is in it is in the share
-  front_in : (v : Operation) → is_in front_half v ≡ true → is_in share v ≡ true
+  front_in : (v : Operation) → is_in front_share v ≡ true → is_in share v ≡ true
   front_in v own =
-      let bounds = in_bounds front_half v own
-      in from_bounds share v bounds.0 (omega (arith, bounds.1, below))
+      let bounds = in_limits front_share v own
+      in from_limits share v bounds.0 (omega (arith, bounds.1, below))
 
   -- and so what is in the other
-  back_in : (v : Operation) → is_in back_half v ≡ true → is_in share v ≡ true
+  back_in : (v : Operation) → is_in back_share v ≡ true → is_in share v ≡ true
   back_in v own =
-      let bounds = in_bounds back_half v own
-      in from_bounds share v (omega (arith, bounds.0, above)) bounds.1
+      let bounds = in_limits back_share v own
+      in from_limits share v (omega (arith, bounds.0, above)) bounds.1
 
   -- uses of different halves are of different operators
-  halves_apart : (v w : Operation) → is_in front_half v ≡ true → is_in back_half w ≡ true →
+  halves_apart : (v w : Operation) → is_in front_share v ≡ true → is_in back_share w ≡ true →
       hash_of v ≢ hash_of w
   halves_apart v w front back same =
-      let one = in_bounds front_half v front
-      in let two = in_bounds back_half w back
+      let one = in_limits front_share v front
+      in let two = in_limits back_share w back
       in let remainders : hash_of v % REMAINDERS ≡ hash_of w % REMAINDERS = ap (λ k. k % REMAINDERS) same
       in omega (arith, one.1, two.0, remainders)
 
   -- so that they agree
-  front_agrees_back : (v w : Operation) → is_in front_half v ≡ true → is_in back_half w ≡ true →
+  front_agrees_back : (v w : Operation) → is_in front_share v ≡ true → is_in back_share w ≡ true →
       agrees v w ≡ true
   front_agrees_back v w front back = other_agrees v w (other_hash v w (halves_apart v w front back))
 
   -- either way round
-  back_agrees_front : (v w : Operation) → is_in back_half v ≡ true → is_in front_half w ≡ true →
+  back_agrees_front : (v w : Operation) → is_in back_share v ≡ true → is_in front_share w ≡ true →
       agrees v w ≡ true
   back_agrees_front v w back front =
       other_agrees v w (other_hash v w (λ same. halves_apart w v front back (sym same)))
 
   -- each use of the share is of a half
   either_half : (v : Operation) → is_in share v ≡ true →
-      (is_in front_half v ≡ true) ⊎ (is_in back_half v ≡ true)
+      (is_in front_share v ≡ true) ⊎ (is_in back_share v ≡ true)
   either_half v own = by_middle (leb (hash_of v % REMAINDERS) middle) refl
     where
       by_middle : (b : Bool) → leb (hash_of v % REMAINDERS) middle ≡ b →
-          (is_in front_half v ≡ true) ⊎ (is_in back_half v ≡ true)
+          (is_in front_share v ≡ true) ⊎ (is_in back_share v ≡ true)
       by_middle true e =
-          inl (from_bounds front_half v (in_bounds share v own).0 (leb-true (hash_of v % REMAINDERS) middle e))
+          inl (from_limits front_share v (in_limits share v own).0 (leb-true (hash_of v % REMAINDERS) middle e))
       by_middle false e =
           let following = leb-false (hash_of v % REMAINDERS) middle e
-          in inr (from_bounds back_half v (omega (arith, following)) (in_bounds share v own).1)
+          in inr (from_limits back_share v (omega (arith, following)) (in_limits share v own).1)
 
   -- named the other way round
   swapped : (v : Operation) → is_in share v ≡ true →
-      (is_in back_half v ≡ true) ⊎ (is_in front_half v ≡ true)
+      (is_in back_share v ≡ true) ⊎ (is_in front_share v ≡ true)
   swapped v own = by_half (either_half v own)
     where
-      by_half : (is_in front_half v ≡ true) ⊎ (is_in back_half v ≡ true) →
-          (is_in back_half v ≡ true) ⊎ (is_in front_half v ≡ true)
+      by_half : (is_in front_share v ≡ true) ⊎ (is_in back_share v ≡ true) →
+          (is_in back_share v ≡ true) ⊎ (is_in front_share v ≡ true)
       by_half (inl front) = inr front
       by_half (inr back) = inl back
 
   -- the first use of either half that does not agree is the first of the share
   pub first_of_halves : (types : List Type_) (gs : List Group) (a b : Option UsePosition) →
-      IsFirstDisagreement types gs (is_in front_half) a →
-      IsFirstDisagreement types gs (is_in back_half) b →
+      IsFirstDisagreement types gs (is_in front_share) a →
+      IsFirstDisagreement types gs (is_in back_share) b →
       IsFirstDisagreement types gs (is_in share) (earlier a b)
   first_of_halves types gs a b front back =
-      first_of_both types gs (is_in share) (is_in front_half) (is_in back_half)
+      first_of_both types gs (is_in share) (is_in front_share) (is_in back_share)
       (record { either = either_half; first = front_agrees_back; second = back_agrees_front })
       (record { either = swapped; first = back_agrees_front; second = front_agrees_back })
       front_in back_in a b front back

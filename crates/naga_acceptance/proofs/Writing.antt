@@ -5,19 +5,19 @@ use Rattle.std.proofs.lemmas.List.{take_more_set, take_more, take_all, drop-set-
 use Rattle.std.proofs.lemmas.List.{length-set, drop_more, drop_all, append-nil}
 
 -- the positions before i are as in `target`, the others as they were at first
-pub record IsWritten {X : Type 0} (target initial xs : List X) (i : ℕ) : Type 0 where
+pub record IsFilled {X : Type 0} (target initial xs : List X) (i : ℕ) : Type 0 where
   pub done : take i xs ≡ take i target
   pub left : drop i xs ≡ drop i initial
   pub same_length : length target ≡ length initial
   pub kept_length : length xs ≡ length initial
 
-pub IsWritten-start : {X : Type 0} (target initial : List X) → length target ≡ length initial →
-    IsWritten target initial initial 0
-IsWritten-start target initial same = record { done = refl; left = refl; same_length = same; kept_length = refl }
+pub IsFilled-start : {X : Type 0} (target initial : List X) → length target ≡ length initial →
+    IsFilled target initial initial 0
+IsFilled-start target initial same = record { done = refl; left = refl; same_length = same; kept_length = refl }
 
-pub IsWritten-read : {X : Type 0} (target initial xs : List X) (i : ℕ) (d : X) → IsWritten target initial xs i →
+pub IsFilled-read : {X : Type 0} (target initial xs : List X) (i : ℕ) (d : X) → IsFilled target initial xs i →
     slice_index_or xs i d ≡ slice_index_or initial i d
-IsWritten-read target initial xs i d w =
+IsFilled-read target initial xs i d w =
     let here : i + 0 ≡ i = omega arith
     in ap (λ k. slice_index_or xs k d) (sym here) ∙ sym (get_or-drop i xs 0 d)
     ∙ ap (λ ys. slice_index_or ys 0 d) w.left
@@ -28,10 +28,10 @@ same_left : {X : Type 0} (i : ℕ) (initial xs : List X) (d : X) → i < length 
 same_left i initial xs d h k same = sym (ap (λ ys. drop 1 ys) (drop_more xs i d k)) ∙ ap (λ ys. drop 1 ys) same
     ∙ ap (λ ys. drop 1 ys) (drop_more initial i d h)
 
-pub IsWritten-more : {X : Type 0} (target initial xs : List X) (i : ℕ) (y : X) →
-    i < length initial → IsWritten target initial xs i → y ≡ slice_index_or target i y →
-    IsWritten target initial (slice_set xs i y) (i + 1)
-IsWritten-more target initial xs i y h w is =
+pub IsFilled-more : {X : Type 0} (target initial xs : List X) (i : ℕ) (y : X) →
+    i < length initial → IsFilled target initial xs i → y ≡ slice_index_or target i y →
+    IsFilled target initial (slice_set xs i y) (i + 1)
+IsFilled-more target initial xs i y h w is =
     let in_xs : i < length xs = omega (arith, h, w.kept_length)
     in let in_target : i < length target = omega (arith, h, w.same_length)
     in let one_less : i < i + 1 = omega arith
@@ -44,15 +44,15 @@ IsWritten-more target initial xs i y h w is =
     }
 
 -- a position that stays as it was
-pub IsWritten-kept : {X : Type 0} (target initial xs : List X) (i : ℕ) (d : X) →
-    i < length initial → IsWritten target initial xs i →
-    slice_index_or initial i d ≡ slice_index_or target i d → IsWritten target initial xs (i + 1)
-IsWritten-kept target initial xs i d h w is =
+pub IsFilled-kept : {X : Type 0} (target initial xs : List X) (i : ℕ) (d : X) →
+    i < length initial → IsFilled target initial xs i →
+    slice_index_or initial i d ≡ slice_index_or target i d → IsFilled target initial xs (i + 1)
+IsFilled-kept target initial xs i d h w is =
     let in_xs : i < length xs = omega (arith, h, w.kept_length)
     in let in_target : i < length target = omega (arith, h, w.same_length)
     in record {
       done = take_more xs i d in_xs ∙ ap (λ ys. ys ++ slice_index_or xs i d ∷ []) w.done
-          ∙ ap (λ z. take i target ++ z ∷ []) (IsWritten-read target initial xs i d w ∙ is)
+          ∙ ap (λ z. take i target ++ z ∷ []) (IsFilled-read target initial xs i d w ∙ is)
           ∙ sym (take_more target i d in_target);
       left = same_left i initial xs d h in_xs w.left;
       same_length = w.same_length;

@@ -6,7 +6,7 @@ use Rattle.std.specs.List.{IsAmong}
 use Rattle.std.proofs.lemmas.Bool.{and_parts, cases_order, eqb-false, false≢true, lt-ltb}
 use Rattle.std.proofs.lemmas.Bool.{or_cases, or_left, or_right}
 use Rattle.std.proofs.lemmas.Option.{same_Some, slice_get_within}
-use Rattle.module_semantics.specs.Written.{IsWritten, OperandOf, Root}
+use Rattle.module_semantics.specs.Written.{IsWritten, OperandOf, Start}
 use Rattle.naga_ir.specs.Operands.{expression_operands}
 use Rattle.naga_ir.specs.declared.expression.Expression.{Expression}
 use Rattle.naga_scope.specs.Marks.{MarksJust, is_marked, is_one_of, marked_with}
@@ -53,22 +53,22 @@ from_there h j le = by (cases_order j h)
     by (inr (inr lt)) = inr lt
 
 -- ---- the sweep
-module _ (es : List Expression) (roots : List ℕ) (first : List Bool) where
+module _ (es : List Expression) (starts : List ℕ) (first : List Bool) where
   -- After this handle, of what is marked the operands are marked. What is marked is written, and
   -- what was is.
   pub record Swept (marks : List Bool) (end : ℕ) : Type 0 where
-    pub sound : (h : ℕ) → is_marked marks h ≡ true → IsWritten es roots h
+    pub sound : (h : ℕ) → is_marked marks h ≡ true → IsWritten es starts h
     pub kept : (h : ℕ) → is_marked first h ≡ true → is_marked marks h ≡ true
     pub closed : (h : ℕ) (e : Expression) (y : ℕ) → end ≤ h → is_marked marks h ≡ true →
         slice_get es h ≡ Some e → is_one_of (expression_operands e) y ≡ true → y < length es →
         is_marked marks y ≡ true
 
-  module _ (just : MarksJust roots first) (size : length first ≡ length es) where
+  module _ (just : MarksJust starts first) (size : length first ≡ length es) where
     pub begun : (end : ℕ) → length es ≤ end → Swept first end
     begun end past = record {
-      sound = λ h is. Root h
-          (one_among roots h
-          (and_parts (is_one_of roots h) (nat_lt h (length first)) (sym (just h) ∙ is)).0);
+      sound = λ h is. Start h
+          (one_among starts h
+          (and_parts (is_one_of starts h) (nat_lt h (length first)) (sym (just h) ∙ is)).0);
       kept = λ h is. is;
       closed = λ h e y le is at one lt. absurd (none h e le at);
     }
@@ -78,11 +78,11 @@ module _ (es : List Expression) (roots : List ℕ) (first : List Bool) where
 
     -- at the end each written handle is marked
     pub all_marked : (marks : List Bool) → Swept marks 0 → (h : ℕ) → h < length es →
-        IsWritten es roots h → is_marked marks h ≡ true
-    all_marked marks swept h lt (Root _ among) =
+        IsWritten es starts h → is_marked marks h ≡ true
+    all_marked marks swept h lt (Start _ among) =
         swept.kept h
         (just h
-        ∙ ap₂ (λ a b. a && b) (among_one roots h among)
+        ∙ ap₂ (λ a b. a && b) (among_one starts h among)
         (lt-ltb h (length first) (subst (λ n. h < n) (sym size) lt)))
     all_marked marks swept x lt (OperandOf h _ e is at among) =
         swept.closed h e x (omega arith) (all_marked marks swept h (slice_get_within es h e at) is) at
@@ -132,7 +132,7 @@ module _ (es : List Expression) (roots : List ℕ) (first : List Bool) where
 
       sound : (j : ℕ) →
           (is_marked old j ≡ true) ⊎ ((is_one_of (expression_operands e) j && nat_lt j (length old)) ≡ true) →
-          IsWritten es roots j
+          IsWritten es starts j
       sound j (inl is) = swept.sound j is
       sound j (inr is) =
           OperandOf h j e (swept.sound h marked) at

@@ -8,7 +8,7 @@ use Rattle.std.proofs.lemmas.List.Folds.{list_any-append}
 use Rattle.std.specs.List.{filter, flat_map}
 use Rattle.std.specs.Option.{option_and_then, option_map_or, option_to_list}
 use Rattle.std.specs.Prelude.{if◌then◌else◌, map}
-use Rattle.module_semantics.specs.Written.{IsWritten, OperandOf, Root, function_handles}
+use Rattle.module_semantics.specs.Written.{IsWritten, OperandOf, Start, function_handles}
 use Rattle.naga_ir.specs.StatementTree.{StatementTree, simple, block, branch, switch, loop}
 use Rattle.naga_ir.specs.declared.expression.Expression.{Expression}
 use Rattle.naga_ir.specs.declared.module.Function.{Function}
@@ -173,17 +173,17 @@ module _ (bound : ℕ → Bool) (f : Function) where
     -- what is written up to a line is written on one of those
     pub to_line : (last : Line) (h : ℕ) → IsWritten es (handles_to last writes) h →
         (line : Line) × (is_up_to last line ≡ true) × IsWritten es (line_handles_at bound f line) h
-    to_line last h (Root _ among) =
+    to_line last h (Start _ among) =
         let of = of_writes h last writes (among_one (handles_to last writes) h among) in
-        (of.0, of.1, Root h (one_among (line_handles_at bound f of.0) h (of_function of.0 h of.2)))
+        (of.0, of.1, Start h (one_among (line_handles_at bound f of.0) h (of_function of.0 h of.2)))
     to_line last x (OperandOf h _ e is at among) =
         let of = to_line last h is in (of.0, of.1, OperandOf h x e of.2 at among)
 
     pub from_line : (last line : Line) (h : ℕ) → is_up_to last line ≡ true →
         IsWritten es (line_handles_at bound f line) h →
         IsWritten es (handles_to last writes) h
-    from_line last line h there (Root _ among) =
-        Root h (one_among (handles_to last writes) h
+    from_line last line h there (Start _ among) =
+        Start h (one_among (handles_to last writes) h
         (in_writes h last writes line (in_function line h (among_one (line_handles_at bound f line) h among)) there))
     from_line last line x there (OperandOf h _ e is at among) =
         OperandOf h x e (from_line last line h there is) at among
@@ -230,7 +230,7 @@ module _ (bound : ℕ → Bool) (f : Function) where
 
     pub on_some_line : (h : ℕ) → IsWritten es (function_handles bound f) h →
         (line : Line) × IsWritten es (line_handles_at bound f line) h
-    on_some_line h (Root _ among) =
+    on_some_line h (Start _ among) =
         let firsts = flat_map (λ l. option_to_list l.init) f.local_variables in
         let own = flat_map (own_handles bound) (trees_in f.body) in
         let one = same_handles bound h f ∙ among_one (function_handles bound f) h among in
@@ -241,13 +241,13 @@ module _ (bound : ℕ → Bool) (f : Function) where
             (line : Line) × IsWritten es (line_handles_at bound f line) h
         of_tree n st at (inl is) = (
           Statement n,
-          Root h (one_among (line_handles_at bound f (Statement n)) h
+          Start h (one_among (line_handles_at bound f (Statement n)) h
               (ap (λ o. is_one_of (option_map_or (line_own_handles bound) o []) h) at ∙ is)),
         )
         of_tree n st at (inr is) =
             let end = suc n + length (trees_inside st) in (
               BreakIf n end,
-              Root h (one_among (line_handles_at bound f (BreakIf n end)) h
+              Start h (one_among (line_handles_at bound f (BreakIf n end)) h
                   (ap (λ o. is_one_of (option_map_or (break_at n end) o []) h) at
                   ∙ (ap (λ b. is_one_of (if b then break_handle st else []) h) (eq-eqb end end refl) ∙ is))),
             )
@@ -264,7 +264,7 @@ module _ (bound : ℕ → Bool) (f : Function) where
             ⊎ (is_one_of (flat_map (own_handles bound) (trees_in f.body)) h ≡ true) →
             (line : Line) × IsWritten es (line_handles_at bound f line) h
         by (inl is) = let of = init_of f.local_variables h is in
-            (Local of.0, Root h (one_among (line_handles_at bound f (Local of.0)) h of.1))
+            (Local of.0, Start h (one_among (line_handles_at bound f (Local of.0)) h of.1))
         by (inr is) = let of = own_of (trees_in f.body) h is in
             at_number of.0 (slice_get (trees_in f.body) of.0) refl of.1
     on_some_line x (OperandOf h _ e is at among) = let of = on_some_line h is in (of.0, OperandOf h x e of.1 at among)
@@ -322,7 +322,7 @@ module _ (bound : ℕ → Bool) (f : Function) where
 
     pub in_the_function : (line : Line) (h : ℕ) → IsWritten es (line_handles_at bound f line) h →
         IsWritten es (function_handles bound f) h
-    in_the_function line h (Root _ among) =
-        Root h (one_among (function_handles bound f) h
+    in_the_function line h (Start _ among) =
+        Start h (one_among (function_handles bound f) h
         (sym (same_handles bound h f) ∙ line_handle line h (among_one (line_handles_at bound f line) h among)))
     in_the_function line x (OperandOf h _ e is at among) = OperandOf h x e (in_the_function line h is) at among

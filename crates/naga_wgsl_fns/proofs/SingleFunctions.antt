@@ -94,12 +94,12 @@ items_named m handle old new items same r named =
     by (Err e) has = with_more has.1.named has.1.has
 
 -- an entry point's text is its function's after that of its stage
-point_layout : (m : Module) (p : ir_entry_point.EntryPoint) (form : Function) →
+entry_point_printed : (m : Module) (p : ir_entry_point.EntryPoint) (form : Function) →
     printed_entry_point
     (record { stage = stage_attributes (module_names m) p p.stage; function = form }) ≡
     stage_text m p ++ printed_function form
 unfolding stage_text attributes_text
-point_layout m p form =
+entry_point_printed m p form =
     let attributes = attributes_pieces (stage_attributes (module_names m) p p.stage) in
     text-append attributes (LineEnd ∷ function_pieces form)
     ∙ sym (append_assoc (text attributes) (codes "\n") (printed_function form))
@@ -147,7 +147,7 @@ module _ (m : Module) (info : ModuleInfo) (flags : WriterFlags) (earlier : List 
       text_at (length m.functions + j) p.function (entry_point_among m j p at)
       ∙ (ap (λ o. option_map_or (stage_text m) o [] ++ printed_function form)
       (entry_point_at m j ∙ at)
-      ∙ sym (point_layout m p form))
+      ∙ sym (entry_point_printed m p form))
 
   -- the function is one of the grammar
   abbrev IsWellFormed : FunctionType → Type 0

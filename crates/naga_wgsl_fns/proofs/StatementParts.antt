@@ -37,7 +37,7 @@ first_inside f st b w =
       in_range = (and_parts (statement_in_range (callees f) (count f) st)
           (block_in_range (callees f) (count f) b) w.in_range).0;
       formed = (and_parts (statement_has_form st) (block_has_forms b) w.formed).0;
-      roots = all_front (IsInText f) (statement_handles (bound f) st) (block_handles (bound f) b) w.roots;
+      written = all_front (IsInText f) (statement_handles (bound f) st) (block_handles (bound f) b) w.written;
       lets = all_front (IsLet f) (statement_lets (bound f) st) (block_lets (bound f) b) w.lets;
     }
 
@@ -48,7 +48,7 @@ rest_inside f st b w =
       in_range = (and_parts (statement_in_range (callees f) (count f) st)
           (block_in_range (callees f) (count f) b) w.in_range).1;
       formed = (and_parts (statement_has_form st) (block_has_forms b) w.formed).1;
-      roots = all_rest (IsInText f) (statement_handles (bound f) st) (block_handles (bound f) b) w.roots;
+      written = all_rest (IsInText f) (statement_handles (bound f) st) (block_handles (bound f) b) w.written;
       lets = all_rest (IsLet f) (statement_lets (bound f) st) (block_lets (bound f) b) w.lets;
     }
 
@@ -68,11 +68,11 @@ rest_at f items n item lt here w =
     (subst (CanWriteBlock f) (first_of items n item lt here) w)
 
 pub block_inside : (f : FunctionText) (b : BlockTree) → CanWriteStatement f (block b) → CanWriteBlock f b
-block_inside f b w = record { in_range = w.in_range; formed = w.formed; roots = w.roots; lets = w.lets }
+block_inside f b w = record { in_range = w.in_range; formed = w.formed; written = w.written; lets = w.lets }
 
 -- ---- choices
 pub condition_inside : (f : FunctionText) (c : ℕ) (a r : BlockTree) → CanWriteStatement f (branch c a r) → IsInText f c
-condition_inside f c a r w = w.roots.0
+condition_inside f c a r w = w.written.0
 
 pub accept_inside : (f : FunctionText) (c : ℕ) (a r : BlockTree) → CanWriteStatement f (branch c a r) →
     CanWriteBlock f a
@@ -83,7 +83,7 @@ accept_inside f c a r w =
       in_range = (and_parts (block_in_range (callees f) (count f) a)
           (block_in_range (callees f) (count f) r) ranges.1).0;
       formed = (and_parts (block_has_forms a) (block_has_forms r) w.formed).0;
-      roots = all_front (IsInText f) (block_handles (bound f) a) (block_handles (bound f) r) w.roots.1;
+      written = all_front (IsInText f) (block_handles (bound f) a) (block_handles (bound f) r) w.written.1;
       lets = all_front (IsLet f) (block_lets (bound f) a) (block_lets (bound f) r) w.lets;
     }
 
@@ -96,7 +96,7 @@ reject_inside f c a r w =
       in_range = (and_parts (block_in_range (callees f) (count f) a)
           (block_in_range (callees f) (count f) r) ranges.1).1;
       formed = (and_parts (block_has_forms a) (block_has_forms r) w.formed).1;
-      roots = all_rest (IsInText f) (block_handles (bound f) a) (block_handles (bound f) r) w.roots.1;
+      written = all_rest (IsInText f) (block_handles (bound f) a) (block_handles (bound f) r) w.written.1;
       lets = all_rest (IsLet f) (block_lets (bound f) a) (block_lets (bound f) r) w.lets;
     }
 
@@ -108,8 +108,8 @@ body_inside f b c e w =
       in_range = (and_parts (block_in_range (callees f) (count f) b)
           (block_in_range (callees f) (count f) c && is_below (count f) e) w.in_range).0;
       formed = (and_parts (block_has_forms b) (block_has_forms c) w.formed).0;
-      roots = all_front (IsInText f) (block_handles (bound f) b)
-          (block_handles (bound f) c ++ option_to_list e) w.roots;
+      written = all_front (IsInText f) (block_handles (bound f) b)
+          (block_handles (bound f) c ++ option_to_list e) w.written;
       lets = all_front (IsLet f) (block_lets (bound f) b) (block_lets (bound f) c) w.lets;
     }
 
@@ -121,8 +121,8 @@ continuing_inside f b c e w =
     record {
       in_range = (and_parts (block_in_range (callees f) (count f) c) (is_below (count f) e) ranges.1).0;
       formed = (and_parts (block_has_forms b) (block_has_forms c) w.formed).1;
-      roots = all_front (IsInText f) (block_handles (bound f) c) (option_to_list e)
-          (all_rest (IsInText f) (block_handles (bound f) b) (block_handles (bound f) c ++ option_to_list e) w.roots);
+      written = all_front (IsInText f) (block_handles (bound f) c) (option_to_list e)
+          (all_rest (IsInText f) (block_handles (bound f) b) (block_handles (bound f) c ++ option_to_list e) w.written);
       lets = all_rest (IsLet f) (block_lets (bound f) b) (block_lets (bound f) c) w.lets;
     }
 
@@ -130,18 +130,18 @@ pub break_if_inside : (f : FunctionText) (b c : BlockTree) (e : Option ℕ) → 
     AreInText f (option_to_list e)
 break_if_inside f b c e w =
     all_rest (IsInText f) (block_handles (bound f) c) (option_to_list e)
-    (all_rest (IsInText f) (block_handles (bound f) b) (block_handles (bound f) c ++ option_to_list e) w.roots)
+    (all_rest (IsInText f) (block_handles (bound f) b) (block_handles (bound f) c ++ option_to_list e) w.written)
 
 -- ---- switches
 pub selector_inside : (f : FunctionText) (h : ℕ) (cs : CaseTrees) → CanWriteStatement f (switch h cs) → IsInText f h
-selector_inside f h cs w = w.roots.0
+selector_inside f h cs w = w.written.0
 
 pub cases_inside : (f : FunctionText) (h : ℕ) (cs : CaseTrees) → CanWriteStatement f (switch h cs) → CanWriteCases f cs
 cases_inside f h cs w =
     record {
       in_range = (and_parts (nat_lt h (count f)) (cases_in_range (callees f) (count f) cs) w.in_range).1;
       formed = w.formed;
-      roots = w.roots.1;
+      written = w.written.1;
       lets = w.lets;
     }
 
@@ -160,7 +160,7 @@ module _ (f : FunctionText) (v : SwitchValue) (b : BlockTree) (falls : Bool) (cs
   case_inside = record {
     in_range = ranges.0;
     formed = (and_parts (block_has_forms b) (cases_have_forms cs) forms.1).0;
-    roots = all_front (IsInText f) (block_handles (bound f) b) (cases_handles (bound f) cs) w.roots;
+    written = all_front (IsInText f) (block_handles (bound f) b) (cases_handles (bound f) cs) w.written;
     lets = all_front (IsLet f) (block_lets (bound f) b) (cases_lets (bound f) cs) w.lets;
   }
 
@@ -168,7 +168,7 @@ module _ (f : FunctionText) (v : SwitchValue) (b : BlockTree) (falls : Bool) (cs
   others_inside = record {
     in_range = ranges.1;
     formed = (and_parts (block_has_forms b) (cases_have_forms cs) forms.1).1;
-    roots = all_rest (IsInText f) (block_handles (bound f) b) (cases_handles (bound f) cs) w.roots;
+    written = all_rest (IsInText f) (block_handles (bound f) b) (cases_handles (bound f) cs) w.written;
     lets = all_rest (IsLet f) (block_lets (bound f) b) (cases_lets (bound f) cs) w.lets;
   }
 
@@ -182,13 +182,13 @@ module _ (f : FunctionText) (v : SwitchValue) (b : BlockTree) (falls : Bool) (cs
 
 -- ---- stores
 pub stored_pointer : (f : FunctionText) (p v : ℕ) → CanWriteStatement f (simple (store p v)) → IsInText f p
-stored_pointer f p v w = w.roots.0
+stored_pointer f p v w = w.written.0
 
 pub stored_value : (f : FunctionText) (p v : ℕ) → CanWriteStatement f (simple (store p v)) → IsInText f v
-stored_value f p v w = w.roots.1.0
+stored_value f p v w = w.written.1.0
 
 pub stored_operands : (f : FunctionText) (p v : ℕ) → CanWriteStatement f (simple (store p v)) → AreInText f (p ∷ v ∷ [])
-stored_operands f p v w = w.roots
+stored_operands f p v w = w.written
 
 -- ---- a loop's body in two parts
 both_all : (P : ℕ → Type 0) (xs ys : List ℕ) → AllByRecursion P xs → AllByRecursion P ys → AllByRecursion P (xs ++ ys)
@@ -196,7 +196,7 @@ both_all P [] ys one other = other
 both_all P (x ∷ xs) ys one other = (one.0, both_all P xs ys one.1 other)
 
 nothing_inside : (f : FunctionText) → CanWriteBlock f no_statements
-nothing_inside f = record { in_range = refl; formed = refl; roots = tt; lets = tt }
+nothing_inside f = record { in_range = refl; formed = refl; written = tt; lets = tt }
 
 together : (f : FunctionText) (st : StatementTree) (b : BlockTree) → CanWriteStatement f st →
     CanWriteBlock f b → CanWriteBlock f (statement st b)
@@ -204,7 +204,8 @@ together f st b one other = record {
   in_range = and_both (statement_in_range (callees f) (count f) st) (block_in_range (callees f) (count f) b)
       one.in_range other.in_range;
   formed = and_both (statement_has_form st) (block_has_forms b) one.formed other.formed;
-  roots = both_all (IsInText f) (statement_handles (bound f) st) (block_handles (bound f) b) one.roots other.roots;
+  written = both_all (IsInText f) (statement_handles (bound f) st) (block_handles (bound f) b) one.written
+      other.written;
   lets = both_all (IsLet f) (statement_lets (bound f) st) (block_lets (bound f) b) one.lets other.lets;
 }
 

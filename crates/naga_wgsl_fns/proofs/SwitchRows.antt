@@ -102,7 +102,8 @@ unfolding waiting_text joined_texts
 waiting_more items i item lt is = ap (λ (cs : List SwitchCase). waiting_text (case_values_of cs))
     (drop_first i items item lt is)
 
-pub waiting_none : (items : List SwitchCase) (i : ℕ) → length items ≤ i → waiting_text (case_values_of (drop i items)) ≡ []
+pub waiting_none : (items : List SwitchCase) (i : ℕ) → length items ≤ i →
+    waiting_text (case_values_of (drop i items)) ≡ []
 unfolding waiting_text
 waiting_none items i past = ap (λ (cs : List SwitchCase). waiting_text (case_values_of cs)) (drop_all i items past)
 
@@ -152,7 +153,8 @@ taken_first (suc n) (x ∷ cs) c lt is =
 
 taken_from : (first n index : ℕ) (cs : List SwitchCase) (c : SwitchCase) → index ≡ first + n →
     index < length cs → c ≡ slice_index_or cs index c
-    → case_values_of (take (suc n) (drop first cs)) ≡ case_values_of (take n (drop first cs)) ++ case_value_form c.value ∷ []
+    → case_values_of (take (suc n) (drop first cs)) ≡
+    case_values_of (take n (drop first cs)) ++ case_value_form c.value ∷ []
 taken_from zero n index cs c at lt is =
     let same : index ≡ n = omega (arith, at) in
     taken_first n cs c (omega (arith, same, lt)) (is ∙ ap (λ i. slice_index_or cs i c) same)
@@ -176,7 +178,8 @@ case_values_after : (falls : Bool) (first first1 index : ℕ) (cs : List SwitchC
 case_values_after true first first1 index cs c le lt is next =
     sym (ap (λ n. case_values_between n (index + 1) cs) next ∙ after_falling first index cs c le lt is)
 case_values_after false first first1 index cs c le lt is next =
-    let none : index + 1 - first1 ≡ 0 = omega (arith, next) in sym (ap (λ n. case_values_of (take n (drop first1 cs))) none)
+    let none : index + 1 - first1 ≡ 0 = omega (arith, next) in
+    sym (ap (λ n. case_values_of (take n (drop first1 cs))) none)
 
 -- a loop over cases: one more
 pub cases_more : (f : FunctionText) (k k1 : ℕ) (s : Handles) (i first first1 index : ℕ) (cs : List SwitchCase)

@@ -185,6 +185,6 @@ pub body_of : (t : FunctionText) → CanWrite t → CanWriteBlock t t.function.n
 body_of t can = record {
   in_range = (ranges_are t.shader.now (callees t) t.function.now can.ranges).1;
   formed = can.formed.statements;
-  roots = body_in_text t can;
+  written = body_in_text t can;
   lets = all_among (block_lets (bound t) t.function.now.body) (λ h among. among);
 }

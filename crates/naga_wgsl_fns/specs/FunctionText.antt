@@ -107,19 +107,19 @@ AreLets f handles = AllByRecursion (IsLet f) handles
 pub record CanWriteStatement (f : FunctionText) (st : StatementTree) : Type 0 where
   pub in_range : IsTrue (statement_in_range (callees f) (length f.function.now.expressions) st)
   pub formed : IsTrue (statement_has_form st)
-  pub roots : AreInText f (statement_handles (bound f) st)
+  pub written : AreInText f (statement_handles (bound f) st)
   pub lets : AreLets f (statement_lets (bound f) st)
 
 pub record CanWriteBlock (f : FunctionText) (b : BlockTree) : Type 0 where
   pub in_range : IsTrue (block_in_range (callees f) (length f.function.now.expressions) b)
   pub formed : IsTrue (block_has_forms b)
-  pub roots : AreInText f (block_handles (bound f) b)
+  pub written : AreInText f (block_handles (bound f) b)
   pub lets : AreLets f (block_lets (bound f) b)
 
 pub record CanWriteCases (f : FunctionText) (cases : CaseTrees) : Type 0 where
   pub in_range : IsTrue (cases_in_range (callees f) (length f.function.now.expressions) cases)
   pub formed : IsTrue (cases_have_forms cases)
-  pub roots : AreInText f (cases_handles (bound f) cases)
+  pub written : AreInText f (cases_handles (bound f) cases)
   pub lets : AreLets f (cases_lets (bound f) cases)
 
 -- It is a function of its module, or that of an entry point, and the module is accepted and has its

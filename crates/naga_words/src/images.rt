@@ -9,10 +9,10 @@ ghost use Rattle.naga_words.specs.Output.{Spells};
 ghost use Rattle.naga_words.specs.Values.{storage_image_segments, image_segments};
 
 use crate::output::Output;
-use crate::pieces::write_word;
 use crate::scalars::write_template;
 use crate::sink::TextSink;
 use crate::words::{depth_image_str, sampled_image_str, storage_image_str};
+use crate::writing::write_word;
 use naga_ir::{ImageClass, ImageDimension, Scalar, ScalarKind};
 use std::alloc::Global;
 use wgsl_words::{ToWgsl, image_access_str};

@@ -9,12 +9,12 @@ pub mod images;
 mod io_sink;
 mod limited;
 pub mod output;
-pub mod pieces;
 pub mod predeclared;
 pub mod scalars;
 pub mod sink;
 pub mod types;
 pub mod words;
+pub mod writing;
 
 pub use error::TypeTextError;
 pub use io_sink::IoSink;

@@ -12,9 +12,9 @@ ghost use Rattle.naga_words.specs.Values.{scalar_segments};
 ghost use Rattle.wgsl_words.specs.Words.{space_access_word};
 
 use crate::output::Output;
-use crate::pieces::{write_shown, write_three, write_word};
 use crate::sink::TextSink;
 use crate::words::vector_str;
+use crate::writing::{write_shown, write_three, write_word};
 use naga_ir::{AddressSpace, Scalar, ScalarKind, VectorSize};
 use std::alloc::Global;
 use wgsl_words::{TryToWgsl, space_access_str};

@@ -173,10 +173,10 @@ initialised_denoted (Some v) = refl
 module _ (p : Module) (n : ModuleNames) (fits : ConstantsFit p n) (s : Settings) (settings : SettingsFit p s)
     (m : Meaning) (typed : IsTyped p m) where
   -- a constant's place among the ranks
-  abbrev position : ℕ → ℕ
-  position i = count_below fits.rank (constant_count p) (fits.rank i)
+  abbrev turn : ℕ → ℕ
+  turn i = count_below fits.rank (constant_count p) (fits.rank i)
 
-  earlier : (k i : ℕ) → k < constant_count p → fits.rank k < fits.rank i → position k < position i
+  earlier : (k i : ℕ) → k < constant_count p → fits.rank k < fits.rank i → turn k < turn i
   earlier k i lt before = count_rises fits.rank (constant_count p) (fits.rank k) (fits.rank i) k lt (omega arith) before
 
   -- what an initialiser of a constant may name
@@ -191,7 +191,7 @@ module _ (p : Module) (n : ModuleNames) (fits : ConstantsFit p n) (s : Settings)
 
   -- it is a constant of an earlier place, or an override
   by_kind : {A : Type 0} (i k : ℕ) → MayName i k →
-      ((e : ConstantTree) → slice_get p.initialisers k ≡ Some e → position k < position i → A) →
+      ((e : ConstantTree) → slice_get p.initialisers k ≡ Some e → turn k < turn i → A) →
       (constant_count p ≤ k → A) → A
   by_kind i k may constant override =
       inside_or_past p.initialisers k (λ e q l. constant e q (earlier k i l (may.1 l))) override
@@ -220,7 +220,7 @@ module _ (p : Module) (n : ModuleNames) (fits : ConstantsFit p n) (s : Settings)
 
   -- a constant's value is found in the round after its place
   found_typed : (rounds i : ℕ) (e : ConstantTree) → slice_get p.initialisers i ≡ Some e →
-      position i < rounds →
+      turn i < rounds →
       TypedValue p.parts (type_at p.constant_types i) (known_value (found_after p s m rounds) i)
   found_typed zero i e q lt = absurd (omega (arith, lt))
   found_typed (suc r) i e q lt =
@@ -235,7 +235,7 @@ module _ (p : Module) (n : ModuleNames) (fits : ConstantsFit p n) (s : Settings)
 
   -- and stays
   found_same : (rounds more i : ℕ) (e : ConstantTree) → slice_get p.initialisers i ≡ Some e →
-      position i < rounds → position i < more →
+      turn i < rounds → turn i < more →
       known_value (found_after p s m rounds) i ≡ known_value (found_after p s m more) i
   found_same zero k i e q lt lt' = absurd (omega (arith, lt))
   found_same (suc r) zero i e q lt lt' = absurd (omega (arith, lt'))
@@ -249,8 +249,8 @@ module _ (p : Module) (n : ModuleNames) (fits : ConstantsFit p n) (s : Settings)
       (may_name i e q)
       ∙ sym (found_here (tree_value b m) p.initialisers s.overrides i e q)
 
-  position_small : (i : ℕ) (e : ConstantTree) → slice_get p.initialisers i ≡ Some e → position i < constant_count p
-  position_small i e q = count_misses fits.rank (constant_count p) i (slice_get_within p.initialisers i e q)
+  turn_small : (i : ℕ) (e : ConstantTree) → slice_get p.initialisers i ≡ Some e → turn i < constant_count p
+  turn_small i e q = count_misses fits.rank (constant_count p) i (slice_get_within p.initialisers i e q)
 
   abbrev all_rounds : List (Option Value)
   all_rounds = found_after p s m (constant_count p)
@@ -258,7 +258,7 @@ module _ (p : Module) (n : ModuleNames) (fits : ConstantsFit p n) (s : Settings)
   each_typed : (i : ℕ) → i < length p.constant_types → TypedValue p.parts (type_at p.constant_types i)
       (known_value all_rounds i)
   each_typed i lt =
-      inside_or_past p.initialisers i (λ e q l. found_typed (constant_count p) i e q (position_small i e q))
+      inside_or_past p.initialisers i (λ e q l. found_typed (constant_count p) i e q (turn_small i e q))
       (λ l. override_typed (constant_count p) i l lt)
 
   -- the values of all
@@ -286,7 +286,7 @@ module _ (p : Module) (n : ModuleNames) (fits : ConstantsFit p n) (s : Settings)
   constant_is : (i : ℕ) (e : ConstantTree) → slice_get p.initialisers i ≡ Some e → slice_get env.constants i
       ≡ constant_value env m e
   constant_is i e q =
-      let small = position_small i e q in
+      let small = turn_small i e q in
       sym (known_is i)
       ∙ found_same (constant_count p) (suc (constant_count p)) i e q small (omega (arith, small))
       ∙ found_here (tree_value (known_value all_rounds) m) p.initialisers s.overrides i e q
@@ -317,7 +317,7 @@ module _ (p : Module) (n : ModuleNames) (fits : ConstantsFit p n) (s : Settings)
         (solves.overrides ∙ sym solution.overrides)
 
     constant_agrees : (bound i : ℕ) (e : ConstantTree) → slice_get p.initialisers i ≡ Some e →
-        position i < bound → slice_get other.constants i ≡ slice_get env.constants i
+        turn i < bound → slice_get other.constants i ≡ slice_get env.constants i
     constant_agrees zero i e q lt = absurd (omega (arith, lt))
     constant_agrees (suc r) i e q lt =
         solves.initialisers i e q
@@ -329,7 +329,7 @@ module _ (p : Module) (n : ModuleNames) (fits : ConstantsFit p n) (s : Settings)
 
     each_agrees : (i : ℕ) → slice_get other.constants i ≡ slice_get env.constants i
     each_agrees i =
-        inside_or_past p.initialisers i (λ e q l. constant_agrees (constant_count p) i e q (position_small i e q))
+        inside_or_past p.initialisers i (λ e q l. constant_agrees (constant_count p) i e q (turn_small i e q))
         (λ l. override_agrees i l)
 
     pub only_solution : other ≡ env

@@ -277,10 +277,10 @@ module _ (c : Call) (d : Respond) (names : Scope) where
   access_means k b i x y v mb mi h e =
       index_means b i x y v mb mi (typed_not_pointer c.environment.parts k x refl h) e
 
-  part_position : (pt : Bytes) (x : Selector) (b : Plain) (y v : Value) → Means c d names b (Some y) →
+  part_at_place : (pt : Bytes) (x : Selector) (b : Plain) (y v : Value) → Means c d names b (Some y) →
       IsTrue (has_type c.environment.parts (PointerType pt) y) → part_value c.environment.parts c.meaning x y ≡ Some v →
       Means c d names (AsPlace (PartOf x (place_form b))) (Some v)
-  part_position pt x b y v mb h e =
+  part_at_place pt x b y v mb h e =
       let q = pointer_typed c.environment.parts (PointerType pt) tt y h in
       part q.0 q.1 (place_to c.environment.parts q.0 x) refl
       (sym (ap (part_value c.environment.parts c.meaning x) q.1) ∙ e)
@@ -306,7 +306,7 @@ module _ (c : Call) (d : Respond) (names : Scope) where
   pub part_means : (k : ValueType) (x : Selector) (b : Plain) (y v : Value) →
       Means c d names b (Some y) → IsTrue (has_type c.environment.parts k y) →
       part_value c.environment.parts c.meaning x y ≡ Some v → Means c d names (part_form k x b) (Some v)
-  part_means (PointerType s) x b y v mb h e = part_position s x b y v mb h e
+  part_means (PointerType s) x b y v mb h e = part_at_place s x b y v mb h e
   part_means k x b y v mb h e = part_value_means x b y v mb (typed_not_pointer c.environment.parts k y refl h) e
 
   swizzled_value : (letters : Bytes) (y v : Value) → place_in y ≡ None → swizzle_value c.meaning letters y

@@ -26,7 +26,7 @@ use Rattle.shader_runs.proofs.Courses.{answered_then, made_then, counted_then, i
 use Rattle.shader_runs.proofs.Courses.{run_filled, HasNoMistake, filled_right, filled_grows}
 use Rattle.shader_runs.proofs.Courses.{asks_later, asks_before, or_else, asked, none_asked}
 use Rattle.shader_runs.proofs.Courses.{is_asked_at}
-use Rattle.shader_runs.proofs.Bounds.{course_cut, asks_with_more, asks_with_fewer}
+use Rattle.shader_runs.proofs.Limits.{course_cut, asks_with_more, asks_with_fewer}
 use Rattle.shader_runs.proofs.Entries.{IsNoEntry, opened_filled, opened_asks, BeginsCall, Entered}
 use Rattle.shader_runs.proofs.Entries.{call_course, call_enters, IsOpening, call_opens}
 use Rattle.shader_runs.proofs.Settles.{settled_events, call_settles}

@@ -9,7 +9,7 @@ from pathlib import Path
 
 sys.path.insert(0, str(Path(__file__).resolve().parents[1] / "ir"))
 from forms import (  # noqa: E402
-    Bare, Enum, Fixed, Flags, Listed, Maybe, Needed, Number, Numbered, Paired, Place, Short, Shown,
+    Bare, Enum, Fixed, Flags, Listed, Maybe, Needed, Number, Numbered, Paired, Handle, Short, Shown,
     Struct, Text, Truth, name_of)
 from ir import BLOCK, EXPRESSION, MODULE, SHORT_RESOLUTION, STATEMENT, TYPE_INNER  # noqa: E402
 
@@ -110,7 +110,7 @@ def check_plain(form, value, place):
     elif isinstance(form, Numbered):
         for name in of_type(dict, value, place).values():
             of_type(str, name, place)
-    elif isinstance(form, (Number, Place)):
+    elif isinstance(form, (Number, Handle)):
         number = of_type(int, value, place)
         low, high = getattr(form, "low", 0), getattr(form, "high", 2**32 - 1)
         if not low <= number <= high:

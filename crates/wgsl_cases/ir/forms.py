@@ -91,7 +91,7 @@ def debug_of_text(text):
     return '"' + "".join(escapes.get(c, c) for c in text) + '"'
 
 
-class Place(Form):
+class Handle(Form):
     """A handle."""
 
     def tell(self, r):

@@ -6,7 +6,7 @@ names from here (`../runs/module_forms.py`, `bench/fuzz`). The names in Rust dif
 """
 
 from forms import (
-    Bare, Double, Enum, Fixed, Flags, Form, Half, Listed, Maybe, Needed, Number, Numbered, Paired, Place, Short,
+    Bare, Double, Enum, Fixed, Flags, Form, Half, Listed, Maybe, Needed, Number, Numbered, Paired, Handle, Short,
     Shown, Single, Struct, Text, Truth, arena, unique_arena)
 
 
@@ -28,7 +28,7 @@ def signed(bits):
     return Number(-2**(bits - 1), 2**(bits - 1) - 1)
 
 
-X, PLACE = Place(), Place()
+X, HANDLE = Handle(), Handle()
 U8, U16, U32, U64, TRUTH = unsigned(8), unsigned(16), unsigned(32), unsigned(64), Truth()
 MAYBE_X, NAME = Maybe(X), Maybe(Text())
 
@@ -48,7 +48,7 @@ MAYBE_SIZED = ("size", Maybe(VECTOR_SIZE)), ("scalar", SCALAR)
 ADDRESS_SPACE = Enum(
     "AddressSpace", "Function", "Private", "WorkGroup", "Uniform", Struct("Storage", ("access", STORAGE_ACCESS)),
     "Handle", "Immediate", "TaskPayload", "RayPayload", "IncomingRayPayload")
-ARRAY_SIZE = Enum("ArraySize", ("Constant", Number(1, 2**32 - 1)), ("Pending", PLACE), "Dynamic")
+ARRAY_SIZE = Enum("ArraySize", ("Constant", Number(1, 2**32 - 1)), ("Pending", HANDLE), "Dynamic")
 PREDECLARED_TYPE = Enum(
     "PredeclaredType", ("AtomicCompareExchangeWeakResult", SCALAR), Struct("ModfResult", *MAYBE_SIZED),
     Struct("FrexpResult", *MAYBE_SIZED))
@@ -77,20 +77,20 @@ BINDING = Enum("Binding", ("BuiltIn", BUILT_IN), Struct(
     ("blend_src", Maybe(U32)), ("per_primitive", TRUTH)))
 
 STRUCT_MEMBER = Struct(
-    "StructMember", ("name", NAME), ("ty", PLACE), ("binding", Maybe(BINDING)), ("offset", U32))
+    "StructMember", ("name", NAME), ("ty", HANDLE), ("binding", Maybe(BINDING)), ("offset", U32))
 FLAG = ("vertex_return", TRUTH)
 TYPE_INNER = Enum(
     "TypeInner", ("Scalar", SCALAR), Struct("Vector", *SIZED),
     Struct("Matrix", ("columns", VECTOR_SIZE), ("rows", VECTOR_SIZE), ("scalar", SCALAR)),
     Struct("CooperativeMatrix", ("columns", COOPERATIVE_SIZE), ("rows", COOPERATIVE_SIZE), ("scalar", SCALAR),
            ("role", COOPERATIVE_ROLE)),
-    ("Atomic", SCALAR), Struct("Pointer", ("base", PLACE), ("space", ADDRESS_SPACE)),
+    ("Atomic", SCALAR), Struct("Pointer", ("base", HANDLE), ("space", ADDRESS_SPACE)),
     Struct("ValuePointer", *MAYBE_SIZED, ("space", ADDRESS_SPACE)),
-    Struct("Array", ("base", PLACE), ("size", ARRAY_SIZE), ("stride", U32)),
+    Struct("Array", ("base", HANDLE), ("size", ARRAY_SIZE), ("stride", U32)),
     Struct("Struct", ("members", Needed(Listed(STRUCT_MEMBER))), ("span", U32)),
     Struct("Image", ("dim", IMAGE_DIMENSION), ("arrayed", TRUTH), ("class", IMAGE_CLASS)),
     Struct("Sampler", ("comparison", TRUTH)), Struct("AccelerationStructure", FLAG), Struct("RayQuery", FLAG),
-    Struct("BindingArray", ("base", PLACE), ("size", ARRAY_SIZE)))
+    Struct("BindingArray", ("base", HANDLE), ("size", ARRAY_SIZE)))
 TYPE = Struct("Type_", ("name", NAME), ("inner", TYPE_INNER))
 
 # ---- expressions
@@ -121,11 +121,11 @@ IMAGE_QUERY = Enum("ImageQuery", Struct("Size", ("level", MAYBE_X)), "NumLevels"
 COOPERATIVE_DATA = Struct("CooperativeData", ("pointer", X), ("stride", X), ("row_major", TRUTH))
 
 EXPRESSION = Enum(
-    "Expression", ("Literal", LITERAL), ("Constant", PLACE), ("Override", PLACE), ("ZeroValue", PLACE),
-    Struct("Compose", ("ty", PLACE), ("components", Needed(Listed(X)))), Struct("Access", ("base", X), ("index", X)),
+    "Expression", ("Literal", LITERAL), ("Constant", HANDLE), ("Override", HANDLE), ("ZeroValue", HANDLE),
+    Struct("Compose", ("ty", HANDLE), ("components", Needed(Listed(X)))), Struct("Access", ("base", X), ("index", X)),
     Struct("AccessIndex", ("base", X), ("index", U32)), Struct("Splat", ("size", VECTOR_SIZE), ("value", X)),
     Struct("Swizzle", ("size", VECTOR_SIZE), ("vector", X), ("pattern", Fixed(COMPONENT, 4))),
-    ("FunctionArgument", U32), ("GlobalVariable", PLACE), ("LocalVariable", PLACE), Struct("Load", ("pointer", X)),
+    ("FunctionArgument", U32), ("GlobalVariable", HANDLE), ("LocalVariable", HANDLE), Struct("Load", ("pointer", X)),
     Struct("ImageSample", ("image", X), ("sampler", X), ("gather", Maybe(COMPONENT)), ("coordinate", X),
            ("array_index", MAYBE_X), ("offset", MAYBE_X), ("level", SAMPLE_LEVEL), ("depth_ref", MAYBE_X),
            ("clamp_to_edge", TRUTH)),
@@ -137,11 +137,11 @@ EXPRESSION = Enum(
     Struct("Derivative", ("axis", AXIS), ("ctrl", CONTROL), ("expr", X)),
     Struct("Relational", ("fun", RELATIONAL), ("argument", X)),
     Struct("Math", ("fun", MATH_FUNCTION), ("arg", X), ("arg1", MAYBE_X), ("arg2", MAYBE_X), ("arg3", MAYBE_X)),
-    Struct("As", ("expr", X), ("kind", SCALAR_KIND), ("convert", Maybe(U8))), ("CallResult", PLACE),
-    Struct("AtomicResult", ("ty", PLACE), ("comparison", TRUTH)), Struct("WorkGroupUniformLoadResult", ("ty", PLACE)),
+    Struct("As", ("expr", X), ("kind", SCALAR_KIND), ("convert", Maybe(U8))), ("CallResult", HANDLE),
+    Struct("AtomicResult", ("ty", HANDLE), ("comparison", TRUTH)), Struct("WorkGroupUniformLoadResult", ("ty", HANDLE)),
     ("ArrayLength", X), "RayQueryProceedResult", Struct("RayQueryGetIntersection", ("query", X), ("committed", TRUTH)),
     Struct("RayQueryVertexPositions", ("query", X), ("committed", TRUTH)), "SubgroupBallotResult",
-    Struct("SubgroupOperationResult", ("ty", PLACE)),
+    Struct("SubgroupOperationResult", ("ty", HANDLE)),
     Struct("CooperativeLoad", ("columns", COOPERATIVE_SIZE), ("rows", COOPERATIVE_SIZE), ("role", COOPERATIVE_ROLE),
            ("data", COOPERATIVE_DATA, "data_")),
     Struct("CooperativeMultiplyAdd", ("a", X), ("b", X), ("c", X)))
@@ -187,7 +187,7 @@ FLAT = Enum(
     Struct("Atomic", ("pointer", X), ("fun", ATOMIC_FUNCTION), ("value", X), ("result", MAYBE_X)),
     Struct("ImageAtomic", *TEXEL, ("fun", ATOMIC_FUNCTION), ("value", X)),
     Struct("WorkGroupUniformLoad", ("pointer", X), ("result", X)),
-    Struct("Call", ("function", PLACE), ("arguments", Needed(Listed(X))), ("result", MAYBE_X)),
+    Struct("Call", ("function", HANDLE), ("arguments", Needed(Listed(X))), ("result", MAYBE_X)),
     # naga tells too what the query is asked, which is not read
     Struct("RayQuery", ("query", X), others=("fun",)),
     Struct("SubgroupBallot", ("result", X), ("predicate", MAYBE_X)),
@@ -203,31 +203,31 @@ STATEMENT = Enum(
     Struct("Loop", ("body", NEEDED_BLOCK), ("continuing", BLOCK), ("break_if", MAYBE_X)))
 
 # ---- declarations
-CONSTANT = Struct("Constant", ("name", NAME), ("ty", PLACE), ("init", X))
-OVERRIDE = Struct("Override", ("name", NAME), ("id", Maybe(U16)), ("ty", PLACE), ("init", MAYBE_X))
+CONSTANT = Struct("Constant", ("name", NAME), ("ty", HANDLE), ("init", X))
+OVERRIDE = Struct("Override", ("name", NAME), ("id", Maybe(U16)), ("ty", HANDLE), ("init", MAYBE_X))
 RESOURCE_BINDING = Struct("ResourceBinding", ("group", U32), ("binding", U32))
 GLOBAL_VARIABLE = Struct(
-    "GlobalVariable", ("name", NAME), ("space", ADDRESS_SPACE), ("binding", Maybe(RESOURCE_BINDING)), ("ty", PLACE),
+    "GlobalVariable", ("name", NAME), ("space", ADDRESS_SPACE), ("binding", Maybe(RESOURCE_BINDING)), ("ty", HANDLE),
     ("init", MAYBE_X), ("memory_decorations", MEMORY_DECORATIONS))
-LOCAL_VARIABLE = Struct("LocalVariable", ("name", NAME), ("ty", PLACE), ("init", MAYBE_X))
-ARGUMENT = Struct("FunctionArgument", ("name", NAME), ("ty", PLACE), ("binding", Maybe(BINDING)))
-RESULT = Struct("FunctionResult", ("ty", PLACE), ("binding", Maybe(BINDING)))
+LOCAL_VARIABLE = Struct("LocalVariable", ("name", NAME), ("ty", HANDLE), ("init", MAYBE_X))
+ARGUMENT = Struct("FunctionArgument", ("name", NAME), ("ty", HANDLE), ("binding", Maybe(BINDING)))
+RESULT = Struct("FunctionResult", ("ty", HANDLE), ("binding", Maybe(BINDING)))
 FUNCTION = Struct(
     "Function", ("name", NAME), ("arguments", Listed(ARGUMENT)), ("result", Maybe(RESULT)),
     ("local_variables", arena(LOCAL_VARIABLE)), ("expressions", arena(EXPRESSION, 12)),
     ("named_expressions", Numbered(Text())), ("body", BLOCK), others=("diagnostic_filter_leaf",))
 STAGE = Enum("ShaderStage", *words("Vertex Task Mesh Fragment Compute RayGeneration Miss AnyHit ClosestHit"))
 MESH_INFO = Struct(
-    "MeshStageInfo", ("output_variable", PLACE),
+    "MeshStageInfo", ("output_variable", HANDLE),
     others=("topology", "max_vertices", "max_vertices_override", "max_primitives", "max_primitives_override",
             "vertex_output_type", "primitive_output_type"))
 ENTRY_POINT = Struct(
     "EntryPoint", ("name", Text()), ("stage", STAGE), ("workgroup_size", Fixed(U32, 3)), ("function", FUNCTION),
-    ("mesh_info", Maybe(MESH_INFO)), ("task_payload", Maybe(PLACE)), ("incoming_ray_payload", Maybe(PLACE)),
+    ("mesh_info", Maybe(MESH_INFO)), ("task_payload", Maybe(HANDLE)), ("incoming_ray_payload", Maybe(HANDLE)),
     nulls=("early_depth_test", "workgroup_size_overrides"))
 SPECIAL_TYPES = Struct(
-    "SpecialTypes", ("predeclared_types", Paired(PREDECLARED_TYPE, PLACE)), ("external_texture_params", Maybe(PLACE)),
-    ("external_texture_transfer_function", Maybe(PLACE)), others=("ray_desc", "ray_intersection", "ray_vertex_return"))
+    "SpecialTypes", ("predeclared_types", Paired(PREDECLARED_TYPE, HANDLE)), ("external_texture_params", Maybe(HANDLE)),
+    ("external_texture_transfer_function", Maybe(HANDLE)), others=("ray_desc", "ray_intersection", "ray_vertex_return"))
 SPECIAL_TYPES.absent = (
     "SpecialTypes { predeclared_types: {}, external_texture_params: None, external_texture_transfer_function: None }")
 MODULE = Struct(
@@ -238,8 +238,8 @@ MODULE = Struct(
     others=("diagnostic_filters", "diagnostic_filter_leaf", "doc_comments"))
 
 # ---- what is known of a module
-RESOLUTION = Enum("TypeResolution", ("Handle", PLACE), ("Value", TYPE_INNER))
-SHORT_RESOLUTION = Short(RESOLUTION, Shown(PLACE, "Handle({})"))
+RESOLUTION = Enum("TypeResolution", ("Handle", HANDLE), ("Value", TYPE_INNER))
+SHORT_RESOLUTION = Short(RESOLUTION, Shown(HANDLE, "Handle({})"))
 EXPRESSION_INFO = Struct(
     "ExpressionInfo", ("ref_count", U64), ("ty", RESOLUTION), others=("uniformity", "assignable_global", "unknown"))
 FUNCTION_INFO = Short(

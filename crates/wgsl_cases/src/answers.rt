@@ -158,7 +158,7 @@ fn push_position(
     if let Some(refusal) = unwritable(alloc, &known.module, &known.info, flags)? {
         let role = role_at(&known.module, &refusal.position);
         let position = JsonRefusalPosition {
-            root: JsonHolder::Member,
+            holder: JsonHolder::Member,
             position: refusal.position,
             role,
         };

@@ -15,13 +15,13 @@ use Rattle.wgsl_text.specs.Declarations.{StructMember, Program}
 use Rattle.wgsl_text.specs.Functions.{Parameter}
 use Rattle.wgsl_text.specs.Token.{At, Fixed}
 use Rattle.wgsl_text.specs.Words.{is_builtin, IsWord, is_reserved}
-use Rattle.wgsl_text.proofs.Machine.{Stack, ReadState, Expect, step, InProgram, InParameters, InResult}
+use Rattle.wgsl_text.proofs.Machine.{Stack, Reader, Expect, step, InProgram, InParameters, InResult}
 use Rattle.wgsl_text.proofs.Machine.{InMembers, ExpectParameter, ExpectResult, AttributeName}
 use Rattle.wgsl_text.proofs.Machine.{ExpectMemberName, PlainKind, NumberedKind, WordedKind, kind_of}
 use Rattle.wgsl_text.proofs.Machine.{attribute_named, turned, add_attribute}
 use Rattle.wgsl_text.proofs.Chain.{◌$◌}
 use Rattle.wgsl_text.proofs.Closing.{Closed, none, gap, tok, free, size, sign, ◌then◌}
-use Rattle.wgsl_text.proofs.Runs.{Runs, ◌onward◌, reads, over_gap, as_state, at_end}
+use Rattle.wgsl_text.proofs.Runs.{Runs, ◌onward◌, reads, over_gap, as_reader, at_end}
 use Rattle.wgsl_text.proofs.Text.{IsWordToken}
 use Rattle.wgsl_text.proofs.Words.{table_word, builtin_values_free, interpolations_free}
 use Rattle.wgsl_text.proofs.Words.{samplings_free}
@@ -61,16 +61,16 @@ worded_kind Payload = refl
 worded_kind IncomingPayload = refl
 
 -- an attribute, from a state where `@` may stand
-pub attribute_runs : (a : Attribute) {at : ReadState} {s : Stack} → step is_builtin at (Fixed At)
+pub attribute_runs : (a : Attribute) {at : Reader} {s : Stack} → step is_builtin at (Fixed At)
     ≡ AttributeName s → Runs (attribute_pieces a) at (add_attribute a s)
-attribute_runs (Plain a) {s = s} e = reads $ as_state e $ reads $
-    as_state (ap (λ k. attribute_named k s) (plain_kind a)) $ over_gap at_end
-attribute_runs (Numbered a n) {s = s} e = reads $ as_state e $ reads $
-    as_state (ap (λ k. attribute_named k s) (numbered_kind a)) at_end
-attribute_runs (Worded a w) {s = s} e = reads $ as_state e $ reads $
-    as_state (ap (λ k. attribute_named k s) (worded_kind a)) at_end
-attribute_runs (Interpolated i w) e = reads $ as_state e at_end
-attribute_runs (WorkgroupSize x y z) e = reads $ as_state e at_end
+attribute_runs (Plain a) {s = s} e = reads $ as_reader e $ reads $
+    as_reader (ap (λ k. attribute_named k s) (plain_kind a)) $ over_gap at_end
+attribute_runs (Numbered a n) {s = s} e = reads $ as_reader e $ reads $
+    as_reader (ap (λ k. attribute_named k s) (numbered_kind a)) at_end
+attribute_runs (Worded a w) {s = s} e = reads $ as_reader e $ reads $
+    as_reader (ap (λ k. attribute_named k s) (worded_kind a)) at_end
+attribute_runs (Interpolated i w) e = reads $ as_reader e at_end
+attribute_runs (WorkgroupSize x y z) e = reads $ as_reader e at_end
 
 pub attributes_run : (list attributes : List Attribute) (p : Program) →
     Runs (attributes_pieces list) (Expect (InProgram attributes p)) (Expect (InProgram (turned list attributes) p))

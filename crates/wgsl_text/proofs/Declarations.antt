@@ -19,7 +19,7 @@ use Rattle.wgsl_text.specs.Functions.{entry_points_pieces, IsValue, Each}
 use Rattle.wgsl_text.specs.Token.{KeywordVar, Piece, Blank, mark, word}
 use Rattle.wgsl_text.specs.Types.{TypeSpecifier}
 use Rattle.wgsl_text.specs.Words.{stands_in, is_reserved}
-use Rattle.wgsl_text.proofs.Machine.{Stack, ReadState, Expect, GotType, InProgram, InMembers}
+use Rattle.wgsl_text.proofs.Machine.{Stack, Reader, Expect, GotType, InProgram, InMembers}
 use Rattle.wgsl_text.proofs.Machine.{InOverrideType, InGlobalType, ExpectMemberName, AfterVar}
 use Rattle.wgsl_text.proofs.Machine.{AfterGlobalName, turned, add_global, add_override}
 use Rattle.wgsl_text.proofs.Chain.{◌$◌}
@@ -30,8 +30,8 @@ use Rattle.wgsl_text.proofs.Closing.{◌then◌}
 use Rattle.wgsl_text.proofs.Expressions.{expression_runs, expression_spaced}
 use Rattle.wgsl_text.proofs.Functions.{group_end_runs, functions_run, entry_points_run, value_after}
 use Rattle.wgsl_text.proofs.Functions.{group_end_closed, functions_closed, entry_points_closed}
-use Rattle.wgsl_text.proofs.Runs.{Runs, ◌onward◌, reads, over_gap, over_line, over_indent, as_state}
-use Rattle.wgsl_text.proofs.Runs.{at_end, to_state, turned_back}
+use Rattle.wgsl_text.proofs.Runs.{Runs, ◌onward◌, reads, over_gap, over_line, over_indent, as_reader}
+use Rattle.wgsl_text.proofs.Runs.{at_end, to_reader, turned_back}
 use Rattle.wgsl_text.proofs.Spacing.{word_opens}
 use Rattle.wgsl_text.proofs.Text.{text-append}
 use Rattle.wgsl_text.proofs.Types.{type_runs, type_spaced}
@@ -42,7 +42,7 @@ use Rattle.wgsl_text.specs.Tables.{address_space_words, access_words, enable_wor
 use Rattle.wgsl_text.specs.Text.{text}
 use Rattle.wgsl_text.specs.Reading.{printed_type, printed_expression, printed_program}
 
-after_runs : (a : Attribute) (s : ReadState) → Runs (after_attribute a) s s
+after_runs : (a : Attribute) (s : Reader) → Runs (after_attribute a) s s
 after_runs (Numbered Binding n) s = at_end
 after_runs (Numbered Location n) s = at_end
 after_runs _ s = at_end
@@ -70,7 +70,7 @@ members_run [] is w done s = at_end
 members_run (m ∷ more) is w done s =
     over_indent $ member_attributes_run m.attributes w done [] s onward reads $ reads $ over_gap $
     type_runs m.type is.0.type.part _ onward reads $
-    as_state (ap (λ v. ExpectMemberName (InMembers w (record m { attributes = v } ∷ done) [] s))
+    as_reader (ap (λ v. ExpectMemberName (InMembers w (record m { attributes = v } ∷ done) [] s))
     (turned_back m.attributes [])) $
     over_line $ members_run more is.1 w (m ∷ done) s
 
@@ -81,7 +81,7 @@ structs_run [] is p = at_end
 structs_run (d ∷ more) is p =
     reads $ over_gap $ reads $ over_gap $ reads $ over_line $
     members_run d.members is.0.members d.name [] _ onward reads $
-    as_state (ap (λ v. Expect (InProgram [] (record p { structs = record d { members = v } ∷ p.structs })))
+    as_reader (ap (λ v. Expect (InProgram [] (record p { structs = record d { members = v } ∷ p.structs })))
     (turned_back d.members [])) $
     over_line $ over_line $ structs_run more is.1 (record p { structs = d ∷ p.structs })
 
@@ -107,13 +107,13 @@ overrides_run [] is p = at_end
 overrides_run (d ∷ more) is p =
     attributes_run d.attributes [] p onward reads $ over_gap $ reads $ reads $ over_gap $
     type_runs d.type is.0.type.part _ onward
-    to_state (override_value_runs d.value is.0.value d.name d.type _)
+    to_reader (override_value_runs d.value is.0.value d.name d.type _)
     (ap (λ v. Expect
     (InProgram [] (record p { overrides = record d { attributes = v } ∷ p.overrides })))
     (turned_back d.attributes [])) onward
     overrides_run more is.1 (record p { overrides = d ∷ p.overrides })
 
-space_runs : (space : Space) (w : List ℕ) {s : Stack} {qs : List Piece} {s' : ReadState} →
+space_runs : (space : Space) (w : List ℕ) {s : Stack} {qs : List Piece} {s' : Reader} →
     Runs qs (AfterGlobalName space w s) s' → Runs (space_pieces space ++ (Blank ∷ word w ∷ qs)) (AfterVar s) s'
 space_runs NoSpace w b = over_gap $ reads b
 space_runs (SpaceAlone a) w b = reads $ reads $ reads $ over_gap $ reads b
@@ -132,7 +132,7 @@ globals_run [] is p = at_end
 globals_run (d ∷ more) is p =
     global_attributes_run d.attributes [] p onward reads $ space_runs d.space d.name $ reads $ over_gap $
     type_runs d.type is.0.type.part _ onward
-    to_state (global_value_runs d.value is.0.value d.space d.name d.type _)
+    to_reader (global_value_runs d.value is.0.value d.space d.name d.type _)
     (ap (λ v. Expect
     (InProgram [] (record p { globals = record d { attributes = v } ∷ p.globals })))
     (turned_back d.attributes [])) onward

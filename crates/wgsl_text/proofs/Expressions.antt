@@ -19,7 +19,7 @@ use Rattle.wgsl_text.specs.Types.{type_pieces, TakesType, rule_among, type_templ
 use Rattle.wgsl_text.specs.Words.{stands_in, is_builtin, is_reserved}
 use Rattle.wgsl_text.proofs.Chain.{◌$◌}
 use Rattle.wgsl_text.proofs.Literals.{literal_runs, literal_opens, literal_spaced}
-use Rattle.wgsl_text.proofs.Runs.{Runs, ◌onward◌, reads, over_gap, as_state, when_true, when_false}
+use Rattle.wgsl_text.proofs.Runs.{Runs, ◌onward◌, reads, over_gap, as_reader, when_true, when_false}
 use Rattle.wgsl_text.proofs.Runs.{at_end}
 use Rattle.wgsl_text.proofs.Spacing.{Spaced, Ends, end, part, tok, free, size, gap, close, Opens}
 use Rattle.wgsl_text.proofs.Spacing.{opens_first, word_opens}
@@ -29,7 +29,7 @@ use Rattle.wgsl_text.proofs.Types.{template_of, parts_of_fit, takes_none, fits_n
 use Rattle.wgsl_text.proofs.Types.{parts_spaced}
 use Rattle.wgsl_text.proofs.Words.{passes}
 use Rattle.wgsl_text.proofs.Machine.{Stack, InParens, InRight, InUnary, InArguments, InCallee}
-use Rattle.wgsl_text.proofs.Machine.{ReadState, Expect, Got, GotNumberArgument, AfterArgument}
+use Rattle.wgsl_text.proofs.Machine.{Reader, Expect, Got, GotNumberArgument, AfterArgument}
 use Rattle.wgsl_text.proofs.Machine.{unwind_arguments}
 use Rattle.std.specs.Prelude.{⊤, codes, IsTrue, cond}
 use Rattle.std.proofs.lemmas.Bool.{false≢true}
@@ -62,21 +62,21 @@ base_runs (Constant l) s a = a s
 base_runs _ s a = a s
 
 argument_done : (more : Arguments) {e : Expression} {t : TypeSpecifier} {done : Arguments}
-    {s : Stack} {s' : ReadState} →
+    {s : Stack} {s' : Reader} →
     Runs (more_arguments_pieces more) (AfterArgument t (Argument e done) s) s' →
     Runs (more_arguments_pieces more) (Got e (InArguments t done s)) s'
 argument_done NoArguments a = record { to = a.to }
 argument_done _ a = record { to = a.to }
 
 number_done : (more : Arguments) → IsSome more →
-    {n : ℕ} {t : TypeSpecifier} {s : Stack} {s' : ReadState} →
+    {n : ℕ} {t : TypeSpecifier} {s : Stack} {s' : Reader} →
     Runs (more_arguments_pieces more) (AfterArgument t (NumberArgument n NoArguments) s) s' →
     Runs (more_arguments_pieces more) (GotNumberArgument t NoArguments false n s) s'
 number_done NoArguments is a = absurd is
 number_done _ is a = record { to = a.to }
 
 -- a whole zero after others
-zero_done : (more done : Arguments) → IsSome done → {t : TypeSpecifier} {s : Stack} {s' : ReadState} →
+zero_done : (more done : Arguments) → IsSome done → {t : TypeSpecifier} {s : Stack} {s' : Reader} →
     Runs (more_arguments_pieces more) (AfterArgument t (ZeroArgument true done) s) s' →
     Runs (more_arguments_pieces more) (GotNumberArgument t done false 0 s) s'
 zero_done more NoArguments is a = absurd is
@@ -153,12 +153,12 @@ call_template w parts fit = template_of w (row_word is_template call_templates w
 -- The machine reads back expressions.
 
 -- what stands in front of the parenthesis of a call
-pub callee_runs : (t : TypeSpecifier) → IsCallee t → (ps : List Piece) (s : Stack) (s' : ReadState) →
+pub callee_runs : (t : TypeSpecifier) → IsCallee t → (ps : List Piece) (s : Stack) (s' : Reader) →
     Runs ps (Expect (InArguments t NoArguments s)) s' →
     Runs (type_pieces t ++ (mark OpenParen ∷ ps)) (Expect s) s'
 callee_runs (Named w) is ps s s' a = record { to = a.to }
 callee_runs (Template w parts) is ps s s' a =
-    reads $ reads $ as_state (when_true _ (call_template w parts is.0).builtin) $
+    reads $ reads $ as_reader (when_true _ (call_template w parts is.0).builtin) $
     parts_run parts is.1 (has_gaps w) w (InCallee s) onward reads a
 
 mutual

@@ -17,7 +17,7 @@ use Rattle.wgsl_text.specs.Functions.{Each, IsFunction, IsEntryPoint}
 use Rattle.wgsl_text.specs.Statements.{NoStatements, statements_pieces}
 use Rattle.wgsl_text.specs.Token.{OpenBrace, Colon, Piece, Blank, LineEnd, mark, word}
 use Rattle.wgsl_text.specs.Types.{TypeSpecifier, Named, Template, type_pieces, IsType}
-use Rattle.wgsl_text.proofs.Machine.{Stack, ReadState, Expect, ExpectType, GotType, InStatements}
+use Rattle.wgsl_text.proofs.Machine.{Stack, Reader, Expect, ExpectType, GotType, InStatements}
 use Rattle.wgsl_text.proofs.Machine.{InProgram, InParameters, InParameterType, InLocals}
 use Rattle.wgsl_text.proofs.Machine.{InLocalType, ExpectParameter, AfterParameters, ExpectResult}
 use Rattle.wgsl_text.proofs.Machine.{turned, add_local, function_added, close_parameters}
@@ -27,8 +27,8 @@ use Rattle.wgsl_text.proofs.Attributes.{result_attributes_run, attributes_closed
 use Rattle.wgsl_text.proofs.Closing.{Closed, none, line, gap, indent, free, sign, part, ◌then◌}
 use Rattle.wgsl_text.proofs.Closing.{stop}
 use Rattle.wgsl_text.proofs.Expressions.{expression_runs, expression_spaced}
-use Rattle.wgsl_text.proofs.Runs.{Runs, ◌onward◌, reads, over_gap, over_line, over_indent, as_state}
-use Rattle.wgsl_text.proofs.Runs.{at_end, to_state, turned_back}
+use Rattle.wgsl_text.proofs.Runs.{Runs, ◌onward◌, reads, over_gap, over_line, over_indent, as_reader}
+use Rattle.wgsl_text.proofs.Runs.{at_end, to_reader, turned_back}
 use Rattle.wgsl_text.proofs.Statements.{closes, statements_run, statements_closed}
 use Rattle.wgsl_text.proofs.Text.{ends_word, text-append}
 use Rattle.wgsl_text.proofs.Types.{type_runs, type_spaced}
@@ -58,9 +58,9 @@ more_parameters_run : (ps : List Parameter) → Each IsParameter ps →
     Runs (more_parameters_pieces ps)
     (GotType p.type (InParameterType f done (turned p.attributes []) p.name s))
     (AfterParameters f (turned (p ∷ done) ps) s)
-more_parameters_run [] is p f done s = reads $ as_state (ap close_parameters (kept p f done s)) at_end
+more_parameters_run [] is p f done s = reads $ as_reader (ap close_parameters (kept p f done s)) at_end
 more_parameters_run (q ∷ more) is p f done s =
-    reads $ as_state (ap ExpectParameter (kept p f done s)) $ over_gap $
+    reads $ as_reader (ap ExpectParameter (kept p f done s)) $ over_gap $
     parameter_runs q is.0 f (p ∷ done) s onward more_parameters_run more is.1 q f (p ∷ done) s
 
 parameters_run : (ps : List Parameter) → Each IsParameter ps → (f : List ℕ) (s : Stack) →
@@ -69,14 +69,14 @@ parameters_run [] is f s = at_end
 parameters_run (p ∷ more) is f s = parameter_runs p is.0 f [] s onward more_parameters_run more is.1 p f [] s
 
 -- a type after the attributes of a result
-result_type : (t : TypeSpecifier) {s : Stack} {s' : ReadState} → Runs (type_pieces t) (ExpectType s) s' →
+result_type : (t : TypeSpecifier) {s : Stack} {s' : Reader} → Runs (type_pieces t) (ExpectType s) s' →
     Runs (type_pieces t) (ExpectResult s) s'
 result_type (Named w) a = record { to = a.to }
 result_type (Template w parts) a = record { to = a.to }
 
 -- what stands between the parameters and the body
 result_runs : (r : Result) → IsResult r →
-    (f : List ℕ) (ps : List Parameter) (s : Stack) {qs : List Piece} {s' : ReadState} →
+    (f : List ℕ) (ps : List Parameter) (s : Stack) {qs : List Piece} {s' : Reader} →
     Runs qs (Expect (InStatements NoStatements (InLocals f ps r [] s))) s' →
     Runs (result_pieces r ++ (Blank ∷ mark OpenBrace ∷ qs)) (AfterParameters f ps s) s'
 result_runs NoResult is f ps s b = over_gap $ reads b
@@ -84,7 +84,7 @@ result_runs (ResultOf attributes t) is f ps s b =
     over_gap $ reads $ reads $ over_gap $
     (result_attributes_run attributes f ps [] s onward result_type t (type_runs t is.2.part _)) onward
     over_gap $ reads $
-    as_state (ap (λ v. Expect (InStatements NoStatements (InLocals f ps (ResultOf v t) [] s)))
+    as_reader (ap (λ v. Expect (InStatements NoStatements (InLocals f ps (ResultOf v t) [] s)))
     (turned_back attributes [])) b
 
 value_runs : (value : Option Expression) → IsValue value → (w : List ℕ) (t : TypeSpecifier) (s : Stack) →
@@ -102,7 +102,7 @@ locals_run (l ∷ more) is f ps r done s =
     type_runs l.type is.0.type.part _ onward value_runs l.value is.0.value l.name l.type _ onward locals_run
     more is.1 f ps r (l ∷ done) s
 
-pub group_end_runs : {A : Type 0} (list : List A) (s : ReadState) → Runs (group_end list) s s
+pub group_end_runs : {A : Type 0} (list : List A) (s : Reader) → Runs (group_end list) s s
 group_end_runs [] s = at_end
 group_end_runs (x ∷ more) s = at_end
 
@@ -115,7 +115,7 @@ function_runs f is attributes p =
     locals_run f.locals is.locals f.name f.parameters f.result [] _ onward
     (group_end_runs f.locals _ onward (statements_run f.body is.body 1 NoStatements _ onward closes f.body
     (over_line (
-    as_state (ap (λ l. Expect
+    as_reader (ap (λ l. Expect
     (InProgram [] (function_added (turned attributes []) (record f { locals = l }) p)))
     (turned_back f.locals [])) at_end))))))
 
@@ -138,7 +138,7 @@ pub entry_point_runs : (e : EntryPoint) → IsEntryPoint e → (p : Program) →
     Runs (entry_point_pieces e) (Expect (InProgram [] p))
     (Expect (InProgram [] (record p { entry_points = e ∷ p.entry_points })))
 entry_point_runs e is p =
-    attributes_run e.stage [] p onward over_line $ to_state (function_runs e.function is.function _ p)
+    attributes_run e.stage [] p onward over_line $ to_reader (function_runs e.function is.function _ p)
     (ap (λ v. Expect (InProgram [] (function_added v e.function p))) (turned_back e.stage [])
     ∙ ap (λ v. Expect (InProgram [] v)) (entry_added e.stage is.stage e.function p))
 

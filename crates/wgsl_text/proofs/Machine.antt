@@ -105,58 +105,58 @@ pub data AttributePart : Type 0 where
   NumberPart : ℕ → AttributePart
 
 -- what is wanted next, or what has just been read
-pub data ReadState : Type 0 where
-  Failed : ReadState
-  Expect : Stack → ReadState
-  Got : Expression → Stack → ReadState
-  ExpectOperand : UnaryOperator → Stack → ReadState
-  ExpectMember : Expression → Stack → ReadState
-  GotIndex : Expression → ℕ → Stack → ReadState
-  GotNumberArgument : TypeSpecifier → Arguments → Bool → ℕ → Stack → ReadState
-  AfterArgument : TypeSpecifier → Arguments → Stack → ReadState
-  InLeastLong : Stack → ReadState
-  ExpectType : Stack → ReadState
-  GotType : TypeSpecifier → Stack → ReadState
-  AfterPart : List ℕ → TemplateArguments → Stack → ReadState
-  LetName : Stack → ReadState
-  AfterLetName : List ℕ → Stack → ReadState
-  ExpectBrace : Stack → ReadState
-  ExpectEnd : Statement → Stack → ReadState
-  AfterBreak : Stack → ReadState
-  CloseTwice : Statement → Stack → ReadState
-  CloseOnce : Statement → Stack → ReadState
-  AtCase : Expression → Cases → Stack → ReadState
-  ExpectCaseValue : Expression → Cases → List CaseValue → Stack → ReadState
-  AfterCaseValue : Expression → Cases → List CaseValue → CaseValue → Stack → ReadState
-  FunctionName : Stack → ReadState
-  AfterFunctionName : List ℕ → Stack → ReadState
-  ExpectParameter : Stack → ReadState
-  AfterParameterName : List ℕ → Stack → ReadState
-  AfterParameters : List ℕ → List Parameter → Stack → ReadState
-  ExpectResult : Stack → ReadState
-  LocalName : Stack → ReadState
-  AfterLocalName : List ℕ → Stack → ReadState
-  AttributeName : Stack → ReadState
-  AttributeOpen : AttributeKind → Stack → ReadState
-  ExpectAttributePart : AttributeKind → List AttributePart → Stack → ReadState
-  AfterAttributePart : AttributeKind → List AttributePart → Stack → ReadState
-  EnableName : Stack → ReadState
-  AfterEnable : List ℕ → Stack → ReadState
-  StructName : Stack → ReadState
-  AfterStructName : List ℕ → Stack → ReadState
-  ExpectMemberName : Stack → ReadState
-  AfterMemberName : List ℕ → Stack → ReadState
-  ConstantName : Stack → ReadState
-  AfterConstantName : List ℕ → Stack → ReadState
-  OverrideName : Stack → ReadState
-  AfterOverrideName : List ℕ → Stack → ReadState
-  AfterVar : Stack → ReadState
-  ExpectSpace : Stack → ReadState
-  AfterSpace : List ℕ → Stack → ReadState
-  ExpectAccess : List ℕ → Stack → ReadState
-  AfterAccess : List ℕ → List ℕ → Stack → ReadState
-  GlobalName : Space → Stack → ReadState
-  AfterGlobalName : Space → List ℕ → Stack → ReadState
+pub data Reader : Type 0 where
+  Failed : Reader
+  Expect : Stack → Reader
+  Got : Expression → Stack → Reader
+  ExpectOperand : UnaryOperator → Stack → Reader
+  ExpectMember : Expression → Stack → Reader
+  GotIndex : Expression → ℕ → Stack → Reader
+  GotNumberArgument : TypeSpecifier → Arguments → Bool → ℕ → Stack → Reader
+  AfterArgument : TypeSpecifier → Arguments → Stack → Reader
+  InLeastLong : Stack → Reader
+  ExpectType : Stack → Reader
+  GotType : TypeSpecifier → Stack → Reader
+  AfterPart : List ℕ → TemplateArguments → Stack → Reader
+  LetName : Stack → Reader
+  AfterLetName : List ℕ → Stack → Reader
+  ExpectBrace : Stack → Reader
+  ExpectEnd : Statement → Stack → Reader
+  AfterBreak : Stack → Reader
+  CloseTwice : Statement → Stack → Reader
+  CloseOnce : Statement → Stack → Reader
+  AtCase : Expression → Cases → Stack → Reader
+  ExpectCaseValue : Expression → Cases → List CaseValue → Stack → Reader
+  AfterCaseValue : Expression → Cases → List CaseValue → CaseValue → Stack → Reader
+  FunctionName : Stack → Reader
+  AfterFunctionName : List ℕ → Stack → Reader
+  ExpectParameter : Stack → Reader
+  AfterParameterName : List ℕ → Stack → Reader
+  AfterParameters : List ℕ → List Parameter → Stack → Reader
+  ExpectResult : Stack → Reader
+  LocalName : Stack → Reader
+  AfterLocalName : List ℕ → Stack → Reader
+  AttributeName : Stack → Reader
+  AttributeOpen : AttributeKind → Stack → Reader
+  ExpectAttributePart : AttributeKind → List AttributePart → Stack → Reader
+  AfterAttributePart : AttributeKind → List AttributePart → Stack → Reader
+  EnableName : Stack → Reader
+  AfterEnable : List ℕ → Stack → Reader
+  StructName : Stack → Reader
+  AfterStructName : List ℕ → Stack → Reader
+  ExpectMemberName : Stack → Reader
+  AfterMemberName : List ℕ → Stack → Reader
+  ConstantName : Stack → Reader
+  AfterConstantName : List ℕ → Stack → Reader
+  OverrideName : Stack → Reader
+  AfterOverrideName : List ℕ → Stack → Reader
+  AfterVar : Stack → Reader
+  ExpectSpace : Stack → Reader
+  AfterSpace : List ℕ → Stack → Reader
+  ExpectAccess : List ℕ → Stack → Reader
+  AfterAccess : List ℕ → List ℕ → Stack → Reader
+  GlobalName : Space → Stack → Reader
+  AfterGlobalName : Space → List ℕ → Stack → Reader
 
 -- the first after the second, turned round
 abbrev pub unwind_arguments : Arguments → Arguments → Arguments
@@ -183,7 +183,7 @@ unwind_case_values [] case_values = case_values
 unwind_case_values (l ∷ done) case_values = unwind_case_values done (MoreCaseValues l case_values)
 
 -- a statement has been read
-abbrev pub add_statement : Statement → Stack → ReadState
+abbrev pub add_statement : Statement → Stack → Reader
 add_statement st (InStatements done s) = Expect (InStatements (Then st done) s)
 add_statement st _ = Failed
 
@@ -198,64 +198,64 @@ function_added [] f p = record p { functions = f ∷ p.functions }
 function_added (a ∷ attributes) f p = let e : EntryPoint = record { stage = a ∷ attributes; function = f } in
     record p { entry_points = e ∷ p.entry_points }
 
-abbrev pub add_function : Function → Stack → ReadState
+abbrev pub add_function : Function → Stack → Reader
 add_function f (InProgram attributes p) = Expect (InProgram [] (function_added (turned attributes []) f p))
 add_function f _ = Failed
 
-abbrev pub add_local : List ℕ → TypeSpecifier → Option Expression → Stack → ReadState
+abbrev pub add_local : List ℕ → TypeSpecifier → Option Expression → Stack → Reader
 add_local w t value (InLocals f parameters result done s) =
     let l : Local = record { name = w; type = t; value = value } in
     Expect (InStatements NoStatements (InLocals f parameters result (l ∷ done) s))
 add_local w t value _ = Failed
 
-abbrev pub add_enable : List ℕ → Stack → ReadState
+abbrev pub add_enable : List ℕ → Stack → Reader
 add_enable w (InProgram attributes p) = Expect (InProgram [] (record p { enables = w ∷ p.enables }))
 add_enable w _ = Failed
 
-abbrev pub add_struct : List ℕ → List StructMember → Stack → ReadState
+abbrev pub add_struct : List ℕ → List StructMember → Stack → Reader
 add_struct w members (InProgram attributes p) =
     let d : Struct = record { name = w; members = members } in
     Expect (InProgram [] (record p { structs = d ∷ p.structs }))
 add_struct w members _ = Failed
 
-abbrev pub add_constant : List ℕ → TypeSpecifier → Expression → Stack → ReadState
+abbrev pub add_constant : List ℕ → TypeSpecifier → Expression → Stack → Reader
 add_constant w t e (InProgram attributes p) =
     let d : NamedConstant = record { name = w; type = t; value = e } in
     Expect (InProgram [] (record p { constants = d ∷ p.constants }))
 add_constant w t e _ = Failed
 
-abbrev pub add_global : Space → List ℕ → TypeSpecifier → Option Expression → Stack → ReadState
+abbrev pub add_global : Space → List ℕ → TypeSpecifier → Option Expression → Stack → Reader
 add_global space w t value (InProgram attributes p) =
     let d : Global = record { attributes = turned attributes []; space = space; name = w; type = t; value = value } in
     Expect (InProgram [] (record p { globals = d ∷ p.globals }))
 add_global space w t value _ = Failed
 
-abbrev pub add_override : List ℕ → TypeSpecifier → Option Expression → Stack → ReadState
+abbrev pub add_override : List ℕ → TypeSpecifier → Option Expression → Stack → Reader
 add_override w t value (InProgram attributes p) =
     let d : Override = record { attributes = turned attributes []; name = w; type = t; value = value } in
     Expect (InProgram [] (record p { overrides = d ∷ p.overrides }))
 add_override w t value _ = Failed
 
 -- an attribute has been read: of a declaration, a member, a parameter or a result
-abbrev pub add_attribute : Attribute → Stack → ReadState
+abbrev pub add_attribute : Attribute → Stack → Reader
 add_attribute a (InProgram attributes p) = Expect (InProgram (a ∷ attributes) p)
 add_attribute a (InMembers w done attributes s) = ExpectMemberName (InMembers w done (a ∷ attributes) s)
 add_attribute a (InParameters f done attributes s) = ExpectParameter (InParameters f done (a ∷ attributes) s)
 add_attribute a (InResult f parameters attributes s) = ExpectResult (InResult f parameters (a ∷ attributes) s)
 add_attribute a _ = Failed
 
-abbrev pub add_member : List ℕ → TypeSpecifier → Stack → ReadState
+abbrev pub add_member : List ℕ → TypeSpecifier → Stack → Reader
 add_member w t (InMembers name done attributes s) =
     let m : StructMember = record { attributes = turned attributes []; name = w; type = t } in
     ExpectMemberName (InMembers name (m ∷ done) [] s)
 add_member w t _ = Failed
 
-abbrev pub close_struct : Stack → ReadState
+abbrev pub close_struct : Stack → Reader
 close_struct (InMembers w done attributes s) = add_struct w (turned done []) s
 close_struct _ = Failed
 
 -- a block of statements has been read
-abbrev pub close_block : Statements → Stack → ReadState
+abbrev pub close_block : Statements → Stack → Reader
 close_block body (InBlock s) = add_statement (Block body) s
 close_block body (InAccept e s) = add_statement (If e body NoBlock) s
 close_block body (InReject e accept s) = add_statement (If e accept (SomeBlock body)) s
@@ -272,60 +272,60 @@ close_block body (InLocals f parameters result locals s) =
     }) s
 close_block body _ = Failed
 
-abbrev pub expect_close_brace : Stack → ReadState
+abbrev pub expect_close_brace : Stack → Reader
 expect_close_brace (InStatements done s) = close_block (unwind_statements done NoStatements) s
 expect_close_brace _ = Failed
 
-abbrev pub expect_semicolon : Stack → ReadState
+abbrev pub expect_semicolon : Stack → Reader
 expect_semicolon (InReturn s) = add_statement Return s
 expect_semicolon _ = Failed
 
 -- `else` after an `if` that has been read without one
-abbrev pub else_of : Statements → Stack → ReadState
+abbrev pub else_of : Statements → Stack → Reader
 else_of (Then (If e accept NoBlock) done) s = ExpectBrace (InReject e accept (InStatements done s))
 else_of _ s = Failed
 
-abbrev pub expect_else : Stack → ReadState
+abbrev pub expect_else : Stack → Reader
 expect_else (InStatements done s) = else_of done s
 expect_else _ = Failed
 
-abbrev pub continuing_of : Statements → Stack → ReadState
+abbrev pub continuing_of : Statements → Stack → Reader
 continuing_of body (InLoop s) = ExpectBrace (InContinuing body s)
 continuing_of body _ = Failed
 
-abbrev pub expect_continuing : Stack → ReadState
+abbrev pub expect_continuing : Stack → Reader
 expect_continuing (InStatements done s) = continuing_of (unwind_statements done NoStatements) s
 expect_continuing _ = Failed
 
-abbrev pub expect_var : Stack → ReadState
+abbrev pub expect_var : Stack → Reader
 expect_var (InStatements done s) = LocalName s
 expect_var (InProgram attributes p) = AfterVar (InProgram attributes p)
 expect_var _ = Failed
 
 -- a parenthesis opened where an expression is wanted: what stands in it
-abbrev pub expect_star : Stack → ReadState
+abbrev pub expect_star : Stack → Reader
 expect_star (InParens s) = Expect (InDeref s)
 expect_star _ = Failed
 
-abbrev pub expect_and : Stack → ReadState
+abbrev pub expect_and : Stack → Reader
 expect_and (InParens s) = Expect (InAddress s)
 expect_and _ = Failed
 
 -- the second sign of `>=` and `>>`
-abbrev pub expect_equals : Stack → ReadState
+abbrev pub expect_equals : Stack → Reader
 expect_equals (InRight a Greater s) = Expect (InRight a GreaterEqual s)
 expect_equals _ = Failed
 
-abbrev pub expect_greater : Stack → ReadState
+abbrev pub expect_greater : Stack → Reader
 expect_greater (InRight a Greater s) = Expect (InRight a ShiftRight s)
 expect_greater _ = Failed
 
 -- the end of an empty list of arguments
-abbrev pub expect_close : Stack → ReadState
+abbrev pub expect_close : Stack → Reader
 expect_close (InArguments t done s) = Got (Call t (unwind_arguments done NoArguments)) s
 expect_close _ = Failed
 
-abbrev pub expect_mark : Mark → Stack → ReadState
+abbrev pub expect_mark : Mark → Stack → Reader
 expect_mark OpenParen s = Expect (InParens s)
 expect_mark CloseParen s = expect_close s
 expect_mark Minus s = ExpectOperand Negate s
@@ -360,20 +360,20 @@ expect_mark KeywordConst s = ConstantName s
 expect_mark _ s = Failed
 
 -- a number without a suffix stands in an index or among arguments
-abbrev pub expect_plain : Bool → ℕ → Stack → ReadState
+abbrev pub expect_plain : Bool → ℕ → Stack → Reader
 expect_plain negative n (InIndex e s) = GotIndex e n s
 expect_plain negative n (InArguments t done s) = GotNumberArgument t done negative n s
 expect_plain negative n _ = Failed
 
-abbrev pub expect_number : Suffix → Bool → ℕ → Stack → ReadState
+abbrev pub expect_number : Suffix → Bool → ℕ → Stack → Reader
 expect_number NoSuffix negative n s = expect_plain negative n s
 expect_number suffix negative n s = Got (Constant (Suffixed negative n suffix)) s
 
-abbrev pub expect_zero : Stack → ReadState
+abbrev pub expect_zero : Stack → Reader
 expect_zero (InArguments t done s) = AfterArgument t (ZeroArgument false done) s
 expect_zero _ = Failed
 
-abbrev pub want : Token → Stack → ReadState
+abbrev pub want : Token → Stack → Reader
 want (Fixed m) s = expect_mark m s
 want (Word w) s = Got (Name w) s
 want (Number negative n suffix) s = expect_number suffix negative n s
@@ -381,12 +381,12 @@ want (Decimal negative whole fraction precision) s = Got (Constant (Floating neg
 want ZeroPointZero s = expect_zero s
 want (Foreign b) s = Failed
 
-abbrev pub after_argument_mark : Mark → TypeSpecifier → Arguments → Stack → ReadState
+abbrev pub after_argument_mark : Mark → TypeSpecifier → Arguments → Stack → Reader
 after_argument_mark Comma t done s = Expect (InArguments t done s)
 after_argument_mark CloseParen t done s = Got (Call t (unwind_arguments done NoArguments)) s
 after_argument_mark _ t done s = Failed
 
-abbrev pub got_close : Expression → Stack → ReadState
+abbrev pub got_close : Expression → Stack → Reader
 got_close e (InParens s) = Got e s
 got_close e (InRight a op s) = Got (Binary a op e) s
 got_close e (InUnary op s) = Got (Unary op e) s
@@ -395,42 +395,42 @@ got_close e (InDeref s) = Got (Dereference e) s
 got_close e (InArguments t done s) = after_argument_mark CloseParen t (Argument e done) s
 got_close e _ = Failed
 
-abbrev pub got_comma : Expression → Stack → ReadState
+abbrev pub got_comma : Expression → Stack → Reader
 got_comma e (InArguments t done s) = after_argument_mark Comma t (Argument e done) s
 got_comma e _ = Failed
 
-abbrev pub got_close_bracket : Expression → Stack → ReadState
+abbrev pub got_close_bracket : Expression → Stack → Reader
 got_close_bracket i (InIndex e s) = Got (Index e i) s
 got_close_bracket i _ = Failed
 
-abbrev pub got_operator : BinaryOperator → Expression → Stack → ReadState
+abbrev pub got_operator : BinaryOperator → Expression → Stack → Reader
 got_operator op a (InParens s) = Expect (InRight a op s)
 got_operator op a _ = Failed
 
 -- arguments follow a word
-abbrev pub got_open : Expression → Stack → ReadState
+abbrev pub got_open : Expression → Stack → Reader
 got_open (Name w) s = Expect (InArguments (Named w) NoArguments s)
 got_open _ s = Failed
 
 -- Is this the word of a type, or of a call that takes a type?
-abbrev pub got_less : (List ℕ → Bool) → Expression → Stack → ReadState
+abbrev pub got_less : (List ℕ → Bool) → Expression → Stack → Reader
 got_less takes_types (Name w) s =
     cond (takes_types w) (ExpectType (InTemplate w NoTemplateArguments (InCallee s))) (got_operator Less (Name w) s)
 got_less takes_types e s = got_operator Less e s
 
-abbrev pub call_statement : Expression → Statements → Stack → ReadState
+abbrev pub call_statement : Expression → Statements → Stack → Reader
 call_statement (Call t args) done s = Expect (InStatements (Then (CallStatement t args) done) s)
 call_statement _ done s = Failed
 
-abbrev pub break_if_in : Expression → Statements → Stack → ReadState
+abbrev pub break_if_in : Expression → Statements → Stack → Reader
 break_if_in e rest (InContinuing body s) = CloseTwice (LoopBreakIf body rest e) s
 break_if_in e rest _ = Failed
 
-abbrev pub break_if : Expression → Stack → ReadState
+abbrev pub break_if : Expression → Stack → Reader
 break_if e (InStatements done s) = break_if_in e (unwind_statements done NoStatements) s
 break_if e _ = Failed
 
-abbrev pub got_semicolon : Expression → Stack → ReadState
+abbrev pub got_semicolon : Expression → Stack → Reader
 got_semicolon e (InLet w s) = add_statement (Let w e) s
 got_semicolon e (InTypedLet w t s) = add_statement (TypedLet w t e) s
 got_semicolon e (InAssign a s) = add_statement (Assign a e) s
@@ -443,16 +443,16 @@ got_semicolon e (InOverride w t s) = add_override w t (Some e) s
 got_semicolon e (InGlobal space w t s) = add_global space w t (Some e) s
 got_semicolon e _ = Failed
 
-abbrev pub got_equals : Expression → Stack → ReadState
+abbrev pub got_equals : Expression → Stack → Reader
 got_equals e (InStatements done s) = Expect (InAssign e (InStatements done s))
 got_equals e _ = Failed
 
-abbrev pub got_open_brace : Expression → Stack → ReadState
+abbrev pub got_open_brace : Expression → Stack → Reader
 got_open_brace e (InCondition s) = Expect (InStatements NoStatements (InAccept e s))
 got_open_brace e (InSelector s) = AtCase e NoCases s
 got_open_brace e _ = Failed
 
-abbrev pub got_mark : (List ℕ → Bool) → Mark → Expression → Stack → ReadState
+abbrev pub got_mark : (List ℕ → Bool) → Mark → Expression → Stack → Reader
 got_mark b CloseParen e s = got_close e s
 got_mark b CloseBracket e s = got_close_bracket e s
 got_mark b Comma e s = got_comma e s
@@ -480,11 +480,11 @@ got_mark b BarBar e s = got_operator LogicalOr e s
 got_mark b LessLess e s = got_operator ShiftLeft e s
 got_mark b _ e s = Failed
 
-abbrev pub expect_operand : Mark → UnaryOperator → Stack → ReadState
+abbrev pub expect_operand : Mark → UnaryOperator → Stack → Reader
 expect_operand OpenParen op s = Expect (InUnary op s)
 expect_operand _ op s = Failed
 
-abbrev pub got_index : Mark → Expression → ℕ → Stack → ReadState
+abbrev pub got_index : Mark → Expression → ℕ → Stack → Reader
 got_index CloseBracket e n s = Got (IndexAt e n) s
 got_index _ e n s = Failed
 
@@ -493,7 +493,7 @@ abbrev pub wrapped_literal : List ℕ → Bool → ℕ → Literal
 wrapped_literal w negative n = cond (bytes_eq (codes "i16") w) (SignedShort negative n)
     (cond (bytes_eq (codes "u16") w) (UnsignedShort n) LeastInteger)
 
-abbrev pub wrapped : TypeSpecifier → Bool → ℕ → Stack → ReadState
+abbrev pub wrapped : TypeSpecifier → Bool → ℕ → Stack → Reader
 wrapped (Named w) negative n s = Got (Constant (wrapped_literal w negative n)) s
 wrapped (Template w args) negative n s = Failed
 
@@ -503,46 +503,46 @@ number_then NoArguments n = NumberArgument n NoArguments
 number_then done zero = ZeroArgument true done
 number_then done n = NumberArgument n done
 
-abbrev pub close_number : Arguments → TypeSpecifier → Bool → ℕ → Stack → ReadState
+abbrev pub close_number : Arguments → TypeSpecifier → Bool → ℕ → Stack → Reader
 close_number NoArguments t negative n s = wrapped t negative n s
 close_number done t negative n s = Got (Call t (unwind_arguments (number_then done n) NoArguments)) s
 
-abbrev pub got_number_argument : Mark → TypeSpecifier → Arguments → Bool → ℕ → Stack → ReadState
+abbrev pub got_number_argument : Mark → TypeSpecifier → Arguments → Bool → ℕ → Stack → Reader
 got_number_argument Comma t done negative n s = Expect (InArguments t (number_then done n) s)
 got_number_argument CloseParen t done negative n s = close_number done t negative n s
 got_number_argument Minus t done negative n s = InLeastLong s
 got_number_argument _ t done negative n s = Failed
 
-abbrev pub in_least_long : Token → Stack → ReadState
+abbrev pub in_least_long : Token → Stack → Reader
 in_least_long (Number negative n suffix) s = InLeastLong s
 in_least_long (Fixed CloseParen) s = Got (Constant LeastLong) s
 in_least_long _ s = Failed
 
-abbrev pub after_part : Mark → List ℕ → TemplateArguments → Stack → ReadState
+abbrev pub after_part : Mark → List ℕ → TemplateArguments → Stack → Reader
 after_part Comma w done s = ExpectType (InTemplate w done s)
 after_part GreaterThan w done s = GotType (Template w (unwind_parts done NoTemplateArguments)) s
 after_part _ w done s = Failed
 
-abbrev pub expect_size : ℕ → Stack → ReadState
+abbrev pub expect_size : ℕ → Stack → Reader
 expect_size n (InTemplate w done s) = AfterPart w (SizeArgument n done) s
 expect_size n _ = Failed
 
-abbrev pub expect_type_greater : Stack → ReadState
+abbrev pub expect_type_greater : Stack → Reader
 expect_type_greater (InTemplate w done s) =
     GotType (Template w (unwind_parts done NoTemplateArguments)) s
 expect_type_greater _ = Failed
 
-abbrev pub expect_type : Token → Stack → ReadState
+abbrev pub expect_type : Token → Stack → Reader
 expect_type (Word w) s = GotType (Named w) s
 expect_type (Number negative n suffix) s = expect_size n s
 expect_type (Fixed GreaterThan) s = expect_type_greater s
 expect_type _ s = Failed
 
-abbrev pub got_type_less : TypeSpecifier → Stack → ReadState
+abbrev pub got_type_less : TypeSpecifier → Stack → Reader
 got_type_less (Named w) s = ExpectType (InTemplate w NoTemplateArguments s)
 got_type_less _ s = Failed
 
-abbrev pub got_type_open : TypeSpecifier → Stack → ReadState
+abbrev pub got_type_open : TypeSpecifier → Stack → Reader
 got_type_open t (InCallee s) = Expect (InArguments t NoArguments s)
 got_type_open t _ = Failed
 
@@ -552,31 +552,31 @@ add_parameter w t (InParameters f done attributes s) =
     InParameters f (p ∷ done) [] s
 add_parameter w t s = s
 
-abbrev pub close_parameters : Stack → ReadState
+abbrev pub close_parameters : Stack → Reader
 close_parameters (InParameters f done attributes s) = AfterParameters f (turned done []) s
 close_parameters _ = Failed
 
-abbrev pub after_parameter : Mark → Stack → ReadState
+abbrev pub after_parameter : Mark → Stack → Reader
 after_parameter Comma s = ExpectParameter s
 after_parameter CloseParen s = close_parameters s
 after_parameter _ s = Failed
 
-abbrev pub after_local_type : Mark → List ℕ → TypeSpecifier → Stack → ReadState
+abbrev pub after_local_type : Mark → List ℕ → TypeSpecifier → Stack → Reader
 after_local_type Semicolon w t s = add_local w t None s
 after_local_type Equals w t s = Expect (InLocalValue w t s)
 after_local_type _ w t s = Failed
 
-abbrev pub after_override_type : Mark → List ℕ → TypeSpecifier → Stack → ReadState
+abbrev pub after_override_type : Mark → List ℕ → TypeSpecifier → Stack → Reader
 after_override_type Semicolon w t s = add_override w t None s
 after_override_type Equals w t s = Expect (InOverride w t s)
 after_override_type _ w t s = Failed
 
-abbrev pub after_global_type : Mark → Space → List ℕ → TypeSpecifier → Stack → ReadState
+abbrev pub after_global_type : Mark → Space → List ℕ → TypeSpecifier → Stack → Reader
 after_global_type Semicolon space w t s = add_global space w t None s
 after_global_type Equals space w t s = Expect (InGlobal space w t s)
 after_global_type _ space w t s = Failed
 
-abbrev pub got_type_in : Mark → TypeSpecifier → Stack → ReadState
+abbrev pub got_type_in : Mark → TypeSpecifier → Stack → Reader
 got_type_in m t (InTemplate w done s) = after_part m w (TypeArgument t done) s
 got_type_in m t (InLetType w s) = Expect (InTypedLet w t s)
 got_type_in m t (InParameterType f done attributes w s) =
@@ -590,43 +590,43 @@ got_type_in m t (InOverrideType w s) = after_override_type m w t s
 got_type_in m t (InGlobalType space w s) = after_global_type m space w t s
 got_type_in m t _ = Failed
 
-abbrev pub got_type : Mark → TypeSpecifier → Stack → ReadState
+abbrev pub got_type : Mark → TypeSpecifier → Stack → Reader
 got_type LessThan t s = got_type_less t s
 got_type OpenParen t s = got_type_open t s
 got_type m t s = got_type_in m t s
 
 -- a state that goes on at a sign alone
-abbrev pub at_mark : (Mark → ReadState) → Token → ReadState
+abbrev pub at_mark : (Mark → Reader) → Token → Reader
 at_mark f (Fixed m) = f m
 at_mark f _ = Failed
 
-abbrev pub expect_member : Token → Expression → Stack → ReadState
+abbrev pub expect_member : Token → Expression → Stack → Reader
 expect_member (Word w) e s = Got (Member e w) s
 expect_member _ e s = Failed
 
-abbrev pub let_name : Token → Stack → ReadState
+abbrev pub let_name : Token → Stack → Reader
 let_name (Word w) s = AfterLetName w s
 let_name _ s = Failed
 
-abbrev pub after_let_name : Mark → List ℕ → Stack → ReadState
+abbrev pub after_let_name : Mark → List ℕ → Stack → Reader
 after_let_name Colon w s = ExpectType (InLetType w s)
 after_let_name Equals w s = Expect (InLet w s)
 after_let_name _ w s = Failed
 
-abbrev pub expect_brace : Mark → Stack → ReadState
+abbrev pub expect_brace : Mark → Stack → Reader
 expect_brace OpenBrace s = Expect (InStatements NoStatements s)
 expect_brace _ s = Failed
 
-abbrev pub expect_end : Mark → Statement → Stack → ReadState
+abbrev pub expect_end : Mark → Statement → Stack → Reader
 expect_end Semicolon st s = add_statement st s
 expect_end _ st s = Failed
 
-abbrev pub after_break : Mark → Stack → ReadState
+abbrev pub after_break : Mark → Stack → Reader
 after_break Semicolon s = add_statement Break s
 after_break KeywordIf s = Expect (InBreakIf s)
 after_break _ s = Failed
 
-abbrev pub at_case : Mark → Expression → Cases → Stack → ReadState
+abbrev pub at_case : Mark → Expression → Cases → Stack → Reader
 at_case KeywordCase e done s = ExpectCaseValue e done [] s
 at_case KeywordDefault e done s = AfterCaseValue e done [] DefaultCase s
 at_case CloseBrace e done s = add_statement (Switch e (unwind_cases done NoCases)) s
@@ -636,35 +636,35 @@ abbrev pub number_case_value : Suffix → Bool → ℕ → CaseValue
 number_case_value SuffixU negative n = UnsignedCase n
 number_case_value _ negative n = SignedCase negative n
 
-abbrev pub expect_case_value : Token → Expression → Cases → List CaseValue → Stack → ReadState
+abbrev pub expect_case_value : Token → Expression → Cases → List CaseValue → Stack → Reader
 expect_case_value (Fixed KeywordDefault) e done case_values s = AfterCaseValue e done case_values DefaultCase s
 expect_case_value (Number negative n suffix) e done case_values s =
     AfterCaseValue e done case_values (number_case_value suffix negative n) s
 expect_case_value _ e done case_values s = Failed
 
-abbrev pub after_case_value : Mark → Expression → Cases → List CaseValue → CaseValue → Stack → ReadState
+abbrev pub after_case_value : Mark → Expression → Cases → List CaseValue → CaseValue → Stack → Reader
 after_case_value Comma e done case_values l s = ExpectCaseValue e done (l ∷ case_values) s
 after_case_value Colon e done case_values l s =
     ExpectBrace (InCase e done (unwind_case_values case_values (LastCaseValue l)) s)
 after_case_value _ e done case_values l s = Failed
 
-abbrev pub after_parameters : Mark → List ℕ → List Parameter → Stack → ReadState
+abbrev pub after_parameters : Mark → List ℕ → List Parameter → Stack → Reader
 after_parameters OpenBrace f ps s = Expect (InStatements NoStatements (InLocals f ps NoResult [] s))
 after_parameters Minus f ps s = AfterParameters f ps s
 after_parameters GreaterThan f ps s = ExpectResult (InResult f ps [] s)
 after_parameters _ f ps s = Failed
 
-abbrev pub after_parameter_name : List ℕ → Stack → ReadState
+abbrev pub after_parameter_name : List ℕ → Stack → Reader
 after_parameter_name w (InParameters f done attributes s) = ExpectType (InParameterType f done attributes w s)
 after_parameter_name w _ = Failed
 
-abbrev pub expect_parameter : Token → Stack → ReadState
+abbrev pub expect_parameter : Token → Stack → Reader
 expect_parameter (Word w) s = AfterParameterName w s
 expect_parameter (Fixed At) s = AttributeName s
 expect_parameter (Fixed CloseParen) s = close_parameters s
 expect_parameter _ s = Failed
 
-abbrev pub expect_result : Token → Stack → ReadState
+abbrev pub expect_result : Token → Stack → Reader
 expect_result (Fixed At) s = AttributeName s
 expect_result t s = expect_type t s
 
@@ -690,55 +690,55 @@ kind_of w =
     (worded_among (Builtin ∷ Interpolate ∷ Mesh ∷ Payload ∷ IncomingPayload ∷ []) w
     (cond (bytes_eq (codes "workgroup_size") w) SizeKind NoKind)))
 
-abbrev pub attribute_named : AttributeKind → Stack → ReadState
+abbrev pub attribute_named : AttributeKind → Stack → Reader
 attribute_named (PlainKind a) s = add_attribute (Plain a) s
 attribute_named kind s = AttributeOpen kind s
 
-abbrev pub attribute_name : Token → Stack → ReadState
+abbrev pub attribute_name : Token → Stack → Reader
 attribute_name (Word w) s = attribute_named (kind_of w) s
 attribute_name _ s = Failed
 
-abbrev pub expect_attribute_part : Token → AttributeKind → List AttributePart → Stack → ReadState
+abbrev pub expect_attribute_part : Token → AttributeKind → List AttributePart → Stack → Reader
 expect_attribute_part (Word w) kind done s = AfterAttributePart kind (WordPart w ∷ done) s
 expect_attribute_part (Number negative n suffix) kind done s = AfterAttributePart kind (NumberPart n ∷ done) s
 expect_attribute_part _ kind done s = Failed
 
 -- an attribute of these parts, the newest first
-abbrev pub close_attribute : AttributeKind → List AttributePart → Stack → ReadState
+abbrev pub close_attribute : AttributeKind → List AttributePart → Stack → Reader
 close_attribute (NumberedKind a) (NumberPart n ∷ []) s = add_attribute (Numbered a n) s
 close_attribute (WordedKind a) (WordPart w ∷ []) s = add_attribute (Worded a w) s
 close_attribute (WordedKind a) (WordPart v ∷ WordPart w ∷ []) s = add_attribute (Interpolated w v) s
 close_attribute SizeKind (NumberPart z ∷ NumberPart y ∷ NumberPart x ∷ []) s = add_attribute (WorkgroupSize x y z) s
 close_attribute kind parts s = Failed
 
-abbrev pub after_attribute_part : Mark → AttributeKind → List AttributePart → Stack → ReadState
+abbrev pub after_attribute_part : Mark → AttributeKind → List AttributePart → Stack → Reader
 after_attribute_part Comma kind done s = ExpectAttributePart kind done s
 after_attribute_part CloseParen kind done s = close_attribute kind done s
 after_attribute_part _ kind done s = Failed
 
 -- the word that is read next, and nothing else
-abbrev pub at_word : (List ℕ → ReadState) → Token → ReadState
+abbrev pub at_word : (List ℕ → Reader) → Token → Reader
 at_word f (Word w) = f w
 at_word f _ = Failed
 
-abbrev pub expect_member_name : Token → Stack → ReadState
+abbrev pub expect_member_name : Token → Stack → Reader
 expect_member_name (Word w) s = AfterMemberName w s
 expect_member_name (Fixed At) s = AttributeName s
 expect_member_name (Fixed CloseBrace) s = close_struct s
 expect_member_name _ s = Failed
 
-abbrev pub after_var : Token → Stack → ReadState
+abbrev pub after_var : Token → Stack → Reader
 after_var (Word w) s = AfterGlobalName NoSpace w s
 after_var (Fixed LessThan) s = ExpectSpace s
 after_var _ s = Failed
 
-abbrev pub after_space : Mark → List ℕ → Stack → ReadState
+abbrev pub after_space : Mark → List ℕ → Stack → Reader
 after_space Comma a s = ExpectAccess a s
 after_space GreaterThan a s = GlobalName (SpaceAlone a) s
 after_space _ a s = Failed
 
 -- takes_types: is this the word of a type, or of a call that takes a type?
-abbrev pub step : (List ℕ → Bool) → ReadState → Token → ReadState
+abbrev pub step : (List ℕ → Bool) → Reader → Token → Reader
 step takes_types Failed t = Failed
 step takes_types (Expect s) t = want t s
 step takes_types (Got e s) t = at_mark (λ m. got_mark takes_types m e s) t
@@ -791,7 +791,7 @@ step takes_types (AfterAccess a m s) t = GlobalName (SpaceAndAccess a m) s
 step takes_types (GlobalName space s) t = at_word (λ w. AfterGlobalName space w s) t
 step takes_types (AfterGlobalName space w s) t = ExpectType (InGlobalType space w s)
 
-abbrev pub run : (List ℕ → Bool) → List Piece → ReadState → ReadState
+abbrev pub run : (List ℕ → Bool) → List Piece → Reader → Reader
 run takes_types [] state = state
 run takes_types (TokenPiece t ∷ pieces) state = run takes_types pieces (step takes_types state t)
 run takes_types (Blank ∷ pieces) state = run takes_types pieces state

@@ -20,19 +20,19 @@ use Rattle.wgsl_text.specs.WorkedTrees.{named_type, name, call, parameter, funct
 use Rattle.wgsl_text.specs.WorkedTrees.{member, struct}
 use Rattle.wgsl_text.specs.Reading.{ReadsType, ReadsExpression, Reads}
 use Rattle.wgsl_text.specs.NotInGrammar.{TextsNotInGrammar, IsNoExpression}
-use Rattle.wgsl_text.proofs.Machine.{ReadState, Expect, ExpectType, Got, GotType, Bottom, InProgram}
+use Rattle.wgsl_text.proofs.Machine.{Reader, Expect, ExpectType, Got, GotType, Bottom, InProgram}
 use Rattle.wgsl_text.proofs.Reading.{read, type_read, expression_read, program_read, same_type}
 use Rattle.wgsl_text.proofs.Reading.{same_expression, same_program}
 
-abbrev is_type : ReadState → Bool
+abbrev is_type : Reader → Bool
 is_type (GotType t Bottom) = true
 is_type _ = false
 
-abbrev is_expression : ReadState → Bool
+abbrev is_expression : Reader → Bool
 is_expression (Got e Bottom) = true
 is_expression _ = false
 
-abbrev is_program : ReadState → Bool
+abbrev is_program : Reader → Bool
 is_program (Expect (InProgram [] p)) = true
 is_program _ = false
 

@@ -24,14 +24,14 @@ use Rattle.wgsl_text.specs.Reading.{ReadsType, ReadsExpression, ReadsStatement, 
 use Rattle.wgsl_text.specs.Reading.{ReadsEntryPoint, printed_entry_point}
 use Rattle.wgsl_text.specs.Reading.{Reads, printed_type, printed_expression, printed_statement}
 use Rattle.wgsl_text.specs.Reading.{printed_function, printed_program, HasOneReading}
-use Rattle.wgsl_text.proofs.Machine.{ReadState, Expect, ExpectType, Got, GotType, Bottom, InStatements}
+use Rattle.wgsl_text.proofs.Machine.{Reader, Expect, ExpectType, Got, GotType, Bottom, InStatements}
 use Rattle.wgsl_text.proofs.Machine.{InProgram, step, run}
 
-abbrev pub read : List Token → ReadState → ReadState
+abbrev pub read : List Token → Reader → Reader
 read [] s = s
 read (t ∷ ts) s = read ts (step is_builtin s t)
 
-run_reads : (ps : List Piece) (s : ReadState) → run is_builtin ps s ≡ read (tokens_in ps) s
+run_reads : (ps : List Piece) (s : Reader) → run is_builtin ps s ≡ read (tokens_in ps) s
 run_reads [] s = refl
 run_reads (TokenPiece t ∷ ps) s = run_reads ps (step is_builtin s t)
 run_reads (Blank ∷ ps) s = run_reads ps s
@@ -39,7 +39,7 @@ run_reads (LineEnd ∷ ps) s = run_reads ps s
 run_reads (Indent n ∷ ps) s = run_reads ps s
 
 -- where the machine stops, from the tokens alone
-reads_to : {ps : List Piece} {s s' : ReadState} {ts : List Token} → ts ≡ tokens_in ps → Runs ps s s' → read ts s ≡ s'
+reads_to : {ps : List Piece} {s s' : Reader} {ts : List Token} → ts ≡ tokens_in ps → Runs ps s s' → read ts s ≡ s'
 reads_to {ps} {s} e r = ap (λ v. read v s) e ∙ (sym (run_reads ps s) ∙ r.to)
 
 pub type_read : {ts : List Token} (t : TypeSpecifier) → ReadsType ts t → read ts (ExpectType Bottom) ≡ GotType t Bottom
@@ -72,17 +72,17 @@ pub program_read : {ts : List Token} (p : Program) → Reads ts p →
     read ts (Expect (InProgram [] no_declarations)) ≡ Expect (InProgram [] (newest_first p))
 program_read p r = reads_to r.tokens (program_runs p r.form)
 
-pub same_type : (a b : TypeSpecifier) (s : ReadState) → s ≡ GotType a Bottom → s ≡ GotType b Bottom → a ≡ b
+pub same_type : (a b : TypeSpecifier) (s : Reader) → s ≡ GotType a Bottom → s ≡ GotType b Bottom → a ≡ b
 same_type a b s e f = cc
 
-pub same_expression : (a b : Expression) (s : ReadState) → s ≡ Got a Bottom → s ≡ Got b Bottom → a ≡ b
+pub same_expression : (a b : Expression) (s : Reader) → s ≡ Got a Bottom → s ≡ Got b Bottom → a ≡ b
 same_expression a b s e f = cc
 
-same_statement : (a b : Statement) (s : ReadState) → s ≡ Expect (InStatements (Then a NoStatements) Bottom) →
+same_statement : (a b : Statement) (s : Reader) → s ≡ Expect (InStatements (Then a NoStatements) Bottom) →
     s ≡ Expect (InStatements (Then b NoStatements) Bottom) → a ≡ b
 same_statement a b s e f = cc
 
-pub same_program : (a b : Program) (s : ReadState) → s ≡ Expect (InProgram [] a) → s ≡ Expect (InProgram [] b) → a ≡ b
+pub same_program : (a b : Program) (s : Reader) → s ≡ Expect (InProgram [] a) → s ≡ Expect (InProgram [] b) → a ≡ b
 same_program a b s e f = cc
 
 -- Two trees with the same tokens are one.

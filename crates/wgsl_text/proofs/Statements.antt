@@ -14,7 +14,7 @@ use Rattle.wgsl_text.specs.Statements.{OptionalBlock, NoBlock, SomeBlock, IsOpti
 use Rattle.wgsl_text.specs.Token.{CloseBrace, KeywordContinuing, NoSuffix, Number, Piece, LineEnd}
 use Rattle.wgsl_text.specs.Token.{mark}
 use Rattle.wgsl_text.specs.Types.{TypeSpecifier}
-use Rattle.wgsl_text.proofs.Machine.{Stack, ReadState, Expect, InStatements, InLoop, InContinuing}
+use Rattle.wgsl_text.proofs.Machine.{Stack, Reader, Expect, InStatements, InLoop, InContinuing}
 use Rattle.wgsl_text.proofs.Machine.{InCase, CloseTwice, ExpectBrace, CloseOnce, AtCase}
 use Rattle.wgsl_text.proofs.Machine.{ExpectCaseValue, AfterCaseValue, unwind_statements}
 use Rattle.wgsl_text.proofs.Machine.{unwind_cases, unwind_case_values, add_statement, close_block}
@@ -24,7 +24,7 @@ use Rattle.wgsl_text.proofs.Closing.{stop, close_line}
 use Rattle.wgsl_text.proofs.Expressions.{callee_runs, expression_runs, arguments_run, callee_spaced}
 use Rattle.wgsl_text.proofs.Expressions.{expression_spaced, arguments_spaced, stand_first}
 use Rattle.wgsl_text.proofs.Literals.{signed_number}
-use Rattle.wgsl_text.proofs.Runs.{Runs, ◌onward◌, reads, over_gap, over_line, over_indent, as_state}
+use Rattle.wgsl_text.proofs.Runs.{Runs, ◌onward◌, reads, over_gap, over_line, over_indent, as_reader}
 use Rattle.wgsl_text.proofs.Runs.{at_end}
 use Rattle.wgsl_text.proofs.Spacing.{number_of_plain}
 use Rattle.wgsl_text.proofs.Text.{ends_word, ends, text-append, indent_text}
@@ -52,9 +52,9 @@ unwind_rewind_cases NoCases done = refl
 unwind_rewind_cases (Case case_values body more) done = unwind_rewind_cases more (Case case_values body done)
 
 -- the brace after statements
-pub closes : (ss : Statements) {s : Stack} {qs : List Piece} {s' : ReadState} → Runs qs (close_block ss s) s' →
+pub closes : (ss : Statements) {s : Stack} {qs : List Piece} {s' : Reader} → Runs qs (close_block ss s) s' →
     Runs (mark CloseBrace ∷ qs) (Expect (InStatements (rewind_statements ss NoStatements) s)) s'
-closes ss {s} b = reads $ as_state (ap (λ body. close_block body s) (unwind_rewind ss NoStatements)) b
+closes ss {s} b = reads $ as_reader (ap (λ body. close_block body s) (unwind_rewind ss NoStatements)) b
 
 case_value_runs : (l : CaseValue) (e : Expression) (done : Cases) (case_values : List CaseValue) (s : Stack) →
     Runs (case_value_pieces l) (ExpectCaseValue e done case_values s) (AfterCaseValue e done case_values l s)
@@ -78,7 +78,7 @@ case_runs (LastCaseValue (UnsignedCase n)) e done s = reads $ over_gap $
 case_runs (MoreCaseValues l more) e done s = reads $ over_gap $ case_values_run (MoreCaseValues l more) e done [] s
 
 -- a loop, up to the brace that closes it
-abbrev loop_state : Statements → OptionalBlock → Stack → ReadState
+abbrev loop_state : Statements → OptionalBlock → Stack → Reader
 loop_state body NoBlock s = Expect (InStatements (rewind_statements body NoStatements) (InLoop s))
 loop_state body (SomeBlock rest) s = CloseOnce (Loop body (SomeBlock rest)) s
 
@@ -88,11 +88,11 @@ loop_closes : (body : Statements) (rest : OptionalBlock) (done : Statements) (s 
 loop_closes body NoBlock done s = closes body at_end
 loop_closes body (SomeBlock rest) done s = at_end
 
-continues : (body : Statements) {s : Stack} {qs : List Piece} {s' : ReadState} →
+continues : (body : Statements) {s : Stack} {qs : List Piece} {s' : Reader} →
     Runs qs (ExpectBrace (InContinuing body s)) s' →
     Runs (mark KeywordContinuing ∷ qs)
     (Expect (InStatements (rewind_statements body NoStatements) (InLoop s))) s'
-continues body {s} b = reads $ as_state (ap (λ v. ExpectBrace (InContinuing v s)) (unwind_rewind body NoStatements)) b
+continues body {s} b = reads $ as_reader (ap (λ v. ExpectBrace (InContinuing v s)) (unwind_rewind body NoStatements)) b
 
 mutual
   pub statement_runs : (st : Statement) → IsStatement st → (n : ℕ) (done : Statements) (s : Stack) →
@@ -122,11 +122,11 @@ mutual
       (continues body (over_gap (reads (over_line (
       statements_run rest is.1 (suc (suc n)) NoStatements _ onward over_indent
       (reads (over_gap (reads (over_gap (expression_runs e is.2 _ onward
-      reads (as_state (ap (λ v. CloseTwice (LoopBreakIf body v e) (InStatements done s))
+      reads (as_reader (ap (λ v. CloseTwice (LoopBreakIf body v e) (InStatements done s))
       (unwind_rewind rest NoStatements)) at_end))))))))))))))))
   statement_runs (Switch e cases) is n done s =
       over_indent $ reads $ over_gap $ expression_runs e is.0 _ onward over_gap $ reads $ over_line
-      $ cases_run cases is.1 (suc n) e NoCases _ onward over_indent $ reads $ as_state
+      $ cases_run cases is.1 (suc n) e NoCases _ onward over_indent $ reads $ as_reader
       (ap (λ cs. add_statement (Switch e cs) (InStatements done s))
       (unwind_rewind_cases cases NoCases)) at_end
   statement_runs (Block body) is n done s = over_indent $ reads $ over_line $

@@ -15,7 +15,7 @@ use Rattle.wgsl_text.proofs.Spacing.{Spaced, Ends, end, part, tok, free, number_
 use Rattle.wgsl_text.proofs.Spacing.{Opens, opens_first, word_opens, number_opens}
 use Rattle.wgsl_text.proofs.Text.{ends, text-append}
 use Rattle.wgsl_text.proofs.Words.{all_words, passes, is_free, free_word}
-use Rattle.wgsl_text.proofs.Machine.{Stack, InTemplate, ReadState, ExpectType, GotType, AfterPart}
+use Rattle.wgsl_text.proofs.Machine.{Stack, InTemplate, Reader, ExpectType, GotType, AfterPart}
 use Rattle.wgsl_text.proofs.Machine.{unwind_parts}
 use Rattle.std.specs.Prelude.{codes, ⊤, IsTrue, cond}
 use Rattle.std.proofs.lemmas.Bool.{false≢true, and_parts}
@@ -23,12 +23,12 @@ use Rattle.wgsl_text.specs.Text.{text}
 use Rattle.std.proofs.lemmas.List.{append-nil}
 use Rattle.wgsl_text.specs.Reading.{printed_type}
 
-gap_runs : (gaps : Bool) {qs : List Piece} {s s' : ReadState} → Runs qs s s' → Runs (gap_if gaps ++ qs) s s'
+gap_runs : (gaps : Bool) {qs : List Piece} {s s' : Reader} → Runs qs s s' → Runs (gap_if gaps ++ qs) s s'
 gap_runs true b = over_gap b
 gap_runs false b = b
 
 part_done : (more : TemplateArguments) (gaps : Bool) {t : TypeSpecifier} {w : List ℕ}
-    {done : TemplateArguments} {s : Stack} {s' : ReadState} →
+    {done : TemplateArguments} {s : Stack} {s' : Reader} →
     Runs (more_template_pieces more gaps) (AfterPart w (TypeArgument t done) s) s' →
     Runs (more_template_pieces more gaps) (GotType t (InTemplate w done s)) s'
 part_done NoTemplateArguments gaps a = record { to = a.to }

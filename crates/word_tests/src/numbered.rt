@@ -7,8 +7,8 @@ ghost use Rattle.naga_words.specs.Spelling.{IsInOrder};
 ghost use Rattle.word_tests.specs.Numbered.{AreNumbered, numbered_context, override_number};
 
 use naga_ir::{Handle, Override, Type_, TypeInner, UniqueArena};
-use naga_words::pieces::write_word;
 use naga_words::types::types_in_order;
+use naga_words::writing::write_word;
 use naga_words::{Output, TextSink, TypeContext, TypeTextError};
 use std::alloc::{AllocError, Global};
 

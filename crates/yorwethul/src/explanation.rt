@@ -24,12 +24,12 @@ pub struct Explanation {
 pub fn explained(
     alloc: Global,
     style: Style,
-    root: JsonHolder,
+    holder: JsonHolder,
     known: &mut Known,
 ) -> Result<Explanation, AllocError> {
     match write_in(alloc, style, known) {
-        Ok(written) => of_written(alloc, root, known, written),
-        Err(NoOutcome::NotAccepted(fault)) => of_unaccepted(alloc, root, known, fault),
+        Ok(written) => of_written(alloc, holder, known, written),
+        Err(NoOutcome::NotAccepted(fault)) => of_unaccepted(alloc, holder, known, fault),
         Err(NoOutcome::Memory(error)) => Err(error),
         Err(reason) => not_written(format!(in alloc; "refused: {reason}\n")),
     }
@@ -37,7 +37,7 @@ pub fn explained(
 
 fn of_written(
     alloc: Global,
-    root: JsonHolder,
+    holder: JsonHolder,
     known: &Known,
     written: WriteOutcome<String>,
 ) -> Result<Explanation, AllocError> {
@@ -52,7 +52,7 @@ fn of_written(
             is_written: true,
         }),
         (Err(Error::Memory(error)), _) => Err(error),
-        (Err(_), Some(refusal)) => of_refusal(alloc, root, known, refusal),
+        (Err(_), Some(refusal)) => of_refusal(alloc, holder, known, refusal),
         (Err(reason), None) => not_written(format!(in alloc; "refused: {reason}\n")),
     }
 }
@@ -61,7 +61,7 @@ fn of_written(
 /// out of scope those around the expression that it has no value for.
 fn of_refusal(
     alloc: Global,
-    root: JsonHolder,
+    holder: JsonHolder,
     known: &Known,
     refusal: Refusal,
 ) -> Result<Explanation, AllocError> {
@@ -82,20 +82,20 @@ fn of_refusal(
         &more,
         message.as_str(),
     )?;
-    let line = refusal_line(alloc, &known.module, refusal, root)?;
+    let line = refusal_line(alloc, &known.module, refusal, holder)?;
     not_written(format!(in alloc; "refused: {line}\n\n{listing}"))
 }
 
 /// Tells where a module is not accepted and why, and shows the lines around.
 fn of_unaccepted(
     alloc: Global,
-    root: JsonHolder,
+    holder: JsonHolder,
     known: &Known,
     unaccepted: Unaccepted,
 ) -> Result<Explanation, AllocError> {
-    let position = labelled_position(alloc, &known.module, unaccepted.item, root)?;
+    let position = labelled_position(alloc, &known.module, unaccepted.item, holder)?;
     let item = listed_position(unaccepted.item);
-    let fault = fault_text(alloc, &known.module, &known.info, unaccepted, root)?;
+    let fault = fault_text(alloc, &known.module, &known.info, unaccepted, holder)?;
     let listing = explain(alloc, &known.module, &known.info, &item, fault.as_str())?;
     not_written(format!(in alloc; "not accepted: {position}: {fault}\n\n{listing}"))
 }

@@ -158,7 +158,7 @@ fn print_text<O: Write, E: Write>(
     err: &mut E,
 ) -> u8 {
     match write_in(alloc, invocation.style, known) {
-        Ok(written) => print_written(alloc, written, invocation.root(), &known.module, out, err),
+        Ok(written) => print_written(alloc, written, invocation.holder(), &known.module, out, err),
         Err(unwritten) => tell_unwritten(alloc, invocation, known, unwritten, err),
     }
 }
@@ -187,7 +187,7 @@ fn explain<O: Write, E: Write>(
     out: &mut O,
     err: &mut E,
 ) -> u8 {
-    match explained(alloc, invocation.style, invocation.root(), known) {
+    match explained(alloc, invocation.style, invocation.holder(), known) {
         Ok(Explanation { text, is_written }) => match print(text, out, err) {
             0 if !is_written => REFUSED,
             status => status,
@@ -267,7 +267,13 @@ fn refuse_unaccepted<E: Write>(
     fault: Unaccepted,
     err: &mut E,
 ) -> u8 {
-    match fault_line(alloc, &known.module, &known.info, fault, invocation.root()) {
+    match fault_line(
+        alloc,
+        &known.module,
+        &known.info,
+        fault,
+        invocation.holder(),
+    ) {
         Ok(line) => {
             let _ = writeln!(err, "not accepted: {line}");
             REFUSED

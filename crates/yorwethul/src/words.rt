@@ -36,7 +36,7 @@ pub struct Invocation<'a> {
 
 impl Invocation<'_> {
     /// What the file with the module holds, by which places are told.
-    pub fn root(self) -> JsonHolder {
+    pub fn holder(self) -> JsonHolder {
         match self.info {
             Some(_) => JsonHolder::Module,
             None => JsonHolder::Member,

@@ -22,7 +22,7 @@ use Rattle.naga_acceptance.specs.declared.faults.Unaccepted.{Unaccepted}
 use Rattle.naga_wgsl_out.specs.declared.unwritable.Refusal.{Refusal}
 use Rattle.module_answers.specs.Faults.{TellsFaultAt}
 use Rattle.module_answers.specs.WriteOutcomes.{TellsBeside}
-use Rattle.module_answers.specs.declared.positions.JsonHolder.TheVariants as root
+use Rattle.module_answers.specs.declared.positions.JsonHolder.TheVariants as holder
 use Rattle.module_answers.specs.Within.{IsUnwritten, TellsDepth}
 use Rattle.module_answers.specs.declared.within.NoOutcome.{NoOutcome}
 use Rattle.module_answers.specs.declared.within.NoOutcome.TheVariants as unwritten
@@ -102,7 +102,7 @@ unread_laid_out json status.TooLong text tells = absurd tells
 -- ---- what was asked of the module
 
 pub faulty : (m : Module) (read : ModuleInfo) (found : Option Unaccepted) (fault : Unaccepted) (text : List ℕ) →
-    found ≡ Some fault → IfSome found (IsFirstFault m read) → TellsFaultAt root.Member m read fault text →
+    found ≡ Some fault → IfSome found (IsFirstFault m read) → TellsFaultAt holder.Member m read fault text →
     IsNotAccepted text
 faulty m read found fault text is fails line =
     record {
@@ -135,14 +135,14 @@ not_written json flags writer given m read info (unwritten.TooDeep nested) told 
     said (TellsOfWriting json flags) status.TooDeep told text
     (inr (record { m = given; nested = nested; past = is.0 })) refl says.0
 not_written json flags writer given m read info (unwritten.NotAccepted fault) told text known bits asked is says =
-    said_that (TellsOfWriting json flags) (TellsFaultAt root.Member m info fault) status.NotAccepted told text
+    said_that (TellsOfWriting json flags) (TellsFaultAt holder.Member m info fault) status.NotAccepted told text
     (λ line. record {
       m = given;
       read = read;
       fault = fault;
       fails = is.1;
-      line = subst (λ m. TellsFaultAt root.Member m read fault text) is.2
-          (subst (λ read. TellsFaultAt root.Member m read fault text) is.3 line);
+      line = subst (λ m. TellsFaultAt holder.Member m read fault text) is.2
+          (subst (λ read. TellsFaultAt holder.Member m read fault text) is.3 line);
     }) refl says
 not_written json flags writer given m read info unwritten.TooLong told text known bits asked is says =
     let was_asked : WasAsked flags =

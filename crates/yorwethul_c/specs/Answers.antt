@@ -16,7 +16,7 @@ use Rattle.module_semantics.specs.acceptance.Accepted.{is_accepted}
 use Rattle.module_answers.specs.Faults.{TellsFaultAt}
 use Rattle.module_answers.specs.Refusals.{TellsRefusalAt}
 use Rattle.module_answers.specs.WriteOutcomes.{TellsRefusal}
-use Rattle.module_answers.specs.declared.positions.JsonHolder.TheVariants as root
+use Rattle.module_answers.specs.declared.positions.JsonHolder.TheVariants as holder
 use Rattle.module_answers.specs.declared.within.NoOutcome.{NoOutcome}
 use Rattle.module_answers.specs.declared.within.NoOutcome.TheVariants as unwritten
 use Rattle.module_limits.specs.Nesting.{nested_past}
@@ -71,7 +71,7 @@ status_of_error _ = status.Refused
 
 -- the line of a refusal, if there is one
 abbrev pub TellsAnyRefusal : Module → Option Refusal → (text : List ℕ) → Type 0
-TellsAnyRefusal m told text = IfSome told (λ refusal. TellsRefusalAt root.Member m refusal text)
+TellsAnyRefusal m told text = IfSome told (λ refusal. TellsRefusalAt holder.Member m refusal text)
 
 -- the status of what the writer was not asked for, or stopped at
 abbrev pub status_of_unwritten : NoOutcome → Status
@@ -132,7 +132,7 @@ pub record IsRefused (flags : ℕ) (text : List ℕ) : Type 0 where
   pub faithful : FaithfulWriting asked.writer asked.m asked.info (Err error) [] beginning 0 0
   pub refusal : Refusal
   pub beside : TellsRefusal (annotates_types asked.writer) asked.m asked.info (Err error) refusal
-  pub line : TellsRefusalAt root.Member asked.m refusal text
+  pub line : TellsRefusalAt holder.Member asked.m refusal text
 
 -- A module was read of which this is nested too deep.
 pub record IsTooDeep : Type 0 where
@@ -152,7 +152,7 @@ pub record IsNotAccepted (text : List ℕ) : Type 0 where
   pub read : ModuleInfo
   pub fault : Unaccepted
   pub fails : IsFirstFault m read fault
-  pub line : TellsFaultAt root.Member m read fault text
+  pub line : TellsFaultAt holder.Member m read fault text
 
 -- of what is read: no module stands in the bytes, more than 127 lists and objects of them are open
 -- at once, or memory was refused, and then there is no text
@@ -214,7 +214,7 @@ SaysOfError m refusal error told text =
 -- what is told where the writer was not asked or was stopped
 abbrev pub SaysOfUnwritten : Module → ModuleInfo → NoOutcome → Status → (text : List ℕ) → Type 0
 SaysOfUnwritten m info (unwritten.NotAccepted fault) told text =
-    SaysThat (TellsFaultAt root.Member m info fault) status.NotAccepted told text
+    SaysThat (TellsFaultAt holder.Member m info fault) status.NotAccepted told text
 SaysOfUnwritten m info reason told text =
     Says (status_of_unwritten reason) told text
     × (status_of_unwritten reason ≡ status.OutOfMemory → text ≡ [])

@@ -6,7 +6,7 @@ use Rattle.std.specs.Prelude.{slice_get}
 use Rattle.std.specs.List.{AllByRecursion, IsAmong, flat_map}
 use Rattle.std.specs.Option.{option_to_list}
 use Rattle.module_semantics.specs.FunctionShapes.{function_shape}
-use Rattle.module_semantics.specs.Written.{IsWrittenIn, OperandOf, Root, block_handles}
+use Rattle.module_semantics.specs.Written.{IsWrittenIn, OperandOf, Start, block_handles}
 use Rattle.naga_info.specs.declared.info.ExpressionInfo.{ExpressionInfo}
 use Rattle.naga_info.specs.declared.info.ModuleInfo.{ModuleInfo}
 use Rattle.naga_ir.specs.declared.module.Module.{Module}
@@ -75,9 +75,9 @@ module _ (m : Module) (info : ModuleInfo) (f : ir_function.Function) (es : List 
   written_are_closed = record {
     operands = λ h e at w. all_among (expression_operands e) (λ x is. OperandOf h x e w at is);
     firsts = λ l v at. all_among (option_to_list v.init)
-        (λ x is. Root x
+        (λ x is. Start x
         (among_front _ (block_handles bound f.body) x
         (among_each (λ (v : LocalVariable). option_to_list v.init) f.local_variables l v x at is)));
     body = all_among (block_handles bound f.body)
-        (λ x is. Root x (among_rest (flat_map (λ l. option_to_list l.init) f.local_variables) _ x is));
+        (λ x is. Start x (among_rest (flat_map (λ l. option_to_list l.init) f.local_variables) _ x is));
   }

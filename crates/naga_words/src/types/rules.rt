@@ -9,9 +9,9 @@ ghost use Rattle.naga_words.specs.Rules.{rule_segments};
 ghost use Rattle.naga_words.specs.Rules.{arguments_segments, more_arguments_segments};
 ghost use Rattle.naga_words.specs.Spelling.{IsInOrder, FitsResolution, resolution_segments};
 
-use crate::pieces::write_word;
 use crate::types::TypeContext;
 use crate::types::spelling::{write_inner_in, write_type_in};
+use crate::writing::write_word;
 use crate::{Output, PredeclaredName, TextSink};
 use naga_info::{Conclusion, Rule, TypeResolution};
 use naga_ir::PredeclaredType;

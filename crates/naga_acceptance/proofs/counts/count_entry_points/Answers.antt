@@ -5,15 +5,15 @@ use Rattle.naga_acceptance.specs.Counts.{with_counts, all_with_counts, functions
 use Rattle.naga_acceptance.proofs.Counting.{slice_get-functions_of, length-functions_of}
 use Rattle.naga_acceptance.proofs.Counting.{length-all_with_counts, get_or-all_with_counts}
 use Rattle.naga_acceptance.proofs.Counting.{get_or-all_with_counts_past}
-use Rattle.naga_acceptance.proofs.Writing.{IsWritten-start, IsWritten-more, IsWritten-kept}
-use Rattle.naga_acceptance.proofs.Writing.{IsWritten-read}
+use Rattle.naga_acceptance.proofs.Writing.{IsFilled-start, IsFilled-more, IsFilled-kept}
+use Rattle.naga_acceptance.proofs.Writing.{IsFilled-read}
 use Rattle.naga_acceptance.proofs.counts.count_entry_points.Goals as goal
 use Rattle.naga_acceptance.proofs.counts.count_entry_points.Goals.{then-index-entry_points}
 use Rattle.naga_acceptance.proofs.counts.count_entry_points.Goals.{else-index-entry_points}
 
 pub loop-index-init : goal.loop-index-init
 loop-index-init c =
-    IsWritten-start (all_with_counts (functions_of c.args.entry_points.now) c.args.infos.now)
+    IsFilled-start (all_with_counts (functions_of c.args.entry_points.now) c.args.infos.now)
     c.args.infos.now
     (length-all_with_counts (functions_of c.args.entry_points.now) c.args.infos.now)
 
@@ -30,7 +30,7 @@ loop-index-preserved c =
           (slice_get-get_or c.args.entry_points.now c.loop-index.index
           w.index-entry_points-index.result w.if-index-entry_points.true)
           in rw w.infos-is
-          (IsWritten-more
+          (IsFilled-more
           (all_with_counts (functions_of c.args.entry_points.now) c.args.infos.now)
           c.args.infos.now c.loop-index.infos c.loop-index.index _ c.loop-index-test.true
           c.loop-index.invariant
@@ -38,7 +38,7 @@ loop-index-preserved c =
           ∙ ap (λ es. with_counts
           (slice_index_or c.args.entry_points.now c.loop-index.index
           w.index-entry_points-index.result).function es)
-          (IsWritten-read
+          (IsFilled-read
           (all_with_counts (functions_of c.args.entry_points.now) c.args.infos.now)
           c.args.infos.now c.loop-index.infos c.loop-index.index c.index-infos-index.result
           c.loop-index.invariant)
@@ -51,7 +51,7 @@ loop-index-preserved c =
           let past : length (functions_of c.args.entry_points.now) ≤ c.loop-index.index =
           omega (arith, length-functions_of c.args.entry_points.now, w.if-index-entry_points.false)
           in rw (w.infos-is, set-get_or)
-          (IsWritten-kept
+          (IsFilled-kept
           (all_with_counts (functions_of c.args.entry_points.now) c.args.infos.now)
           c.args.infos.now c.loop-index.infos c.loop-index.index c.index-infos-index.result
           c.loop-index-test.true c.loop-index.invariant

@@ -3,13 +3,13 @@ use Rattle.std.proofs.lemmas.List.{set-get_or}
 use Rattle.naga_acceptance.specs.Counts.{with_counts, all_with_counts}
 use Rattle.naga_acceptance.proofs.Counting.{length-all_with_counts, get_or-all_with_counts}
 use Rattle.naga_acceptance.proofs.Counting.{get_or-all_with_counts_past}
-use Rattle.naga_acceptance.proofs.Writing.{IsWritten-start, IsWritten-more, IsWritten-kept}
-use Rattle.naga_acceptance.proofs.Writing.{IsWritten-read}
+use Rattle.naga_acceptance.proofs.Writing.{IsFilled-start, IsFilled-more, IsFilled-kept}
+use Rattle.naga_acceptance.proofs.Writing.{IsFilled-read}
 use Rattle.naga_acceptance.proofs.counts.count_functions.Goals as goal
 use Rattle.naga_acceptance.proofs.counts.count_functions.Goals.{then-index-len, else-index-len}
 
 pub loop-index-init : goal.loop-index-init
-loop-index-init c = IsWritten-start (all_with_counts c.args.functions.now c.args.infos.now) c.args.infos.now
+loop-index-init c = IsFilled-start (all_with_counts c.args.functions.now c.args.infos.now) c.args.infos.now
     (length-all_with_counts c.args.functions.now c.args.infos.now)
 
 pub loop-index-preserved : goal.loop-index-preserved
@@ -19,12 +19,12 @@ loop-index-preserved c =
           let here : slice_get c.args.functions.now c.loop-index.index ≡ Some w.index.result.now =
           rw (← w.from_index.ensures) w.index.ensures
           in rw w.infos-is
-          (IsWritten-more (all_with_counts c.args.functions.now c.args.infos.now)
+          (IsFilled-more (all_with_counts c.args.functions.now c.args.infos.now)
           c.args.infos.now c.loop-index.infos c.loop-index.index _ c.loop-index-test.true
           c.loop-index.invariant
           (w.count_function.ensures
           ∙ ap (λ es. with_counts w.index.result.now es)
-          (IsWritten-read (all_with_counts c.args.functions.now c.args.infos.now)
+          (IsFilled-read (all_with_counts c.args.functions.now c.args.infos.now)
           c.args.infos.now c.loop-index.infos c.loop-index.index c.index-infos-index.result
           c.loop-index.invariant)
           ∙ get_or-all_with_counts c.args.functions.now c.args.infos.now c.loop-index.index w.index.result.now
@@ -33,7 +33,7 @@ loop-index-preserved c =
           let past : length c.args.functions.now ≤ c.loop-index.index =
           omega (arith, w.if-index-len.false, c.len.ensures)
           in rw (w.infos-is, set-get_or)
-          (IsWritten-kept (all_with_counts c.args.functions.now c.args.infos.now)
+          (IsFilled-kept (all_with_counts c.args.functions.now c.args.infos.now)
           c.args.infos.now c.loop-index.infos c.loop-index.index c.index-infos-index.result
           c.loop-index-test.true c.loop-index.invariant
           (get_or-all_with_counts_past c.args.functions.now c.args.infos.now c.loop-index.index

@@ -1,6 +1,6 @@
 use Rattle.std.proofs.Common.{refl}
 use Rattle.module_answers.specs.Faults.{TellsFaultAt}
-use Rattle.module_answers.specs.declared.positions.JsonHolder.TheVariants as root
+use Rattle.module_answers.specs.declared.positions.JsonHolder.TheVariants as holder
 use Rattle.yorwethul_c.specs.Answers.{TellsOfLayouts}
 use Rattle.yorwethul_c.specs.declared.status.Status.TheVariants as status
 use Rattle.yorwethul_c.proofs.Told.{accepted_by, faulty, said, said_that}
@@ -9,7 +9,7 @@ use Rattle.yorwethul_c.proofs.answers.laid_out_flat.Goals as goal
 pub returns-in-Some : goal.returns-in-Some
 returns-in-Some c =
     λ json. said_that (TellsOfLayouts json)
-    (TellsFaultAt root.Member c.args.known.now.module c.args.known.now.info c.in-Some.fault) status.NotAccepted _ _
+    (TellsFaultAt holder.Member c.args.known.now.module c.args.known.now.info c.in-Some.fault) status.NotAccepted _ _
     (faulty c.args.known.now.module c.args.known.now.info _ _ _ c.in-Some.is c.unaccepted.ensures.fault) refl
     c.not_accepted.ensures
 

@@ -1,6 +1,6 @@
 use Rattle.std.proofs.Common.{string_bytes, subst, sym}
 use Rattle.module_answers.specs.Refusals.{TellsRefusalAt}
-use Rattle.module_answers.specs.declared.positions.JsonHolder.TheVariants as root
+use Rattle.module_answers.specs.declared.positions.JsonHolder.TheVariants as holder
 use Rattle.yorwethul_c.specs.Answers.{SaysThat, TellsAnyRefusal}
 use Rattle.yorwethul_c.proofs.Told.{said_of_none, settled_that}
 use Rattle.yorwethul_c.proofs.answers.told_refusal.Goals as goal
@@ -11,7 +11,8 @@ returns-in-Some c =
     subst (λ r. SaysThat (TellsAnyRefusal m r)
     c.args.status c.settled.result.status (string_bytes c.settled.result.text))
     (sym c.in-Some.is)
-    (settled_that string_bytes (TellsRefusalAt root.Member m c.in-Some.refusal) c.refusal_line-text.result c.args.status
+    (settled_that string_bytes (TellsRefusalAt holder.Member m c.in-Some.refusal) c.refusal_line-text.result
+    c.args.status
     _ _ c.refusal_line-text.ensures c.settled.ensures.text c.settled.ensures.memory)
 
 pub returns-in-None : goal.returns-in-None

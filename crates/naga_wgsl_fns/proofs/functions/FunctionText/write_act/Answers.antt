@@ -16,7 +16,7 @@ pub write_act_line-requires-clause-operands : goal.write_act_line-requires-claus
 write_act_line-requires-clause-operands g c =
     let self = c.args.self.now in
     subst (AreInText self) (act_handles (bound self) (tree_of c.args.statement.now) c.requires.act)
-    c.requires.statement.roots
+    c.requires.statement.written
 
 pub returns-in-Some-clause-text : goal.returns-in-Some-clause-text
 returns-in-Some-clause-text g c =

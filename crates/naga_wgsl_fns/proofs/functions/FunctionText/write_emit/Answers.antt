@@ -24,7 +24,7 @@ loop-index-init g c = record {
   kept = extends_refl c.args.at.now.scope;
   counted = omega arith;
   names = omega arith;
-  roots = c.requires.statement.roots;
+  written = c.requires.statement.written;
   lets = c.requires.statement.lets;
   indent = refl;
 }
@@ -49,7 +49,7 @@ write_emitted-requires-clause-root g c =
     (first_of (IsInText self) (bound self c.loop-index.index) c.loop-index.index
     (filter (bound self) (from (c.loop-index.index + 1) (c.args.range.end - (c.loop-index.index + 1))))
     (subst (λ hs. AreInText self (filter (bound self) hs))
-    (range_more c.loop-index.index c.args.range.end c.loop-index-test.true) c.loop-index.invariant.roots))
+    (range_more c.loop-index.index c.args.range.end c.loop-index-test.true) c.loop-index.invariant.written))
 
 pub write_emitted-requires-clause-named : goal.write_emitted-requires-clause-named
 write_emitted-requires-clause-named g c =
@@ -108,10 +108,10 @@ loop-index-preserved g c =
       indent = i.indent;
       counted = omega (arith, log, more, lt);
       names = omega (arith, names, named, lt);
-      roots = others_of (IsInText self) (bound self c.loop-index.index) c.loop-index.index
+      written = others_of (IsInText self) (bound self c.loop-index.index) c.loop-index.index
           (filter (bound self) (from (c.loop-index.index + 1) (c.args.range.end - (c.loop-index.index + 1))))
           (subst (λ hs. AreInText self (filter (bound self) hs))
-          (range_more c.loop-index.index c.args.range.end lt) i.roots);
+          (range_more c.loop-index.index c.args.range.end lt) i.written);
       lets = others_of (IsLet self) (bound self c.loop-index.index) c.loop-index.index
           (filter (bound self) (from (c.loop-index.index + 1) (c.args.range.end - (c.loop-index.index + 1))))
           (subst (λ hs. AreLets self (filter (bound self) hs))

@@ -29,7 +29,7 @@ invariant-loop-index g l = record {
       + (l.fn.range.end - l.fn.range.first);
   names : l.at.scope.named + (l.fn.range.end - l.index) ≤ l.initial.at.scope.named
       + (l.fn.range.end - l.fn.range.first);
-  roots : AreInText l.self (filter (bound l.self) (from l.index (l.fn.range.end - l.index)));
+  written : AreInText l.self (filter (bound l.self) (from l.index (l.fn.range.end - l.index)));
   indent : l.at.indent ≡ l.initial.at.indent;
   lets : AreLets l.self (filter (bound l.self) (from l.index (l.fn.range.end - l.index)));
 }
