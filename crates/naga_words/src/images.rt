@@ -11,8 +11,8 @@ ghost use Rattle.naga_words.specs.Values.{storage_image_segments, image_segments
 use crate::output::Output;
 use crate::scalars::write_template;
 use crate::sink::TextSink;
+use crate::word_writing::write_word;
 use crate::words::{depth_image_str, sampled_image_str, storage_image_str};
-use crate::writing::write_word;
 use naga_ir::{ImageClass, ImageDimension, Scalar, ScalarKind};
 use std::alloc::Global;
 use wgsl_words::{ToWgsl, image_access_str};

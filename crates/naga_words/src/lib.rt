@@ -13,8 +13,8 @@ pub mod predeclared;
 pub mod scalars;
 pub mod sink;
 pub mod types;
+pub mod word_writing;
 pub mod words;
-pub mod writing;
 
 pub use error::TypeTextError;
 pub use io_sink::IoSink;

@@ -13,8 +13,8 @@ ghost use Rattle.wgsl_words.specs.Words.{space_access_word};
 
 use crate::output::Output;
 use crate::sink::TextSink;
+use crate::word_writing::{write_shown, write_three, write_word};
 use crate::words::vector_str;
-use crate::writing::{write_shown, write_three, write_word};
 use naga_ir::{AddressSpace, Scalar, ScalarKind, VectorSize};
 use std::alloc::Global;
 use wgsl_words::{TryToWgsl, space_access_str};

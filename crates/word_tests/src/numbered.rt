@@ -8,7 +8,7 @@ ghost use Rattle.word_tests.specs.Numbered.{AreNumbered, numbered_context, overr
 
 use naga_ir::{Handle, Override, Type_, TypeInner, UniqueArena};
 use naga_words::types::types_in_order;
-use naga_words::writing::write_word;
+use naga_words::word_writing::write_word;
 use naga_words::{Output, TextSink, TypeContext, TypeTextError};
 use std::alloc::{AllocError, Global};
 

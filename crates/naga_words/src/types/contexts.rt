@@ -8,7 +8,7 @@ ghost use Rattle.naga_words.specs.Output.{Spells};
 ghost use Rattle.naga_words.specs.Segments.{shown_between};
 
 use crate::types::TypeContext;
-use crate::writing::{write_shown, write_word};
+use crate::word_writing::{write_shown, write_word};
 use crate::{Output, TextSink, TypeTextError};
 use naga_info::GlobalCtx;
 use naga_ir::{Handle, Module, Override, Type_, TypeInner, UniqueArena};

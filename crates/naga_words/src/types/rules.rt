@@ -11,7 +11,7 @@ ghost use Rattle.naga_words.specs.Spelling.{IsInOrder, FitsResolution, resolutio
 
 use crate::types::TypeContext;
 use crate::types::spelling::{write_inner_in, write_type_in};
-use crate::writing::write_word;
+use crate::word_writing::write_word;
 use crate::{Output, PredeclaredName, TextSink};
 use naga_info::{Conclusion, Rule, TypeResolution};
 use naga_ir::PredeclaredType;

@@ -16,11 +16,11 @@ ghost use Rattle.wgsl_words.specs.Words.{space_word, space_access_word};
 use crate::scalars::{write_access, write_value_pointer_in};
 use crate::types::TypeContext;
 use crate::types::scalars::{write_image_in, write_scalar_in, write_template_in};
+use crate::word_writing::{write_number_length, write_shown, write_word};
 use crate::words::{
     acceleration_structure_str, cooperative_str, matrix_str, ray_query_str, role_tail_str,
     sampler_str, vector_str,
 };
-use crate::writing::{write_number_length, write_shown, write_word};
 use crate::{Output, TextSink};
 use naga_ir::{AddressSpace, ArraySize, Handle, Override, Scalar, Type_, TypeInner, VectorSize};
 use std::alloc::Global;
