@@ -415,12 +415,12 @@ module _ (m new : Module) (all : IsDecimalModule m new) where
       uses_same (map (λ e. e.ty) info) 0 x.expressions y.expressions h.0.expressions i
       ++ groups_same xs ys infos before after h.1 rest i
 
-  functions_of_points : (xs ys : List EntryPoint) → AllZip IsDecimalEntryPoint xs ys →
+  functions_of_entry_points : (xs ys : List EntryPoint) → AllZip IsDecimalEntryPoint xs ys →
       AllZip IsDecimalFunction (map (λ p. p.function) xs) (map (λ p. p.function) ys)
-  functions_of_points [] [] h = h
-  functions_of_points [] (y ∷ ys) h = absurd h
-  functions_of_points (x ∷ xs) [] h = absurd h
-  functions_of_points (x ∷ xs) (y ∷ ys) h = (h.0.function, functions_of_points xs ys h.1)
+  functions_of_entry_points [] [] h = h
+  functions_of_entry_points [] (y ∷ ys) h = absurd h
+  functions_of_entry_points (x ∷ xs) [] h = absurd h
+  functions_of_entry_points (x ∷ xs) (y ∷ ys) h = (h.0.function, functions_of_entry_points xs ys h.1)
 
   agreement_same : (info : ModuleInfo) →
       module_operators_agree n info ≡ module_operators_agree m info
@@ -433,7 +433,7 @@ module _ (m new : Module) (all : IsDecimalModule m new) where
       (further_groups_of m info) (further_groups_of n info) functions
       (groups_same (map (λ p. p.function) m.entry_points.items) (map (λ p. p.function) ps)
       info.entry_points.items (group m.global_expressions ∷ []) (group es ∷ [])
-      (functions_of_points m.entry_points.items ps entry_points)
+      (functions_of_entry_points m.entry_points.items ps entry_points)
       (ap (λ uses. uses ++ []) (uses_same known 0 m.global_expressions es expressions))))
 
   all_kept_of : (info : ModuleInfo) → is_accepted m info ≡ true → is_accepted n info ≡ true

@@ -19,19 +19,19 @@ decimal_module old new = record old {
 }
 
 -- an entry point but for the expressions of its function
-pub point_rest : (p q : EntryPoint) → IsDecimalEntryPoint p q →
+pub entry_point_rest : (p q : EntryPoint) → IsDecimalEntryPoint p q →
     q ≡ record p { function = record p.function { expressions = q.function.expressions } }
-point_rest p q r =
+entry_point_rest p q r =
     r.rest ∙ ap (λ (f : Function). let point : EntryPoint = record p { function = f } in point)
     r.function.rest
 
 -- the functions of entry points
-pub point_functions : (ps qs : List EntryPoint) → AllZip IsDecimalEntryPoint ps qs →
+pub entry_point_functions : (ps qs : List EntryPoint) → AllZip IsDecimalEntryPoint ps qs →
     AllZip IsDecimalFunction (map (λ p. p.function) ps) (map (λ p. p.function) qs)
-point_functions [] [] h = h
-point_functions [] (q ∷ qs) h = absurd h
-point_functions (p ∷ ps) [] h = absurd h
-point_functions (p ∷ ps) (q ∷ qs) h = (h.0.function, point_functions ps qs h.1)
+entry_point_functions [] [] h = h
+entry_point_functions [] (q ∷ qs) h = absurd h
+entry_point_functions (p ∷ ps) [] h = absurd h
+entry_point_functions (p ∷ ps) (q ∷ qs) h = (h.0.function, entry_point_functions ps qs h.1)
 
 -- those of a module, with the functions of its entry points
 pub all_decimal : (m new : Module) → IsDecimalModule m new →
@@ -39,4 +39,4 @@ pub all_decimal : (m new : Module) → IsDecimalModule m new →
 all_decimal m new all =
     AllZip-append IsDecimalFunction m.functions new.functions
     (map (λ p. p.function) m.entry_points.items) (map (λ p. p.function) new.entry_points.items)
-    all.functions (point_functions m.entry_points.items new.entry_points.items all.entry_points)
+    all.functions (entry_point_functions m.entry_points.items new.entry_points.items all.entry_points)

@@ -35,7 +35,7 @@ use Rattle.module_semantics.specs.Subgroups.{block_names_subgroups, names_subgro
 use Rattle.decimal_floats.specs.Decimals.{IsDecimalEntryPoint, IsDecimalExpression}
 use Rattle.decimal_floats.specs.Decimals.{IsDecimalFunction, IsDecimalModule}
 use Rattle.decimal_floats.proofs.DecimalItems.{along}
-use Rattle.decimal_semantics.proofs.DecimalFunctions.{point_rest, decimal_module}
+use Rattle.decimal_semantics.proofs.DecimalFunctions.{entry_point_rest, decimal_module}
 use Rattle.decimal_semantics.proofs.SideBySide.{any_same, placed_any_same, placed_mapped_same}
 use Rattle.decimal_semantics.proofs.DecimalContexts.{trees_same}
 use Rattle.decimal_semantics.proofs.DecimalShapes.{shape_of_module_same}
@@ -91,7 +91,7 @@ module _ (m new : ir_module.Module) (all : IsDecimalModule m new) where
       m.functions n.functions all.functions i
       || any_same IsDecimalEntryPoint (λ p. block_names_subgroups p.function.body)
       (λ p. block_names_subgroups p.function.body)
-      (λ p q r. ap (λ (p : EntryPoint). block_names_subgroups p.function.body) (point_rest p q r))
+      (λ p q r. ap (λ (p : EntryPoint). block_names_subgroups p.function.body) (entry_point_rest p q r))
       m.entry_points.items n.entry_points.items all.entry_points i
 
   needs_same : (x : Extension) → is_needed n x ≡ is_needed m x
@@ -99,7 +99,7 @@ module _ (m new : ir_module.Module) (all : IsDecimalModule m new) where
       list_any (λ t. type_needs x t.inner) m.types ||
       (list_any (λ v. x.for_space v.space) m.global_variables ||
       any_same IsDecimalEntryPoint (entry_point_needs x) (entry_point_needs x)
-      (λ p q r. ap (entry_point_needs x) (point_rest p q r)) m.entry_points.items
+      (λ p q r. ap (entry_point_needs x) (entry_point_rest p q r)) m.entry_points.items
       n.entry_points.items all.entry_points i)
 
   -- what standard compilers ask for is asked of both alike
@@ -179,7 +179,7 @@ module _ (m new : ir_module.Module) (all : IsDecimalModule m new) where
   points_same names t =
       placed_mapped_same IsDecimalEntryPoint (λ k p. entry_point_interface names t (k, p))
       (λ k p. entry_point_interface names t (k, p))
-      (λ k p q r. ap (λ (p : EntryPoint). entry_point_interface names t (k, p)) (point_rest p q r))
+      (λ k p q r. ap (λ (p : EntryPoint). entry_point_interface names t (k, p)) (entry_point_rest p q r))
       0 m.entry_points.items n.entry_points.items all.entry_points
 
   -- ---- modules

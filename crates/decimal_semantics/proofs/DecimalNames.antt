@@ -20,7 +20,7 @@ use Rattle.naga_names.specs.declared.key.NameKey.TheVariants as key
 use Rattle.module_semantics.specs.Names.{module_names, wgsl_names}
 use Rattle.decimal_floats.specs.Decimals.{IsDecimalEntryPoint, IsDecimalFunction, IsDecimalModule}
 use Rattle.decimal_semantics.proofs.SideBySide.{placed_joined_same}
-use Rattle.decimal_semantics.proofs.DecimalFunctions.{point_rest, decimal_module}
+use Rattle.decimal_semantics.proofs.DecimalFunctions.{entry_point_rest, decimal_module}
 
 output_label_same : (t : ℕ) (ps qs : List EntryPoint) → AllZip IsDecimalEntryPoint ps qs →
     output_label t qs ≡ output_label t ps
@@ -30,7 +30,7 @@ output_label_same t (p ∷ ps) [] h = absurd h
 output_label_same t (p ∷ ps) (q ∷ qs) h = λ i.
     option_or (output_label_same t ps qs h.1 i)
     (ap (λ (p : EntryPoint). if returns t p then output_word p.stage else None)
-    (point_rest p q h.0) i)
+    (entry_point_rest p q h.0) i)
 
 module _ (m new : Module) (all : IsDecimalModule m new) where
   abbrev n : Module
@@ -52,7 +52,7 @@ module _ (m new : Module) (all : IsDecimalModule m new) where
       ≡ labelled_entry_points m.entry_points.items
   entry_points_same =
       placed_joined_same IsDecimalEntryPoint labelled_entry_point labelled_entry_point
-      (λ k p q r. ap (labelled_entry_point k) (point_rest p q r)) 0 m.entry_points.items
+      (λ k p q r. ap (labelled_entry_point k) (entry_point_rest p q r)) 0 m.entry_points.items
       n.entry_points.items all.entry_points
 
   functions_same : labelled_functions m.types n.functions ≡ labelled_functions m.types m.functions

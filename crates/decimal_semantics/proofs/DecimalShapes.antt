@@ -40,7 +40,7 @@ use Rattle.decimal_semantics.proofs.DecimalFunctions.{all_decimal, decimal_modul
 use Rattle.decimal_semantics.proofs.SideBySide.{zipped_mapped_same}
 use Rattle.decimal_semantics.proofs.DecimalContexts.{declared_same, initialisers_same}
 use Rattle.decimal_semantics.proofs.DecimalContexts.{value_types_same, words_same}
-use Rattle.decimal_semantics.proofs.DecimalPlaces.{places_same}
+use Rattle.decimal_semantics.proofs.MemoryPlaces.{places_same}
 
 -- ---- expressions
 module _ (d : ModuleDeclarations) (xs ys : List ir.Expression)

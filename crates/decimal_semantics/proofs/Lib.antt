@@ -2,7 +2,7 @@ pub mod SideBySide
 pub mod DecimalFunctions
 pub mod DecimalNames
 pub mod DecimalContexts
-pub mod DecimalPlaces
+pub mod MemoryPlaces
 pub mod DecimalShapes
 pub mod DecimalInterfaces
 pub mod DecimalFaithfully

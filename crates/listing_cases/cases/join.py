@@ -24,7 +24,7 @@ from notation import CaseError, Module  # noqa: E402
 LISTED = re.compile(r"(declarations|function (\d+)|entry point (\d+))(?:, ([a-z ]+?) (\d+))?(?:, beside ([a-z ]+?) (\d+))?")
 
 
-def place_of(case, head):
+def position_of(case, head):
     """What a line `shows PLACE` asks for."""
     match = LISTED.fullmatch(head.text[len("shows "):])
     if not match:
@@ -71,7 +71,7 @@ def joined():
                 told, _ = Module.of(module, case)
                 for head, lines in listings:
                     name = f"{case.name}: {head.text[len('shows '):]}"
-                    line = {"name": name, **place_of(case, head), **told}
+                    line = {"name": name, **position_of(case, head), **told}
                     read.append(json.dumps(line, ensure_ascii=False, separators=(",", ":")) + "\n")
                     printed.append(f"== {name}\n{text_of(lines)}")
     return {"stdin": "".join(read), "stdout": "".join(printed)}

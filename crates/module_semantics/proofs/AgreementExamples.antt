@@ -67,9 +67,10 @@ operands_do_not_tell : is_same (expression.Binary binary.Add 0 0) (expression.Bi
 operands_do_not_tell = refl
 
 -- a conversion is the constructor of its type, and a bit cast is not
-conversion_constructs : (components : Vec ℕ Global) → is_same (converted 1 4) (expression.Compose 0 components) ≡ true
+conversion_is_a_constructor : (components : Vec ℕ Global) →
+    is_same (converted 1 4) (expression.Compose 0 components) ≡ true
 unfolding handle_key
-conversion_constructs components = refl
+conversion_is_a_constructor components = refl
 
 bits_apart : is_same (converted 1 4) (cast 1) ≡ false
 unfolding handle_key

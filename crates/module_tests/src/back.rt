@@ -251,7 +251,7 @@ const STAGES: &[(ShaderStage, bool)] = &[
 ];
 
 /// Whether the module's first entry point is one of workgroups.
-fn forms_workgroups(rt: &impl Abort, module: &Module) -> bool {
+fn has_workgroups(rt: &impl Abort, module: &Module) -> bool {
     assert!(rt; module.entry_points.len() == 1);
     assert!(rt;
         !FunctionType::Function(ItemIndex::from_index(0)).is_compute_like_entry_point(module)
@@ -269,6 +269,6 @@ fn stages_with_workgroups(rt: HostRuntime) {
         )
         .expect(&rt, "memory");
         let module = read_module(alloc, text.as_str()).expect(&rt, "a module");
-        assert_eq!(rt; forms_workgroups(&rt, &module), *want, "{stage:?}");
+        assert_eq!(rt; has_workgroups(&rt, &module), *want, "{stage:?}");
     }
 }

@@ -357,27 +357,27 @@ no_entry_point m h lt =
     (lt-ltb h (length m.functions) lt)
 
 -- the entry points are as many as their list is long
-pub point_within : (m : Module) (j : ℕ) → j < vec_len m.entry_points →
+pub entry_point_within : (m : Module) (j : ℕ) → j < vec_len m.entry_points →
     j < length m.entry_points.items
-point_within m j lt =
+entry_point_within m j lt =
     let counted : m.entry_points.len ≡ length m.entry_points.items = m.entry_points.ok.0 in
     omega (arith, lt, counted)
 
 -- one that was read at its index stands there
-pub own_point : (f : FunctionText) → CanWrite f → (j : ℕ) → f.ty ≡ item.EntryPoint j →
+pub own_entry_point : (f : FunctionText) → CanWrite f → (j : ℕ) → f.ty ≡ item.EntryPoint j →
     (p : EntryPoint) → p ≡ get_or f.shader.now.entry_points.items j p →
     slice_get f.shader.now.entry_points.items j ≡ Some p
-own_point f can j is p read =
+own_entry_point f can j is p read =
     let m = f.shader.now in
     let lt = subst (λ ty. IsFunctionOf ty m) is can.there in
     slice_get_read m.entry_points.items (length m.entry_points.items) j p refl
-    (point_within m j lt) read
+    (entry_point_within m j lt) read
 
 -- the entry point of a function
-pub point_there : (f : FunctionText) → CanWrite f → (j : ℕ) → f.ty ≡ item.EntryPoint j →
+pub entry_point_there : (f : FunctionText) → CanWrite f → (j : ℕ) → f.ty ≡ item.EntryPoint j →
     (p : EntryPoint) → slice_get f.shader.now.entry_points.items j ≡ Some p →
     entry_point_numbered f.shader.now (number f) ≡ Some p
-point_there f can j is p at =
+entry_point_there f can j is p at =
     let m = f.shader.now in
     ap (λ ty. entry_point_numbered m (function_number m ty)) is
     ∙ (entry_point_at m j ∙ at)
@@ -386,7 +386,7 @@ pub stage_row : (f : FunctionText) → CanWrite f → (j : ℕ) → f.ty ≡ ite
     (p : EntryPoint) → slice_get f.shader.now.entry_points.items j ≡ Some p →
     stage_before f.shader.now (number f) ≡ stage_text f.shader.now p
 stage_row f can j is p at =
-    ap (λ o. option_map_or (stage_text f.shader.now) o []) (point_there f can j is p at)
+    ap (λ o. option_map_or (stage_text f.shader.now) o []) (entry_point_there f can j is p at)
 
 -- why a function was not written
 pub reason_reported : (failed failures : ℕ) (want : TypeTextError) (error : Error)

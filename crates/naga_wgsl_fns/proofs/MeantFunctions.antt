@@ -49,19 +49,19 @@ use Rattle.naga_wgsl_fns.proofs.SpelledTypes.{written_is_spellable}
 
 module _ (named : LabelNames) (flags : WriterFlags) (names : NameMap) (m : Module) (info : ModuleInfo) where
   -- one of the entry points
-  point_at : (g : ℕ) (ps : List ir_entry_point.EntryPoint) (ess : List (List ExpressionInfo)) (i : ℕ)
+  entry_point_at : (g : ℕ) (ps : List ir_entry_point.EntryPoint) (ess : List (List ExpressionInfo)) (i : ℕ)
       (p : ir_entry_point.EntryPoint) (es : List ExpressionInfo) → slice_get ps i ≡ Some p →
       slice_get ess i ≡ Some es →
       slice_get (entry_points_under named flags names m info g ps ess) i ≡
       Some (entry_point_under named flags names m info (g + i) p es)
-  point_at g [] ess i p es at known = absurd cc
-  point_at g (x ∷ ps) [] i p es at known = absurd cc
-  point_at g (x ∷ ps) (ks ∷ ess) zero p es at known =
+  entry_point_at g [] ess i p es at known = absurd cc
+  entry_point_at g (x ∷ ps) [] i p es at known = absurd cc
+  entry_point_at g (x ∷ ps) (ks ∷ ess) zero p es at known =
       let here : g ≡ g + 0 = omega arith in
       λ j. Some (entry_point_under named flags names m info (here j) (same_Some x p at j) (same_Some ks es known j))
-  point_at g (x ∷ ps) (ks ∷ ess) (suc i) p es at known =
+  entry_point_at g (x ∷ ps) (ks ∷ ess) (suc i) p es at known =
       let next : (g + 1) + i ≡ g + suc i = omega arith in
-      point_at (g + 1) ps ess i p es at known
+      entry_point_at (g + 1) ps ess i p es at known
       ∙ ap (λ h. Some (entry_point_under named flags names m info h p es)) next
 
 module _ (named : LabelNames) (flags : WriterFlags) (m : Module) (info : ModuleInfo) where
@@ -74,12 +74,12 @@ module _ (named : LabelNames) (flags : WriterFlags) (m : Module) (info : ModuleI
       form_at flags named (module_names m) m info 0 m.functions info.functions.items h f es at known
       ∙ ap (λ k. Some (function_form flags (module_names m) (named k) m info k f es)) first
 
-  pub point_in_program : (j : ℕ) (p : ir_entry_point.EntryPoint) (es : List ExpressionInfo) →
+  pub entry_point_in_program : (j : ℕ) (p : ir_entry_point.EntryPoint) (es : List ExpressionInfo) →
       slice_get m.entry_points.items j ≡ Some p → slice_get info.entry_points.items j ≡ Some es →
       slice_get (program_under named m info flags).entry_points j ≡
       Some (entry_point_under named flags (module_names m) m info (length m.functions + j) p es)
-  point_in_program j p es at known =
-      point_at named flags (module_names m) m info (length m.functions) m.entry_points.items
+  entry_point_in_program j p es at known =
+      entry_point_at named flags (module_names m) m info (length m.functions) m.entry_points.items
       info.entry_points.items j p es at known
 
 -- the same by numbers
@@ -99,17 +99,17 @@ module _ (named : LabelNames) (flags : WriterFlags) (m : Module) (info : ModuleI
       function_in_program named flags m info h own.0 known.0 own.1 known.1
       ∙ (λ i. Some (function_form flags (module_names m) (named h) m info h (same i) (alike i)))
 
-  pub own_point : (j : ℕ) (p : ir_entry_point.EntryPoint) → slice_get m.entry_points.items j ≡ Some p →
+  pub own_entry_point : (j : ℕ) (p : ir_entry_point.EntryPoint) → slice_get m.entry_points.items j ≡ Some p →
       slice_get (program_under named m info flags).entry_points j ≡
       Some (entry_point_under named flags (module_names m) m info (length m.functions + j) p
       (known_of info (length m.functions + j)))
-  own_point j p at =
+  own_entry_point j p at =
       let counted = entry_points_counted m info accepted in
       let within = slice_get_within m.entry_points.items j p at in
       let known = element info.entry_points.items j (omega (arith, within, counted)) in
       let alike : known.0 ≡ known_of info (length m.functions + j) =
       sym (ap (λ o. unwrap_or o []) (entry_info_among m info accepted j known.0 known.1)) in
-      point_in_program named flags m info j p known.0 at known.1
+      entry_point_in_program named flags m info j p known.0 at known.1
       ∙ ap (λ es. Some (entry_point_under named flags (module_names m) m info (length m.functions + j) p es))
       alike
 

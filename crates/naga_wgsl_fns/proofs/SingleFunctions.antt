@@ -55,8 +55,8 @@ use Rattle.naga_wgsl_fns.specs.Stages.{stage_text}
 use Rattle.naga_wgsl_fns.specs.declared.refusals.error.Error.{Error}
 use Rattle.naga_wgsl_fns.specs.declared.refusals.error.Error.TheVariants.{FmtError, Memory}
 use Rattle.naga_wgsl_fns.proofs.ExpressionNames.{named_are, none_full}
-use Rattle.naga_wgsl_fns.proofs.FunctionRows.{no_entry_point, point_within}
-use Rattle.naga_wgsl_fns.proofs.MeantFunctions.{is_meant, own_function, own_point}
+use Rattle.naga_wgsl_fns.proofs.FunctionRows.{no_entry_point, entry_point_within}
+use Rattle.naga_wgsl_fns.proofs.MeantFunctions.{is_meant, own_function, own_entry_point}
 use Rattle.naga_wgsl_fns.proofs.PlanRefusals.{head_is_no_sink, planned_holds}
 
 -- what comes from the sink or from memory tells of no module
@@ -133,16 +133,16 @@ module _ (m : Module) (info : ModuleInfo) (flags : WriterFlags) (earlier : List 
       text_at h f stands
       ∙ ap (λ o. option_map_or (stage_text m) o [] ++ printed_function (form_at h f)) (no_entry_point m h lt)
 
-  abbrev point_at : (index : ℕ) → ir_entry_point.EntryPoint → EntryPoint
-  point_at index p = record {
+  abbrev entry_point_tree : (index : ℕ) → ir_entry_point.EntryPoint → EntryPoint
+  entry_point_tree index p = record {
     stage = stage_attributes (module_names m) p p.stage;
     function = form_at (length m.functions + index) p.function;
   }
 
-  point_text_is : (j : ℕ) (p : ir_entry_point.EntryPoint) →
+  entry_point_text_is : (j : ℕ) (p : ir_entry_point.EntryPoint) →
       slice_get m.entry_points.items j ≡ Some p →
-      text_after m info flags earlier (length m.functions + j) ≡ printed_entry_point (point_at j p)
-  point_text_is j p at =
+      text_after m info flags earlier (length m.functions + j) ≡ printed_entry_point (entry_point_tree j p)
+  entry_point_text_is j p at =
       let form = form_at (length m.functions + j) p.function in
       text_at (length m.functions + j) p.function (entry_point_among m j p at)
       ∙ (ap (λ o. option_map_or (stage_text m) o [] ++ printed_function form)
@@ -162,16 +162,16 @@ module _ (m : Module) (info : ModuleInfo) (flags : WriterFlags) (earlier : List 
       subst (λ t. HasOneReading ReadsFunction t (form_at h f)) (sym (function_text_is h f lt stands))
       (function_has_one_reading (form_at h f) (is f stands))
 
-  point_reading : (j : ℕ) → IsWellFormed (item.EntryPoint j) →
+  entry_point_reading : (j : ℕ) → IsWellFormed (item.EntryPoint j) →
       HeadHasForm m (length m.functions + j) → (p : ir_entry_point.EntryPoint) →
       slice_get m.entry_points.items j ≡ Some p →
       HasOneReading ReadsEntryPoint (text_after m info flags earlier (length m.functions + j))
-      (point_at j p)
-  point_reading j is head p at =
+      (entry_point_tree j p)
+  entry_point_reading j is head p at =
       let stage =
       stage_written m info accepted j p at (head.stage p (entry_point_at m j ∙ at)) in
-      subst (λ t. HasOneReading ReadsEntryPoint t (point_at j p)) (sym (point_text_is j p at))
-      (entry_point_has_one_reading (point_at j p) (record {
+      subst (λ t. HasOneReading ReadsEntryPoint t (entry_point_tree j p)) (sym (entry_point_text_is j p at))
+      (entry_point_has_one_reading (entry_point_tree j p) (record {
         attributes = stage.0;
         stage = stage.1;
         function = is p.function (entry_point_among m j p at);
@@ -191,12 +191,12 @@ module _ (m : Module) (info : ModuleInfo) (flags : WriterFlags) (earlier : List 
         reading = function_reading h is f.0 lt (function_among m h f.0 f.1);
       }
   reads_one (item.EntryPoint j) lt head is content now appended =
-      let p = element m.entry_points.items j (point_within m j lt) in
+      let p = element m.entry_points.items j (entry_point_within m j lt) in
       record {
         text = text_after m info flags earlier (length m.functions + j);
         appended = appended;
-        entry_point = point_at j p.0;
-        reading = point_reading j is head p.0 p.1;
+        entry_point = entry_point_tree j p.0;
+        reading = entry_point_reading j is head p.0 p.1;
       }
 
   -- and it is that of the program, where its labels have these names there
@@ -218,13 +218,13 @@ module _ (m : Module) (info : ModuleInfo) (flags : WriterFlags) (earlier : List 
       agree
       ∙ ap Some (sym only)
   stands_in (item.EntryPoint j) lt head is content now appended named agree = λ text following point reads.
-      let p = element m.entry_points.items j (point_within m j lt) in
+      let p = element m.entry_points.items j (entry_point_within m j lt) in
       let number = length m.functions + j in
       let same = same_following content text (text_after m info flags earlier number) (sym following ∙ appended) in
       let only =
-      (point_reading j is head p.0 p.1).only point
+      (entry_point_reading j is head p.0 p.1).only point
       (subst (λ t. ReadsEntryPoint (tokens t) point) same reads) in
-      own_point named flags m info accepted j p.0 p.1
+      own_entry_point named flags m info accepted j p.0 p.1
       ∙ ap (λ own. Some (record {
         stage = stage_attributes (module_names m) p.0 p.0.stage;
         function = function_form flags (module_names m) own m info number

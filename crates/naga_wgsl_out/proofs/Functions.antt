@@ -151,7 +151,7 @@ module _ (m : Module) (info : ModuleInfo) (flags : WriterFlags)
       ∙ ap (λ b. (stage_text m p ++ own_text g p.function (known_of info g)) ++ (if b then codes "\n" else [])) (sym is)
       ∙ sym (entry_point_line j p here)
 
-  points_text : (j : ℕ) (ps : List EntryPoint) (ess : List (List ExpressionInfo)) → length ps ≡ length ess →
+  entry_points_text : (j : ℕ) (ps : List EntryPoint) (ess : List (List ExpressionInfo)) → length ps ≡ length ess →
       j + length ps ≡ length m.entry_points.items →
       ((i : ℕ) (p : EntryPoint) → slice_get ps i ≡ Some p → slice_get m.entry_points.items (j + i) ≡ Some p) →
       ((i : ℕ) (es : List ExpressionInfo) → slice_get ess i ≡ Some es →
@@ -159,12 +159,12 @@ module _ (m : Module) (info : ModuleInfo) (flags : WriterFlags)
       text (entry_points_pieces
       (entry_points_form flags (module_names m) m info (length m.functions + j) ps ess)) ≡
       spaced_functions m info flags (enumerate_from (length m.functions + j) (entry_functions ps))
-  points_text j [] [] size counted there known = refl
-  points_text j [] (es ∷ ess) size counted there known = absurd (cc)
-  points_text j (p ∷ ps) [] size counted there known = absurd (cc)
-  points_text j (p ∷ []) (es ∷ ks ∷ ess) size counted there known = absurd (cc)
-  points_text j (p ∷ q ∷ ps) (es ∷ []) size counted there known = absurd (cc)
-  points_text j (p ∷ []) (es ∷ []) size counted there known =
+  entry_points_text j [] [] size counted there known = refl
+  entry_points_text j [] (es ∷ ess) size counted there known = absurd (cc)
+  entry_points_text j (p ∷ ps) [] size counted there known = absurd (cc)
+  entry_points_text j (p ∷ []) (es ∷ ks ∷ ess) size counted there known = absurd (cc)
+  entry_points_text j (p ∷ q ∷ ps) (es ∷ []) size counted there known = absurd (cc)
+  entry_points_text j (p ∷ []) (es ∷ []) size counted there known =
       let last : length m.entry_points.items ≤ j + 1 = omega (arith, counted) in
       let point = entry_point_pieces (entry_point_form flags (module_names m) m info (length m.functions + j) p es) in
       text-append point []
@@ -172,7 +172,7 @@ module _ (m : Module) (info : ModuleInfo) (flags : WriterFlags)
       (sym (append-nil (text point))
       ∙ entry_point_own_text j p es false (there 0 p refl) (known 0 es refl)
       (le-ltb (j + 1) (length m.entry_points.items) last))
-  points_text j (p ∷ q ∷ ps) (es ∷ ks ∷ ess) size counted there known =
+  entry_points_text j (p ∷ q ∷ ps) (es ∷ ks ∷ ess) size counted there known =
       let more : j + 1 < length m.entry_points.items = omega (arith, counted) in
       let all : (j + 1) + length (q ∷ ps) ≡ length m.entry_points.items = omega (arith, counted) in
       let next : length m.functions + (j + 1) ≡ (length m.functions + j) + 1 = omega arith in
@@ -183,7 +183,7 @@ module _ (m : Module) (info : ModuleInfo) (flags : WriterFlags)
       ≡ spaced_functions m info flags (enumerate_from ((length m.functions + j) + 1) (entry_functions (q ∷ ps))) =
       subst
       (λ h. text (following h) ≡ spaced_functions m info flags (enumerate_from h (entry_functions (q ∷ ps)))) next
-      (points_text (j + 1) (q ∷ ps) (ks ∷ ess) (ap pred size) all
+      (entry_points_text (j + 1) (q ∷ ps) (ks ∷ ess) (ap pred size) all
       (λ i r at. let moved : j + suc i ≡ (j + 1) + i = omega arith in ap (slice_get m.entry_points.items)
       (sym moved) ∙ there (suc i) r at)
       (λ i rs at. let moved : length m.functions + (j + suc i) ≡ length m.functions + ((j + 1) + i) = omega arith in
@@ -239,7 +239,7 @@ written_lines m info flags accepted =
         ap (λ g. text (entry_points_pieces
         (entry_points_form flags (module_names m) m info g m.entry_points.items info.entry_points.items)))
         (sym none)
-        ∙ (points_text m info flags accepted 0 m.entry_points.items info.entry_points.items
+        ∙ (entry_points_text m info flags accepted 0 m.entry_points.items info.entry_points.items
         (entry_points_counted m info accepted) all
         (λ i p at. let same : i ≡ 0 + i = omega arith in ap (slice_get m.entry_points.items) (sym same) ∙ at)
         (λ i es at. let same : length m.functions + i ≡ length m.functions + (0 + i) = omega arith in
@@ -247,8 +247,8 @@ written_lines m info flags accepted =
         ∙ ap (λ g. spaced_functions m info flags (enumerate_from g (entry_functions m.entry_points.items))) from)
 
 -- there are no more entry points than keys tell apart
-pub points_counted : (m : Module) → (KeyIsOutOfRange m → ⊥) → length m.entry_points.items ≤ 2 ^ 16
-points_counted m keys = by (nat_lt (2 ^ 16) (length m.entry_points.items)) refl
+pub entry_points_have_keys : (m : Module) → (KeyIsOutOfRange m → ⊥) → length m.entry_points.items ≤ 2 ^ 16
+entry_points_have_keys m keys = by (nat_lt (2 ^ 16) (length m.entry_points.items)) refl
   where
     by : (b : Bool) → nat_lt (2 ^ 16) (length m.entry_points.items) ≡ b →
         length m.entry_points.items ≤ 2 ^ 16

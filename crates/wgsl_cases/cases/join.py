@@ -285,7 +285,7 @@ def edited(case, lines, edits):
             start, end = part_named(case, lines, inside.group(1), edit)
             old = inside.group(2)
         old, slash, words = old.partition(" / ")
-        at = place_of(case, lines, start, end, old, edit)
+        at = line_of(case, lines, start, end, old, edit)
         after = at + 1 if slash or new else end_of(lines, at)
         if slash:
             if lines[at].text.count(words) != 1:
@@ -302,7 +302,7 @@ def written(line, text):
     return Line(" " * (line.indent + 2 * below) + text[2 * below:].strip(), line.number)
 
 
-def place_of(case, lines, start, end, old, edit):
+def line_of(case, lines, start, end, old, edit):
     """Where the one line stands that is or begins so; `HEAD > LINE` looks below the line HEAD."""
     for step in old.split(" > "):
         found = [i for i in range(start, end) if lines[i].text == step]

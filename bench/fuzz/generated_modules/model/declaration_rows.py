@@ -236,7 +236,7 @@ SAME_LABELS = (
     "@compute @workgroup_size(1, 1, 1) \nfn x_2(@location(0) x_3: i32) {\n    var x_4: i32;\n\n}\n")
 
 
-def bound_struct():
+def struct_with_binding():
     """A struct whose members are bound in each way, as an argument and a result of a fragment."""
     bindings = [
         builtin("Position", True), builtin("Position"), builtin("Barycentric", True), builtin("Barycentric"),
@@ -350,7 +350,7 @@ TEXTS = [
      "@fragment \nfn g() {\n    g_1((&g_2));\n}\n"),
     (lengths(), "override M: i32;\n@id(0) override N: u32;\n\nfn f() -> array<i32, N> {\n    var a: array<i32, N>;\n\n"
      "    return array<i32, N>();\n}\n\n"),
-    (stages(), STAGES_TEXT), (same_labels(), SAME_LABELS), (bound_struct(), BOUND_TEXT),
+    (stages(), STAGES_TEXT), (same_labels(), SAME_LABELS), (struct_with_binding(), BOUND_TEXT),
     (passed_in_functions(),
      "fn f(@builtin(draw_index) x: i32) -> @location(3) @blend_src(0) i32 {\n    return x;\n}\n\n"),
     (in_spaces(), in_spaces_text()),
@@ -460,7 +460,7 @@ def initialised(ty, *own):
         whole(own=own, variables=[variable("v", ty, PRIVATE, last)])]
 
 
-def bound_to(binding):
+def with_binding(binding):
     """A member, an argument and a result that are bound so, of a function and of an entry point."""
     ty = struct(16, ("a", INT))
     module = whole([["S", ty]])
@@ -498,7 +498,7 @@ REFUSED = [
         SPLIT, Expression("literal", FLOAT, [5, 0]), Expression("splat", SPLIT, [2], [0]))),
     *((module, ABSTRACT) for module in initialised(
         CELLS, Expression("literal", ("scalar", ("abstract", 8)), [10, 5]), composed(CELLS, 0, 0))),
-    *((module, "Unsupported builtin value: PointSize") for module in bound_to(builtin("PointSize"))),
+    *((module, "Unsupported builtin value: PointSize") for module in with_binding(builtin("PointSize"))),
     *((module, UNDECLARED) for module in typed(PARTS, [PARTS])),
     *((module, UNDECLARED) for module in typed(("array", PARTS, 3, 8), [PARTS])),
     *((module, NO_SCALAR) for module in typed(ODD)), *((module, NO_SCALAR) for module in typed(("atomic", ODD[1]))),
@@ -672,8 +672,8 @@ OTHERS = [
     (vertex(), "@builtin(position) pos", "@builtin(position) @invariant pos", False),
     (vertex(), "return VertexOutput()", "return vec4<f32>()", False),
     (stages(), "@any_hit @incoming_payload(m) ", "@any_hit @incoming_payload(p_10) ", False),
-    (bound_struct(), "@location(2) ", "@location(2) @interpolate(perspective, center) ", True),
-    (bound_struct(), "@location(3) @interpolate(flat) ", "@location(3) ", False),
+    (struct_with_binding(), "@location(2) ", "@location(2) @interpolate(perspective, center) ", True),
+    (struct_with_binding(), "@location(3) @interpolate(flat) ", "@location(3) ", False),
     (same_labels(), "const x_9: i32 = 1i;\n\n", "", False),
     (laid(("Q", 20, ("a", WHOLE, 0), ("b", WHOLE, 16))), "@size(16) ", "", False),
     (laid(("Q", 20, ("a", WHOLE, 0), ("b", WHOLE, 16))), "@size(16) ", "@size(12) ", False),

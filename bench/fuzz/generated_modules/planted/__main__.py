@@ -32,7 +32,7 @@ from asking import STYLES, answers_to
 from constructs import CONSTRUCTS, FULL_KEY, NOT_PLANTED
 from declaration_rows import MOST, many
 from generator import generate
-from places import Planted
+from positions import Planted
 from refusals import refusal
 from serde import lines_of
 from texts import answers_of

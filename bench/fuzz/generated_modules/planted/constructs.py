@@ -12,7 +12,7 @@ from modules import (
     Constant, Override, Sampling, Statement, Variable, branch, emit, loop, statements_in, switch)
 from numerals import numeral_of
 from operators import LITERALS, wanted_scalar
-from places import (
+from positions import (
     Head, LetFirst, always, at_expression, at_first_value, at_item, at_let, at_needless, at_operand,
     at_operand_of_emitted, at_second, at_statement, at_struct, at_type, at_value)
 from planting import FLOAT, INT, TRUTH, Planter

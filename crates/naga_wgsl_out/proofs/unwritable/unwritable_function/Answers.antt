@@ -1,7 +1,7 @@
 use Rattle.std.proofs.Common.{◌≡◌, ◌+◌, arith, length, refl, subst, sym}
 use Rattle.naga_back.specs.Flags.{annotates_types}
 use Rattle.naga_back.specs.declared.context.FunctionType.TheVariants as item
-use Rattle.naga_wgsl_out.proofs.Functions.{last_entry_point, points_counted}
+use Rattle.naga_wgsl_out.proofs.Functions.{last_entry_point, entry_points_have_keys}
 use Rattle.naga_wgsl_out.proofs.Positions.{AreWritable, all_writable, before_writable, found_none}
 use Rattle.naga_wgsl_out.proofs.Positions.{found_some, none_writable, one_writable}
 use Rattle.naga_wgsl_out.proofs.Positions.{refusal_first, refusal_stands}
@@ -53,7 +53,7 @@ loop-index-2-init c =
 pub overflow_cast-ty : goal.overflow_cast-ty
 overflow_cast-ty c =
     let m = c.args.«module».now in
-    let counted = points_counted m c.requires.names.keys in
+    let counted = entry_points_have_keys m c.requires.names.keys in
     let long : m.entry_points.len ≡ length m.entry_points.items = m.entry_points.ok.0 in
     omega (arith, c.loop-index-2-test.true, c.len-index-end-2.ensures, counted, long)
 

@@ -1,7 +1,7 @@
 use Rattle.std.proofs.Common.{◌≡◌, ◌+◌, ◌<◌, arith, length, subst, sym}
 use Rattle.module_semantics.proofs.FunctionNumbers.{number_within}
 use Rattle.naga_back.specs.declared.context.FunctionType.TheVariants as item
-use Rattle.naga_wgsl_out.proofs.Functions.{failed_as, last_entry_point, points_counted, up_to_all}
+use Rattle.naga_wgsl_out.proofs.Functions.{failed_as, last_entry_point, entry_points_have_keys, up_to_all}
 use Rattle.naga_wgsl_out.proofs.Functions.{up_to_as, up_to_failed, up_to_more, up_to_none, wrote_as}
 use Rattle.naga_back.specs.Flags.{annotates_types}
 use Rattle.naga_wgsl_out.proofs.Positions.{as_told, told_first, up_to_before}
@@ -42,7 +42,7 @@ loop-index-2-init g c =
 pub overflow_cast-ty : goal.overflow_cast-ty
 overflow_cast-ty g c =
     let m = c.args.«module».now in
-    let counted = points_counted m c.requires.names.keys in
+    let counted = entry_points_have_keys m c.requires.names.keys in
     let long : m.entry_points.len ≡ length m.entry_points.items = m.entry_points.ok.0 in
     omega (arith, c.loop-index-2-test.true, c.len-index-end-2.ensures, counted, long)
 

@@ -30,7 +30,7 @@ use Rattle.module_semantics.specs.TypeParts.{element_count, inner_at}
 use Rattle.shader_runs.specs.Value.{Components, Elements, Members, NoParts, PointerType, same_type}
 use Rattle.decimal_floats.specs.Decimals.{IsDecimalExpression, IsDecimalFunction, IsDecimalModule}
 use Rattle.decimal_floats.proofs.DecimalItems.{along}
-use Rattle.decimal_semantics.proofs.DecimalFunctions.{point_functions, decimal_module}
+use Rattle.decimal_semantics.proofs.DecimalFunctions.{entry_point_functions, decimal_module}
 use Rattle.decimal_semantics.proofs.SideBySide.{AllZip-append, joined_same, zipped_joined_same}
 use Rattle.decimal_semantics.proofs.DecimalContexts.{declared_same, value_types_same, words_same}
 use Rattle.decimal_semantics.proofs.DecimalNames.{names_same}
@@ -69,7 +69,7 @@ module _ (m new : Module) (all : IsDecimalModule m new) (info : ModuleInfo) wher
       } ∷ [])
       (decimal_groups (map (λ p. p.function) m.entry_points.items)
       (map (λ p. p.function) n.entry_points.items) info.entry_points.items
-      (point_functions m.entry_points.items n.entry_points.items all.entry_points))
+      (entry_point_functions m.entry_points.items n.entry_points.items all.entry_points))
       (record { expressions = all.expressions; known = refl }, tt)
 
   all_decimal_groups : AllZip IsDecimalGroup (groups_of m info) (groups_of n info)

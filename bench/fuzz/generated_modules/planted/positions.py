@@ -1,4 +1,4 @@
-"""Places, as they are told of what is refused, and what stands there.
+"""Positions, as they are told of what is refused, and what stands there.
 
 Numbers change until all is planted, so that a place knows the items themselves and is told
 afterwards.
@@ -29,12 +29,12 @@ class Planted:
         """What an answer has beside the text, where `let`s tell types or not."""
         if self.f is None:
             return {"refused": self.name, "position": "module" + self.part()}
-        told = {"refused": self.name, "position": self.place_of_function() + self.part()}
+        told = {"refused": self.name, "position": self.position_of_function() + self.part()}
         if self.root is not None:
             told["root"] = self.root()
         return told if self.f.label is None else {**told, "function": self.f.label}
 
-    def place_of_function(self):
+    def position_of_function(self):
         number, count = self.f.module.number_of(self.f), len(self.f.module.functions)
         if number < count:
             return f"module.functions[{number}]"
