@@ -1,6 +1,7 @@
-//! Rows of tests by what stands in them: branches, loops, declarations and layouts.
+//! Rows of the program's tests, by what stands in them. Each has words, what the program prints, what
+//! it tells, and its status.
 
-/// The same of rows with branches, switches, barriers and calls.
+/// Branches, switches, barriers and calls.
 pub(super) const BRANCH_ROWS: &[(&[&str], &str, &str, u8)] = &[
     (
         &["switch"],
@@ -168,7 +169,7 @@ fn run() -> i32 {
     ),
 ];
 
-/// The same of rows with loops.
+/// Loops.
 pub(super) const LOOP_ROWS: &[(&[&str], &str, &str, u8)] = &[
     (
         &["loop"],
@@ -247,7 +248,7 @@ a = _e3;\n        continuing {\n            a = (1i + 1i);\n            break if
     ),
 ];
 
-/// The same of rows with declarations and entry points.
+/// Declarations and entry points.
 pub(super) const DECLARATION_ROWS: &[(&[&str], &str, &str, u8)] = &[
     (
         &["compute"],
@@ -348,6 +349,7 @@ pub(super) const DECLARATION_ROWS: &[(&[&str], &str, &str, u8)] = &[
     ),
 ];
 
+/// Structs, with the sizes that keep their members' offsets.
 pub(super) const LAYOUT_ROWS: &[(&[&str], &str, &str, u8)] = &[
     (
         &["natural"],
