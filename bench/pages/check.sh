@@ -4,7 +4,7 @@
 #   in no file of crates/, bench/ or the top, comments left out (names.py);
 #   bounds that pages keep, links that lead nowhere, and a word that none has (bounds.py);
 #   pictures that are not as they would be made (pictures.py, which also makes them);
-#   counts in docs/ADDING.md that the tree has not (places.py, which also writes them);
+#   counts in docs/ADDING.md that the tree has not (mentions.py, which also writes them);
 #   lemmas and definitions that nothing uses (unused.py);
 #   public names that no test imports (public.py).
 # It is quiet, and its status is 0, where all is so. Run it at the top of the repository, with pages for the names of these alone.
@@ -13,7 +13,7 @@ status=0
 python3 "$here/names.py" "$@" || status=1
 python3 "$here/bounds.py" || status=1
 python3 "$here/pictures.py" --check || status=1
-python3 "$here/places.py" --check || status=1
+python3 "$here/mentions.py" --check || status=1
 python3 "$here/unused.py" || status=1
 python3 "$here/public.py" || status=1
 exit $status

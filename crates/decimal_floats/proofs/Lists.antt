@@ -1,4 +1,4 @@
--- Lists side by side, whose items are related place by place.
+-- Lists side by side, whose items are related one by one.
 use Rattle.std.proofs.Common.{◌≡◌, ℕ, suc, zero, ◌+◌, ◌<◌, Bool, true, false, ◌&&◌, ◌==◌}
 use Rattle.std.proofs.Common.{List, [], ◌∷◌, length, get_or, set, refl, ap, subst, ◌∙◌, arith}
 use Rattle.std.specs.Prelude.{Option, Some, None, slice_get}
@@ -51,7 +51,7 @@ module _ {X Y : Type 0} (R : X → Y → Type 0) where
       and_kept (p x) (list_all p xs) (q y) (list_all q ys) (each x y h.0)
       (all_kept p q each xs ys h.1) e
 
-  -- the same of each item with its place
+  -- the same of each item with its index
   pub placed_kept : (p : ℕ → X → Bool) (q : ℕ → Y → Bool) →
       ((k : ℕ) (x : X) (y : Y) → R x y → p k x ≡ true → q k y ≡ true) →
       (n : ℕ) (xs : List X) (ys : List Y) → AllZip R xs ys →
@@ -103,7 +103,7 @@ module _ {X Y : Type 0} (R : X → Y → Type 0) where
   paired_same p q each xs ys ks h =
       λ i. (AllZip-long R xs ys h i == length ks) && zipped_same p q each xs ys ks h i
 
-  -- what is seen at a place
+  -- what is seen at an index
   pub seen_same : {Z : Type 0} (p : Option X → Z) (q : Option Y → Z) → q None ≡ p None →
       ((x : X) (y : Y) → R x y → q (Some y) ≡ p (Some x)) → (xs : List X) (ys : List Y) →
       AllZip R xs ys → (k : ℕ) → q (slice_get ys k) ≡ p (slice_get xs k)

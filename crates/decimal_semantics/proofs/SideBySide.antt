@@ -1,10 +1,10 @@
--- Lists side by side, whose items are related place by place: what is made of their items is the
+-- Lists side by side, whose items are related one by one: what is made of their items is the
 -- same, where it is of related ones.
 use Rattle.std.proofs.Common.{◌≡◌, ℕ, ◌+◌, Bool, ◌||◌, List, [], ◌∷◌, ◌++◌, map, refl}
 use Rattle.std.specs.List.{AllZip, enumerate_from, flat_map, list_any, zip}
 
 module _ {X Y : Type 0} (R : X → Y → Type 0) where
-  -- of each with its place
+  -- of each with its index
   pub placed_mapped_same : {Z : Type 0} (p : ℕ → X → Z) (q : ℕ → Y → Z) →
       ((k : ℕ) (x : X) (y : Y) → R x y → q k y ≡ p k x) →
       (n : ℕ) (xs : List X) (ys : List Y) → AllZip R xs ys →

@@ -4,7 +4,7 @@
 -- Throughout, m is a module, info what is known of it, types are a module's types, g is a group of
 -- expressions that stand together (gs are several), v and w are uses (os are several), here and
 -- there their types, at is a position, f gives what there is of a number, n is a bound or a number
--- below it, and i and k are places in lists.
+-- below it, and i and k are indices in lists.
 use Rattle.std.proofs.Common.{◌≡◌, ◌∙◌, ◌<◌, ◌+◌, ◌-◌, ◌==◌, ◌&&◌, inl, inr, ◌⊎◌, ℕ, zero, suc}
 use Rattle.std.proofs.Common.{Bool, true, false, List, [], ◌∷◌, ◌++◌, length, map, Option, Some, None}
 use Rattle.std.proofs.Common.{IsSome, append-nil, arith, ap, is_some, option_and_then, option_map}

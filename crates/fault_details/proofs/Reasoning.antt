@@ -160,32 +160,34 @@ module _ (types : List Type_) (known : List TypeResolution) where
 
   -- ---- switches
 
-  label_type_told : (s : Scalar) (v : SwitchValue) → case_value_is_of s v ≡ false → IsSome (case_value_type_reason s v)
-  label_type_told s (switch_value.I32 number) fails = some_unless _ _ fails
-  label_type_told s (switch_value.U32 number) fails = some_unless _ _ fails
-  label_type_told s switch_value.Default fails = absurd (true≢false fails)
+  case_value_type_told : (s : Scalar) (v : SwitchValue) → case_value_is_of s v ≡ false →
+      IsSome (case_value_type_reason s v)
+  case_value_type_told s (switch_value.I32 number) fails = some_unless _ _ fails
+  case_value_type_told s (switch_value.U32 number) fails = some_unless _ _ fails
+  case_value_type_told s switch_value.Default fails = absurd (true≢false fails)
 
-  label_types_told : (s : Scalar) (cs : CaseTrees) → case_values_are_of s cs ≡ false →
+  case_value_types_told : (s : Scalar) (cs : CaseTrees) → case_values_are_of s cs ≡ false →
       IsSome (case_value_types_reason s cs)
-  label_types_told s no_cases fails = absurd (true≢false fails)
-  label_types_told s (case v b falls cs) fails =
+  case_value_types_told s no_cases fails = absurd (true≢false fails)
+  case_value_types_told s (case v b falls cs) fails =
       ⊎_elim
-      (λ first. some_first (case_value_type_reason s v) (case_value_types_reason s cs) (label_type_told s v first))
-      (λ later. some_second (case_value_type_reason s v) (case_value_types_reason s cs) (label_types_told s cs later))
+      (λ first. some_first (case_value_type_reason s v) (case_value_types_reason s cs) (case_value_type_told s v first))
+      (λ later. some_second (case_value_type_reason s v) (case_value_types_reason s cs)
+      (case_value_types_told s cs later))
       (and_cases (case_value_is_of s v) (case_values_are_of s cs) fails)
 
   need_told : (test : Bool) (it : Need) → test ≡ false → IsSome (need_unless test it)
   need_told test it fails = some_unless test _ fails
 
-  labels_told : (s : Scalar) (cs : CaseTrees) → case_values_fit s cs ≡ false →
+  case_values_told : (s : Scalar) (cs : CaseTrees) → case_values_fit s cs ≡ false →
       IsSome (case_value_reason cs (inner.Scalar s))
-  labels_told s cs fails =
+  case_values_told s cs fails =
       let differ = need_unless (case_values_differ cs) need.DistinctCaseValues in
       let default = need_unless (has_case_value switch_value.Default cs) need.Default in
       let end = need_unless (not (last_falls_through false cs)) need.End in
       ⊎_elim
       (λ a. some_first (case_value_types_reason s cs) (option_or differ (option_or default end))
-      (label_types_told s cs a))
+      (case_value_types_told s cs a))
       (λ others. some_second (case_value_types_reason s cs) (option_or differ (option_or default end)) (⊎_elim
       (λ b. some_first differ (option_or default end) (need_told _ _ b))
       (λ last. some_second differ (option_or default end) (⊎_elim
@@ -215,9 +217,9 @@ module _ (types : List Type_) (known : List TypeResolution) where
       scalar s e fails =
           ⊎_elim
           (λ other. first (Some (inner.Scalar s)) e other)
-          (λ labels. some_second (class_reason types known class.Selector selector) _
+          (λ values. some_second (class_reason types known class.Selector selector) _
           (some_then (case_value_reason cs) (known_inner types known selector) (inner.Scalar s) e
-          (labels_told s cs labels)))
+          (case_values_told s cs values)))
           (and_cases (is_selector_type s) (case_values_fit s cs) fails)
 
       one : (it : TypeInner) → known_inner types known selector ≡ Some it → selection_fits cs it ≡ false →

@@ -371,25 +371,25 @@ pub(crate) fn statement_reason<'a>(
     function: &Function,
     known: Known<'a>,
     fault: Fault,
-    place: StatementAt<'_>,
+    at: StatementAt<'_>,
 ) -> Option<Reason<'a>>
     ensures { option_map shown result ≡ statement_reason «module».now callees function.now
-        (known_types known.entry) fault (placed place.entry) }
+        (known_types known.entry) fault (placed at.entry) }
 {
     match fault {
         Fault::Names => statement_name_reason(
             module,
             callees,
             function.expressions.len(),
-            place.statement,
+            at.statement,
         ),
         Fault::Unsatisfied => own_reason(
             module,
             function,
             known,
-            place.breaks,
-            place.continues,
-            place.statement,
+            at.breaks,
+            at.continues,
+            at.statement,
         ),
         _ => None,
     }

@@ -106,9 +106,9 @@ decimal_double_is f d fits =
     decimal_either f d.negative ds d.digits d.exponent (has_plain_form (leading_power ds d.exponent))
     own.0.1 own.1 own.0.0
 
--- what is written are digits, some of them before the point, and the exponent is not too great
-
-pub record IsWritten (whole fraction : List ℕ) (e : ℤ) : Type 0 where
+-- what stands before the point and after it are digits, of which there are some before it, and the
+-- exponent is in range
+pub record AreDigitsInRange (whole fraction : List ℕ) (e : ℤ) : Type 0 where
   pub some : 0 < length whole
   pub whole_digits : AllDigits 10 whole
   pub fraction_digits : AllDigits 10 fraction
@@ -122,39 +122,40 @@ leading_small (negsuc a) m small few = at (ltb m (suc a))
     at true = omega (arith, small)
     at false = omega (arith, few)
 
-pointed_written : (ds : List ℕ) (n : ℕ) (e : ℤ) → AllDigits 10 ds → digits_value 10 ds ≡ n → 0 < length ds →
-    IsWritten (whole_of ds e) (some_fraction_of ds e) (pos 0)
-pointed_written ds n (pos e) is value some =
+pointed_in_range : (ds : List ℕ) (n : ℕ) (e : ℤ) → AllDigits 10 ds → digits_value 10 ds ≡ n → 0 < length ds →
+    AreDigitsInRange (whole_of ds e) (some_fraction_of ds e) (pos 0)
+pointed_in_range ds n (pos e) is value some =
     let s = split ds n (pos e) is some value in
     record { some = s.some; whole_digits = s.whole_digits; fraction_digits = (omega arith, tt); small = omega arith }
-pointed_written ds n (negsuc e) is value some =
+pointed_in_range ds n (negsuc e) is value some =
     let s = split ds n (negsuc e) is some value in
     record { some = s.some; whole_digits = s.whole_digits; fraction_digits = s.fraction_digits; small = omega arith }
 
-either_written : (ds : List ℕ) (n : ℕ) (e : ℤ) (b : Bool) → AllDigits 10 ds → digits_value 10 ds ≡ n →
+either_in_range : (ds : List ℕ) (n : ℕ) (e : ℤ) (b : Bool) → AllDigits 10 ds → digits_value 10 ds ≡ n →
     0 < length ds → nat_abs e ≤ 2 ^ 63 → length ds ≤ 20 →
-    IsWritten (cond b (whole_of ds e) (take 1 ds)) (cond b (some_fraction_of ds e) (drop 1 ds))
+    AreDigitsInRange (cond b (whole_of ds e) (take 1 ds)) (cond b (some_fraction_of ds e) (drop 1 ds))
     (cond b (pos 0) (leading_power ds e))
-either_written ds n e true is value some small few = pointed_written ds n e is value some
-either_written ds n e false is value some small few = record {
+either_in_range ds n e true is value some small few = pointed_in_range ds n e is value some
+either_in_range ds n e false is value some small few = record {
   some = omega (arith, some, length-take-le 1 ds some);
   whole_digits = front_digits 1 ds is;
   fraction_digits = rest_digits 1 ds is;
   small = leading_small e (length ds - 1) small (omega (arith, few));
 }
 
-pub double_written : (d : Decimal) → d.digits < 2 ^ 64 → nat_abs d.exponent ≤ 2 ^ 63 →
-    IsWritten (double_whole d) (double_fraction d) (double_exponent d)
-double_written d fits small =
+pub double_in_range : (d : Decimal) → d.digits < 2 ^ 64 → nat_abs d.exponent ≤ 2 ^ 63 →
+    AreDigitsInRange (double_whole d) (double_fraction d) (double_exponent d)
+double_in_range d fits small =
     let own = decimal_is_IsNumeral d.digits fits in
     let ds = decimal d.digits in
     let few : length ds ≤ 20 = length-decimal-le 20 d.digits (omega arith) (omega (arith, fits)) fits in
-    either_written ds d.digits d.exponent (has_plain_form (leading_power ds d.exponent)) own.0.1 own.1 own.0.0 small few
+    either_in_range ds d.digits d.exponent (has_plain_form (leading_power ds d.exponent))
+    own.0.1 own.1 own.0.0 small few
 
 pub double_read : (f : Format) (d : Decimal) → d.digits < 2 ^ 64 → nat_abs d.exponent ≤ 2 ^ 63 →
     parse_float f (double_numeral_text d) ≡ Some (denoted f d)
 double_read f d fits small =
-    let w = double_written d fits small in
+    let w = double_in_range d fits small in
     text_read f d.negative (double_whole d) (double_fraction d) (double_exponent d) w.small w.whole_digits
     w.fraction_digits w.some
     ∙ ap Some (decimal_double_is f d fits)

@@ -32,10 +32,10 @@ small_half num den some small =
 ten_mono : (i j : ℕ) → i ≤ j → 10 ^ i ≤ 10 ^ j
 ten_mono i j h = pow-le-pow_right {n = 10} (omega arith) h
 
-pub below : (digits : ℕ) (e : ℤ) (places : ℕ) → places ≡ nat_abs e → e <ℤ pos 0 → 38 < places →
+pub below : (digits : ℕ) (e : ℤ) (tens : ℕ) → tens ≡ nat_abs e → e <ℤ pos 0 → 38 < tens →
     digits < 2 ^ 64 → half_of digits e ≡ 0
-below digits (pos e) places same less many fits = absurd (omega (arith, ltb→lt e 0 less.lt))
-below digits (negsuc e) places same less many fits =
+below digits (pos e) tens same less many fits = absurd (omega (arith, ltb→lt e 0 less.lt))
+below digits (negsuc e) tens same less many fits =
     let far : 10 ^ 39 ≤ 10 ^ suc e = ten_mono 39 (suc e) (omega (arith, same, many)) in
     small_half digits (10 ^ suc e) (omega (arith, far)) (omega (arith, far, fits))
 
@@ -49,10 +49,10 @@ great_half num great =
     let far : 31744 ≤ rounded n 1 (dropped n 1) = omega (arith, short) in
     min-eq_left far
 
-pub past : (digits : ℕ) (e : ℤ) (places : ℕ) → places ≡ nat_abs e → pos 0 ≤ℤ e → 5 < places → 0 < digits →
+pub past : (digits : ℕ) (e : ℤ) (tens : ℕ) → tens ≡ nat_abs e → pos 0 ≤ℤ e → 5 < tens → 0 < digits →
     half_of digits e ≡ 31744
-past digits (negsuc e) places same less many some = absurd less.le
-past digits (pos e) places same less many some =
+past digits (negsuc e) tens same less many some = absurd less.le
+past digits (pos e) tens same less many some =
     let far : 10 ^ 6 ≤ 10 ^ e = ten_mono 6 e (omega (arith, same, many)) in
     let more : 1 * 10 ^ e ≤ digits * 10 ^ e = mul-le-mul_right (10 ^ e) some in
     great_half (digits * 10 ^ e) (omega (arith, far, more))
@@ -81,13 +81,13 @@ unit_has_room n den k small fits some is =
     let at : den * (1 * 2 ^ k % 2 ^ 128) ≤ den * 2 ^ k = mul-le-mul_left den less in
     omega (arith, at, unit_fits n den k small fits some (sym is))
 
-pub tens_have_room : (digits places power : ℕ) → digits < 2 ^ 64 → places ≤ 5 → power ≡ 10 ^ places →
+pub tens_have_room : (digits tens power : ℕ) → digits < 2 ^ 64 → tens ≤ 5 → power ≡ 10 ^ tens →
     digits * power < 2 ^ 81
-tens_have_room digits places power fits few is =
-    let short : 10 ^ places ≤ 10 ^ 5 = ten_mono places 5 few in
+tens_have_room digits tens power fits few is =
+    let short : 10 ^ tens ≤ 10 ^ 5 = ten_mono tens 5 few in
     let at : digits * power ≤ 2 ^ 64 * 10 ^ 5 = mul-le-mul {n₁ = digits} {m₁ = power} {n₂ = 2 ^ 64}
     {m₂ = 10 ^ 5} (omega (arith, fits)) (omega (arith, short, is)) in
     omega (arith, at)
 
-pub few_tens : (places : ℕ) → places ≤ 38 → 10 ^ places < 2 ^ 127
-few_tens places few = (let short : 10 ^ places ≤ 10 ^ 38 = ten_mono places 38 few in omega (arith, short))
+pub few_tens : (tens : ℕ) → tens ≤ 38 → 10 ^ tens < 2 ^ 127
+few_tens tens few = (let short : 10 ^ tens ≤ 10 ^ 38 = ten_mono tens 38 few in omega (arith, short))

@@ -73,7 +73,7 @@ pub record IsSplit (n : ℕ) (e : ℤ) (whole fraction : List ℕ) : Type 0 wher
   pub whole_digits : AllDigits 10 whole
   pub fraction_digits : AllDigits 10 fraction
   pub value : digits_value 10 (whole ++ fraction) ≡ scaled n e
-  pub places : length fraction ≡ down e
+  pub fraction_length : length fraction ≡ down e
 
 within : (ds : List ℕ) (n e : ℕ) (b : Bool) → nat_lt (suc e) (length ds) ≡ b → AllDigits 10 ds →
     digits_value 10 ds ≡ n →
@@ -90,7 +90,7 @@ within ds n e true less is value =
       whole_digits = front_digits at ds is;
       fraction_digits = rest_digits at ds is;
       value = same;
-      places = long;
+      fraction_length = long;
     }
 within ds n e false less is value =
     let many : length ds ≤ suc e = ltb-false (suc e) (length ds) less in
@@ -105,7 +105,7 @@ within ds n e false less is value =
       whole_digits = (omega arith, tt);
       fraction_digits = both_digits (replicate zeros 48) ds (zeros_digits zeros) is;
       value = same;
-      places = long;
+      fraction_length = long;
     }
 
 pub split : (ds : List ℕ) (n : ℕ) (e : ℤ) → AllDigits 10 ds → 0 < length ds → digits_value 10 ds ≡ n →
@@ -119,7 +119,7 @@ split ds n (pos e) is some value =
       whole_digits = both_digits ds (replicate e 48) is (zeros_digits e);
       fraction_digits = tt;
       value = same;
-      places = refl;
+      fraction_length = refl;
     }
 split ds n (negsuc e) is some value = within ds n e (nat_lt (suc e) (length ds)) refl is value
 
@@ -235,7 +235,7 @@ pub decimal_plain : (f : Format) (negative : Bool) (n : ℕ) (e : ℤ) (whole fr
     decimal_float f negative whole fraction (pos 0) ≡ nearest_to_decimal f negative n e
 decimal_plain f negative n e whole fraction s =
     ap (λ k. round f negative k (10 ^ length fraction)) (mul-one (digits_value 10 (whole ++ fraction)))
-    ∙ (λ i. round f negative (s.value i) (10 ^ s.places i)) ∙ decimal_scaled f negative n e
+    ∙ (λ i. round f negative (s.value i) (10 ^ s.fraction_length i)) ∙ decimal_scaled f negative n e
 
 pub decimal_float_is : (f : Format) (d : Decimal) → d.digits < 2 ^ 64 →
     decimal_float f d.negative (whole_digits d) (fraction_digits d) (pos 0) ≡ denoted f d
@@ -250,7 +250,8 @@ pub decimal_half_is : (d : Decimal) → d.digits < 2 ^ 64 → decimal_half d.neg
     ≡ denoted_half d
 decimal_half_is d fits =
     let s = decimal_split d fits in
-    ap (λ n. cond d.negative 32768 0 + n) ((λ i. half_size (s.value i) (10 ^ s.places i)) ∙ half_by d.digits d.exponent)
+    ap (λ n. cond d.negative 32768 0 + n) ((λ i. half_size (s.value i) (10 ^ s.fraction_length i))
+    ∙ half_by d.digits d.exponent)
 
 pub numeral_read : (f : Format) (d : Decimal) → d.digits < 2 ^ 64 → parse_float f (numeral_text d) ≡ Some (denoted f d)
 numeral_read f d fits =

@@ -121,8 +121,8 @@ fn decimal_of(text: &[u8]) -> Option<Decimal> {
     let parts = Numeral::scan(if negative { &text[1..] } else { text });
     let digits = joined_digits(joined_digits(0, parts.whole())?, parts.fraction())?;
     let power = joined_digits(0, parts.exponent())?;
-    let places = parts.fraction().len();
-    if power > 400 || places > 20 {
+    let fraction_length = parts.fraction().len();
+    if power > 400 || fraction_length > 20 {
         return None;
     }
     let size = power as i64;
@@ -130,7 +130,7 @@ fn decimal_of(text: &[u8]) -> Option<Decimal> {
         -size
     } else {
         size
-    }) - places as i64;
+    }) - fraction_length as i64;
     Some(trimmed(negative, digits, exponent))
 }
 

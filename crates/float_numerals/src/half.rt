@@ -13,21 +13,21 @@ pub(crate) fn half_size(digits: u64, exponent: i64) -> u16
     ensures same { result ≡ half_of digits exponent }
     ensures small { result ≤ 31744 }
 {
-    let places = exponent.unsigned_abs();
+    let tens = exponent.unsigned_abs();
     if exponent < 0 {
         // 10 ^ 39 times what is near to 0 is past each number of digits.
-        if places > 38 {
+        if tens > 38 {
             return 0;
         }
-        return nearest_half(digits as u128, 10u128.pow(places as u32));
+        return nearest_half(digits as u128, 10u128.pow(tens as u32));
     }
     if digits == 0 {
         return 0;
     }
-    if places > 5 {
+    if tens > 5 {
         return HALF_INFINITY;
     }
-    nearest_half(digits as u128 * 10u128.pow(places as u32), 1)
+    nearest_half(digits as u128 * 10u128.pow(tens as u32), 1)
 }
 
 /// The bits of the `f16` nearest to a fraction.

@@ -151,20 +151,20 @@ fn push_whole(digits: &str, zeros: u64, text: &mut String) -> Result<(), AllocEr
 /// With one digit more than `last` after the point.
 fn push_pointed(digits: &str, last: u64, text: &mut String) -> Result<(), AllocError>
     requires ascii { IsAscii digits.now }
-    requires places { last < 2 ^ 63 }
+    requires few { last < 2 ^ 63 }
     ensures { IfOk result (λ _. string_bytes text.new
         ≡ string_bytes text.old ++ digits_text digits.now (negsuc last)) }
 {
-    let places = last + 1;
+    let fraction_length = last + 1;
     let count = digits.len() as u64;
-    if places < count {
-        let front = (count - places) as usize;
+    if fraction_length < count {
+        let front = (count - fraction_length) as usize;
         text.push_str(&digits[..front])?;
         text.push_str(".")?;
         text.push_str(&digits[front..])
     } else {
         text.push_str("0.")?;
-        push_zeros(places - count, text)?;
+        push_zeros(fraction_length - count, text)?;
         text.push_str(digits)
     }
 }

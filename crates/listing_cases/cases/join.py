@@ -25,10 +25,10 @@ LISTED = re.compile(r"(declarations|function (\d+)|entry point (\d+))(?:, ([a-z 
 
 
 def position_of(case, head):
-    """What a line `shows PLACE` asks for."""
+    """What a line `shows POSITION` asks for."""
     match = LISTED.fullmatch(head.text[len("shows "):])
     if not match:
-        raise case.error("a place is `function 0, expression 3`, and so on", head)
+        raise case.error("a position is `function 0, expression 3`, and so on", head)
     whole, function, entry_point, spot, index, beside, beside_index = match.groups()
     number = function or entry_point
     told = {"listed": whole.rsplit(" ", 1)[0] if number else whole, "number": int(number or 0)}

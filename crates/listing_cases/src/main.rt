@@ -1,6 +1,6 @@
-//! Reads places in modules, one in each line of the input, and prints their listings.
+//! Reads positions in modules, one in each line of the input, and prints their listings.
 //!
-//! A line is a JSON object with the members `name`, `module` and `info`, of the place `listed`
+//! A line is a JSON object with the members `name`, `module` and `info`, of the position `listed`
 //! (`declarations`, `function` or `entry point`), `number`, `spot` and `index`, and of what is to be
 //! seen beside it `beside` and `beside_index`. After a line `== NAME` comes the listing, with the
 //! message `here`.

@@ -2,7 +2,7 @@
 -- the statement where that had none, and the statement that gives it.
 --
 -- Throughout, n is the number of a statement, h the handle of an operand that is out of scope, end the
--- number of the first statement that stands after the place where a value is needed, or of the one
+-- number of the first statement that stands after the point where a value is needed, or of the one
 -- that needs it, a what is asked for, m a module and g a function of it.
 use Rattle.std.specs.Prelude.{ℕ, ◌==◌, ◌&&◌, Bool, true, false, List, [], ◌++◌, codes, decimal}
 use Rattle.std.specs.Prelude.{nat_lt}
@@ -45,7 +45,7 @@ root_end is_there stop.Before n = n
 root_end is_there (stop.Giving e) n = n
 
 -- what gives it: the statement that a `continue` may skip, or else the first that gives it. Before the
--- end that stands in a block that has ended, since what stands in sight of the place gives a value
+-- end that stands in a block that has ended, since what stands in sight of the point gives a value
 abbrev pub giver_by : (skipped : Option ℕ) → (end : ℕ) → (first : Option ℕ) → Giver
 giver_by (Some n) end first = Skipped n
 giver_by None end None = Nothing

@@ -152,7 +152,7 @@ fn told_root(function: &Function, asked: &Asked, root: &Root) -> ScopeRoot
     }
 }
 
-/// The number of the first statement that stands after the place where a root is needed, or of the
+/// The number of the first statement that stands after the point where a root is needed, or of the
 /// one that needs it.
 fn root_end(is_there: bool, stop: Stop, statement: usize) -> usize
     ensures { result ≡ root_end is_there stop statement }

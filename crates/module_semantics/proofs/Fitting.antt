@@ -10,7 +10,7 @@ pub list_all-pairs : {X : Type 0} (test : X → Bool) (n : ℕ) (xs : List X) �
 list_all-pairs test n [] = refl
 list_all-pairs test n (x ∷ xs) = ap (λ b. test x && b) (list_all-pairs test (n + 1) xs)
 
--- the item at a place that a list has
+-- the item at an index that a list has
 pub item_at : {X : Type 0} (xs : List X) (i : ℕ) (x : X) → i < length xs → slice_get xs i ≡ Some x →
     slice_index_or xs i x ≡ x
 item_at xs i x h here =

@@ -20,6 +20,7 @@ pub mod ModuleShapeExamples
 mod ComputedExamples
 pub mod PlaceExamples
 pub mod NumberExamples
+pub mod NumberOrder
 pub mod Operations
 pub mod OwnOperators
 mod WordExamples

@@ -1,7 +1,7 @@
 -- Examples of operators and shapes, computed: one for each kind of expression and statement that has
 -- more than one form.
 --
--- Throughout, a type has its place in `types` for a handle, and an expression the type that `known`
+-- Throughout, a type has its index in `types` for a handle, and an expression the type that `known`
 -- tells.
 use Rattle.std.proofs.Common.{◌≡◌, ℕ, pos, true, false, List, [], ◌∷◌, Some, None, refl}
 use Rattle.std.proofs.Common.{map, codes, Vec, Global}

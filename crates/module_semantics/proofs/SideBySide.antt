@@ -11,7 +11,7 @@ use Rattle.module_semantics.specs.acceptance.AgreeingOperators.{function_group, 
 use Rattle.module_semantics.specs.acceptance.InfoSizes.{all_paired}
 use Rattle.module_semantics.proofs.Lists.{list_all_at}
 
--- items at one place make a pair there
+-- items at one index make a pair there
 pub zip_at : {X Y : Type 0} (xs : List X) (ys : List Y) (i : ℕ) (x : X) (y : Y) → slice_get xs i ≡ Some x →
     slice_get ys i ≡ Some y → slice_get (zip xs ys) i ≡ Some (x, y)
 zip_at [] ys i x y here there = absurd cc
@@ -27,7 +27,7 @@ zip_parts (x ∷ xs) [] h p e = absurd (true≢false (sym (ap is_some e)))
 zip_parts (x ∷ xs) (y ∷ ys) zero p e = (ap (option_map (λ q. q.0)) e, ap (option_map (λ q. q.1)) e)
 zip_parts (x ∷ xs) (y ∷ ys) (suc h) p e = zip_parts xs ys h p e
 
--- what is tested of all pairs holds of two items at one place
+-- what is tested of all pairs holds of two items at one index
 pub paired_at : {X Y : Type 0} (test : X → Y → Bool) (xs : List X) (ys : List Y) →
     all_paired test xs ys ≡ true → (i : ℕ) (x : X) (y : Y) → slice_get xs i ≡ Some x →
     slice_get ys i ≡ Some y → test x y ≡ true

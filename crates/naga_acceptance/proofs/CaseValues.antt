@@ -1,34 +1,31 @@
 -- Case values that ascend differ.
 use Rattle.std.proofs.Common.{◌≡◌, ℕ, ℤ, pos, negsuc, Bool, true, false, ◌&&◌, refl, sym, ap, ◌∙◌}
-use Rattle.std.proofs.Common.{Some, None, arith}
+use Rattle.std.proofs.Common.{Some, None, true≢false}
 use Rattle.std.specs.Prelude.{not, nat_lt, ◌||◌, ◌==◌}
 use Rattle.std.specs.Int.Signed.{lt_z}
 use Rattle.std.specs.Ordering.{int_eq}
-use Rattle.std.proofs.lemmas.Bool.{and_parts, ltb-true, lt-ltb, eqb-true}
+use Rattle.std.proofs.lemmas.Bool.{and_parts, eqb-true}
 use Rattle.std.proofs.lemmas.Bool.Decides.{Decides-int_eq}
 use Rattle.naga_ir.specs.StatementTree.{CaseTrees, no_cases, case}
 use Rattle.naga_ir.specs.declared.statement.SwitchValue.{SwitchValue}
 use Rattle.naga_ir.specs.declared.statement.SwitchValue.TheVariants as switch_value
 use Rattle.module_semantics.specs.acceptance.StatementsFit.{has_case_value, is_same_case_value}
 use Rattle.module_semantics.specs.acceptance.StatementsFit.{case_values_differ}
+use Rattle.module_semantics.proofs.NumberOrder.{less_trans, not_less_itself}
 use Rattle.naga_acceptance.specs.CaseValues.{is_before, case_values_ascend}
 
 -- ---- numbers
-nat_trans : (a b c : ℕ) → nat_lt a b ≡ true → nat_lt b c ≡ true → nat_lt a c ≡ true
-nat_trans a b c p q =
-    let x = ltb-true a b p in let y = ltb-true b c q in lt-ltb a c (omega (arith, x, y))
-
 nat_itself : (a : ℕ) → nat_lt a a ≡ true → ⊥
-nat_itself a p = let x = ltb-true a a p in omega (arith, x)
+nat_itself a p = true≢false (sym p ∙ not_less_itself a)
 
 int_trans : (a b c : ℤ) → lt_z a b ≡ true → lt_z b c ≡ true → lt_z a c ≡ true
-int_trans (pos a) (pos b) (pos c) p q = nat_trans a b c p q
+int_trans (pos a) (pos b) (pos c) p q = less_trans a b c p q
 int_trans (pos a) (pos b) (negsuc c) p q = absurd (cc)
 int_trans (pos a) (negsuc b) c p q = absurd (cc)
 int_trans (negsuc a) (pos b) (pos c) p q = refl
 int_trans (negsuc a) (pos b) (negsuc c) p q = absurd (cc)
 int_trans (negsuc a) (negsuc b) (pos c) p q = refl
-int_trans (negsuc a) (negsuc b) (negsuc c) p q = nat_trans c b a q p
+int_trans (negsuc a) (negsuc b) (negsuc c) p q = less_trans c b a q p
 
 int_itself : (a : ℤ) → lt_z a a ≡ true → ⊥
 int_itself (pos a) p = nat_itself a p
@@ -39,7 +36,7 @@ before_trans : (u v w : SwitchValue) → is_before u v ≡ true → is_before v 
     is_before u w ≡ true
 before_trans (switch_value.I32 a) (switch_value.I32 b) (switch_value.I32 c) p q = int_trans a b c p q
 before_trans (switch_value.I32 a) (switch_value.I32 b) switch_value.Default p q = refl
-before_trans (switch_value.U32 a) (switch_value.U32 b) (switch_value.U32 c) p q = nat_trans a b c p q
+before_trans (switch_value.U32 a) (switch_value.U32 b) (switch_value.U32 c) p q = less_trans a b c p q
 before_trans (switch_value.U32 a) (switch_value.U32 b) switch_value.Default p q = refl
 before_trans _ _ _ p q = absurd (cc)
 

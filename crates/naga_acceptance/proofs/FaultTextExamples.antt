@@ -1,4 +1,4 @@
--- Places and faults as they are displayed.
+-- Positions and faults as they are displayed.
 use Rattle.std.proofs.Common.{◌≡◌, codes, refl}
 use Rattle.std.specs.Fmt.{digits}
 use Rattle.naga_acceptance.specs.FaultTexts.{item_text, unaccepted_text}

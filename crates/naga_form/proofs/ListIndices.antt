@@ -1,7 +1,7 @@
--- Places in lists: of a word among others, and of items in a list that is made from another.
+-- Indices in lists: of a word among others, and of items in a list that is made from another.
 --
 -- Throughout, w is a word, x an item and y what is made of it, xs are items, n is the number of the
--- first of them, and i, j and k are places.
+-- first of them, and i, j and k are indices.
 use Rattle.std.proofs.Common.{◌≡◌, ℕ, zero, suc, ◌+◌, Bool, true, false, List, [], ◌∷◌, Option}
 use Rattle.std.proofs.Common.{Some, None, refl, sym, ap, ◌∙◌, arith, length, map, take}
 use Rattle.std.specs.List.{cons_option, enumerate_from, filter, filter_map}

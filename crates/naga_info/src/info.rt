@@ -43,8 +43,8 @@ impl TypeResolution {
 /// What is known of an expression.
 #[derive(Debug, Drop)]
 pub struct ExpressionInfo {
-    /// How many operand places of the function's expressions and statements hold its handle. The
-    /// results of statements and the initialisers of locals are no operand places.
+    /// How many operands of the function's expressions and statements are its handle. The results
+    /// of statements and the initialisers of locals are no operands.
     pub ref_count: usize,
     /// Its type.
     pub ty: TypeResolution,

@@ -1,4 +1,4 @@
--- The operands of a sample of an image, as those that are there of eight places.
+-- The operands of a sample of an image, as those that are there of eight.
 use Rattle.std.proofs.Common.{◌≡◌, ℕ, List, [], ◌∷◌, ◌++◌, Option, Some, ap, sym, ◌∙◌}
 use Rattle.std.proofs.Common.{append_assoc, append-nil}
 use Rattle.std.specs.List.{flat_map}

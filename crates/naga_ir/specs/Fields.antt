@@ -1,8 +1,8 @@
 -- The fields of expressions and statements that hold an operand or a result, or may hold one: their
 -- names and what they hold, in the order of naga's source, a result after the operands. Fields of
--- what a field holds stand in its place. What has no name there has one of its own: the `array` of an
--- `ArrayLength`, and the `index` of a gather. Without the fields of a sampling's level of detail, and
--- without those that are lists.
+-- what a field holds stand instead of it. What has no name there has one of its own: the `array` of
+-- an `ArrayLength`, and the `index` of a gather. Without the fields of a sampling's level of detail,
+-- and without those that are lists.
 use Rattle.std.specs.Prelude.{ℕ, List, [], ◌∷◌, Option, Some, None, codes}
 use Rattle.std.specs.Borrow.{Bor}
 use Rattle.naga_ir.specs.StatementTree.{SimpleStatement, return, store, image_store, atomic}

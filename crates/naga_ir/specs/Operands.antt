@@ -1,6 +1,6 @@
--- The operand places of expressions and statements, each with the handle that it holds, in the
--- order in which WGSL writes the operands. The result of a statement is no operand place, nor is an
--- `Emit`'s range. And which statements have results.
+-- The operands of expressions and statements, each by its handle, in the order in which WGSL writes
+-- them. The result of a statement is no operand, nor is an `Emit`'s range. And which statements have
+-- results.
 use Rattle.std.specs.Prelude.{ℕ, List, [], ◌∷◌, ◌++◌, Option, Some, None, drop}
 use Rattle.std.specs.Option.{option_to_list}
 use Rattle.naga_ir.specs.StatementTree.{SimpleStatement, emit, break, continue, return, kill}
@@ -61,7 +61,7 @@ query_operands NumLayers = []
 query_operands NumSamples = []
 
 abbrev pub cooperative_operands : CooperativeData → List ℕ
-cooperative_operands place = place.pointer ∷ place.stride ∷ []
+cooperative_operands data = data.pointer ∷ data.stride ∷ []
 
 abbrev pub expression_operands : Expression → List ℕ
 expression_operands (Literal value) = []
@@ -101,7 +101,7 @@ expression_operands (RayQueryGetIntersection query committed) = query ∷ []
 expression_operands (RayQueryVertexPositions query committed) = query ∷ []
 expression_operands SubgroupBallotResult = []
 expression_operands (SubgroupOperationResult ty) = []
-expression_operands (CooperativeLoad columns rows role place) = cooperative_operands place
+expression_operands (CooperativeLoad columns rows role data) = cooperative_operands data
 expression_operands (CooperativeMultiplyAdd a b c) = a ∷ b ∷ c ∷ []
 
 -- those of an expression, if there is one, from this number on
@@ -146,7 +146,7 @@ simple_operands (ray_query query) = query ∷ []
 simple_operands (subgroup_ballot outcome predicate) = option_to_list predicate
 simple_operands (subgroup_gather mode argument outcome) = argument ∷ gather_operands mode
 simple_operands (subgroup_collective_operation op collective_op argument outcome) = argument ∷ []
-simple_operands (cooperative_store target place) = target ∷ cooperative_operands place
+simple_operands (cooperative_store target data) = target ∷ cooperative_operands data
 simple_operands (ray_pipeline_function fun) = ray_operands fun
 
 -- those of a statement by itself, without those of the statements in its blocks
@@ -176,7 +176,7 @@ simple_result (ray_query query) = None
 simple_result (subgroup_ballot outcome predicate) = Some outcome
 simple_result (subgroup_gather mode argument outcome) = Some outcome
 simple_result (subgroup_collective_operation op collective_op argument outcome) = Some outcome
-simple_result (cooperative_store target place) = None
+simple_result (cooperative_store target data) = None
 simple_result (ray_pipeline_function fun) = None
 
 abbrev pub own_result : StatementTree → Option ℕ

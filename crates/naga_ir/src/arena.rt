@@ -1,4 +1,4 @@
-//! Lists that hand out the place of each item, and the handles that name those places.
+//! Lists that hand out the index of each item, and the handles that name those indices.
 
 ghost use Rattle.std.specs.Prelude.{◌≡◌, ℕ, ◌<◌, ◌==◌, List, [], ◌∷◌, ◌++◌, length, drop, OnErr};
 ghost use Rattle.std.specs.Prelude.{IfOk, slice_get, Some};
@@ -17,7 +17,7 @@ pub trait Item {
     type Mark;
 }
 
-/// The place of an item in an [`Arena<T>`] or a [`UniqueArena<T>`](crate::UniqueArena), counted
+/// The index of an item in an [`Arena<T>`] or a [`UniqueArena<T>`](crate::UniqueArena), counted
 /// from zero.
 pub type Handle<T> = ItemIndex<<T as Item>::Mark>;
 
@@ -103,9 +103,9 @@ impl<T: Item + Drop> Arena<T> {
         ensures items { IfOk result (λ _. self.new ≡ self.old ++ item ∷ []) }
         ensures err { OnErr result (self.new ≡ self.old) }
     {
-        let place = ItemIndex::from_index(self.items.len());
+        let handle = ItemIndex::from_index(self.items.len());
         self.items.push(item)?;
-        Ok(place)
+        Ok(handle)
     }
 
     /// The item at `handle`, which is there, to be changed. The other items stay as they are.
@@ -167,8 +167,8 @@ impl<'a, T: Item> Iterator for Iter<'a, T> {
 
     fn next(&mut self) -> Option<(Handle<T>, &'a T)> {
         let item = self.items.get(self.index)?;
-        let place = ItemIndex::from_index(self.index);
+        let handle = ItemIndex::from_index(self.index);
         self.index += 1;
-        Some((place, item))
+        Some((handle, item))
     }
 }

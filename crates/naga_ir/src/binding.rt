@@ -3,7 +3,7 @@
 /// A built-in value or a location, to which an argument or a result is bound.
 #[derive(Debug, Clone, Copy, PartialEq, Eq, Hash)]
 pub enum BuiltIn {
-    /// The vertex's or the fragment's place.
+    /// The vertex's or the fragment's position.
     Position {
         /// Whether it is computed alike in each pipeline: `@invariant`.
         invariant: bool,
@@ -127,7 +127,7 @@ pub enum Interpolation {
 pub enum Sampling {
     /// At its center.
     Center,
-    /// At a place that all samples within the primitive share.
+    /// At a point that all samples within the primitive share.
     Centroid,
     /// At each sample.
     Sample,
@@ -142,9 +142,9 @@ pub enum Sampling {
 pub enum Binding {
     /// To a built-in value: `@builtin(position)`.
     BuiltIn(BuiltIn),
-    /// To a numbered place between two stages: `@location(0)`.
+    /// To a number between two stages: `@location(0)`.
     Location {
-        /// The place's number.
+        /// The number.
         location: u32,
         /// How it is interpolated; absent means in perspective.
         interpolation: Option<Interpolation>,

@@ -12,7 +12,7 @@ pub enum ImageDimension {
     D2,
     /// Three: `3d`.
     D3,
-    /// A direction that picks a face and a place on it: `cube`.
+    /// A direction that picks a face and a point on it: `cube`.
     Cube,
 }
 

@@ -13,7 +13,7 @@ use std::alloc::Global;
 /// The stage of a pipeline that an entry point is for.
 #[derive(Debug, Clone, Copy, PartialEq, Eq, Hash)]
 pub enum ShaderStage {
-    /// Places vertices: `@vertex`.
+    /// Positions vertices: `@vertex`.
     Vertex,
     /// Starts mesh workgroups: `@task`.
     Task,

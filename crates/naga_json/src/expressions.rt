@@ -662,7 +662,7 @@ impl FromJson for Decimal {
     }
 }
 
-/// The bits of a number, where an object tells them in its place.
+/// The bits of a number, where an object tells them instead.
 fn told_bits<T: FromJson>(alloc: Global, value: &Value) -> Result<T, ReadError> {
     expect_members(alloc, value, &["bits"])?;
     member(alloc, value, "bits")

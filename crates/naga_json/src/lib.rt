@@ -13,8 +13,8 @@
 //! - An enum is the name of a variant, or an object whose one member is the variant's payload, as
 //!   `"Break"` and `{"Load": {"pointer": 2}}`. The payload of a variant that has none is null:
 //!   `{"Break": null}`.
-//! - An arena is a list, and a handle a place in it, counted from zero. No two types are equal.
-//! - An `Emit` is `{"start": 3, "end": 5}`, from the first place to after the last.
+//! - An arena is a list, and a handle an index in it, counted from zero. No two types are equal.
+//! - An `Emit` is `{"start": 3, "end": 5}`, from the first index to after the last.
 //! - Flags are their names, as `"LOAD | STORE"`, or their bits, as `3`.
 //! - A float is a number. What JSON has no number for is given by its bits, as
 //!   `{"F32": {"bits": 2139095040}}` for the infinity. An `F16` is given by its bits, as 15360 or
@@ -26,7 +26,7 @@
 //! What is known of a function may be given short, by the list of its expressions' types, and a
 //! type by its handle alone. Each `ref_count` is 0 then.
 //!
-//! Where nothing is read, a [`ReadError`] tells why, and in which place:
+//! Where nothing is read, a [`ReadError`] tells why, and at which position:
 //!
 //! ```text
 //! let error = read_module(alloc, r#"{"types": [{"inner": {"Atomic": 7}}]}"#).unwrap_err();

@@ -624,8 +624,8 @@ impl FromJson for UniqueArena<Type_> {
         let items = items_of(alloc, value)?;
         let mut read = UniqueArena::new(alloc);
         for (index, item) in items.iter().enumerate() {
-            let place = read.insert(item_of(alloc, item, index)?)?;
-            if place.index() != index {
+            let handle = read.insert(item_of(alloc, item, index)?)?;
+            if handle.index() != index {
                 return in_item(alloc, index, Err(ReadError::at(alloc, Problem::Doubled)));
             }
         }

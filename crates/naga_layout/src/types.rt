@@ -24,7 +24,7 @@ use wgsl_layout::{
 /// How values of a type stand in memory, as WGSL lays them out, in bytes.
 #[derive(Debug, Clone, Copy, PartialEq, Eq)]
 pub struct TypeLayout {
-    /// Each value's place is a multiple of it: 2, 4, 8, 16 or 32.
+    /// Each value's address is a multiple of it: 2, 4, 8, 16 or 32.
     pub align: u32,
     /// How much room a value takes. `None` for an array that is as long as its buffer, for a struct
     /// that ends with one, and for a size that has more than 32 bits.

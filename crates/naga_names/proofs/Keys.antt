@@ -197,7 +197,7 @@ digit_of i k = get_or (key_code k) i 0
 pub same_digit : (i : ℕ) (a b : NameKey) → same_key a b ≡ true → digit_of i a ≡ digit_of i b
 same_digit i a b e = ap (λ c. get_or c i 0) (same_code a b e)
 
--- types at two places have different keys
+-- types at two indices have different keys
 pub unlike_types : (t u : ℕ) → (t ≡ u → ⊥) → same_key (Type_ t) (Type_ u) ≡ false
 unlike_types t u apart = different (digit_of 1) (same_digit 1) (Type_ t) (Type_ u) apart
 

@@ -433,7 +433,7 @@ module _ (start : Names) where
       (sum_by-cons (λ l. cond (bytes_eq (label_stem start l) stem) 1 0) a rest
       ∙ ap (λ b. cond b 1 0 + labels_with_stem start rest stem) ((bytes_decides (label_stem start a) stem).1 same))
 
-  -- labels at two places have different names
+  -- labels at two indices have different names
   pub names_differ : (first : List (List ℕ)) (a : List ℕ) (middle : List (List ℕ)) (b : List ℕ) →
       name_after start first a ≡ name_after start (first ++ a ∷ middle) b → ⊥
   names_differ first a middle b is =

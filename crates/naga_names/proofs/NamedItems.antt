@@ -72,7 +72,7 @@ split_two (z ∷ xs) (suc i) (suc j) x y lt ex ey =
       before = ap (λ t. z ∷ t) inner.before;
     }
 
--- two places are one, or one is before the other
+-- two indices are one, or one is below the other
 pub order : (i j : ℕ) → (i ≡ j) ⊎ ((i < j) ⊎ (j < i))
 order zero zero = inl refl
 order zero (suc j) = inr (inl (omega arith))
@@ -85,7 +85,7 @@ order (suc i) (suc j) = next (order i j)
     next (inr (inr lt)) = inr (inr (omega (arith, lt)))
 
 module _ (start : Names) (items : List LabelledItem) where
-  -- items at two places have different names
+  -- items at two indices have different names
   pub item_names_differ : (i j : ℕ) (x y : LabelledItem) → i < j → slice_get items i ≡ Some x →
       slice_get items j ≡ Some y → is_member x.0 ≡ false → is_member y.0 ≡ false →
       name_after start (labels_of (take i items)) x.1 ≡ name_after start (labels_of (take j items))
@@ -508,7 +508,7 @@ module _ (start : Names) (before : NameMap) («module» : Module) (names : Names
         (type_stands start «module» t ty e),
   )
 
-  -- the same by places
+  -- the same by indices
   pub named_at : (i : ℕ) (item : LabelledItem) → slice_get (labelled_items start «module») i ≡ Some item →
       now item.0 ≡ Some (item_name start (take i (labelled_items start «module»)) item)
   named_at i item e = item_put start before now (labelled_items start «module») has.put

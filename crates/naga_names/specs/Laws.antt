@@ -59,7 +59,7 @@ NamesAreNotNumbered =
     (start : Names) (earlier : List (List ℕ)) (label : List ℕ) (h : ℕ) →
     name_after start earlier label ≡ codes "_e" ++ decimal h → ⊥
 
--- labels at two places have different names
+-- labels at two indices have different names
 abbrev pub NamesDiffer : Type 0
 NamesDiffer =
     (start : Names) (first : List (List ℕ)) (a : List ℕ) (middle : List (List ℕ)) (b : List ℕ) →

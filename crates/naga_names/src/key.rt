@@ -1,7 +1,7 @@
 //! Which item of a module a name is for.
 use naga_ir::{Constant, Function, GlobalVariable, Handle, LocalVariable, Override, Type_};
 
-/// The place of an entry point in its module's list.
+/// The index of an entry point in its module's list.
 pub type EntryPointIndex = u16;
 
 /// A part of an external texture, where a writer declares the texture as plain textures, one for
@@ -14,7 +14,7 @@ pub enum ExternalTextureNameKey {
     Params,
 }
 
-/// The item that a name is for. A member, an argument or an entry point goes by its place in its
+/// The item that a name is for. A member, an argument or an entry point goes by its index in its
 /// list, counted from zero.
 #[derive(Clone, Copy, Debug, PartialEq, Eq, Hash)]
 pub enum NameKey {

@@ -4,22 +4,10 @@ use Rattle.std.proofs.Common.{sym, ◌∙◌, nat_eq, nat_lt, ◌&&◌, ◌||◌
 use Rattle.std.proofs.lemmas.Bool.{and_parts, eq-eqb, false≢true, le-leb, leb-false, leb-true, lt-ltb}
 use Rattle.std.proofs.lemmas.Bool.{ltb-false, ltb-true, or_cases, or_left, or_right}
 use Rattle.std.specs.Prelude.{if◌then◌else◌, not}
+use Rattle.module_semantics.proofs.NumberOrder.{less_trans, not_less_itself}
 use Rattle.naga_scope.specs.Lines.{is_before, is_up_to}
 use Rattle.naga_scope.specs.declared.lines.Line.{Line}
 use Rattle.naga_scope.specs.declared.lines.Line.TheVariants.{Signature, Local, Statement, BreakIf}
-
-not_below_itself : (n : ℕ) → nat_lt n n ≡ false
-not_below_itself n = by (nat_lt n n) refl
-  where
-    by : (b : Bool) → nat_lt n n ≡ b → nat_lt n n ≡ false
-    by true is = let lt = ltb-true n n is in absurd (omega (arith, lt))
-    by false is = is
-
-below_then : (i j k : ℕ) → nat_lt i j ≡ true → nat_lt j k ≡ true → nat_lt i k ≡ true
-below_then i j k first second =
-    let a = ltb-true i j first in
-    let b = ltb-true j k second in
-    lt-ltb i k (omega (arith, a, b))
 
 same_below : (i j : ℕ) → nat_lt i j ≡ false → nat_lt j i ≡ false → i ≡ j
 same_below i j first second =
@@ -48,8 +36,8 @@ of_ends n end k stop (inr (same, lt)) =
 -- no line stands before itself
 pub not_before_itself : (a : Line) → is_before a a ≡ false
 not_before_itself Signature = refl
-not_before_itself (Local i) = not_below_itself i
-not_before_itself (Statement n) = not_below_itself n
+not_before_itself (Local i) = not_less_itself i
+not_before_itself (Statement n) = not_less_itself n
 not_before_itself (BreakIf n end) = by (is_before (BreakIf n end) (BreakIf n end)) refl
   where
     none : Ends n end n end → ⊥
@@ -74,7 +62,7 @@ before_then Signature b (Local i) first second = refl
 before_then Signature b (Statement n) first second = refl
 before_then Signature b (BreakIf n end) first second = refl
 before_then (Local i) Signature c first second = absurd cc
-before_then (Local i) (Local j) (Local k) first second = below_then i j k first second
+before_then (Local i) (Local j) (Local k) first second = less_trans i j k first second
 before_then (Local i) (Statement n) (Local k) first second = absurd cc
 before_then (Local i) (BreakIf n end) (Local k) first second = absurd cc
 before_then (Local i) b (Statement n) first second = refl
@@ -82,8 +70,8 @@ before_then (Local i) b (BreakIf n end) first second = refl
 before_then (Statement n) Signature c first second = absurd cc
 before_then (Statement n) (Local i) c first second = absurd cc
 before_then (Statement n) (Statement k) (Local i) first second = absurd cc
-before_then (Statement n) (Statement k) (Statement l) first second = below_then n k l first second
-before_then (Statement n) (Statement k) (BreakIf l end) first second = below_then n k end first second
+before_then (Statement n) (Statement k) (Statement l) first second = less_trans n k l first second
+before_then (Statement n) (Statement k) (BreakIf l end) first second = less_trans n k end first second
 before_then (Statement n) (BreakIf k end) (Local i) first second = absurd cc
 before_then (Statement n) (BreakIf k end) (Statement l) first second =
     let a = ltb-true n end first in

@@ -23,7 +23,7 @@ use Rattle.naga_scope.specs.declared.lines.Line.TheVariants.{Signature, Local, S
 use Rattle.shader_runs.specs.Program.{binds}
 
 -- ---- their order
--- The first line stands before the second. Of two `break if`s at one place that of the inner loop,
+-- The first line stands before the second. Of two `break if`s at one point that of the inner loop,
 -- which has the higher number, does.
 abbrev pub is_before : Line → Line → Bool
 is_before Signature Signature = false

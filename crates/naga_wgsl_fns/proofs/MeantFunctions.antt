@@ -1,6 +1,6 @@
 -- The program in which a function stands that is written by itself.
 --
--- Throughout, ps are entry points from the number g on, ess says what is known of each, i is the place
+-- Throughout, ps are entry points from the number g on, ess says what is known of each, i is the index
 -- of one among them, and named tells the names of the labels that front ends gave.
 use Rattle.std.proofs.Common.{◌≡◌, ℕ, zero, suc, ◌+◌, ◌∙◌, Bool, List, [], ◌∷◌, ◌++◌, Some, ap}
 use Rattle.std.proofs.Common.{arith, ◌<◌, ◌≤◌, ◌||◌, None, Option, false, length, nat_eq, refl}

@@ -325,7 +325,7 @@ unfoldable pub member_text : FunctionText → (table : List Availability) → (h
 member_text f table handle word =
     printed_expression (Member (as_value (form_at f table handle)) word)
 
--- the letter at a place of a swizzle, if it is chosen
+-- the letter at a position of a swizzle, if it is chosen
 abbrev pub letter_at : VectorSize → List SwizzleComponent → (place : ℕ) → List ℕ
 letter_at size pattern place =
     if nat_lt place (component_count size) then option_map_or letter (slice_get pattern place) []

@@ -351,7 +351,7 @@ pub record IsWritableAt (explicit : Bool) (m : Module) (info : ModuleInfo)
   pub formed : WrittenHaveFormsAt explicit m info number
   pub nameable : ExpressionNamesAreFullIn m earlier number → ⊥
 
--- why it has no plan: it breaks a rule of scope at some place, a statement without a form stands in
+-- why it has no plan: it breaks a rule of scope at some point, a statement without a form stands in
 -- it, an expression without one is written there or a type without one spelled, a label that a
 -- front end gave in it gets no name, or memory ran out
 abbrev pub IsReasonForNoPlan : (explicit : Bool) → Module → ModuleInfo → (earlier : List (List ℕ)) →

@@ -73,18 +73,18 @@ impl FunctionText<'_> {
         columns: CooperativeSize,
         rows: CooperativeSize,
         role: CooperativeRole,
-        place: CooperativeData,
+        data: CooperativeData,
         out: &mut Output<'_, W>,
     )
         requires can { CanWrite self.now }
         requires handle { IsInText self.now handle }
         requires formed { IsTrue (expression_has_own_form self.now.shader.now self.now.info.now
-            (CooperativeLoad columns rows role place)) }
+            (CooperativeLoad columns rows role data)) }
         ensures { Writes W.text W.failures out.old out.new
-            (made_text self.now scope.now.table (matrix_callee self.now columns rows role place)
+            (made_text self.now scope.now.table (matrix_callee self.now columns rows role data)
             handle) }
     {
-        self.write_matrix_callee(columns, rows, role, place, out);
+        self.write_matrix_callee(columns, rows, role, data, out);
         out.put("(");
         self.write_operands(scope, handle, out);
     }
@@ -95,23 +95,23 @@ impl FunctionText<'_> {
         columns: CooperativeSize,
         rows: CooperativeSize,
         role: CooperativeRole,
-        place: CooperativeData,
+        data: CooperativeData,
         out: &mut Output<'_, W>,
     )
         requires can { CanWrite self.now }
         requires formed { IsTrue (expression_has_own_form self.now.shader.now self.now.info.now
-            (CooperativeLoad columns rows role place)) }
+            (CooperativeLoad columns rows role data)) }
         ensures { Writes W.text W.failures out.old out.new
-            (matrix_callee_text self.now columns rows role place) }
+            (matrix_callee_text self.now columns rows role data) }
     {
-        let scalar = self.pointed_scalar(place.pointer);
+        let scalar = self.pointed_scalar(data.pointer);
         let matrix = TypeResolution::Value(TypeInner::CooperativeMatrix {
             columns,
             rows,
             scalar,
             role,
         });
-        self.write_taking(load_str(place.row_major), &matrix, out);
+        self.write_taking(load_str(data.row_major), &matrix, out);
         drop(matrix);
     }
 

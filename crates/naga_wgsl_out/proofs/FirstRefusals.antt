@@ -1,4 +1,4 @@
--- What is a refusal isn't nothing, and the first stands at one place.
+-- What is a refusal isn't nothing, and the first stands at one position.
 use Rattle.std.proofs.Common.{◌≡◌, ◌<◌, ◌+◌, ℕ, Bool, true, false, List, Option, Some, None, ap}
 use Rattle.std.proofs.Common.{arith, inl, inr, length, refl, slice_get, subst, sym, ◌∙◌}
 use Rattle.std.proofs.lemmas.Bool.{false≢true}
@@ -398,7 +398,7 @@ module _ (explicit : Bool) (m : Module) (info : ModuleInfo) where
       stand_together explicit m info n (it, at) (that, by) stands
       (subst (λ n. StandsInFunction explicit m info n (that, by)) (sym same) stood)
 
-  -- the first stands at one place
+  -- the first stands at one position
   pub one_position : (at by : RefusalPosition) (it that : Construct) → StandsAt explicit m info at it →
       IsFirst explicit m info at → StandsAt explicit m info by that → IsFirst explicit m info by → at ≡ by
   one_position position.Labels position.Labels it that stands first stood second = refl

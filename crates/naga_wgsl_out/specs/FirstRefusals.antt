@@ -17,8 +17,8 @@ RefusalsRefuse =
     (explicit : Bool) (m : Module) (info : ModuleInfo) (one : Refusal) →
     StandsIn explicit m info one → NothingIsRefused explicit m info → ⊥
 
--- All that stands in a module and is the first stands at one place, so that two calls, or a call
--- and the writer, can't tell of two places. That it is one construct it does not say: among the
+-- All that stands in a module and is the first stands at one position, so that two calls, or a call
+-- and the writer, can't tell of two positions. That it is one construct it does not say: among the
 -- labels of items a full namer and a key out of range may stand.
 abbrev pub FirstRefusalsAreAtOnePosition : Type 0
 FirstRefusalsAreAtOnePosition =

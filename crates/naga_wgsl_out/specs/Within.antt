@@ -51,7 +51,7 @@ pub record IsRefusedWithin (flags : WriterFlags) (bound : ℕ) (m : Module) (inf
   pub leaves : LeavesOnError flags m info error [] beginning 0 0
 
 -- What is answered of an accepted module. In particular a text is too long only where the module's
--- is; of a module that is refused that is the text with what stands after the place of the refusal.
+-- is; of a module that is refused that is the text with what stands after the point of the refusal.
 abbrev pub AnswersBounded : {Y : Type 0} → WriterFlags → (bound : ℕ) → Module → ModuleInfo →
     Result (String Y) LimitedError → Type 0
 AnswersBounded flags bound m info (Ok text) =

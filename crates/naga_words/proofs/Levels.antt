@@ -44,7 +44,7 @@ module _ (c : Context) (order : IsInOrder c) where
   found n m h (Some t) is same = agree_named (segments_within n c) (segments_within m c) h same c h t.inner
       (order.before h t is)
 
-  -- any two bounds past the place give one spelling
+  -- any two bounds past the handle give one spelling
   pub stable : (n m h : ℕ) → h < n → h < m → segments_within n c h ≡ segments_within m c h
   stable zero m h p q = absurd (omega arith)
   stable (suc n) zero h p q = absurd (omega arith)

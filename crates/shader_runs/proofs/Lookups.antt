@@ -296,7 +296,7 @@ module _ (p : Module) (f : Naming) (distinct : AreDistinct p f) where
       (numbers_after f.function l h numbers) (names_after f k l h names)
   scope_one k l h s numbers names le scope = record {
     items = items (binds f.function h);
-    lets = lets_by_binding (binds f.function h) (is_pure (expression_of f.function h))
+    lets = lets_by_let (binds f.function h) (is_pure (expression_of f.function h))
         (usable_all f.function s (operands_of (expression_of f.function h)));
     sources = sources_one f k h s scope.sources;
   }
@@ -325,16 +325,16 @@ module _ (p : Module) (f : Naming) (distinct : AreDistinct p f) where
           lets_known (NumberedKey h) tt k h l s numbers names scope.sources le
           (λ j other e. other (sym (numbered_same h j e))) (λ j lt e. numbered_named h j e) scope.lets
 
-      lets_by_binding : (b o u : Bool) →
+      lets_by_let : (b o u : Bool) →
           LetsKnown (with_emitted_handle b o u (bound_name f k h) s h)
           (cond b (update numbers h l) numbers)
           (cond b (bind names (bound_name f k h) (Some (LetTarget l))) names)
-      lets_by_binding true o u = new_let (is_named f.function h) le
-      lets_by_binding false true u = λ j x.
+      lets_by_let true o u = new_let (is_named f.function h) le
+      lets_by_let false true u = λ j x.
           update_cases (λ z. z ≡ Bound x → names x ≡ Some (LetTarget (numbers j))) s h
           (availability_without_name u (s h)) j
           (λ same e. scope.lets j x (ap s same ∙ nameless_bound u (s h) x e)) (λ other e. scope.lets j x e)
-      lets_by_binding false false u = scope.lets
+      lets_by_let false false u = scope.lets
 
   pub scope_emit : (k l : ℕ) (hs : List ℕ) (s : Handles) (numbers : LetNumbers) (names : Lookup) →
       named_after_all f.function hs k ≤ total → InScope k s numbers names →

@@ -28,7 +28,7 @@ pub data Item : Type 0 where
   StructItem : (number : ℕ) → Item
   ValueItem : Target → Item
 
--- the place of a word among several
+-- the index of a word among several
 abbrev pub index_among : List ℕ → List (List ℕ) → Option ℕ
 index_among w [] = None
 index_among w (x ∷ xs) = if bytes_eq w x then Some 0 else option_map (λ i. suc i) (index_among w xs)

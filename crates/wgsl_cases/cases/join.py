@@ -130,7 +130,7 @@ class Expected:
     def __init__(self):
         self.texts = [None, None]
         self.refusals = [None, None]
-        self.place = None
+        self.position = None
         self.portable = None
         self.only = None
 
@@ -150,7 +150,7 @@ class Expected:
         elif word == "not accepted":
             self.only = self.first_time(case, head, self.only, f"{word}: {rest}\n")
         elif word == "at":
-            self.place = self.first_time(case, head, self.place, f"{word}: {rest}\n")
+            self.position = self.first_time(case, head, self.position, f"{word}: {rest}\n")
         elif word:
             self.refusals[typed] = self.first_time(case, head, self.refusals[typed], told)
         else:
@@ -172,8 +172,8 @@ class Expected:
             raise case.error("a module that is not accepted has no text and no refusal")
         if plain == (None, None) and typed != (None, None):
             raise case.error("with types alone: what is written without them is not told")
-        if self.place is not None and self.refusals == [None, None]:
-            raise case.error("a place of what is not refused")
+        if self.position is not None and self.refusals == [None, None]:
+            raise case.error("a position of what is not refused")
         if self.portable is not None and self.refusals != [None, None]:
             raise case.error("a module that is not written has no portable text")
         if self.portable is not None and self.texts[0] is None:
@@ -188,7 +188,7 @@ class Expected:
 
         def told(text, refusal):
             if refusal is not None:
-                return f"{text}refused: {refusal}\n{self.place or ''}"
+                return f"{text}refused: {refusal}\n{self.position or ''}"
             return ended(text, has_entry_points)
 
         plain = self.texts[0] or ""
@@ -206,7 +206,7 @@ class Expected:
 
 def json_position(told, module):
     """The position in the JSON of what is told of a module that is not accepted, with the label there."""
-    item, number, part, place = POSITION.match(told).groups()
+    item, number, part, at = POSITION.match(told).groups()
     if item == "module":
         return item
     at = f"module.{LISTS[item]}[{number}]"
@@ -214,7 +214,7 @@ def json_position(told, module):
         return at
     label = module[LISTS[item]][int(number)].get("name")
     function = ".function" if item == "entry point" else ""
-    within = PARTS[part].format(place) if part else ""
+    within = PARTS[part].format(at) if part else ""
     return at + function + within + ("" if label is None else f", in {json.dumps(label, ensure_ascii=False)}")
 
 
@@ -390,8 +390,8 @@ class Joined:
         told = {"name": case.name, **told}
         if expected.portable is not None:
             told["portable"] = True
-        if expected.place is not None:
-            told["places"] = True
+        if expected.position is not None:
+            told["positions"] = True
         self.input.append(json.dumps(told, ensure_ascii=False, separators=(",", ":")) + "\n")
         plain, typed = expected.answers(told["module"])
         self.output.append(f"== {case.name}\n{plain}")

@@ -445,8 +445,8 @@ class Types:
         if "Scalar" in inner or "Atomic" in inner:
             return (inner.get("Scalar") or inner.get("Atomic"))["width"]
         if "Vector" in inner:
-            places = {"Bi": 2, "Tri": 4, "Quad": 4}[inner["Vector"]["size"]]
-            return places * inner["Vector"]["scalar"]["width"]
+            components = {"Bi": 2, "Tri": 4, "Quad": 4}[inner["Vector"]["size"]]
+            return components * inner["Vector"]["scalar"]["width"]
         return None
 
 

@@ -201,7 +201,7 @@ class Flags(Form):
 
     def tell(self, r):
         bits = r.randrange(1 << len(self.words))
-        words = [word for place, word in enumerate(self.words) if bits >> place & 1]
+        words = [word for bit, word in enumerate(self.words) if bits >> bit & 1]
         if r.often(0.2):
             r.shuffle(words)
         told = str(bits) if r.often(0.3) else json.dumps(r.choice([" | ", " | ", "|"]).join(words))

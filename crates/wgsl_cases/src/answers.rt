@@ -50,7 +50,7 @@ fn answer_known<W: Write>(
     if !is_told(case, "counted") {
         count(&mut known.info, &known.module);
     }
-    let places = is_told(case, "places");
+    let positions = is_told(case, "positions");
     print_texts(
         alloc,
         name,
@@ -58,7 +58,7 @@ fn answer_known<W: Write>(
         ", with types",
         known,
         WriterFlags::empty(),
-        places,
+        positions,
         out,
     )?;
     if is_told(case, "portable") {
@@ -70,7 +70,7 @@ fn answer_known<W: Write>(
             typed_head,
             known,
             WriterFlags::PORTABLE,
-            places,
+            positions,
             out,
         );
     }
@@ -103,18 +103,18 @@ fn print_texts<W: Write>(
     typed_head: &str,
     known: &Known,
     flags: WriterFlags,
-    places: bool,
+    positions: bool,
     out: &mut W,
 ) -> io::Result<()>
     requires { IsTrue (is_accepted known.now.module known.now.info) }
 {
-    let plain = text_of(alloc, known, flags, places)?;
+    let plain = text_of(alloc, known, flags, positions)?;
     write!(out, "== {name}{head}\n{plain}")?;
     let typed = text_of(
         alloc,
         known,
         flags.union(WriterFlags::EXPLICIT_TYPES),
-        places,
+        positions,
     )?;
     if typed.as_str() == plain.as_str() {
         return Ok(());
@@ -123,12 +123,12 @@ fn print_texts<W: Write>(
 }
 
 /// What the writer makes of the module: what it wrote, and after it the refusal if there is one,
-/// with its place if that is asked.
+/// with its position if that is asked.
 fn text_of(
     alloc: Global,
     known: &Known,
     flags: WriterFlags,
-    places: bool,
+    positions: bool,
 ) -> Result<String, AllocError>
     requires { IsTrue (is_accepted known.now.module known.now.info) }
 {
@@ -139,7 +139,7 @@ fn text_of(
         let refusal = format!(in alloc; "refused: {error}\n")?;
         text.push_str(refusal.as_str())?;
     }
-    if places {
+    if positions {
         push_position(alloc, known, flags, &mut text)?;
     }
     Ok(text)

@@ -78,12 +78,12 @@ case_runs (LastCaseValue (UnsignedCase n)) e done s = reads $ over_gap $
 case_runs (MoreCaseValues l more) e done s = reads $ over_gap $ case_values_run (MoreCaseValues l more) e done [] s
 
 -- a loop, up to the brace that closes it
-abbrev loop_state : Statements → OptionalBlock → Stack → Reader
-loop_state body NoBlock s = Expect (InStatements (rewind_statements body NoStatements) (InLoop s))
-loop_state body (SomeBlock rest) s = CloseOnce (Loop body (SomeBlock rest)) s
+abbrev loop_reader : Statements → OptionalBlock → Stack → Reader
+loop_reader body NoBlock s = Expect (InStatements (rewind_statements body NoStatements) (InLoop s))
+loop_reader body (SomeBlock rest) s = CloseOnce (Loop body (SomeBlock rest)) s
 
 loop_closes : (body : Statements) (rest : OptionalBlock) (done : Statements) (s : Stack) →
-    Runs (mark CloseBrace ∷ LineEnd ∷ []) (loop_state body rest (InStatements done s))
+    Runs (mark CloseBrace ∷ LineEnd ∷ []) (loop_reader body rest (InStatements done s))
     (Expect (InStatements (Then (Loop body rest) done) s))
 loop_closes body NoBlock done s = closes body at_end
 loop_closes body (SomeBlock rest) done s = at_end
@@ -154,7 +154,7 @@ mutual
       (s : Stack) →
       Runs (continuing_pieces rest n)
       (Expect (InStatements (rewind_statements body NoStatements) (InLoop s)))
-      (loop_state body rest s)
+      (loop_reader body rest s)
   continuing_runs NoBlock is n body s = at_end
   continuing_runs (SomeBlock rest) is n body s =
       over_indent $ continues body $ over_gap $ reads $ over_line $

@@ -14,7 +14,7 @@ use std::alloc::{AllocError, Global};
 /// What is told of a module.
 #[derive(Drop)]
 pub struct Explanation {
-    /// Why it has no text, or that it has one, with the lines around the place.
+    /// Why it has no text, or that it has one, with the lines around the position.
     pub text: String,
     /// Whether it has one.
     pub is_written: bool,

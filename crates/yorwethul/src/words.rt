@@ -35,7 +35,7 @@ pub struct Invocation<'a> {
 }
 
 impl Invocation<'_> {
-    /// What the file with the module holds, by which places are told.
+    /// What the file with the module holds, by which positions are told.
     pub fn holder(self) -> JsonHolder {
         match self.info {
             Some(_) => JsonHolder::Module,
@@ -111,7 +111,7 @@ With --layout each struct that the text declares has a line, and so has each of 
 its offset and what WGSL gives to its type, in bytes, or why the member can't stay where it is.
 
 With --explain the standard output has the reason why there is no text, and a numbered listing of
-the function's expressions and statements, or of the declarations, around the place of the fault.
+the function's expressions and statements, or of the declarations, around the position of the fault.
 
 A module is refused where operands, types or blocks stand in one another on more levels than
 --nesting allows, since each takes some of the stack, or where its text has more bytes than --text.

@@ -27,7 +27,7 @@ use Rattle.module_answers.specs.Within.{IsUnwritten, TellsDepth}
 use Rattle.module_answers.specs.declared.within.NoOutcome.{NoOutcome}
 use Rattle.module_answers.specs.declared.within.NoOutcome.TheVariants as unwritten
 use Rattle.yorwethul_c.specs.Answers.{IsAccepted, IsNotAccepted, IsRefused, IsTooDeep, IsTooLong}
-use Rattle.yorwethul_c.specs.Answers.{IsWritten, LacksMemory, Says, SaysOfError, SaysOfUnwritten}
+use Rattle.yorwethul_c.specs.Answers.{WasWritten, LacksMemory, Says, SaysOfError, SaysOfUnwritten}
 use Rattle.yorwethul_c.specs.Answers.{SaysOfWritten, SaysThat, TellsAnyRefusal, deepest_nesting}
 use Rattle.yorwethul_c.specs.Answers.{longest_text, TellsOfChecking, TellsOfLayouts, TellsOfReading}
 use Rattle.yorwethul_c.specs.Answers.{TellsOfWriting, IsAsAsked, WasAsked, asks_decimal_floats}
@@ -124,6 +124,23 @@ too_deep Tells m info unwritten.TooLong told text deep lacks past says = absurd 
 too_deep Tells m info (unwritten.Memory error) told text deep lacks past says =
     said Tells status.OutOfMemory told text (subst (Tells status.OutOfMemory) (sym (says.1 refl)) lacks) lacks says.0
 
+-- what was asked of the writer
+abbrev was_asked : (flags : ℕ) (writer : WriterFlags) (given m : Module) (read info : ModuleInfo) → flags ≤ 7 →
+    bits_of writer ≡ flags % 4 → IsAsAsked (asks_decimal_floats flags) given m →
+    IsTrue (is_accepted given read) → IsCounted m read info → WasAsked flags
+was_asked flags writer given m read info known bits asked accepted counted = record {
+  flags_are_known = known;
+  writer = writer;
+  has_bits = bits;
+  given = given;
+  m = m;
+  is_as_asked = asked;
+  read = read;
+  info = info;
+  accepted = accepted;
+  counted = counted;
+}
+
 -- the writer was not asked for it, or was stopped
 pub not_written : (json : List ℕ) (flags : ℕ) (writer : WriterFlags) (given m : Module) (read info : ModuleInfo)
     (reason : NoOutcome) (told : Status) (text : List ℕ) →
@@ -145,20 +162,8 @@ not_written json flags writer given m read info (unwritten.NotAccepted fault) to
           (subst (λ read. TellsFaultAt holder.Member m read fault text) is.3 line);
     }) refl says
 not_written json flags writer given m read info unwritten.TooLong told text known bits asked is says =
-    let was_asked : WasAsked flags =
-    record {
-      flags_are_known = known;
-      writer = writer;
-      has_bits = bits;
-      given = given;
-      m = m;
-      is_as_asked = asked refl;
-      read = read;
-      info = info;
-      accepted = is.accepted;
-      counted = is.counted;
-    } in
-    let long : IsTooLong flags = record { asked = was_asked; longer = is.longer } in
+    let asked = was_asked flags writer given m read info known bits (asked refl) is.accepted is.counted in
+    let long : IsTooLong flags = record { asked = asked; longer = is.longer } in
     said (TellsOfWriting json flags) status.TooLong told text long refl says.0
 not_written json flags writer given m read info (unwritten.Memory error) told text known bits asked is says =
     said (TellsOfWriting json flags) status.OutOfMemory told text (says.1 refl) refl says.0
@@ -203,24 +208,13 @@ pub with_decimal_floats : (flags : ℕ) (given m : Module) → 4 ≤ flags → I
 with_decimal_floats flags given m more decimal =
     subst (λ asked. IsAsAsked asked given m) (sym (le-leb 4 flags more)) decimal
 
--- what was asked of the writer
+-- what the writer did when asked
 module _ (json : List ℕ) (flags : ℕ) (writer : WriterFlags) (given m : Module) (read info : ModuleInfo)
     (content : List ℕ) (known : flags ≤ 7) (bits : bits_of writer ≡ flags % 4)
     (asked : IsAsAsked (asks_decimal_floats flags) given m) (accepted : IsTrue (is_accepted given read))
     (counted : IsCounted m read info) where
-  abbrev was_asked : WasAsked flags
-  was_asked = record {
-    flags_are_known = known;
-    writer = writer;
-    has_bits = bits;
-    given = given;
-    m = m;
-    is_as_asked = asked;
-    read = read;
-    info = info;
-    accepted = accepted;
-    counted = counted;
-  }
+  abbrev asking : WasAsked flags
+  asking = was_asked flags writer given m read info known bits asked accepted counted
 
   -- an error that tells of the module is a refusal, which is told beside it
   refusing : (e : Error) (refusal : Option Refusal) (text : List ℕ) →
@@ -229,7 +223,7 @@ module _ (json : List ℕ) (flags : ℕ) (writer : WriterFlags) (given m : Modul
       TellsAnyRefusal m refusal text → IsRefused flags text
   refusing e None text faithful beside tells line = absurd (beside tells)
   refusing e (Some refusal) text faithful beside tells line = record {
-    asked = was_asked;
+    asked = asking;
     error = e;
     beginning = content;
     faithful = faithful;
@@ -243,9 +237,9 @@ module _ (json : List ℕ) (flags : ℕ) (writer : WriterFlags) (given m : Modul
       TellsBeside (annotates_types writer) m info answer refusal → length content ≤ longest_text →
       SaysOfWritten m answer refusal content told text → TellsOfWriting json flags told text
   wrote (Ok tt) refusal told text faithful appends beside within is =
-      let done : IsWritten flags text =
+      let done : WasWritten flags text =
       record {
-        asked = was_asked;
+        asked = asking;
         faithful = subst (λ now. FaithfulWriting writer m info (Ok tt) [] now 0 0) (sym is.1) faithful;
         text_is = is.1 ∙ appends;
         is_within = subst (λ t. length t ≤ longest_text) (sym is.1) within;

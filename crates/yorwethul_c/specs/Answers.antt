@@ -111,7 +111,7 @@ pub record WasAsked (flags : ℕ) : Type 0 where
   pub counted : IsCounted m read info
 
 -- The text is that of an accepted module, written as asked, and faithfully.
-pub record IsWritten (flags : ℕ) (text : List ℕ) : Type 0 where
+pub record WasWritten (flags : ℕ) (text : List ℕ) : Type 0 where
   pub asked : WasAsked flags
   pub faithful : FaithfulWriting asked.writer asked.m asked.info (Ok tt) [] text 0 0
   pub text_is : text ≡ printed_program (written_program asked.m asked.info asked.writer)
@@ -168,7 +168,7 @@ TellsOfDepth json = IsTrue (nest_too_deep json) ⊎ IsTooDeep
 
 -- of a module that is to be written
 abbrev pub TellsOfWriting : (json : List ℕ) (flags : ℕ) → Status → (text : List ℕ) → Type 0
-TellsOfWriting json flags status.Done text = IsWritten flags text
+TellsOfWriting json flags status.Done text = WasWritten flags text
 TellsOfWriting json flags status.Refused text = IsRefused flags text
 TellsOfWriting json flags status.TooLong text = IsTooLong flags
 TellsOfWriting json flags status.TooDeep text = TellsOfDepth json

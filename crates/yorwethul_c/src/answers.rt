@@ -189,7 +189,7 @@ fn told_error(alloc: Global, module: &Module, error: Error, refusal: Option<Refu
     }
 }
 
-/// A status with the construct that is refused and its place, or with the error where no place was
+/// A status with the construct that is refused and its position, or with the error where no position was
 /// found.
 fn told_refusal(
     alloc: Global,

@@ -87,7 +87,7 @@ conversion_key types kind convert (Some operand) =
     option_map_or (target_key types kind convert (keeps_bits operand convert))
     (conversion_target operand kind convert) (unsupported_key kind convert)
 
--- the letter at a place of a swizzle, of which so many are written
+-- the letter at a position of a swizzle, of which so many are written
 abbrev pub letter_number : VectorSize → List SwizzleComponent → (place : ℕ) → ℕ
 letter_number size pattern place =
     if nat_lt place (component_count size)

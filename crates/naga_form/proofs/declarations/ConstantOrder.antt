@@ -84,7 +84,7 @@ module _ (m : Module) (info : ModuleInfo) where
   abbrev shape : program.Module
   shape = module_shape m info
 
-  -- a named constant's place in the order
+  -- a named constant's index in the order
   abbrev pub constant_rank : ℕ → ℕ
   constant_rank i = option_map_or (λ c. c.init) (slice_get (named_constants m) i) 0
 

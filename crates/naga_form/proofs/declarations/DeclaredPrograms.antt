@@ -87,7 +87,7 @@ use Rattle.naga_form.specs.Literals.{literal_form}
 use Rattle.naga_form.specs.Types.{type_form}
 
 -- ---- lists
--- items beside their places, from this one on or from the first
+-- items beside their indices, from this one on or from the first
 placed_from : {X : Type 0} (Holds : ℕ × X → Type 0) (n : ℕ) (xs : List X) →
     ((i : ℕ) (x : X) → slice_get xs i ≡ Some x → Holds (n + i, x)) → Each Holds (enumerate_from n xs)
 placed_from Holds n [] each = tt

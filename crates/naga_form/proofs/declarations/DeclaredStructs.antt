@@ -1,7 +1,7 @@
 -- The structs that are written for a module, each at its number under its name, and their members.
 --
 -- Throughout, m is a module, of which info is known, h and k are handles of types, t and u types, s is
--- a struct that is written, i and j are places, o is an override, w a word, and labels tells the names
+-- a struct that is written, i and j are indices, o is an override, w a word, and labels tells the names
 -- of the labels that front ends gave.
 use Rattle.std.proofs.Common.{◌≡◌, ℕ, ◌<◌, Bool, true, List, Some, None, sym, ap, ◌∙◌, length, map}
 use Rattle.std.proofs.Common.{not, slice_get, take}

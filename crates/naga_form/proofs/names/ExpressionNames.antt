@@ -1,5 +1,5 @@
 -- The names that front ends gave: each is that of a label that stands in the list of a module's
--- labels after those in front of it, so that no two places of this list have one name.
+-- labels after those in front of it, so that no two indices of this list have one name.
 use Rattle.std.proofs.Common.{◌≡◌, ◌≢◌, ℕ, ◌<◌, zero, suc, Bool, true, false, List, [], ◌∷◌}
 use Rattle.std.proofs.Common.{◌++◌, length, take, Some, refl, sym, ap, subst, ◌∙◌, ◌||◌, arith}
 use Rattle.std.proofs.Common.{append_assoc, length-append}
@@ -35,7 +35,7 @@ split_at (x ∷ xs) zero y e = (xs, ap (λ z. z ∷ xs) (same_Some x y e))
 split_at (x ∷ xs) (suc j) y e =
     let rest = split_at xs j y e in (rest.0, ap (λ t. x ∷ t) rest.1)
 
--- ---- places of a list of labels
+-- ---- indices of a list of labels
 -- the label stands in the list, after these
 pub record StandsAfter (labels earlier : List (List ℕ)) (label : List ℕ) : Type 0 where
   pub rest : List (List ℕ)
@@ -55,7 +55,7 @@ begins (w ∷ a) x r (z ∷ b) y s same lt =
     (inner.0, λ i. head i ∷ inner.1 i)
 
 module _ (labels : List (List ℕ)) where
-  -- labels at two places have different names
+  -- labels at two indices have different names
   differ : (a : List (List ℕ)) (x : List ℕ) (b : List (List ℕ)) (y : List ℕ) →
       StandsAfter labels a x → StandsAfter labels b y → length a < length b →
       name_after wgsl_names a x ≡ name_after wgsl_names b y → ⊥
@@ -64,7 +64,7 @@ module _ (labels : List (List ℕ)) where
       names_differ wgsl_names a x middle.0 y
       (same ∙ ap (λ e. name_after wgsl_names e y) middle.1)
 
-  -- two places with one name are one
+  -- two indices with one name are one
   pub names_tell : (a : List (List ℕ)) (x : List ℕ) (b : List (List ℕ)) (y : List ℕ) →
       StandsAfter labels a x → StandsAfter labels b y →
       name_after wgsl_names a x ≡ name_after wgsl_names b y → length a ≡ length b

@@ -12,7 +12,7 @@ use Rattle.float_numerals.specs.declared.decimal.Decimal.{Decimal}
 use Rattle.float_numerals.specs.Denoted.{decimal_float, has_near_power, has_plain_zero, is_in_range}
 use Rattle.float_numerals.specs.Texts.{double_exponent, double_fraction, double_whole}
 use Rattle.float_numerals.specs.Texts.{fraction_digits, whole_digits}
-use Rattle.float_numerals.proofs.Doubles.{decimal_double_is, double_written}
+use Rattle.float_numerals.proofs.Doubles.{decimal_double_is, double_in_range}
 use Rattle.float_numerals.proofs.Numerals.{decimal_split, decimal_float_is, decimal_half_is}
 use Rattle.naga_ir.specs.declared.expression.Literal.{Literal}
 use Rattle.naga_ir.specs.declared.expression.Literal as ir_literal
@@ -80,7 +80,7 @@ literal_read (literal.U16 n) w = refl
 literal_read (literal.U64 n) w = refl
 literal_read (literal.DecimalF64 numeral) w =
     let fits = digits_fit numeral w in
-    let d = double_written numeral fits (exponent_fits numeral w) in
+    let d = double_in_range numeral fits (exponent_fits numeral w) in
     ap (λ e. Opaque (codes "f64")
     (to_bits binary64 (decimal_float binary64 numeral.negative (double_whole numeral) (double_fraction numeral) e)))
     (power_read (double_exponent numeral) d.small)
@@ -137,7 +137,7 @@ literal_is (literal.I64 (pos n)) w e = ltb-true n (2 ^ 63) e
 literal_is (literal.I64 (negsuc n)) w e = least_long_or n (n == 9223372036854775807) refl (ltb-true n (2 ^ 63) e)
 literal_is (literal.U64 n) w e = ltb-true n (2 ^ 64) e
 literal_is (literal.DecimalF64 numeral) w e =
-    let d = double_written numeral (digits_fit numeral w) (exponent_fits numeral w) in
+    let d = double_in_range numeral (digits_fit numeral w) (exponent_fits numeral w) in
     record {
       whole_digits = are_digits (double_whole numeral) d.some d.whole_digits;
       fraction_digits = own_digits.from (double_fraction numeral) d.fraction_digits;

@@ -2,7 +2,7 @@
 -- it, and between it and those that it may call: its runs, its identifiers and words, and its `let`s.
 --
 -- Throughout, f is a function with the number g, of whose expressions es is known, fs are functions from
--- the number g on, ess says what is known of each, i is the place of one among them, and named tells the
+-- the number g on, ess says what is known of each, i is the index of one among them, and named tells the
 -- names of the labels that front ends gave.
 use Rattle.std.proofs.Common.{[], ◌≡◌, ℕ, zero, suc, ◌+◌, ◌<◌, ◌≤◌, ◌∙◌, Bool, List, ◌∷◌, false}
 use Rattle.std.proofs.Common.{true, Some, ap, arith, length, ltb-false, map, refl, subst, sym}

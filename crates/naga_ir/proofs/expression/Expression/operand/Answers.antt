@@ -6,7 +6,7 @@ use Rattle.naga_ir.proofs.expression.Expression.operand.Goals as goal
 pub returns-in-ImageSample-clause-item : goal.returns-in-ImageSample-clause-item
 returns-in-ImageSample-clause-item c =
     c.nth_present.ensures.item
-    ∙ ap (λ places. slice_get places c.args.number)
+    ∙ ap (λ operands. slice_get operands c.args.number)
     (sampled (level_operands c.in-ImageSample.level) c.in-ImageSample.image
     c.in-ImageSample.sampler c.in-ImageSample.coordinate c.in-ImageSample.array_index
     c.in-ImageSample.depth_ref c.level_handles-level.result.0 c.level_handles-level.result.1

@@ -1,12 +1,12 @@
 #!/usr/bin/env python3
-"""places.py [NAME..]: where constructors of the IR stand.
+"""mentions.py [NAME..]: where constructors of the IR stand.
 
 For each name (those of EXAMPLES, if none is given) it lists every declaration of code, specs and proofs
 in which the name stands, in the spelling of the IR (`Kill`) or of statement trees (`kill`): imports,
 comments and strings aside, and without samples and tests. Files come in the order of crates.txt.
 
-places.py --write   writes the counts of EXAMPLES into docs/ADDING.md
-places.py --check   tells whether they stand there, as bench/pages/check.sh asks
+mentions.py --write   writes the counts of EXAMPLES into docs/ADDING.md
+mentions.py --check   tells whether they stand there, as bench/pages/check.sh asks
 """
 import os
 import re
@@ -26,7 +26,7 @@ EXAMPLES = {
 TOP = os.path.join(os.path.dirname(os.path.abspath(__file__)), "..", "..")
 CRATES = os.path.join(TOP, "crates")
 ADDING = os.path.join(TOP, "docs", "ADDING.md")
-BEGIN, END = "<!-- bench/pages/places.py --write -->\n", "<!-- end -->\n"
+BEGIN, END = "<!-- bench/pages/mentions.py --write -->\n", "<!-- end -->\n"
 TREES = os.path.join(CRATES, "naga_ir", "specs", "StatementTree.antt")
 DEFINED = re.compile(
     r"^\s*(?:abbrev |unfoldable )?(?:pub )?(?:abbrev )?(?:data |record |ruleset )?([\w-]+)(?: \([^)]*\))?\s*:"
@@ -122,7 +122,7 @@ def main(words):
     if words == ["--write"]:
         open(ADDING, "w").write(wanted)
     elif page != wanted:
-        print("docs/ADDING.md: the counts are others than `bench/pages/places.py --write` writes")
+        print("docs/ADDING.md: the counts are others than `bench/pages/mentions.py --write` writes")
         return 1
     return 0
 
