@@ -50,7 +50,7 @@ kind_of (expression.RayQueryGetIntersection query committed) = Pure
 kind_of (expression.RayQueryVertexPositions query committed) = Pure
 kind_of expression.SubgroupBallotResult = Result
 kind_of (expression.SubgroupOperationResult ty) = Result
-kind_of (expression.CooperativeLoad columns rows role data) = Request
+kind_of (expression.CooperativeLoad columns rows role memory) = Request
 kind_of (expression.CooperativeMultiplyAdd a b c) = Pure
 
 -- what stands after such a statement in its block is not reached

@@ -61,7 +61,7 @@ query_operands NumLayers = []
 query_operands NumSamples = []
 
 abbrev pub cooperative_operands : CooperativeData → List ℕ
-cooperative_operands data = data.pointer ∷ data.stride ∷ []
+cooperative_operands memory = memory.pointer ∷ memory.stride ∷ []
 
 abbrev pub expression_operands : Expression → List ℕ
 expression_operands (Literal value) = []
@@ -101,7 +101,7 @@ expression_operands (RayQueryGetIntersection query committed) = query ∷ []
 expression_operands (RayQueryVertexPositions query committed) = query ∷ []
 expression_operands SubgroupBallotResult = []
 expression_operands (SubgroupOperationResult ty) = []
-expression_operands (CooperativeLoad columns rows role data) = cooperative_operands data
+expression_operands (CooperativeLoad columns rows role memory) = cooperative_operands memory
 expression_operands (CooperativeMultiplyAdd a b c) = a ∷ b ∷ c ∷ []
 
 -- those of an expression, if there is one, from this number on
@@ -146,7 +146,7 @@ simple_operands (ray_query query) = query ∷ []
 simple_operands (subgroup_ballot outcome predicate) = option_to_list predicate
 simple_operands (subgroup_gather mode argument outcome) = argument ∷ gather_operands mode
 simple_operands (subgroup_collective_operation op collective_op argument outcome) = argument ∷ []
-simple_operands (cooperative_store target data) = target ∷ cooperative_operands data
+simple_operands (cooperative_store target memory) = target ∷ cooperative_operands memory
 simple_operands (ray_pipeline_function fun) = ray_operands fun
 
 -- those of a statement by itself, without those of the statements in its blocks
@@ -176,7 +176,7 @@ simple_result (ray_query query) = None
 simple_result (subgroup_ballot outcome predicate) = Some outcome
 simple_result (subgroup_gather mode argument outcome) = Some outcome
 simple_result (subgroup_collective_operation op collective_op argument outcome) = Some outcome
-simple_result (cooperative_store target data) = None
+simple_result (cooperative_store target memory) = None
 simple_result (ray_pipeline_function fun) = None
 
 abbrev pub own_result : StatementTree → Option ℕ

@@ -51,7 +51,7 @@ expression_name
     codes "RayQueryVertexPositions"
 expression_name expression.SubgroupBallotResult = codes "SubgroupBallotResult"
 expression_name (expression.SubgroupOperationResult ty) = codes "SubgroupOperationResult"
-expression_name (expression.CooperativeLoad columns rows role data) = codes "CooperativeLoad"
+expression_name (expression.CooperativeLoad columns rows role memory) = codes "CooperativeLoad"
 expression_name (expression.CooperativeMultiplyAdd a b c) = codes "CooperativeMultiplyAdd"
 
 -- a store of a cooperative matrix also says how that lies in memory, and what is done with a ray which

@@ -73,18 +73,18 @@ impl FunctionText<'_> {
         columns: CooperativeSize,
         rows: CooperativeSize,
         role: CooperativeRole,
-        data: CooperativeData,
+        memory: CooperativeData,
         out: &mut Output<'_, W>,
     )
         requires can { CanWrite self.now }
         requires handle { IsInText self.now handle }
         requires formed { IsTrue (expression_has_own_form self.now.shader.now self.now.info.now
-            (CooperativeLoad columns rows role data)) }
+            (CooperativeLoad columns rows role memory)) }
         ensures { Writes W.text W.failures out.old out.new
-            (made_text self.now scope.now.table (matrix_callee self.now columns rows role data)
+            (made_text self.now scope.now.table (matrix_callee self.now columns rows role memory)
             handle) }
     {
-        self.write_matrix_callee(columns, rows, role, data, out);
+        self.write_matrix_callee(columns, rows, role, memory, out);
         out.put("(");
         self.write_operands(scope, handle, out);
     }
@@ -95,23 +95,23 @@ impl FunctionText<'_> {
         columns: CooperativeSize,
         rows: CooperativeSize,
         role: CooperativeRole,
-        data: CooperativeData,
+        memory: CooperativeData,
         out: &mut Output<'_, W>,
     )
         requires can { CanWrite self.now }
         requires formed { IsTrue (expression_has_own_form self.now.shader.now self.now.info.now
-            (CooperativeLoad columns rows role data)) }
+            (CooperativeLoad columns rows role memory)) }
         ensures { Writes W.text W.failures out.old out.new
-            (matrix_callee_text self.now columns rows role data) }
+            (matrix_callee_text self.now columns rows role memory) }
     {
-        let scalar = self.pointed_scalar(data.pointer);
+        let scalar = self.pointed_scalar(memory.pointer);
         let matrix = TypeResolution::Value(TypeInner::CooperativeMatrix {
             columns,
             rows,
             scalar,
             role,
         });
-        self.write_taking(load_str(data.row_major), &matrix, out);
+        self.write_taking(load_str(memory.row_major), &matrix, out);
         drop(matrix);
     }
 
