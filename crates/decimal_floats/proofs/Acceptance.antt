@@ -64,8 +64,8 @@ use Rattle.module_semantics.specs.TypeParts.{points_to_atomic}
 use Rattle.decimal_floats.specs.Decimals.{IsDecimalEntryPoint, IsDecimalExpression, same, to_decimal, IsDecimalFunction}
 use Rattle.decimal_floats.specs.Decimals.{IsDecimalModule}
 use Rattle.decimal_floats.proofs.Literals.{decimal_scalar, decimal_within}
-use Rattle.decimal_floats.proofs.Lists.{all_kept, all_same, and_kept, paired_same, placed_kept}
-use Rattle.decimal_floats.proofs.Lists.{placed_same, seen_same}
+use Rattle.decimal_floats.proofs.Lists.{all_kept, all_same, and_kept, paired_same, numbered_kept}
+use Rattle.decimal_floats.proofs.Lists.{numbered_same, seen_same}
 use Rattle.decimal_floats.proofs.DecimalItems.{along}
 
 -- a fact in the midst of others
@@ -160,7 +160,7 @@ module _ (m new : Module) (all : IsDecimalModule m new) where
       (list_all (global_in_range types k) m.global_variables)
       (all_by_handle (global_expression_in_range m) m.global_expressions)
       (all_by_handle (global_expression_in_range n) es)
-      (placed_kept IsDecimalExpression (global_expression_in_range m) (global_expression_in_range n)
+      (numbered_kept IsDecimalExpression (global_expression_in_range m) (global_expression_in_range n)
       global_kept 0 m.global_expressions es expressions)
       (ap (λ k. types_in_range (length m.overrides) m.types && (special_types_fit types m.special_types
       && (list_all (constant_in_range types k) m.constants
@@ -184,7 +184,7 @@ module _ (m new : Module) (all : IsDecimalModule m new) where
       (expressions_in_range m f)
       (all_by_handle (expression_in_range n arguments locals) ds)
       (block_in_range callees (length ds) f.body)
-      (placed_kept IsDecimalExpression (expression_in_range m arguments locals)
+      (numbered_kept IsDecimalExpression (expression_in_range m arguments locals)
       (expression_in_range n arguments locals) (expression_kept arguments locals) 0 f.expressions ds
       r.expressions)
       (ap (λ k. signature_fits (length m.types) f
@@ -219,7 +219,7 @@ module _ (m new : Module) (all : IsDecimalModule m new) where
       (list_all (entry_point_in_range m) m.entry_points.items)
       (all_by_handle (function_in_range n) fs)
       (list_all (entry_point_in_range n) ps)
-      (placed_kept IsDecimalFunction (function_in_range m) (function_in_range n) function_kept 0
+      (numbered_kept IsDecimalFunction (function_in_range m) (function_in_range n) function_kept 0
       m.functions fs functions)
       (all_kept IsDecimalEntryPoint (entry_point_in_range m) (entry_point_in_range n) entry_point_kept
       m.entry_points.items ps entry_points)) h
@@ -274,7 +274,7 @@ module _ (m new : Module) (all : IsDecimalModule m new) where
       (xs ys : List Expression) → AllZip IsDecimalExpression xs ys →
       expressions_are_sound n f known ys ≡ expressions_are_sound m f known xs
   expressions_same f known xs ys h = λ i.
-      placed_same IsDecimalExpression (has_its_type m f known) (has_its_type n f known)
+      numbered_same IsDecimalExpression (has_its_type m f known) (has_its_type n f known)
       (λ k e d r. ap (λ w. option_map_or (is_expected m.types w) (slice_get known k) false)
       (type_same f known e d r)) 0 xs ys h i &&
       all_same IsDecimalExpression (operands_fit m.types known) (operands_fit m.types known)

@@ -52,18 +52,18 @@ module _ {X Y : Type 0} (R : X → Y → Type 0) where
       (all_kept p q each xs ys h.1) e
 
   -- the same of each item with its index
-  pub placed_kept : (p : ℕ → X → Bool) (q : ℕ → Y → Bool) →
+  pub numbered_kept : (p : ℕ → X → Bool) (q : ℕ → Y → Bool) →
       ((k : ℕ) (x : X) (y : Y) → R x y → p k x ≡ true → q k y ≡ true) →
       (n : ℕ) (xs : List X) (ys : List Y) → AllZip R xs ys →
       list_all (λ k. p k.0 k.1) (enumerate_from n xs) ≡ true →
       list_all (λ k. q k.0 k.1) (enumerate_from n ys) ≡ true
-  placed_kept p q each n [] [] h e = refl
-  placed_kept p q each n [] (y ∷ ys) h e = absurd h
-  placed_kept p q each n (x ∷ xs) [] h e = absurd h
-  placed_kept p q each n (x ∷ xs) (y ∷ ys) h e =
+  numbered_kept p q each n [] [] h e = refl
+  numbered_kept p q each n [] (y ∷ ys) h e = absurd h
+  numbered_kept p q each n (x ∷ xs) [] h e = absurd h
+  numbered_kept p q each n (x ∷ xs) (y ∷ ys) h e =
       and_kept (p n x) (list_all (λ k. p k.0 k.1) (enumerate_from (n + 1) xs)) (q n y)
       (list_all (λ k. q k.0 k.1) (enumerate_from (n + 1) ys)) (each n x y h.0)
-      (placed_kept p q each (n + 1) xs ys h.1) e
+      (numbered_kept p q each (n + 1) xs ys h.1) e
 
   -- a test that answers the same of related items
   pub all_same : (p : X → Bool) (q : Y → Bool) → ((x : X) (y : Y) → R x y → q y ≡ p x) →
@@ -74,16 +74,16 @@ module _ {X Y : Type 0} (R : X → Y → Type 0) where
   all_same p q each (x ∷ xs) (y ∷ ys) h =
       λ i. each x y h.0 i && all_same p q each xs ys h.1 i
 
-  pub placed_same : (p : ℕ → X → Bool) (q : ℕ → Y → Bool) →
+  pub numbered_same : (p : ℕ → X → Bool) (q : ℕ → Y → Bool) →
       ((k : ℕ) (x : X) (y : Y) → R x y → q k y ≡ p k x) →
       (n : ℕ) (xs : List X) (ys : List Y) → AllZip R xs ys →
       list_all (λ k. q k.0 k.1) (enumerate_from n ys)
       ≡ list_all (λ k. p k.0 k.1) (enumerate_from n xs)
-  placed_same p q each n [] [] h = refl
-  placed_same p q each n [] (y ∷ ys) h = absurd h
-  placed_same p q each n (x ∷ xs) [] h = absurd h
-  placed_same p q each n (x ∷ xs) (y ∷ ys) h =
-      λ i. each n x y h.0 i && placed_same p q each (n + 1) xs ys h.1 i
+  numbered_same p q each n [] [] h = refl
+  numbered_same p q each n [] (y ∷ ys) h = absurd h
+  numbered_same p q each n (x ∷ xs) [] h = absurd h
+  numbered_same p q each n (x ∷ xs) (y ∷ ys) h =
+      λ i. each n x y h.0 i && numbered_same p q each (n + 1) xs ys h.1 i
 
   -- of items side by side with others
   pub zipped_same : {K : Type 0} (p : X → K → Bool) (q : Y → K → Bool) →

@@ -26,7 +26,7 @@ use Rattle.module_semantics.specs.TypeIdentity.{identity, identity_code, word_of
 use Rattle.module_semantics.specs.Types.{called_spelling, spelled_resolution, type_of_values}
 use Rattle.module_semantics.specs.Types.{values_of, word_of_values}
 use Rattle.module_semantics.specs.Undeclared.{is_undeclared_struct}
-use Rattle.shader_runs.specs.Program.{Constructed, Fixed, NamedConstant, no_constant}
+use Rattle.shader_runs.specs.Program.{Composed, Fixed, NamedConstant, no_constant}
 use Rattle.shader_runs.specs.Value.{OtherType}
 use Rattle.decimal_floats.specs.Decimals.{IsDecimalExpression, IsDecimalModule}
 use Rattle.decimal_floats.proofs.Lists.{seen_same}
@@ -77,7 +77,7 @@ module _ (m new : Module) (all : IsDecimalModule m new) where
   -- ---- constants
   zeros_same : zero_of_type n ≡ zero_of_type m
   zeros_same = λ i ty.
-      Constructed (run_word (constructor (contexts_same i (λ h. None)) (Handle ty) 0))
+      Composed (run_word (constructor (contexts_same i (λ h. None)) (Handle ty) 0))
       (value_types_same i (Handle ty)) no_constant
 
   constant_over_same : constant_over n ≡ constant_over m

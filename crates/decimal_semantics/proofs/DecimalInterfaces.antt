@@ -36,7 +36,7 @@ use Rattle.decimal_floats.specs.Decimals.{IsDecimalEntryPoint, IsDecimalExpressi
 use Rattle.decimal_floats.specs.Decimals.{IsDecimalFunction, IsDecimalModule}
 use Rattle.decimal_floats.proofs.DecimalItems.{along}
 use Rattle.decimal_semantics.proofs.DecimalFunctions.{entry_point_rest, decimal_module}
-use Rattle.decimal_semantics.proofs.SideBySide.{any_same, placed_any_same, placed_mapped_same}
+use Rattle.decimal_semantics.proofs.SideBySide.{any_same, numbered_any_same, numbered_mapped_same}
 use Rattle.decimal_semantics.proofs.DecimalContexts.{trees_same}
 use Rattle.decimal_semantics.proofs.DecimalShapes.{shape_of_module_same}
 
@@ -46,7 +46,7 @@ halves_same : (types : List Type_) (f g : ir_function.Function) (known : List Ex
     function_spells_halves types g known ≡ function_spells_halves types f known
 halves_same types f g known r =
     ap (λ b. list_any (λ k. value_is_over_halves k.ty) known || b)
-    (placed_any_same IsDecimalExpression (λ k e. converts_to_halves types known e)
+    (numbered_any_same IsDecimalExpression (λ k e. converts_to_halves types known e)
     (λ k e. converts_to_halves types known e)
     (λ k e d r. along (converts_to_halves types known) (λ v w r. refl) e d r) 0 f.expressions
     g.expressions r.expressions)
@@ -71,12 +71,12 @@ module _ (m new : ir_module.Module) (all : IsDecimalModule m new) where
   module_halves_same info = λ i.
       list_any (λ p. is_over_halves p.1.inner) (enumerate_from 0 m.types)
       || (list_any value_is_over_halves info.const_expression_types.items
-      || (placed_any_same IsDecimalFunction
+      || (numbered_any_same IsDecimalFunction
       (λ k f. spells_known_halves m.types f (slice_get info.functions.items k))
       (λ k f. spells_known_halves m.types f (slice_get info.functions.items k))
       (λ k f g r. known_halves_same m.types f g (slice_get info.functions.items k) r) 0 m.functions
       n.functions all.functions i
-      || placed_any_same IsDecimalEntryPoint
+      || numbered_any_same IsDecimalEntryPoint
       (λ k p. spells_known_halves m.types p.function (slice_get info.entry_points.items k))
       (λ k p. spells_known_halves m.types p.function (slice_get info.entry_points.items k))
       (λ k p q r.
@@ -85,7 +85,7 @@ module _ (m new : ir_module.Module) (all : IsDecimalModule m new) where
 
   subgroups_same : names_subgroups n ≡ names_subgroups m
   subgroups_same = λ i.
-      placed_any_same IsDecimalFunction (λ k f. block_names_subgroups f.body)
+      numbered_any_same IsDecimalFunction (λ k f. block_names_subgroups f.body)
       (λ k f. block_names_subgroups f.body)
       (λ k f g r. ap (λ (f : ir_function.Function). block_names_subgroups f.body) r.rest) 0
       m.functions n.functions all.functions i
@@ -177,7 +177,7 @@ module _ (m new : ir_module.Module) (all : IsDecimalModule m new) where
       map (entry_point_interface names t) (enumerate_from 0 n.entry_points.items)
       ≡ map (entry_point_interface names t) (enumerate_from 0 m.entry_points.items)
   points_same names t =
-      placed_mapped_same IsDecimalEntryPoint (λ k p. entry_point_interface names t (k, p))
+      numbered_mapped_same IsDecimalEntryPoint (λ k p. entry_point_interface names t (k, p))
       (λ k p. entry_point_interface names t (k, p))
       (λ k p q r. ap (λ (p : EntryPoint). entry_point_interface names t (k, p)) (entry_point_rest p q r))
       0 m.entry_points.items n.entry_points.items all.entry_points

@@ -19,7 +19,7 @@ use Rattle.naga_names.specs.Reset.{output_label, output_word, returns, type_name
 use Rattle.naga_names.specs.declared.key.NameKey.TheVariants as key
 use Rattle.module_semantics.specs.Names.{module_names, wgsl_names}
 use Rattle.decimal_floats.specs.Decimals.{IsDecimalEntryPoint, IsDecimalFunction, IsDecimalModule}
-use Rattle.decimal_semantics.proofs.SideBySide.{placed_joined_same}
+use Rattle.decimal_semantics.proofs.SideBySide.{numbered_joined_same}
 use Rattle.decimal_semantics.proofs.DecimalFunctions.{entry_point_rest, decimal_module}
 
 output_label_same : (t : ℕ) (ps qs : List EntryPoint) → AllZip IsDecimalEntryPoint ps qs →
@@ -51,13 +51,13 @@ module _ (m new : Module) (all : IsDecimalModule m new) where
   entry_points_same : labelled_entry_points n.entry_points.items
       ≡ labelled_entry_points m.entry_points.items
   entry_points_same =
-      placed_joined_same IsDecimalEntryPoint labelled_entry_point labelled_entry_point
+      numbered_joined_same IsDecimalEntryPoint labelled_entry_point labelled_entry_point
       (λ k p q r. ap (labelled_entry_point k) (entry_point_rest p q r)) 0 m.entry_points.items
       n.entry_points.items all.entry_points
 
   functions_same : labelled_functions m.types n.functions ≡ labelled_functions m.types m.functions
   functions_same =
-      placed_joined_same IsDecimalFunction (labelled_function m.types) (labelled_function m.types)
+      numbered_joined_same IsDecimalFunction (labelled_function m.types) (labelled_function m.types)
       (λ k f g r. ap (labelled_function m.types k) r.rest) 0 m.functions n.functions all.functions
 
   declarations_same : labelled_declarations n ≡ labelled_declarations m

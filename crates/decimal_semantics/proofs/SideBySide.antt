@@ -5,26 +5,26 @@ use Rattle.std.specs.List.{AllZip, enumerate_from, flat_map, list_any, zip}
 
 module _ {X Y : Type 0} (R : X → Y → Type 0) where
   -- of each with its index
-  pub placed_mapped_same : {Z : Type 0} (p : ℕ → X → Z) (q : ℕ → Y → Z) →
+  pub numbered_mapped_same : {Z : Type 0} (p : ℕ → X → Z) (q : ℕ → Y → Z) →
       ((k : ℕ) (x : X) (y : Y) → R x y → q k y ≡ p k x) →
       (n : ℕ) (xs : List X) (ys : List Y) → AllZip R xs ys →
       map (λ k. q k.0 k.1) (enumerate_from n ys) ≡ map (λ k. p k.0 k.1) (enumerate_from n xs)
-  placed_mapped_same p q each n [] [] h = refl
-  placed_mapped_same p q each n [] (y ∷ ys) h = absurd h
-  placed_mapped_same p q each n (x ∷ xs) [] h = absurd h
-  placed_mapped_same p q each n (x ∷ xs) (y ∷ ys) h =
-      λ i. each n x y h.0 i ∷ placed_mapped_same p q each (n + 1) xs ys h.1 i
+  numbered_mapped_same p q each n [] [] h = refl
+  numbered_mapped_same p q each n [] (y ∷ ys) h = absurd h
+  numbered_mapped_same p q each n (x ∷ xs) [] h = absurd h
+  numbered_mapped_same p q each n (x ∷ xs) (y ∷ ys) h =
+      λ i. each n x y h.0 i ∷ numbered_mapped_same p q each (n + 1) xs ys h.1 i
 
-  pub placed_joined_same : {Z : Type 0} (p : ℕ → X → List Z) (q : ℕ → Y → List Z) →
+  pub numbered_joined_same : {Z : Type 0} (p : ℕ → X → List Z) (q : ℕ → Y → List Z) →
       ((k : ℕ) (x : X) (y : Y) → R x y → q k y ≡ p k x) →
       (n : ℕ) (xs : List X) (ys : List Y) → AllZip R xs ys →
       flat_map (λ k. q k.0 k.1) (enumerate_from n ys)
       ≡ flat_map (λ k. p k.0 k.1) (enumerate_from n xs)
-  placed_joined_same p q each n [] [] h = refl
-  placed_joined_same p q each n [] (y ∷ ys) h = absurd h
-  placed_joined_same p q each n (x ∷ xs) [] h = absurd h
-  placed_joined_same p q each n (x ∷ xs) (y ∷ ys) h =
-      λ i. each n x y h.0 i ++ placed_joined_same p q each (n + 1) xs ys h.1 i
+  numbered_joined_same p q each n [] [] h = refl
+  numbered_joined_same p q each n [] (y ∷ ys) h = absurd h
+  numbered_joined_same p q each n (x ∷ xs) [] h = absurd h
+  numbered_joined_same p q each n (x ∷ xs) (y ∷ ys) h =
+      λ i. each n x y h.0 i ++ numbered_joined_same p q each (n + 1) xs ys h.1 i
 
   -- of items side by side with others
   pub zipped_mapped_same : {K Z : Type 0} (p : X → K → Z) (q : Y → K → Z) →
@@ -75,13 +75,13 @@ module _ {X Y : Type 0} (R : X → Y → Type 0) where
   any_same p q each (x ∷ xs) (y ∷ ys) h =
       λ i. each x y h.0 i || any_same p q each xs ys h.1 i
 
-  pub placed_any_same : (p : ℕ → X → Bool) (q : ℕ → Y → Bool) →
+  pub numbered_any_same : (p : ℕ → X → Bool) (q : ℕ → Y → Bool) →
       ((k : ℕ) (x : X) (y : Y) → R x y → q k y ≡ p k x) →
       (n : ℕ) (xs : List X) (ys : List Y) → AllZip R xs ys →
       list_any (λ k. q k.0 k.1) (enumerate_from n ys)
       ≡ list_any (λ k. p k.0 k.1) (enumerate_from n xs)
-  placed_any_same p q each n [] [] h = refl
-  placed_any_same p q each n [] (y ∷ ys) h = absurd h
-  placed_any_same p q each n (x ∷ xs) [] h = absurd h
-  placed_any_same p q each n (x ∷ xs) (y ∷ ys) h =
-      λ i. each n x y h.0 i || placed_any_same p q each (n + 1) xs ys h.1 i
+  numbered_any_same p q each n [] [] h = refl
+  numbered_any_same p q each n [] (y ∷ ys) h = absurd h
+  numbered_any_same p q each n (x ∷ xs) [] h = absurd h
+  numbered_any_same p q each n (x ∷ xs) (y ∷ ys) h =
+      λ i. each n x y h.0 i || numbered_any_same p q each (n + 1) xs ys h.1 i

@@ -59,7 +59,7 @@ use Rattle.fault_details.specs.Reasons.{function_reason, global_reason, item_rea
 use Rattle.fault_details.specs.WithReason.{AreNumbered, TypeFaultsHaveReasons}
 use Rattle.fault_details.proofs.Reasoning.{IsKnown, item_before, some_then}
 use Rattle.fault_details.proofs.FunctionReasons.{IsOfItem, function_told, initialiser_told}
-use Rattle.fault_details.proofs.FunctionReasons.{operands_told, own_type_told, placed}
+use Rattle.fault_details.proofs.FunctionReasons.{operands_told, own_type_told, numbered_here}
 use Rattle.fault_details.proofs.Disagreeing.{disagreement_told}
 
 -- ---- what is known of several functions
@@ -256,7 +256,7 @@ module _ (m : Module) (info : ModuleInfo) (ranges : IsTrue (module_ranges_fit m 
   module _ (h : ℕ) (e : Expression) (at : slice_get m.global_expressions h ≡ Some e) where
     global_ranges : (all_below h (expression_operands e) ≡ true) × (names_in_range m 0 0 e ≡ true)
     global_ranges =
-        let fits = placed (global_expression_in_range m) m.global_expressions h e declared_in_range.3 at in
+        let fits = numbered_here (global_expression_in_range m) m.global_expressions h e declared_in_range.3 at in
         and_parts (all_below h (expression_operands e)) (names_in_range m 0 0 e)
         (and_parts (expression_in_range m 0 0 h e) (initialiser_before m h e) fits).0
 
@@ -310,7 +310,7 @@ module _ (m : Module) (info : ModuleInfo) (ranges : IsTrue (module_ranges_fit m 
       ∙ sym (known_sized m info.functions.items known_fit.0 h es.0 es.1) in
       some_then (λ f. function_reason m h f known kind position) (slice_get m.functions h) f at
       (function_told m f known h (omega (arith, slice_get_within m.functions h f at)) sized
-      (placed (function_in_range m) m.functions h f functions_in_range.0 at)
+      (numbered_here (function_in_range m) m.functions h f functions_in_range.0 at)
       (known_formed m info.functions.items known_fit.0 h es.0 es.1) (numbered.functions h f at) kind position of fails)
 
   -- what is told of an entry point's function is told of the entry point

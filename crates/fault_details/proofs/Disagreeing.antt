@@ -37,7 +37,7 @@ use Rattle.naga_acceptance.specs.Uses.{joined_below, use_in}
 use Rattle.naga_acceptance.specs.declared.faults.FaultPosition.{FaultPosition}
 use Rattle.naga_acceptance.proofs.Agreement.{agree_after, other_agrees, same_agrees}
 use Rattle.naga_acceptance.proofs.Groups.{all_uses, one_more}
-use Rattle.module_semantics.proofs.Lists.{in_row}
+use Rattle.module_semantics.proofs.Lists.{in_joined}
 use Rattle.module_semantics.specs.AlikeTypes.{are_alike, type_identity}
 use Rattle.module_semantics.specs.acceptance.AgreeingOperators.{Group, expression_use, function_group}
 use Rattle.module_semantics.specs.acceptance.AgreeingOperators.{function_groups, further_groups_of}
@@ -60,7 +60,7 @@ of_number f zero i x is = absurd (true≢false (sym (ap is_some is)))
 of_number f (suc n) i x is =
     ⊎_elim (λ front. let found = of_number f n front.0 x front.1 in
     (found.0, found.1, found.2, omega (arith, found.3))) (λ back. (n, back.0, back.1, omega arith))
-    (in_row (joined_below f n) (f n) i x is)
+    (in_joined (joined_below f n) (f n) i x is)
 
 -- the item of a value that may be missing
 of_option : {X : Type 0} (o : Option X) (i : ℕ) (x : X) → slice_get (option_to_list o) i ≡ Some x → o ≡ Some x
@@ -156,7 +156,7 @@ module _ (types : List Type_) where
       ⊎_elim (λ front. before front.0 front.1)
       (λ back. let found = of_first g index back.0 w back.1 in
       (number, g, found.0, at, found.1, inr (refl, found.2)))
-      (in_row (group_uses types gs number) (first_uses types g index) i w is)
+      (in_joined (group_uses types gs number) (first_uses types g index) i w is)
     where
       before : (k : ℕ) → slice_get (group_uses types gs number) k ≡ Some w → IsUse gs number index w
       before k front =
@@ -338,8 +338,8 @@ module _ (m : Module) (info : ModuleInfo)
       (and_parts (length m.entry_points.items == length info.entry_points.items)
       (list_all (λ p. entry_point_size_fits p.0 p.1) (zip m.entry_points.items info.entry_points.items))
       entry_points).1) front.0 g front.1) (λ own. own_sized own.0 g own.1)
-      (in_row (function_groups entries info.entry_points.items) (own_group ∷ []) back.0 g back.1))
-      (in_row (function_groups m.functions info.functions.items) (further_groups_of m info) n g at)
+      (in_joined (function_groups entries info.entry_points.items) (own_group ∷ []) back.0 g back.1))
+      (in_joined (function_groups m.functions info.functions.items) (further_groups_of m info) n g at)
 
   -- an operator that does not agree is told with a use
   pub disagreement_told : (at : FaultPosition) → OperatorFails m info at →

@@ -50,7 +50,7 @@ use Rattle.module_semantics.specs.acceptance.StatementsFit.{are_passed, calls, i
 use Rattle.module_semantics.specs.acceptance.StatementsFit.{is_atomic_result, is_call, is_condition}
 use Rattle.module_semantics.specs.acceptance.StatementsFit.{is_result, is_result_if, is_result_of}
 use Rattle.module_semantics.specs.acceptance.StatementsFit.{simple_is_sound}
-use Rattle.module_semantics.proofs.Lists.{list_all_at, placed_at}
+use Rattle.module_semantics.proofs.Lists.{list_all_at, numbered_at}
 use Rattle.naga_acceptance.specs.Faults.{FunctionPositionFails, UnfitStatement}
 use Rattle.naga_acceptance.specs.TextOrder.{is_in_range, is_sound, case_values_fit_32_bits}
 use Rattle.naga_acceptance.specs.TextOrder.{own_in_range, own_is_sound, text_order}
@@ -399,10 +399,10 @@ initialiser_told types known n within ty (Some h) below fails =
 
 -- ---- functions
 
-pub placed : {X : Type 0} (test : ℕ → X → Bool) (xs : List X) (h : ℕ) (x : X) →
+pub numbered_here : {X : Type 0} (test : ℕ → X → Bool) (xs : List X) (h : ℕ) (x : X) →
     list_all (λ p. test p.0 p.1) (enumerate_from 0 xs) ≡ true → slice_get xs h ≡ Some x → test h x ≡ true
-placed test xs h x all at = let is : 0 + h ≡ h = omega arith in sym (ap (λ k. test k x) is)
-    ∙ placed_at test 0 xs h x all at
+numbered_here test xs h x all at = let is : 0 + h ≡ h = omega arith in sym (ap (λ k. test k x) is)
+    ∙ numbered_at test 0 xs h x all at
 
 module _ (m : Module) (f : Function) (known : List TypeResolution) (callees : ℕ) (within : callees ≤ length m.functions)
     (sized : length f.expressions ≡ length known) (range : function_in_range m callees f ≡ true)
@@ -435,7 +435,7 @@ module _ (m : Module) (f : Function) (known : List TypeResolution) (callees : �
       (all_below h (expression_operands e) ≡ true)
       × (names_in_range m (length f.arguments.items) (length f.local_variables) e ≡ true)
   expression_ranges h e at =
-      let fits = placed (expression_in_range m (length f.arguments.items) (length f.local_variables))
+      let fits = numbered_here (expression_in_range m (length f.arguments.items) (length f.local_variables))
       f.expressions h e parts_in_range.1 at in
       and_parts (all_below h (expression_operands e))
       (names_in_range m (length f.arguments.items) (length f.local_variables) e) fits

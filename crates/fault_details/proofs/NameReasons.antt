@@ -328,9 +328,9 @@ module _ (m : Module) (f : Function) (known : List TypeResolution) (callees : �
   expression_told h fault.OperandTypes of fails = absurd of
   expression_told h _ of fails = absurd fails
 
-  placed_told : (number : ℕ) (kind : Fault) → IsOfNames kind →
+  own_statement_told : (number : ℕ) (kind : Fault) → IsOfNames kind →
       FunctionPositionFails m callees f known (part.Statement number) kind → Told kind (part.Statement number)
-  placed_told number fault.Names of (k, is, unfit) =
+  own_statement_told number fault.Names of (k, is, unfit) =
       let s = unfit_item (is_in_range callees (length f.expressions)) (text_order f.body) k unfit in
       let small : k < length (text_order f.body) = slice_get_within (text_order f.body) k s.0 s.1 in
       let own : k % 2 ^ 64 ≡ k = omega (arith, small, few) in
@@ -338,15 +338,15 @@ module _ (m : Module) (f : Function) (known : List TypeResolution) (callees : �
       s.0 (ap (slice_get (text_order f.body)) (is ∙ own) ∙ s.1)
       (statement_told m callees (length f.expressions) s.0.tree
       (list_all_at (λ s. case_numbers_fit s.tree) (text_order f.body) k s.0 fit.statements s.1) s.2)
-  placed_told number fault.Unsatisfied of fails = absurd of
-  placed_told number _ of fails = absurd fails
+  own_statement_told number fault.Unsatisfied of fails = absurd of
+  own_statement_told number _ of fails = absurd fails
 
   part_of_told : (position : FunctionPosition) (kind : Fault) → IsOfNames kind →
       FunctionPositionFails m callees f known position kind → Told kind position
   part_of_told part.Whole kind of fails = whole_told kind of fails
   part_of_told (part.Local h) kind of fails = local_told h kind of fails
   part_of_told (part.Expression h) kind of fails = expression_told h kind of fails
-  part_of_told (part.Statement number) kind of fails = placed_told number kind of fails
+  part_of_told (part.Statement number) kind of fails = own_statement_told number kind of fails
 
 -- ---- items
 

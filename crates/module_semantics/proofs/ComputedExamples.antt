@@ -19,7 +19,7 @@ use Rattle.module_semantics.specs.ExpressionContexts.{declared}
 use Rattle.module_semantics.specs.ExpressionShapes.{shape_of}
 use Rattle.module_semantics.specs.ModuleShapes.{module_shape}
 use Rattle.shader_runs.specs.Program as shapes
-use Rattle.shader_runs.specs.Program.{ConstantTree, Constructed, Fixed, Indexing, Joining}
+use Rattle.shader_runs.specs.Program.{ConstantTree, Composed, Fixed, Indexing, Joining}
 use Rattle.shader_runs.specs.Program.{Picking, constant, no_constant}
 use Rattle.shader_runs.specs.Value.{BooleanType, IntegerType, MemberNamed, OtherType, ShortCircuitOr}
 use Rattle.shader_runs.specs.Value.{Truth, ValueType, Whole}
@@ -72,20 +72,20 @@ module _ (other : Module) (info : ModuleInfo) (label : String Global) where
   literal_one = Fixed (Whole (codes "i32") (pos 1))
 
   abbrev sum : ConstantTree
-  sum = Constructed (codes "+") i32 (constant literal_one (constant literal_one no_constant))
+  sum = Composed (codes "+") i32 (constant literal_one (constant literal_one no_constant))
 
   abbrev splat : ConstantTree
   splat =
-      Constructed (codes "vec2") (OtherType (codes "vec2<i32>")) (constant literal_one no_constant)
+      Composed (codes "vec2") (OtherType (codes "vec2<i32>")) (constant literal_one no_constant)
 
   -- a sum, which is negated by way of a constant without a name; an `||`; the part of a vector at a
   -- known index, and the one at a computed index; and the zero value of `bool`, for a variable's
   -- name
   initialisers : (module_shape m told).initialisers ≡
-      Constructed (codes "-") i32 (constant sum no_constant) ∷
+      Composed (codes "-") i32 (constant sum no_constant) ∷
       Joining ShortCircuitOr BooleanType (Fixed (Truth true)) (Fixed (Truth true)) ∷
       Picking (MemberNamed (codes "y")) i32 splat ∷ Indexing i32 splat literal_one ∷
-      Constructed (codes "bool") BooleanType no_constant ∷ []
+      Composed (codes "bool") BooleanType no_constant ∷ []
   unfolding type_segments
   initialisers = refl
 

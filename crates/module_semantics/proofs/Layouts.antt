@@ -21,7 +21,7 @@ use Rattle.module_semantics.specs.acceptance.Ranges.{declarations_in_range, modu
 use Rattle.module_semantics.specs.acceptance.Ranges.{module_ranges_fit, parts_before}
 use Rattle.module_semantics.specs.acceptance.Ranges.{parts_stand_before, types_in_range}
 use Rattle.module_semantics.specs.Undeclared.{is_undeclared}
-use Rattle.module_semantics.proofs.Lists.{placed_at}
+use Rattle.module_semantics.proofs.Lists.{numbered_at}
 
 -- ---- order
 -- what a type is laid out over is a part of it
@@ -36,7 +36,7 @@ stand_in_order types stand h t at =
     let from : 0 + h ≡ h = omega arith in
     laid_before h t.inner
     (sym (ap (λ k. parts_before k t.inner) from)
-    ∙ placed_at (λ here t. parts_before here t.inner) 0 types h t stand at)
+    ∙ numbered_at (λ here t. parts_before here t.inner) 0 types h t stand at)
 
 -- ---- rules
 -- marks that say what the module's special types say give its rule

@@ -23,25 +23,25 @@ all_pass test (x ∷ xs) at =
     (all_pass test xs (λ i y is. at (suc i) y is))
 
 -- the item at a handle passes, where each passes with its handle
-pub placed_at : {X : Type 0} (test : ℕ → X → Bool) (n : ℕ) (xs : List X) (h : ℕ) (x : X) →
+pub numbered_at : {X : Type 0} (test : ℕ → X → Bool) (n : ℕ) (xs : List X) (h : ℕ) (x : X) →
     list_all (λ p. test p.0 p.1) (enumerate_from n xs) ≡ true → slice_get xs h ≡ Some x → test (n + h) x ≡ true
-placed_at test n [] h x all here = absurd cc
-placed_at test n (y ∷ xs) zero x all here =
+numbered_at test n [] h x all here = absurd cc
+numbered_at test n (y ∷ xs) zero x all here =
     let same : x ≡ y = cc
     in let at : n + 0 ≡ n = omega arith
     in (λ i. test (at i) (same i))
     ∙ (and_parts (test n y) (list_all (λ p. test p.0 p.1) (enumerate_from (n + 1) xs)) all).0
-placed_at test n (y ∷ xs) (suc h) x all here =
+numbered_at test n (y ∷ xs) (suc h) x all here =
     let at : n + suc h ≡ (n + 1) + h = omega arith
-    in ap (λ k. test k x) at ∙ placed_at test (n + 1) xs h x
+    in ap (λ k. test k x) at ∙ numbered_at test (n + 1) xs h x
     (and_parts (test n y) (list_all (λ p. test p.0 p.1) (enumerate_from (n + 1) xs)) all).1 here
 
 -- what stands in two lists in a row stands in one of them
-pub in_row : {X : Type 0} (xs ys : List X) (i : ℕ) (x : X) → slice_get (xs ++ ys) i ≡ Some x →
+pub in_joined : {X : Type 0} (xs ys : List X) (i : ℕ) (x : X) → slice_get (xs ++ ys) i ≡ Some x →
     ((k : ℕ) × (slice_get xs k ≡ Some x)) ⊎ ((k : ℕ) × (slice_get ys k ≡ Some x))
-in_row [] ys i x there = inr (i, there)
-in_row (y ∷ xs) ys zero x there = inl (0, there)
-in_row (y ∷ xs) ys (suc i) x there = go (in_row xs ys i x there)
+in_joined [] ys i x there = inr (i, there)
+in_joined (y ∷ xs) ys zero x there = inl (0, there)
+in_joined (y ∷ xs) ys (suc i) x there = go (in_joined xs ys i x there)
   where
     go : ((k : ℕ) × (slice_get xs k ≡ Some x)) ⊎ ((k : ℕ) × (slice_get ys k ≡ Some x)) →
         ((k : ℕ) × (slice_get (y ∷ xs) k ≡ Some x)) ⊎ ((k : ℕ) × (slice_get ys k ≡ Some x))

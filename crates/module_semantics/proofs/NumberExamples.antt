@@ -81,11 +81,11 @@ array_length-of_33_bits = refl
 stride-of_33_bits : resolution_in_range 0 1 (Value (inner.Array 0 greatest (2 ^ 32))) ≡ false
 stride-of_33_bits = refl
 
-binding_length : resolution_in_range 0 1 (Value (inner.BindingArray 0 greatest)) ≡ true
-binding_length = refl
+binding_array_length : resolution_in_range 0 1 (Value (inner.BindingArray 0 greatest)) ≡ true
+binding_array_length = refl
 
-binding_length-of_33_bits : resolution_in_range 0 1 (Value (inner.BindingArray 0 too_great)) ≡ false
-binding_length-of_33_bits = refl
+binding_array_length-of_33_bits : resolution_in_range 0 1 (Value (inner.BindingArray 0 too_great)) ≡ false
+binding_array_length-of_33_bits = refl
 
 declared_length : types_in_range 0 (record { name = None; inner = inner.Sampler false }
     ∷ record { name = None; inner = inner.Array 0 greatest 4 } ∷ []) ≡ true

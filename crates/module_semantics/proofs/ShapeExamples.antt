@@ -37,7 +37,7 @@ use Rattle.module_semantics.specs.ExpressionShapes.{ModuleDeclarations, shape_of
 use Rattle.module_semantics.specs.OperatorTable.{run_word}
 use Rattle.module_semantics.specs.StatementShapes.{simple_shape}
 use Rattle.module_semantics.specs.TypeIdentity.{identity, identity_code}
-use Rattle.shader_runs.specs.Program.{Fixed, NamedConstant, Constructed, no_constant, constant}
+use Rattle.shader_runs.specs.Program.{Fixed, NamedConstant, Composed, no_constant, constant}
 use Rattle.shader_runs.specs.Program.{Load, Operator, AccessIndex, Swizzle}
 use Rattle.shader_runs.specs.Program.{Request, Act, Asked, Called, Barrier}
 use Rattle.shader_runs.specs.Value.{MemberNamed, ElementAt, OtherType, Whole, Opaque}
@@ -149,7 +149,7 @@ module _ (members : Vec StructMember Global) where
       (expression.ImageSample 7 8 None 1 None (Some 1) level.Zero None false) ≡ Request
       (codes "textureSampleLevel") (7 ∷ 8 ∷ 1 ∷ [])
       (constant (Fixed (Opaque (codes "f32") 0))
-      (constant (Constructed (codes "vec2") (OtherType (codes "T"))
+      (constant (Composed (codes "vec2") (OtherType (codes "T"))
       (constant (Fixed (Whole (codes "i32") (pos 1))) no_constant)) no_constant))
   sampled_at_zero = refl
 

@@ -20,7 +20,7 @@ use Rattle.module_semantics.specs.Names.{module_names, name_in}
 use Rattle.module_semantics.specs.OperatorTable.{if_there, run_word}
 use Rattle.module_semantics.specs.TypeIdentity.{identity, identity_code}
 use Rattle.module_semantics.specs.Types.{called_spelling, type_of_values}
-use Rattle.shader_runs.specs.Program.{Constructed, ConstantTree, NamedConstant, no_constant}
+use Rattle.shader_runs.specs.Program.{Composed, ConstantTree, NamedConstant, no_constant}
 
 -- ---- types
 -- operators are called by types under the module's names; a type without a form, or a struct that
@@ -75,7 +75,7 @@ global_types_known info h = slice_get info.const_expression_types.items h
 -- below, a typed meaning gives it a value of the type too, though no expression may spell it.
 abbrev pub zero_of_type : Module → (ty : ℕ) → ConstantTree
 zero_of_type m ty =
-    Constructed (run_word (constructor (expression_context m (λ h. None)) (Handle ty) 0))
+    Composed (run_word (constructor (expression_context m (λ h. None)) (Handle ty) 0))
     (type_of_values m (Handle ty)) no_constant
 
 -- A constant over the trees of the module's own expressions: by its number, or without a name by

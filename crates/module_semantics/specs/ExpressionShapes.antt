@@ -31,7 +31,7 @@ use Rattle.module_semantics.specs.Shapes.{operator_shape}
 use Rattle.module_semantics.specs.TypeIdentity.{component_count}
 use Rattle.shader_runs.specs.Value.{Selector, MemberNamed, ElementAt, ValueType, PointerType}
 use Rattle.shader_runs.specs.Value.{Truth, Opaque, ShortCircuit, ShortCircuitAnd, ShortCircuitOr}
-use Rattle.shader_runs.specs.Program.{ConstantTree, Fixed, Constructed, ConstantTrees, no_constant}
+use Rattle.shader_runs.specs.Program.{ConstantTree, Fixed, Composed, ConstantTrees, no_constant}
 use Rattle.shader_runs.specs.Program.{Indexing, Picking, Joining}
 use Rattle.shader_runs.specs.Program.{constant, Expression, Constant, Argument, Local, Global, Load}
 use Rattle.shader_runs.specs.Program.{Access, AccessIndex, Swizzle, Request}
@@ -70,7 +70,7 @@ trees_of tree_of (h ∷ hs) = tree_then (tree_of h) (trees_of tree_of hs)
 -- a value of a type from parts; the type is that known of the expression with this handle
 abbrev pub built : ModuleDeclarations → ℕ → TableOperator → List ConstantTree → Option ConstantTree
 built d h operator ts =
-    option_map (λ r. Constructed (run_word operator) (d.value_type r) (trees ts))
+    option_map (λ r. Composed (run_word operator) (d.value_type r) (trees ts))
     (d.context.known h)
 
 -- An expression that is written out as a constant, over the trees of its operands: a literal, a

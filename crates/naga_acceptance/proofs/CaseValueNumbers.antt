@@ -277,16 +277,16 @@ marked_more ns marks index cell here within before k less =
 -- ---- the first numbers, sorted, and those after
 
 -- there are no numbers of no cases
-pub shares_nothing : (ms : List ℕ) (cs : List SwitchCase) → (length cs == 0) ≡ true →
+pub nothing_common : (ms : List ℕ) (cs : List SwitchCase) → (length cs == 0) ≡ true →
     false ≡ has_common ms (numbers_of (cases_of cs))
-shares_nothing ms [] e = refl
-shares_nothing ms (c ∷ cs) e =
+nothing_common ms [] e = refl
+nothing_common ms (c ∷ cs) e =
     let none = eqb-true (length (c ∷ cs)) 0 e in absurd (omega (arith, none))
 
-shares_one : (ms ns : List ℕ) → has_common ms ns ≡ true →
+one_common : (ms ns : List ℕ) → has_common ms ns ≡ true →
     (a : ℕ) × (0 < times a ms) × (0 < times a ns)
-shares_one ms [] e = absurd (cc)
-shares_one ms (n ∷ ns) e = by (or_cases _ _ e) (shares_one ms ns)
+one_common ms [] e = absurd (cc)
+one_common ms (n ∷ ns) e = by (or_cases _ _ e) (one_common ms ns)
   where
     by : (nat_lt 0 (times n ms) ≡ true) ⊎ (has_common ms ns ≡ true) →
         (has_common ms ns ≡ true → (a : ℕ) × (0 < times a ms) × (0 < times a ns)) →
@@ -297,10 +297,10 @@ shares_one ms (n ∷ ns) e = by (or_cases _ _ e) (shares_one ms ns)
         let rest = further later
         in (rest.0, rest.1, omega (arith, rest.2, times_more rest.0 n ns))
 
-shares_none : (ms ns : List ℕ) (a : ℕ) → has_common ms ns ≡ false → 0 < times a ms → times a ns ≡ 0
-shares_none ms [] a e among = refl
-shares_none ms (n ∷ ns) a e among =
-    by (cases_eq n a) (shares_none ms ns a (or_parts _ _ e).1 among)
+none_common : (ms ns : List ℕ) (a : ℕ) → has_common ms ns ≡ false → 0 < times a ms → times a ns ≡ 0
+none_common ms [] a e among = refl
+none_common ms (n ∷ ns) a e among =
+    by (cases_eq n a) (none_common ms ns a (or_parts _ _ e).1 among)
   where
     by : (n ≡ a) ⊎ (n ≡ a → ⊥) → times a ns ≡ 0 → times a (n ∷ ns) ≡ 0
     by (inl same) rest =
@@ -314,7 +314,7 @@ sorted_once : (ms sorted ns : List ℕ) → IsPermutation ms sorted → IsNonDec
 sorted_once ms sorted ns moved rise apart none a among =
     let same = times_moved a ms sorted moved in
     let once = rise_once sorted a rise apart in
-    let gone = shares_none sorted ns a none (omega (arith, same, among))
+    let gone = none_common sorted ns a none (omega (arith, same, among))
     in omega (arith, same, once, gone, among)
 
 sorted_twice : (xs ys : List SwitchCase) (sorted : List ℕ) →
@@ -324,23 +324,23 @@ sorted_twice xs ys sorted moved twice =
     let same = times_moved twice.0 (numbers_of (cases_of xs)) sorted moved
     in twice_joined twice.0 xs ys (omega (arith, twice.1, same))
 
-sorted_shared : (xs ys : List SwitchCase) (sorted : List ℕ) →
+sorted_common : (xs ys : List SwitchCase) (sorted : List ℕ) →
     IsPermutation (numbers_of (cases_of xs)) sorted →
     has_common sorted (numbers_of (cases_of ys)) ≡ true →
     case_values_differ (cases_of (xs ++ ys)) ≡ false
-sorted_shared xs ys sorted moved shared =
-    let one = shares_one sorted (numbers_of (cases_of ys)) shared in
+sorted_common xs ys sorted moved shared =
+    let one = one_common sorted (numbers_of (cases_of ys)) shared in
     let same = times_moved one.0 (numbers_of (cases_of xs)) sorted moved
     in twice_joined one.0 xs ys (omega (arith, one.1, one.2, same))
 
 -- what is told where no number stands beside itself
-pub shares_decided : (xs ys : List SwitchCase) (sorted : List ℕ) (b : Bool) →
+pub common_decided : (xs ys : List SwitchCase) (sorted : List ℕ) (b : Bool) →
     IsPermutation (numbers_of (cases_of xs)) sorted → IsNonDecreasing sorted → AreApart sorted →
     b ≡ has_common sorted (numbers_of (cases_of ys)) →
     MatchBool (not b) (AreOnce (numbers_of (cases_of xs)) (numbers_of (cases_of ys)))
     (case_values_differ (cases_of (xs ++ ys)) ≡ false)
-shares_decided xs ys sorted true moved rise apart e = sorted_shared xs ys sorted moved (sym e)
-shares_decided xs ys sorted false moved rise apart e =
+common_decided xs ys sorted true moved rise apart e = sorted_common xs ys sorted moved (sym e)
+common_decided xs ys sorted false moved rise apart e =
     sorted_once (numbers_of (cases_of xs)) sorted (numbers_of (cases_of ys)) moved rise apart
     (sym e)
 

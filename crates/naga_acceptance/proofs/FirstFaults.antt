@@ -272,22 +272,22 @@ module _ (m : Module) (info : ModuleInfo) where
       (at item.Module fault.SpecialTypes) (λ fails. fails)
       (λ _. items_range))
 
-  part_placed : (h : ℕ) (f : Function) → slice_get m.functions h ≡ Some f → (kind : Fault) (p : FunctionPosition) →
+  function_fails : (h : ℕ) (f : Function) → slice_get m.functions h ≡ Some f → (kind : Fault) (p : FunctionPosition) →
       FunctionPositionFails m h f (known_of info.functions.items h) p kind → Fails m info (at (item.Function h p) kind)
-  part_placed h f here fault.Disagreement part.Whole fails = absurd fails
-  part_placed h f here fault.Disagreement (part.Local l) fails = absurd fails
-  part_placed h f here fault.Disagreement (part.Expression e) fails = absurd fails
-  part_placed h f here fault.Disagreement (part.Statement n) fails = absurd fails
-  part_placed h f here _ p fails = (f, here, fails)
+  function_fails h f here fault.Disagreement part.Whole fails = absurd fails
+  function_fails h f here fault.Disagreement (part.Local l) fails = absurd fails
+  function_fails h f here fault.Disagreement (part.Expression e) fails = absurd fails
+  function_fails h f here fault.Disagreement (part.Statement n) fails = absurd fails
+  function_fails h f here _ p fails = (f, here, fails)
 
-  entry_placed : (h : ℕ) (p : EntryPoint) → slice_get m.entry_points.items h ≡ Some p →
+  entry_point_fails : (h : ℕ) (p : EntryPoint) → slice_get m.entry_points.items h ≡ Some p →
       (kind : Fault) (q : FunctionPosition) →
       EntryPositionFails m p (known_of info.entry_points.items h) q kind → Fails m info (at (item.EntryPoint h q) kind)
-  entry_placed h p here fault.Disagreement part.Whole fails = absurd fails
-  entry_placed h p here fault.Disagreement (part.Local l) fails = absurd fails
-  entry_placed h p here fault.Disagreement (part.Expression e) fails = absurd fails
-  entry_placed h p here fault.Disagreement (part.Statement n) fails = absurd fails
-  entry_placed h p here _ q fails = (p, here, fails)
+  entry_point_fails h p here fault.Disagreement part.Whole fails = absurd fails
+  entry_point_fails h p here fault.Disagreement (part.Local l) fails = absurd fails
+  entry_point_fails h p here fault.Disagreement (part.Expression e) fails = absurd fails
+  entry_point_fails h p here fault.Disagreement (part.Statement n) fails = absurd fails
+  entry_point_fails h p here _ q fails = (p, here, fails)
 
   entry_part : (p : EntryPoint) (known : List TypeResolution) (q : FunctionPosition) (kind : Fault) →
       FunctionPositionFails m (length m.functions) p.function known q kind →
@@ -300,7 +300,7 @@ module _ (m : Module) (info : ModuleInfo) where
   functions_range =
       finds_map (λ found. at_function found.0 found.1) _
       (finds_weaker (first_faulty (function_range_fault m) (enumerate_from 0 m.functions))
-      (λ found at. part_placed found.0 at.0 at.1 found.1.1 found.1.0 at.2)
+      (λ found at. function_fails found.0 at.0 at.1 found.1.1 found.1.0 at.2)
       (finds_faulty (λ h f found. FunctionPositionFails m h f (known_of info.functions.items h) found.0
       found.1)
       (function_in_range m) (function_range_fault m) m.functions
@@ -330,7 +330,7 @@ module _ (m : Module) (info : ModuleInfo) where
   entry_points_range =
       finds_map (λ found. at_entry_point found.0 found.1) _
       (finds_weaker (first_faulty (λ _. entry_point_range_fault m) (enumerate_from 0 m.entry_points.items))
-      (λ found at. entry_placed found.0 at.0 at.1 found.1.1 found.1.0 at.2)
+      (λ found at. entry_point_fails found.0 at.0 at.1 found.1.1 found.1.0 at.2)
       (finds_plain_faulty (λ h p found. EntryPositionFails m p (known_of info.entry_points.items h) found.0 found.1)
       (entry_point_in_range m) (λ _. entry_point_range_fault m) m.entry_points.items
       (λ h p here. entry_range p (known_of info.entry_points.items h))))
@@ -546,7 +546,7 @@ module _ (m : Module) (info : ModuleInfo) where
           Fails m info (at_function found.0 found.1)
       placed found at =
           let both = zip_parts m.functions info.functions.items found.0 at.0 at.1
-          in part_placed found.0 at.0.0 both.0 found.1.1 found.1.0
+          in function_fails found.0 at.0.0 both.0 found.1.1 found.1.0
           (subst (λ known. FunctionPositionFails m found.0 at.0.0 known found.1.0 found.1.1)
           (sym (known_is info.functions.items found.0 at.0.1 both.1)) at.2)
 
@@ -571,7 +571,7 @@ module _ (m : Module) (info : ModuleInfo) where
           Fails m info (at_entry_point found.0 found.1)
       placed found at =
           let both = zip_parts m.entry_points.items info.entry_points.items found.0 at.0 at.1
-          in entry_placed found.0 at.0.0 both.0 found.1.1 found.1.0
+          in entry_point_fails found.0 at.0.0 both.0 found.1.1 found.1.0
           (entry_part at.0.0 (known_of info.entry_points.items found.0) found.1.0 found.1.1
           (subst (λ known. FunctionPositionFails m (length m.functions) at.0.0.function known found.1.0
           found.1.1) (sym (known_is info.entry_points.items found.0 at.0.1 both.1)) at.2))

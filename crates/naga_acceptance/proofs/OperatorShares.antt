@@ -80,9 +80,9 @@ filtered_pass test p (x ∷ os) each =
     by_first rest false e = ap (λ b. list_all test (cond b (x ∷ filter p os) (filter p os))) e ∙ rest
 
 -- the first passes: it agrees with all after it that pass
-head_agrees : (p : Operation → Bool) (x : Operation) (os : List Operation) →
+first_agrees : (p : Operation → Bool) (x : Operation) (os : List Operation) →
     all_agree (filter p (x ∷ os)) ≡ true → p x ≡ true → list_all (agrees x) (filter p os) ≡ true
-head_agrees p x os all e =
+first_agrees p x os all e =
     (and_parts (list_all (agrees x) (filter p os)) (all_agree (filter p os))
     (sym (ap (λ b. all_agree (cond b (x ∷ filter p os) (filter p os))) e) ∙ all)).0
 
@@ -114,13 +114,13 @@ covered_agree r p q covered (x ∷ os) one two =
   where
     following_one : p x ≡ true → (v : Operation) (i : ℕ) → slice_get os i ≡ Some v →
         (p v ≡ true) ⊎ (q v ≡ true) → agrees x v ≡ true
-    following_one e v i here (inl own) = filtered_at (agrees x) p os (head_agrees p x os one e) i v here own
+    following_one e v i here (inl own) = filtered_at (agrees x) p os (first_agrees p x os one e) i v here own
     following_one e v i here (inr other) = covered.first x v e other
 
     after_two : q x ≡ true → (v : Operation) (i : ℕ) → slice_get os i ≡ Some v →
         (p v ≡ true) ⊎ (q v ≡ true) → agrees x v ≡ true
     after_two e v i here (inl other) = covered.second x v e other
-    after_two e v i here (inr own) = filtered_at (agrees x) q os (head_agrees q x os two e) i v here own
+    after_two e v i here (inr own) = filtered_at (agrees x) q os (first_agrees q x os two e) i v here own
 
     following : (p x ≡ true) ⊎ (q x ≡ true) → list_all (agrees x) (filter r os) ≡ true
     following (inl e) =

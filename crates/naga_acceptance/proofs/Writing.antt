@@ -60,8 +60,8 @@ IsFilled-kept target initial xs i d h w is =
     }
 
 -- what a slice of a whole vector leaves after it
-pub take_written_back : {X : Type 0} (n : ℕ) (xs ys : List X) → length xs ≡ length ys → length xs ≤ n →
+pub take_put_back : {X : Type 0} (n : ℕ) (xs ys : List X) → length xs ≡ length ys → length xs ≤ n →
     take n (xs ++ drop (length xs) ys) ≡ xs
-take_written_back n xs ys same h =
+take_put_back n xs ys same h =
     let past : length ys ≤ length xs = omega (arith, same)
     in rw (drop_all (length xs) ys past, append-nil xs) (take_all n xs h)

@@ -107,7 +107,7 @@ fn any_among(numbers: &[u64], marks: &[bool], cases: &[SwitchCase]) -> bool
 
 /// The same, by marks of its own. Their table stays out of the frame of its caller.
 #[inline(never)]
-fn shares_by_marks(numbers: &[u64], cases: &[SwitchCase]) -> bool
+fn common_by_marks(numbers: &[u64], cases: &[SwitchCase]) -> bool
     requires { IsNonDecreasing numbers.now }
     ensures { result ≡ has_common numbers.now (numbers_of (cases_of cases.now)) }
 {
@@ -124,7 +124,7 @@ fn has_common(numbers: &[u64], cases: &[SwitchCase]) -> bool
     if cases.is_empty() {
         return false;
     }
-    shares_by_marks(numbers, cases)
+    common_by_marks(numbers, cases)
 }
 
 /// Whether the first case values differ from one another and from those after them. Its table stays

@@ -21,14 +21,14 @@ found_following w is_first xs =
     if is_first then Some 0 else option_map (λ i. suc i) (index_among w xs)
 
 -- a word that stands at one index alone is found there
-pub place_found : (w : List ℕ) (xs : List (List ℕ)) (i : ℕ) → slice_get xs i ≡ Some w →
+pub index_found : (w : List ℕ) (xs : List (List ℕ)) (i : ℕ) → slice_get xs i ≡ Some w →
     ((j : ℕ) → slice_get xs j ≡ Some w → j ≡ i) → index_among w xs ≡ Some i
-place_found w [] i at one = absurd cc
-place_found w (x ∷ xs) zero at one =
+index_found w [] i at one = absurd cc
+index_found w (x ∷ xs) zero at one =
     ap (λ b. found_following w b xs) ((bytes_eq-Decides w x).1 (sym (same_Some x w at)))
-place_found w (x ∷ xs) (suc i) at one =
+index_found w (x ∷ xs) (suc i) at one =
     ap (λ b. found_following w b xs) (false_from_ne_true (bytes_eq w x) no_first)
-    ∙ ap (option_map (λ i. suc i)) (place_found w xs i at before)
+    ∙ ap (option_map (λ i. suc i)) (index_found w xs i at before)
   where
     no_first : bytes_eq w x ≡ true → ⊥
     no_first e =
@@ -38,13 +38,13 @@ place_found w (x ∷ xs) (suc i) at one =
     before j there = let same = one (suc j) there in omega (arith, same)
 
 -- and one that stands nowhere is not
-pub place_none : (w : List ℕ) (xs : List (List ℕ)) →
+pub index_none : (w : List ℕ) (xs : List (List ℕ)) →
     ((j : ℕ) → slice_get xs j ≡ Some w → ⊥) → index_among w xs ≡ None
-place_none w [] none = refl
-place_none w (x ∷ xs) none =
+index_none w [] none = refl
+index_none w (x ∷ xs) none =
     ap (λ b. found_following w b xs)
     (false_from_ne_true (bytes_eq w x) (λ e. none 0 (ap Some (sym ((bytes_eq-Decides w x).0 e)))))
-    ∙ ap (option_map (λ i. suc i)) (place_none w xs (λ j there. none (suc j) there))
+    ∙ ap (option_map (λ i. suc i)) (index_none w xs (λ j there. none (suc j) there))
 
 -- ---- items with their numbers
 module _ {X : Type 0} where

@@ -4,7 +4,7 @@ ghost use Rattle.naga_form.specs.Laws.{TextOfAHandle, TextOfAnInner, TextIsKnown
 ghost use Rattle.naga_form.specs.Laws.{FormsAreTypes, FormsAreRead, AlikeItself, AlikeBack};
 ghost use Rattle.naga_form.specs.Laws.{AlikeThrough, AlikeButStride, AlikeByNumbers};
 
-use wgsl_text::{one_reading_of_a_type, text_of_appended};
+use wgsl_text::{one_reading_of_a_type, text_of_joined};
 
 /// Where a type has a form, its text under these names is its tree as printed, and no other
 /// text; and nothing of it is refused.
@@ -14,7 +14,7 @@ pub fn text_of_a_form()
     ensures only { TextIsKnown }
     ensures refused { RefusedIsUnknown }
 {
-    text_of_appended();
+    text_of_joined();
 }
 
 /// Where a type has a form and each struct and override has an identifier for a name, its tree is a

@@ -40,29 +40,29 @@ mutual
       gcons (gcons (value_coded.code v) (gcons (bool_coded.code falls) (block_code b)))
       (cases_code cs)
 
-abbrev head : Gv → Gv
-head (gcons a b) = a
-head _ = gnil
+abbrev first_of : Gv → Gv
+first_of (gcons a b) = a
+first_of _ = gnil
 
-abbrev tail : Gv → Gv
-tail (gcons a b) = b
-tail _ = gnil
+abbrev rest_of : Gv → Gv
+rest_of (gcons a b) = b
+rest_of _ = gnil
 
 mutual
   unfolding statement_code block_code cases_code
 
   statement_inj : (x y : StatementTree) → statement_code x ≡ statement_code y → x ≡ y
-  statement_inj (simple s) (simple t) e = ap simple (simple_coded.inj s t (ap tail e))
-  statement_inj (block b) (block d) e = ap block (block_inj b d (ap tail e))
+  statement_inj (simple s) (simple t) e = ap simple (simple_coded.inj s t (ap rest_of e))
+  statement_inj (block b) (block d) e = ap block (block_inj b d (ap rest_of e))
   statement_inj (branch c a r) (branch d b s) e =
-      λ i. branch (num (head (tail (e i)))) (block_inj a b (ap (λ g. head (tail (tail g))) e) i)
-      (block_inj r s (ap (λ g. tail (tail (tail g))) e) i)
+      λ i. branch (num (first_of (rest_of (e i)))) (block_inj a b (ap (λ g. first_of (rest_of (rest_of g))) e) i)
+      (block_inj r s (ap (λ g. rest_of (rest_of (rest_of g))) e) i)
   statement_inj (switch s cs) (switch t ds) e =
-      λ i. switch (num (head (tail (e i)))) (cases_inj cs ds (ap (λ g. tail (tail g)) e) i)
+      λ i. switch (num (first_of (rest_of (e i)))) (cases_inj cs ds (ap (λ g. rest_of (rest_of g)) e) i)
   statement_inj (loop b c x) (loop d f y) e =
-      λ i. loop (block_inj b d (ap (λ g. head (tail (tail g))) e) i)
-      (block_inj c f (ap (λ g. tail (tail (tail g))) e) i)
-      (option_coded.inj x y (ap (λ g. head (tail g)) e) i)
+      λ i. loop (block_inj b d (ap (λ g. first_of (rest_of (rest_of g))) e) i)
+      (block_inj c f (ap (λ g. rest_of (rest_of (rest_of g))) e) i)
+      (option_coded.inj x y (ap (λ g. first_of (rest_of g)) e) i)
   statement_inj (simple s) (block b) e = absurd cc
   statement_inj (simple s) (branch c a r) e = absurd cc
   statement_inj (simple s) (switch t cs) e = absurd cc
@@ -87,17 +87,17 @@ mutual
   block_inj : (x y : BlockTree) → block_code x ≡ block_code y → x ≡ y
   block_inj no_statements no_statements e = refl
   block_inj (statement s b) (statement t d) e =
-      λ i. statement (statement_inj s t (ap head e) i) (block_inj b d (ap tail e) i)
+      λ i. statement (statement_inj s t (ap first_of e) i) (block_inj b d (ap rest_of e) i)
   block_inj no_statements (statement s b) e = absurd cc
   block_inj (statement s b) no_statements e = absurd cc
 
   cases_inj : (x y : CaseTrees) → cases_code x ≡ cases_code y → x ≡ y
   cases_inj no_cases no_cases e = refl
   cases_inj (case v b falls cs) (case w d drops ds) e =
-      λ i. case (value_coded.inj v w (ap (λ g. head (head g)) e) i)
-      (block_inj b d (ap (λ g. tail (tail (head g))) e) i)
-      (bool_coded.inj falls drops (ap (λ g. head (tail (head g))) e) i)
-      (cases_inj cs ds (ap tail e) i)
+      λ i. case (value_coded.inj v w (ap (λ g. first_of (first_of g)) e) i)
+      (block_inj b d (ap (λ g. rest_of (rest_of (first_of g))) e) i)
+      (bool_coded.inj falls drops (ap (λ g. first_of (rest_of (first_of g))) e) i)
+      (cases_inj cs ds (ap rest_of e) i)
   cases_inj no_cases (case v b falls cs) e = absurd cc
   cases_inj (case v b falls cs) no_cases e = absurd cc
 

@@ -87,10 +87,10 @@ pointer_shows : (space : List ℕ) (access : Option (List ℕ)) (ps : List Segme
     shows (pointer_in space access ps) ≡ false
 pointer_shows space access ps none = shows_both ps (access_segments access) none (access_shows access)
 
-placed_shows : (space access : Option (List ℕ)) (ps : List Segment) → shows ps ≡ false →
+held_pointer_shows : (space access : Option (List ℕ)) (ps : List Segment) → shows ps ≡ false →
     shows (pointer_segments space access ps) ≡ false
-placed_shows None access ps none = none
-placed_shows (Some space) access ps none = pointer_shows space access ps none
+held_pointer_shows None access ps none = none
+held_pointer_shows (Some space) access ps none = pointer_shows space access ps none
 
 valued_shows : (space access : Option (List ℕ)) (ps : List Segment) → shows ps ≡ false →
     shows (value_pointer_segments true space access ps) ≡ false
@@ -123,7 +123,7 @@ module _ (n : Names) (knows : ℕ → Bool) where
       of_scalar (cooperative_word columns rows) s (matrix_role_tail role)
   inner_shows f none (inner.Atomic s) = of_scalar (codes "atomic") s (codes ">")
   inner_shows f none (inner.Pointer base space) =
-      placed_shows (space_word space) (space_access_word space) (f base) (none base)
+      held_pointer_shows (space_word space) (space_access_word space) (f base) (none base)
   inner_shows f none (inner.ValuePointer v s space) =
       valued_shows (space_word space) (space_access_word space) (value_segments true v s)
       (value_shows v s)

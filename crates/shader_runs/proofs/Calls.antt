@@ -10,7 +10,7 @@ use Rattle.std.specs.Prelude.{IsTrue}
 use Rattle.shader_runs.specs.Value.{Bytes, same_bytes, PartTypes, ValueType, has_types, Value}
 use Rattle.shader_runs.specs.World.{Event, Entry, entries, World, Meaning, Environment, bind}
 use Rattle.shader_runs.specs.Outcome.{Stuck, ReachedOrHalted, Gives, Halts, answer, reach}
-use Rattle.shader_runs.specs.Program.{ConstantTree, Fixed, NamedConstant, Constructed, Indexing}
+use Rattle.shader_runs.specs.Program.{ConstantTree, Fixed, NamedConstant, Composed, Indexing}
 use Rattle.shader_runs.specs.Program.{Picking, Joining, ConstantTrees, no_constant, constant}
 use Rattle.shader_runs.specs.Program.{Expression, Constant, Operator, Request, Function}
 use Rattle.shader_runs.specs.Program.{argument_count, local_count, function_numbered, expression_of}
@@ -187,7 +187,7 @@ module _ (p : Module) (f : Naming) (i : ℕ) where
     constant_before : (e : ConstantTree) → ConstantWords p f e → ConstantWords p (before f i) e
     constant_before (Fixed v) w = tt
     constant_before (NamedConstant k) w = tt
-    constant_before (Constructed word ty es) w = ((w.0.0, w.0.1, free_before word w.0.2), constants_before es w.1)
+    constant_before (Composed word ty es) w = ((w.0.0, w.0.1, free_before word w.0.2), constants_before es w.1)
     constant_before (Indexing ty b k) w = (constant_before b w.0, constant_before k w.1)
     constant_before (Picking x ty b) w = constant_before b w
     constant_before (Joining j ty l r) w = (constant_before l w.0, constant_before r w.1)

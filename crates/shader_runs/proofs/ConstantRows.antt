@@ -4,12 +4,12 @@ use Rattle.std.proofs.Common.{subst, arith}
 use Rattle.shader_runs.specs.Program.{ConstantTree}
 use Rattle.shader_runs.specs.Premises.{InitialiserFits, OperatesOutside}
 use Rattle.shader_runs.specs.ConstantRows.{pair_word, pair_module, pair_names, ConstantRowsHold}
-use Rattle.shader_runs.proofs.Rows.{heads}
+use Rattle.shader_runs.proofs.Rows.{first_bytes}
 use Rattle.std.proofs.lemmas.Option.{none-some, same_Some}
 
 -- one letter is another
 letters : (a b : ℕ) → (a ≡ b → ⊥) → a ∷ [] ≡ b ∷ [] → ⊥
-letters a b other e = other (heads a b [] [] e)
+letters a b other e = other (first_bytes a b [] [] e)
 
 distinct : (i k : ℕ) → i < 3 → k < 3 → pair_names.constant i ≡ pair_names.constant k → i ≡ k
 distinct zero zero li lk e = refl

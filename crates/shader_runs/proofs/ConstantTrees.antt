@@ -6,7 +6,7 @@ use Rattle.shader_runs.specs.Value.{Bytes, PartTypes, IntegerType, OtherType, ty
 use Rattle.shader_runs.specs.Value.{has_types, Value, Truth, Whole, Pointer, Opaque, Spelled}
 use Rattle.shader_runs.specs.Value.{Place, place_in, Selector, ShortCircuit, PartWord, IndexWord}
 use Rattle.shader_runs.specs.World.{Event, Meaning, World}
-use Rattle.shader_runs.specs.Program.{ConstantTree, Fixed, NamedConstant, Constructed, Indexing}
+use Rattle.shader_runs.specs.Program.{ConstantTree, Fixed, NamedConstant, Composed, Indexing}
 use Rattle.shader_runs.specs.Program.{Picking, Joining}
 use Rattle.shader_runs.specs.Program.{ConstantTrees, no_constant, constant, Module}
 use Rattle.shader_runs.specs.ProgramRun.{also, operator_value, tree_value, tree_values, decides}
@@ -32,7 +32,7 @@ mutual
       EachLeaf (λ v. Unit {0}) Q e → EachLeaf L (λ i. P i × Q i) e
   each_both L P Q (Fixed v) a b = a
   each_both L P Q (NamedConstant i) a b = (a, b)
-  each_both L P Q (Constructed w ty es) a b = each_both_of L P Q es a b
+  each_both L P Q (Composed w ty es) a b = each_both_of L P Q es a b
   each_both L P Q (Indexing ty e i) a b = (each_both L P Q e a.0 b.0, each_both L P Q i a.1 b.1)
   each_both L P Q (Picking x ty e) a b = each_both L P Q e a b
   each_both L P Q (Joining j ty l r) a b = (each_both L P Q l a.0 b.0, each_both L P Q r a.1 b.1)
@@ -56,7 +56,7 @@ module _ (parts : PartTypes) (p : Module) (known : ℕ → Option Value) (m : Me
         TypedValue parts (constant_type p e) (tree_value known m e)
     tree_typed (Fixed v) r t = (v, refl, literal_typed parts v r)
     tree_typed (NamedConstant i) r t = typed i r
-    tree_typed (Constructed w ty es) r t =
+    tree_typed (Composed w ty es) r t =
         let vs = trees_typed es r t.1 in
         (m (Spelled w) vs.0, ap (operator_value m (Spelled w)) vs.1, t.0 vs.0 vs.2)
     tree_typed (Indexing ty b i) r t =
@@ -103,7 +103,7 @@ module _ (known known' : ℕ → Option Value) (m : Meaning) (P : ℕ → Type 0
     pub tree_same : (e : ConstantTree) → EachLeaf IsLiteral P e → tree_value known m e ≡ tree_value known' m e
     tree_same (Fixed v) r = refl
     tree_same (NamedConstant i) r = same i r
-    tree_same (Constructed w ty es) r = ap (operator_value m (Spelled w)) (trees_same es r)
+    tree_same (Composed w ty es) r = ap (operator_value m (Spelled w)) (trees_same es r)
     tree_same (Indexing ty b i) r =
         ap₂ (λ o q. option_and_then (λ v. option_and_then (constant_index m v) q) o) (tree_same b r.0) (tree_same i r.1)
     tree_same (Picking x ty b) r = ap (option_and_then (constant_part m x)) (tree_same b r)
@@ -193,7 +193,7 @@ module _ (l : Words) (names : Scope) (n : ModuleNames) (known : ℕ → Option V
         evaluate l (constant_form n e) names t ≡ denoted (tree_value known l.meaning e) t
     tree_gives (Fixed v) w r t = refl
     tree_gives (NamedConstant i) w r t = ap (λ z. reach z t) (here i r)
-    tree_gives (Constructed word ty es) w r t =
+    tree_gives (Composed word ty es) w r t =
         ap (λ q. as_value (unless (names word) t (word_answer l word q))) (trees_give es w.1 r t)
         ∙ operates word w.0 (tree_values known l.meaning es) t
     tree_gives (Indexing ty b i) w r t =

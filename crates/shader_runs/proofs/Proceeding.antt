@@ -166,8 +166,9 @@ Typed c s kept = (h : ℕ) → IsTrue (is_present (s h)) → TypedValue c.enviro
     (kept h)
 
 -- a constant tree that wasn't emitted has its operands in scope
-abbrev pub AtOrigin : Call → Handles → Type 0
-AtOrigin c s = (h : ℕ) → s h ≡ Everywhere → IsTrue (usable_all c.function s (operands_of (expression_of c.function h)))
+abbrev pub ConstantsUsable : Call → Handles → Type 0
+ConstantsUsable c s = (h : ℕ) → s h ≡ Everywhere →
+    IsTrue (usable_all c.function s (operands_of (expression_of c.function h)))
 
 pub typed_less : (c : Call) (s s2 : Handles) (kept : EmittedValues) → Extends s s2 → Typed c s2 kept → Typed c s kept
 typed_less c s s2 kept x y h p = y h (x h p)

@@ -64,16 +64,17 @@ use Rattle.shader_runs.proofs.Proceeding.{Proceeds, Answered, weaker, then_proce
 use Rattle.shader_runs.proofs.Proceeding.{continue_proceeds, within_proceeds, turns_proceed}
 use Rattle.shader_runs.proofs.Proceeding.{switch_proceeds, answer_proceeds, pointer_there}
 use Rattle.shader_runs.proofs.Proceeding.{chosen_proceeds, integer_proceeds, pointer_proceeds}
-use Rattle.shader_runs.proofs.Proceeding.{typed_proceeds, Sound, Typed, AtOrigin, typed_less}
+use Rattle.shader_runs.proofs.Proceeding.{typed_proceeds, Sound, Typed, ConstantsUsable, typed_less}
 use Rattle.shader_runs.proofs.Proceeding.{typed_update, typed_forgotten, bound_everywhere}
 use Rattle.shader_runs.proofs.Proceeding.{unbound_everywhere, done, continued, broke, returns}
 use Rattle.shader_runs.proofs.Proceeding.{stops, used_proceeds}
 
 module _ (c : Call) (n : Names) where
-  rooted_update : (s : Handles) (h : ℕ) (st : Availability) →
-      (IsTrue (is_present (s h)) → IsTrue (is_present st)) → (st ≡ Everywhere → s h ≡ Everywhere) → AtOrigin c s →
-      AtOrigin c (update s h st)
-  rooted_update s h st i e r k =
+  constants_update : (s : Handles) (h : ℕ) (st : Availability) →
+      (IsTrue (is_present (s h)) → IsTrue (is_present st)) → (st ≡ Everywhere → s h ≡ Everywhere) →
+      ConstantsUsable c s →
+      ConstantsUsable c (update s h st)
+  constants_update s h st i e r k =
       update_cases (λ z. z ≡ Everywhere →
       IsTrue (usable_all c.function (update s h st) (operands_of (expression_of c.function k)))) s h st k
       (λ same q. more (ap s same ∙ e q)) (λ other q. more q)
@@ -84,44 +85,49 @@ module _ (c : Call) (n : Names) where
           usable_all_more c.function s (update s h st) (extends_update s h st i)
           (operands_of (expression_of c.function k)) (r k q)
 
-  rooted_one : (k h : ℕ) (s : Handles) → AtOrigin c s → AtOrigin c (after_one (naming c n) k h s)
-  rooted_one k h s r =
+  constants_one : (k h : ℕ) (s : Handles) → ConstantsUsable c s → ConstantsUsable c (after_one (naming c n) k h s)
+  constants_one k h s r =
       go (bound_name (naming c n) k h) (is_counted_as h) (is_pure (expression_of c.function h))
       (usable_all c.function s (operands_of (expression_of c.function h)))
     where
       is_counted_as : ℕ → Bool
       is_counted_as h = binds_as c.function h (expression_of c.function h)
 
-      go : (x : Bytes) (b o u : Bool) → AtOrigin c (with_emitted_handle b o u x s h)
-      go x true o u = rooted_update s h (Bound x) (λ p. refl) (λ e. absurd (bound_everywhere x e)) r
-      go x false true u = rooted_update s h (availability_without_name u (s h)) (unbound_present u (s h))
+      go : (x : Bytes) (b o u : Bool) → ConstantsUsable c (with_emitted_handle b o u x s h)
+      go x true o u = constants_update s h (Bound x) (λ p. refl) (λ e. absurd (bound_everywhere x e)) r
+      go x false true u = constants_update s h (availability_without_name u (s h)) (unbound_present u (s h))
           (unbound_everywhere u (s h)) r
       go x false false u = r
 
-  rooted_emit : (k : ℕ) (hs : List ℕ) (s : Handles) → AtOrigin c s → AtOrigin c (after_emit (naming c n) k hs s)
-  rooted_emit k [] s r = r
-  rooted_emit k (h ∷ hs) s r = rooted_emit (named_after c.function h k) hs (after_one (naming c n) k h s)
-      (rooted_one k h s r)
+  constants_emit : (k : ℕ) (hs : List ℕ) (s : Handles) → ConstantsUsable c s →
+      ConstantsUsable c (after_emit (naming c n) k hs s)
+  constants_emit k [] s r = r
+  constants_emit k (h ∷ hs) s r = constants_emit (named_after c.function h k) hs (after_one (naming c n) k h s)
+      (constants_one k h s r)
 
-  rooted_after : (k : ℕ) (st : Statement) (s : Handles) → AtOrigin c s → AtOrigin c (after (naming c n) k st s)
-  rooted_after k (Emit first count) s r = rooted_emit k (from first count) s r
-  rooted_after k (Act a xs None) s r = r
-  rooted_after k (Act a xs (Some h)) s r =
-      rooted_update s h (Bound (n.numbered h)) (λ p. refl) (λ e. absurd (bound_everywhere (n.numbered h) e)) r
-  rooted_after k _ s r = r
+  constants_after : (k : ℕ) (st : Statement) (s : Handles) → ConstantsUsable c s →
+      ConstantsUsable c (after (naming c n) k st s)
+  constants_after k (Emit first count) s r = constants_emit k (from first count) s r
+  constants_after k (Act a xs None) s r = r
+  constants_after k (Act a xs (Some h)) s r =
+      constants_update s h (Bound (n.numbered h)) (λ p. refl) (λ e. absurd (bound_everywhere (n.numbered h) e)) r
+  constants_after k _ s r = r
 
-  rooted_if : (b : Bool) (s s2 : Handles) → AtOrigin c s → AtOrigin c s2 → AtOrigin c (forgotten_if b s s2)
-  rooted_if true s s2 r r2 h e =
+  constants_if : (b : Bool) (s s2 : Handles) → ConstantsUsable c s → ConstantsUsable c s2 →
+      ConstantsUsable c (forgotten_if b s s2)
+  constants_if true s s2 r r2 h e =
       usable_all_more c.function s (forgotten_handles s s2) (extends_forgotten s s2)
       (operands_of (expression_of c.function h)) (r h (everywhere_forgotten (s h) (s2 h) e))
-  rooted_if false s s2 r r2 h e = r2 h e
+  constants_if false s s2 r r2 h e = r2 h e
 
-  rooted_all : (k : ℕ) (ss : Statements) (s : Handles) → AtOrigin c s → AtOrigin c (after_all (naming c n) k ss s)
-  rooted_all k end s r = r
-  rooted_all k (then st ss) s r =
+  constants_all : (k : ℕ) (ss : Statements) (s : Handles) → ConstantsUsable c s →
+      ConstantsUsable c (after_all (naming c n) k ss s)
+  constants_all k end s r = r
+  constants_all k (then st ss) s r =
       let k1 = named_by c.function st k in
       let s1 = after (naming c n) k st s in
-      rooted_if (holds_continue st) s (after_all (naming c n) k1 ss s1) r (rooted_all k1 ss s1 (rooted_after k st s r))
+      constants_if (holds_continue st) s (after_all (naming c n) k1 ss s1) r (constants_all k1 ss s1 (constants_after
+      k st s r))
 
 -- a handle that is emitted again was in scope everywhere
 new_everywhere : (st : Availability) → IsTrue (is_new st) →
@@ -142,7 +148,7 @@ module _ (p : Module) (c : Call) (n : Names) (sound : Sound p c) where
   abbrev Emits : Handles → Outcome EmittedValues → Type 0
   Emits s = Proceeds (Returns c.environment.parts c.function) (Typed c s) (λ k. ⊥) (λ k. ⊥)
 
-  module _ (s : Handles) (kept : EmittedValues) (t : List Event) (r : AtOrigin c s) (y : Typed c s kept) (h : ℕ)
+  module _ (s : Handles) (kept : EmittedValues) (t : List Event) (r : ConstantsUsable c s) (y : Typed c s kept) (h : ℕ)
       (x : Bytes) (new : IsTrue (is_new (s h))) where
     -- an answer is kept under a name
     answer_kept : (v : Value) (e : Event) →
@@ -226,7 +232,7 @@ module _ (p : Module) (c : Call) (n : Names) (sound : Sound p c) where
     emit_as_proceeds None e l i k z m = absurd (true≢false (sym z))
 
   emit_proceeds : (k : ℕ) (hs : List ℕ) (s : Handles) (kept : EmittedValues) (t : List Event) →
-      AtOrigin c s → Typed c s kept → MayEmitAll c n k hs s →
+      ConstantsUsable c s → Typed c s kept → MayEmitAll c n k hs s →
       Emits (after_emit (naming c n) k hs s) (emit c hs kept t)
   emit_proceeds k [] s kept t r y m = done y
   emit_proceeds k (h ∷ hs) s kept t r y m =
@@ -234,7 +240,7 @@ module _ (p : Module) (c : Call) (n : Names) (sound : Sound p c) where
       let k1 = named_after c.function h k in
       let s1 = after_one (naming c n) k h s in
       then_proceeds {P = Typed c s1}
-      (λ kept1 t1 y1. emit_proceeds k1 hs s1 kept1 t1 (rooted_one c n k h s r) y1 m.1)
+      (λ kept1 t1 y1. emit_proceeds k1 hs s1 kept1 t1 (constants_one c n k h s r) y1 m.1)
       (emit_as_proceeds s kept t r y h (bound_name (naming c n) k h) m.0.new e refl
       (sound.loads h) (sound.leaves h) (sound.typed.constants h) m.0.kind m.0.bound)
 
@@ -445,7 +451,7 @@ module _ (p : Module) (c : Call) (n : Names) (sound : Sound p c) (bound : ℕ) w
   picked_proceeds s continues held false o o2 x x2 = x2
 
   mutual
-    line_proceeds : (st : Statement) (k : ℕ) (s : Handles) (breaks continues : Bool) → AtOrigin c s →
+    line_proceeds : (st : Statement) (k : ℕ) (s : Handles) (breaks continues : Bool) → ConstantsUsable c s →
         Fits p c n k st s → IsWellFormed c.function breaks continues st →
         (kept : EmittedValues) (t : List Event) → Typed c s kept →
         Line s (after (naming c n) k st s) breaks continues (holds_continue st)
@@ -475,7 +481,7 @@ module _ (p : Module) (c : Call) (n : Names) (sound : Sound p c) (bound : ℕ) w
         continues (run_all c bound b) (run_all c bound d) e (extends_all c n k b s)
         (extends_all c n k1 d s1) m.2 w.2
         (λ kept t y. body_proceeds b k s true true r m.0 w.0 kept t y)
-        (λ kept t y. body_proceeds d k1 s1 false false (rooted_all c n k b s r) m.1 w.1 kept t
+        (λ kept t y. body_proceeds d k1 s1 false false (constants_all c n k b s r) m.1 w.1 kept t
         y) kept t y
     line_proceeds (Jumps Break) k s breaks continues r m w kept t y = broke (y, w)
     line_proceeds (Jumps Continue) k s breaks continues r m w kept t y = continued (y, refl, w)
@@ -488,7 +494,7 @@ module _ (p : Module) (c : Call) (n : Names) (sound : Sound p c) (bound : ℕ) w
         act_proceeds s breaks continues a xs result m.0 m.1 kept t y
 
     pub body_proceeds : (ss : Statements) (k : ℕ) (s : Handles) (breaks continues : Bool) →
-        AtOrigin c s → FitsAll p c n k ss s → AreWellFormed c.function breaks continues ss →
+        ConstantsUsable c s → FitsAll p c n k ss s → AreWellFormed c.function breaks continues ss →
         (kept : EmittedValues) (t : List Event) → Typed c s kept →
         Body s (after_all (naming c n) k ss s) breaks continues (any_continue ss)
         (run_all c bound ss kept t)
@@ -499,11 +505,11 @@ module _ (p : Module) (c : Call) (n : Names) (sound : Sound p c) (bound : ℕ) w
         row s s1 (after_all (naming c n) k1 ss s1) breaks continues (holds_continue st)
         (any_continue ss) (extends_after c n k st s) (extends_all c n k1 ss s1)
         _ (run_all c bound ss) (line_proceeds st k s breaks continues r m.0 w.0 kept t y)
-        (λ kept t y. body_proceeds ss k1 s1 breaks continues (rooted_after c n k st s r) m.1 w.1
+        (λ kept t y. body_proceeds ss k1 s1 breaks continues (constants_after c n k st s r) m.1 w.1
         kept t y)
 
     -- from the case with this value on
-    cases_proceed : (cs : Cases) (k : ℕ) (s : Handles) (continues : Bool) → AtOrigin c s →
+    cases_proceed : (cs : Cases) (k : ℕ) (s : Handles) (continues : Bool) → ConstantsUsable c s →
         FitsCases p c n k cs s → CasesAreWellFormed c.function continues cs →
         (x : CaseValue) (kept : EmittedValues) (t : List Event) → Typed c s kept →
         In_case s continues (some_case_continues cs) (run_cases c bound cs x kept t)
@@ -520,7 +526,7 @@ module _ (p : Module) (c : Call) (n : Names) (sound : Sound p c) (bound : ℕ) w
         (cases_proceed cs k1 s continues r m.2 w.1 x kept t y))
 
     -- on from a case that fell through
-    on_proceeds : (cs : Cases) (k : ℕ) (s : Handles) (continues : Bool) → AtOrigin c s →
+    on_proceeds : (cs : Cases) (k : ℕ) (s : Handles) (continues : Bool) → ConstantsUsable c s →
         FitsCases p c n k cs s → CasesAreWellFormed c.function continues cs →
         (kept : EmittedValues) (t : List Event) → Typed c s kept →
         In_case s continues (some_case_continues cs) (run_on c bound cs kept t)
@@ -602,8 +608,8 @@ module _ (p : Module) (n : ModuleNames) (env : Environment) (environment : Envir
     start_typed h = start_value c start no_names kept (handle_type f.function h) (expression_of f.function h)
         (kept h) _ (stands h)
 
-    start_rooted : AtOrigin c start
-    start_rooted h =
+    start_constants : ConstantsUsable c start
+    start_constants h =
         start_operands c start no_names kept (handle_type f.function h) (expression_of f.function h) (kept h) _
         (stands h)
 
@@ -642,7 +648,7 @@ module _ (p : Module) (n : ModuleNames) (env : Environment) (environment : Envir
         (subst (λ o. Answered (Returns env.parts f.function) (run_from_entry g vs o t body))
         (sym firsts.1)
         (answer_proceeds tt (λ k q. true≢false (sym q.2)) (λ k b. true≢false (sym b.1))
-        (body_proceeds p c f.names sound bound f.function.body 0 start false false start_rooted
+        (body_proceeds p c f.names sound bound f.function.body 0 start false false start_constants
         checked well.body kept (Entry g vs firsts.0 ∷ t) start_typed)))
 
   calls_proceed : (fs : List Naming) → AllFit p n fs → AllTypedIn env.parts p m (functions_of fs) →

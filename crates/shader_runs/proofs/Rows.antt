@@ -15,20 +15,20 @@ use Rattle.shader_runs.specs.Progress.{LoadFits}
 use Rattle.std.proofs.lemmas.Option.{none-some, same_Some}
 use Rattle.shader_runs.specs.WorkedFunctions.{no_parts as row_parts, numbered_name}
 
-pub heads : (a b : ℕ) (xs ys : List ℕ) → a ∷ xs ≡ b ∷ ys → a ≡ b
-heads a b xs ys e = cc
+pub first_bytes : (a b : ℕ) (xs ys : List ℕ) → a ∷ xs ≡ b ∷ ys → a ≡ b
+first_bytes a b xs ys e = cc
 
 thirds : (a b : ℕ) → 95 ∷ 101 ∷ a ∷ [] ≡ 95 ∷ 101 ∷ b ∷ [] → a ≡ b
 thirds a b e = cc
 
 local_numbered : (h : ℕ) → codes "a" ≡ numbered_name h → ⊥
 local_numbered h e =
-    let same : ◌≡◌ {A = ℕ} 97 95 = heads 97 95 [] (101 ∷ (h + 48) ∷ []) e in
+    let same : ◌≡◌ {A = ℕ} 97 95 = first_bytes 97 95 [] (101 ∷ (h + 48) ∷ []) e in
     omega arith
 
 numbered_local : (h : ℕ) → numbered_name h ≡ codes "a" → ⊥
 numbered_local h e =
-    let same : ◌≡◌ {A = ℕ} 95 97 = heads 95 97 (101 ∷ (h + 48) ∷ []) [] e in
+    let same : ◌≡◌ {A = ℕ} 95 97 = first_bytes 95 97 (101 ∷ (h + 48) ∷ []) [] e in
     omega arith
 
 none_named : (k : ℕ) → k < named_by_all store_function store_function.body 0 → ⊥

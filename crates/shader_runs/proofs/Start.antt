@@ -91,12 +91,12 @@ module _ (p : Module) (env : Environment) (fits : EnvironmentFits p env) (f : Fu
   same_as a b h each e l = ap (λ os. or_constant env m e (gathered_value env.parts m e os))
       (same_list a b h each (operands_of e) l)
 
-  same_bound : (n k h : ℕ) → h < n → h < k → constant_below f env m n h ≡ constant_below f env m k h
-  same_bound zero k h ln lk = absurd (omega arith)
-  same_bound (suc n) zero h ln lk = absurd (omega arith)
-  same_bound (suc n) (suc k) h ln lk =
+  same_below : (n k h : ℕ) → h < n → h < k → constant_below f env m n h ≡ constant_below f env m k h
+  same_below zero k h ln lk = absurd (omega arith)
+  same_below (suc n) zero h ln lk = absurd (omega arith)
+  same_below (suc n) (suc k) h ln lk =
       same_as (constant_below f env m n) (constant_below f env m k) h
-      (λ x lt. same_bound n k x (omega arith) (omega arith)) (expression_of f h) (below h)
+      (λ x lt. same_below n k x (omega arith) (omega arith)) (expression_of f h) (below h)
 
   same_test_list : (a b : ℕ → Bool) (h : ℕ) → ((x : ℕ) → x < h → a x ≡ b x) → (xs : List ℕ) → AllBelow h xs →
       all_constant a xs ≡ all_constant b xs
@@ -108,25 +108,26 @@ module _ (p : Module) (env : Environment) (fits : EnvironmentFits p env) (f : Fu
   same_test_as a b h each e l = ap (λ t. is_constant_leaf e || (is_pure e && t))
       (same_test_list a b h each (operands_of e) l)
 
-  same_test_bound : (n k h : ℕ) → h < n → h < k → is_constant_below f n h ≡ is_constant_below f k h
-  same_test_bound zero k h ln lk = absurd (omega arith)
-  same_test_bound (suc n) zero h ln lk = absurd (omega arith)
-  same_test_bound (suc n) (suc k) h ln lk =
+  same_test_below : (n k h : ℕ) → h < n → h < k → is_constant_below f n h ≡ is_constant_below f k h
+  same_test_below zero k h ln lk = absurd (omega arith)
+  same_test_below (suc n) zero h ln lk = absurd (omega arith)
+  same_test_below (suc n) (suc k) h ln lk =
       same_test_as (is_constant_below f n) (is_constant_below f k) h
-      (λ x lt. same_test_bound n k x (omega arith) (omega arith)) (expression_of f h) (below h)
+      (λ x lt. same_test_below n k x (omega arith) (omega arith)) (expression_of f h) (below h)
 
-  unfold_value : (n h : ℕ) → h < n → constant_below f env m n h ≡ constant_as env m (constant_below f env m n)
+  value_equation : (n h : ℕ) → h < n → constant_below f env m n h ≡ constant_as env m (constant_below f env m n)
       (expression_of f h)
-  unfold_value zero h lt = absurd (omega arith)
-  unfold_value (suc n) h lt =
+  value_equation zero h lt = absurd (omega arith)
+  value_equation (suc n) h lt =
       same_as (constant_below f env m n) (constant_below f env m (suc n)) h
-      (λ x l. same_bound n (suc n) x (omega arith) (omega arith)) (expression_of f h) (below h)
+      (λ x l. same_below n (suc n) x (omega arith) (omega arith)) (expression_of f h) (below h)
 
-  unfold_test : (n h : ℕ) → h < n → is_constant_below f n h ≡ constant_test (is_constant_below f n) (expression_of f h)
-  unfold_test zero h lt = absurd (omega arith)
-  unfold_test (suc n) h lt =
+  test_equation : (n h : ℕ) → h < n → is_constant_below f n h ≡
+      constant_test (is_constant_below f n) (expression_of f h)
+  test_equation zero h lt = absurd (omega arith)
+  test_equation (suc n) h lt =
       same_test_as (is_constant_below f n) (is_constant_below f (suc n)) h
-      (λ x l. same_test_bound n (suc n) x (omega arith) (omega arith)) (expression_of f h) (below h)
+      (λ x l. same_test_below n (suc n) x (omega arith) (omega arith)) (expression_of f h) (below h)
 
   -- a constant handle lies in the list
   constant_within : (n h : ℕ) → IsTrue (is_constant_below f n h) → h < length f.expressions
@@ -198,7 +199,7 @@ module _ (p : Module) (c : Call) (fits : EnvironmentFits p c.environment) (below
 
   tested : (x : ℕ) → IsTrue (is_constant_below c.function Top x) →
       IsTrue (constant_test (is_constant_below c.function Top) (expression_of c.function x))
-  tested x t = sym (unfold_test p c.environment fits c.function c.meaning below leaves typed Top x (within x t)) ∙ t
+  tested x t = sym (test_equation p c.environment fits c.function c.meaning below leaves typed Top x (within x t)) ∙ t
 
   each_usable : (x : ℕ) → IsTrue (is_constant_below c.function Top x) →
       IsTrue (usable c.function (at_start c.function) x)
@@ -210,7 +211,7 @@ module _ (p : Module) (c : Call) (fits : EnvironmentFits p c.environment) (below
   each_used x t =
       let e = expression_of c.function x in
       used_start c e (values x) (gathered_value c.environment.parts c.meaning e (all_of values (operands_of e)))
-      (unfold_value p c.environment fits c.function c.meaning below leaves typed Top x
+      (value_equation p c.environment fits c.function c.meaning below leaves typed Top x
       (within x t)) (kind_of_constant (is_constant_below c.function Top) e (tested x t))
 
   list_usable : (xs : List ℕ) → IsTrue (all_constant (is_constant_below c.function Top) xs) →
@@ -249,7 +250,7 @@ module _ (p : Module) (c : Call) (fits : EnvironmentFits p c.environment) (below
             list_usable (operands_of e) each,
             constant_has_type p c.environment fits c.function c.meaning below leaves typed Top h
                 t,
-            unfold_value p c.environment fits c.function c.meaning below leaves typed Top h
+            value_equation p c.environment fits c.function c.meaning below leaves typed Top h
                 (within h t)
                 ∙ pure_value c.environment c.meaning e
                 (gathered_value c.environment.parts c.meaning e (all_of values (operands_of e))) q1

@@ -3,7 +3,7 @@ use Rattle.std.proofs.Common.{◌≡◌, ℕ, zero, suc, ◌<◌, Bool, true, fa
 use Rattle.std.proofs.Common.{length, Option, Some, None, refl, sym, ap, ◌∙◌}
 use Rattle.std.proofs.lemmas.List.{map-append}
 use Rattle.shader_runs.specs.Value.{Bytes, MemberNamed, ValueType, PointerType, Selector}
-use Rattle.shader_runs.specs.Program.{ConstantTree, Fixed, NamedConstant, Constructed, Indexing}
+use Rattle.shader_runs.specs.Program.{ConstantTree, Fixed, NamedConstant, Composed, Indexing}
 use Rattle.shader_runs.specs.Program.{Picking, Joining, ConstantTrees, no_constant, constant}
 use Rattle.shader_runs.specs.Program.{Expression, Constant, Argument, Local, Global, Load, Operator}
 use Rattle.shader_runs.specs.Program.{Access, AccessIndex, Logical, Swizzle, Request, Result}
@@ -75,7 +75,7 @@ module _ (n : ModuleNames) (names : Lookup) (count : ℕ) (found : (i : ℕ) →
         tree_targets names (constant_form n e) ≡ map Some (constant_targets e)
     constant_resolves (Fixed v) range words = refl
     constant_resolves (NamedConstant i) range words = ap (λ o. o ∷ []) (found i range)
-    constant_resolves (Constructed word ty es) range words =
+    constant_resolves (Composed word ty es) range words =
         word_resolves names word (free word words.0) (constants_resolve es range words.1)
     constant_resolves (Indexing ty b i) range words =
         both (constant_targets b) (constant_targets i) (constant_resolves b range.0 words.0)

@@ -13,7 +13,7 @@ use Rattle.shader_runs.specs.Value.{PointerType, OtherType, type_of, same_type, 
 use Rattle.shader_runs.specs.Value.{same_bytes, Value, Truth, Whole, Pointer, Opaque, Word, Spelled}
 use Rattle.shader_runs.specs.Value.{PartWord, IndexWord, ShortCircuit, short_circuit_word, place_in}
 use Rattle.shader_runs.specs.World.{Meaning}
-use Rattle.shader_runs.specs.Program.{ConstantTree, Fixed, NamedConstant, Constructed, Indexing}
+use Rattle.shader_runs.specs.Program.{ConstantTree, Fixed, NamedConstant, Composed, Indexing}
 use Rattle.shader_runs.specs.Program.{Picking, Joining, ConstantTrees, no_constant, constant}
 use Rattle.shader_runs.specs.Program.{Expression, Constant, Operator, Access, AccessIndex, Logical}
 use Rattle.shader_runs.specs.Program.{Swizzle, Request, Function, expression_of, handle_type}
@@ -370,7 +370,7 @@ module _ (p : Module) (consistent : IsConsistent p) where
         ((x : Signature) → IsOneOf x (constant_signatures p e) → IsSpelled p x) → ConstantTyped p.parts p m e
     constant_fits (Fixed v) fit at = tt
     constant_fits (NamedConstant i) fit at = tt
-    constant_fits (Constructed w ty es) fit at =
+    constant_fits (Composed w ty es) fit at =
         let x : Signature = record { word = Spelled w; operands = constant_types_of p es; result = ty } in
         (λ vs k. spelled_typed x (at x first_of) vs k, constants_fit es fit (λ y k. at y (later_of k)))
     constant_fits (Indexing ty b i) fit at =

@@ -13,7 +13,7 @@ use Rattle.shader_runs.specs.Value.{Value, PartTypes, has_type, has_types}
 use Rattle.shader_runs.specs.World.{Event, World, Meaning, Settings, Environment, entries}
 use Rattle.shader_runs.specs.Outcome.{Done, ReachedOrHalted, and_then, after_switch}
 use Rattle.shader_runs.specs.Outcome.{branch_by, or_stuck, turn, turns, with_integer}
-use Rattle.shader_runs.specs.Program.{ConstantTree, Fixed, NamedConstant, Constructed, Indexing}
+use Rattle.shader_runs.specs.Program.{ConstantTree, Fixed, NamedConstant, Composed, Indexing}
 use Rattle.shader_runs.specs.Program.{Picking, Joining, ConstantTrees, no_constant, constant}
 use Rattle.shader_runs.specs.Program.{Expression, Constant, Request, CaseValue, Numbered, Statement}
 use Rattle.shader_runs.specs.Program.{Block, If, Switch, Loop, Statements, end, then, Cases}
@@ -238,7 +238,7 @@ module _ (p : Module) where
       constant_typed : (e : ConstantTree) → ConstantTyped parts p m e → ConstantTyped parts q m e
       constant_typed (Fixed v) typed = tt
       constant_typed (NamedConstant i) typed = tt
-      constant_typed (Constructed w ty es) typed = (
+      constant_typed (Composed w ty es) typed = (
         λ vs have.
             typed.0 vs (subst (λ ks. IsTrue (has_types parts ks vs)) (same_types_of es) have),
         constants_typed es typed.1,

@@ -9,7 +9,7 @@ use Rattle.std.proofs.Common.{Option, Some, None, refl, sym, ap, ◌∙◌, subs
 use Rattle.std.specs.Prelude.{IsTrue, IsFalse}
 use Rattle.shader_runs.specs.Value.{Bytes, ValueType}
 use Rattle.shader_runs.specs.Program.{Swizzle, Request, Global, Local, Argument, ConstantTree}
-use Rattle.shader_runs.specs.Program.{Fixed, NamedConstant, Constructed, Indexing, Picking, Joining}
+use Rattle.shader_runs.specs.Program.{Fixed, NamedConstant, Composed, Indexing, Picking, Joining}
 use Rattle.shader_runs.specs.Program.{ConstantTrees, no_constant, constant, Expression, Constant}
 use Rattle.shader_runs.specs.Program.{Load, Statement, Emit, Store, Block, If, Switch, Loop, Return}
 use Rattle.shader_runs.specs.Program.{Act, Statements, end, then, Cases, no_case, case, Function}
@@ -423,7 +423,7 @@ module _ (p : Module) where
           EachWord (OperatesOutside (unfolded_module p) n) e
       words_operate (Fixed v) each = tt
       words_operate (NamedConstant i) each = tt
-      words_operate (Constructed w ty es) each = (operates w each.0, all_operate es each.1)
+      words_operate (Composed w ty es) each = (operates w each.0, all_operate es each.1)
       words_operate (Indexing ty b i) each = (words_operate b each.0, words_operate i each.1)
       words_operate (Picking x ty b) each = words_operate b each
       words_operate (Joining j ty l r) each = (words_operate l each.0, words_operate r each.1)

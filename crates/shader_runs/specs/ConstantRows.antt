@@ -9,7 +9,7 @@ use Rattle.shader_runs.specs.Value.{BooleanType, MemberNamed, ShortCircuitAnd, T
 use Rattle.shader_runs.specs.Value.{Spelled, PartWord, IndexWord}
 use Rattle.shader_runs.specs.World.{Entry, Meaning, Settings, Vocabulary}
 use Rattle.shader_runs.specs.Outcome.{ReachedOrHalted, Gives, Halts, Stuck}
-use Rattle.shader_runs.specs.Program.{ConstantTree, Fixed, NamedConstant, Constructed, no_constant}
+use Rattle.shader_runs.specs.Program.{ConstantTree, Fixed, NamedConstant, Composed, no_constant}
 use Rattle.shader_runs.specs.Program.{constant, Constant, Return, end, then, Function, Module}
 use Rattle.shader_runs.specs.Program.{AtPlace, Indexing, Picking, Joining, Jumps}
 use Rattle.shader_runs.specs.Text.{Tree, Name, LiteralOf, Apply, no_more, more, last}
@@ -64,7 +64,7 @@ pair_function =
 -- what P is: a pair of the constant 1 and the override, which is 2
 abbrev pub pair_initialiser : ConstantTree
 pair_initialiser =
-    Constructed pair_word (OtherType pair_word)
+    Composed pair_word (OtherType pair_word)
     (constant (NamedConstant 1) (constant (NamedConstant 2) no_constant))
 
 -- the constant P; the constant N, which P names and which
@@ -151,7 +151,7 @@ follow_pair initialiser b =
 -- the pair of 3 and 4, as a tree and in a text
 abbrev pub three_four : ConstantTree
 three_four =
-    Constructed pair_word (OtherType pair_word)
+    Composed pair_word (OtherType pair_word)
     (constant (Fixed (number 3)) (constant (Fixed (number 4)) no_constant))
 
 abbrev pub three_four_text : Tree

@@ -8,7 +8,7 @@ use Rattle.std.specs.Prelude.{ℕ, zero, suc, Bool, true, false, List, [], ◌�
 use Rattle.std.specs.Prelude.{Some, None}
 use Rattle.shader_runs.specs.Value.{Bytes, Selector, MemberNamed, ValueType, PointerType}
 use Rattle.shader_runs.specs.Value.{Truth}
-use Rattle.shader_runs.specs.Program.{ConstantTree, Fixed, NamedConstant, Constructed, Indexing}
+use Rattle.shader_runs.specs.Program.{ConstantTree, Fixed, NamedConstant, Composed, Indexing}
 use Rattle.shader_runs.specs.Program.{Picking, Joining}
 use Rattle.shader_runs.specs.Program.{ConstantTrees, no_constant, constant, Expression, Constant}
 use Rattle.shader_runs.specs.Program.{Argument, Local, Global, Load, Operator, Access, AccessIndex}
@@ -70,7 +70,7 @@ abbrev mutual
   pub constant_form : ModuleNames → ConstantTree → Tree
   constant_form n (Fixed v) = LiteralOf v
   constant_form n (NamedConstant i) = Name (n.constant i)
-  constant_form n (Constructed w ty es) = Apply w (constant_forms n es)
+  constant_form n (Composed w ty es) = Apply w (constant_forms n es)
   constant_form n (Indexing ty b i) = Index (constant_form n b) (constant_form n i)
   constant_form n (Picking x ty b) = PartOf x (constant_form n b)
   constant_form n (Joining j ty l r) = LogicalOf j (constant_form n l) (constant_form n r)

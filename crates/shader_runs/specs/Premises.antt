@@ -12,7 +12,7 @@ use Rattle.shader_runs.specs.Value.{IntegerType, PointerType, OtherType, type_at
 use Rattle.shader_runs.specs.Value.{Whole, Pointer, Opaque, has_type, has_types, Spelled}
 use Rattle.shader_runs.specs.World.{Environment, GlobalValue, Stored, InHandleSpace, Meaning}
 use Rattle.shader_runs.specs.World.{Settings}
-use Rattle.shader_runs.specs.Program.{ConstantTree, Fixed, NamedConstant, Constructed, Indexing}
+use Rattle.shader_runs.specs.Program.{ConstantTree, Fixed, NamedConstant, Composed, Indexing}
 use Rattle.shader_runs.specs.Program.{Picking, Joining}
 use Rattle.shader_runs.specs.Program.{ConstantTrees, no_constant, constant, Expression, Constant}
 use Rattle.shader_runs.specs.Program.{Argument, Local, Global, Operator, Swizzle, Request, Result}
@@ -93,7 +93,7 @@ abbrev mutual
   pub EachWord : (Bytes → Type 0) → ConstantTree → Type 0
   EachWord P (Fixed v) = Unit {0}
   EachWord P (NamedConstant i) = Unit {0}
-  EachWord P (Constructed w ty es) = P w × EachWordOf P es
+  EachWord P (Composed w ty es) = P w × EachWordOf P es
   EachWord P (Indexing ty b i) = EachWord P b × EachWord P i
   EachWord P (Picking x ty b) = EachWord P b
   EachWord P (Joining j ty l r) = EachWord P l × EachWord P r
@@ -233,7 +233,7 @@ abbrev mutual
   pub constant_type : Module → ConstantTree → ValueType
   constant_type p (Fixed v) = literal_type v
   constant_type p (NamedConstant i) = type_at p.constant_types i
-  constant_type p (Constructed w ty es) = ty
+  constant_type p (Composed w ty es) = ty
   constant_type p (Indexing ty b i) = ty
   constant_type p (Picking x ty b) = ty
   constant_type p (Joining j ty l r) = ty
@@ -247,7 +247,7 @@ abbrev mutual
   pub EachLeaf : (Value → Type 0) → (ℕ → Type 0) → ConstantTree → Type 0
   EachLeaf L P (Fixed v) = L v
   EachLeaf L P (NamedConstant i) = P i
-  EachLeaf L P (Constructed w ty es) = EachLeafOf L P es
+  EachLeaf L P (Composed w ty es) = EachLeafOf L P es
   EachLeaf L P (Indexing ty b i) = EachLeaf L P b × EachLeaf L P i
   EachLeaf L P (Picking x ty b) = EachLeaf L P b
   EachLeaf L P (Joining j ty l r) = EachLeaf L P l × EachLeaf L P r
@@ -291,7 +291,7 @@ abbrev mutual
   pub ConstantTyped : PartTypes → Module → Meaning → ConstantTree → Type 0
   ConstantTyped parts p m (Fixed v) = Unit {0}
   ConstantTyped parts p m (NamedConstant i) = Unit {0}
-  ConstantTyped parts p m (Constructed w ty es) =
+  ConstantTyped parts p m (Composed w ty es) =
       ((vs : List Value) → IsTrue (has_types parts (constant_types_of p es) vs) →
       IsTrue (has_type parts ty (m (Spelled w) vs)))
       × ConstantsTyped parts p m es

@@ -18,7 +18,7 @@ mutual
   pub data ConstantTree : Type 0 where
     Fixed : Value → ConstantTree
     NamedConstant : (index : ℕ) → ConstantTree
-    Constructed : (word : Bytes) → ValueType → ConstantTrees → ConstantTree
+    Composed : (word : Bytes) → ValueType → ConstantTrees → ConstantTree
     Indexing : ValueType → (base index : ConstantTree) → ConstantTree
     Picking : Selector → ValueType → (base : ConstantTree) → ConstantTree
     Joining : ShortCircuit → ValueType → (left right : ConstantTree) → ConstantTree

@@ -22,7 +22,7 @@ use Rattle.shader_runs.specs.Outcome.{or_stuck, Returned, Stopped, ReachedOrHalt
 use Rattle.shader_runs.specs.Outcome.{answer}
 use Rattle.shader_runs.specs.Outcome.{Next, and_then, turn, turns, after_switch, branch_by}
 use Rattle.shader_runs.specs.Outcome.{with_integer, Unreturned, jump_outcome}
-use Rattle.shader_runs.specs.Program.{ConstantTree, Fixed, NamedConstant, Constructed, Indexing}
+use Rattle.shader_runs.specs.Program.{ConstantTree, Fixed, NamedConstant, Composed, Indexing}
 use Rattle.shader_runs.specs.Program.{Picking, Joining}
 use Rattle.shader_runs.specs.Program.{ConstantTrees, no_constant, constant, Expression, Constant}
 use Rattle.shader_runs.specs.Program.{Argument, Local, Global, Load, Operator, Access, AccessIndex}
@@ -92,7 +92,7 @@ abbrev mutual
   pub tree_value : (ℕ → Option Value) → Meaning → ConstantTree → Option Value
   tree_value known m (Fixed v) = Some v
   tree_value known m (NamedConstant i) = known i
-  tree_value known m (Constructed w ty es) = operator_value m (Spelled w) (tree_values known m es)
+  tree_value known m (Composed w ty es) = operator_value m (Spelled w) (tree_values known m es)
   tree_value known m (Indexing ty b i) =
       option_and_then (λ v. option_and_then (constant_index m v) (tree_value known m i))
       (tree_value known m b)

@@ -11,7 +11,7 @@ use Rattle.std.specs.Prelude.{ℕ, zero, suc, true, false, cond, List, [], ◌�
 use Rattle.std.specs.Prelude.{Option, Some, None}
 use Rattle.shader_runs.specs.Value.{Bytes, MemberNamed, Selector, ShortCircuit, Truth, Value}
 use Rattle.shader_runs.specs.World.{update, bind}
-use Rattle.shader_runs.specs.Program.{ConstantTree, Fixed, NamedConstant, Constructed, Indexing}
+use Rattle.shader_runs.specs.Program.{ConstantTree, Fixed, NamedConstant, Composed, Indexing}
 use Rattle.shader_runs.specs.Program.{Picking, Joining}
 use Rattle.shader_runs.specs.Program.{ConstantTrees, no_constant, constant, Expression, Constant}
 use Rattle.shader_runs.specs.Program.{Argument, Local, Global, Load, Operator, Access, AccessIndex}
@@ -194,7 +194,7 @@ abbrev mutual
   pub constant_targets : ConstantTree → List Target
   constant_targets (Fixed v) = LiteralTarget v ∷ []
   constant_targets (NamedConstant i) = ConstantTarget i ∷ []
-  constant_targets (Constructed word ty es) = WordTarget word ∷ constants_targets es
+  constant_targets (Composed word ty es) = WordTarget word ∷ constants_targets es
   constant_targets (Indexing ty b i) = constant_targets b ++ constant_targets i
   constant_targets (Picking x ty b) = PartTarget x ∷ constant_targets b
   constant_targets (Joining j ty l r) = LogicTarget j ∷ (constant_targets l ++ constant_targets r)

@@ -10,7 +10,7 @@ use Rattle.shader_runs.specs.Value.{Value, Truth, Pointer, MemberNamed, ShortCir
 use Rattle.shader_runs.specs.Value.{ShortCircuitAnd, ShortCircuitOr, is_decided}
 use Rattle.shader_runs.specs.World.{Event, Entry, Read, Write, Discard}
 use Rattle.shader_runs.specs.Outcome.{Gives, Halts, Stuck, OutOfTurns, Discarded}
-use Rattle.shader_runs.specs.Program.{Fixed, no_constant, Constructed, Block, Constant, Argument}
+use Rattle.shader_runs.specs.Program.{Fixed, no_constant, Composed, Block, Constant, Argument}
 use Rattle.shader_runs.specs.Program.{Local, Load, Operator, Logical, Swizzle, Result, Called}
 use Rattle.shader_runs.specs.Program.{Numbered, Default, Emit, Store, If, Switch, Loop, Break}
 use Rattle.shader_runs.specs.Program.{Continue, Return, Kill, Act, end, Function, Jumps}
@@ -168,7 +168,7 @@ block_function =
     let inner = Emit 3 1 ∷ Store 2 3 ∷ [] in
     function_with (i32 ∷ []) (Some i32) ((local_i32, Some 1) ∷ []) (
     row (Argument 0) i32
-    ∷ row (Constant (Constructed (codes "i32") i32 no_constant)) i32
+    ∷ row (Constant (Composed (codes "i32") i32 no_constant)) i32
     ∷ row (Local 0) i32_pointer
     ∷ bound_row (Operator (codes "+") (0 ∷ 0 ∷ [])) i32
     ∷ bound_row (Load 2) i32

@@ -8,7 +8,7 @@ use Rattle.shader_runs.specs.Value.{Parts, PartTypes, Step, Selector, MemberName
 use Rattle.shader_runs.specs.Value.{step_to, step_at, ValueType, BooleanType, IntegerType}
 use Rattle.shader_runs.specs.Value.{PointerType, Word, Spelled, PartWord, IndexWord}
 use Rattle.shader_runs.specs.Value.{short_circuit_word}
-use Rattle.shader_runs.specs.Program.{ConstantTree, Fixed, NamedConstant, Constructed, Indexing}
+use Rattle.shader_runs.specs.Program.{ConstantTree, Fixed, NamedConstant, Composed, Indexing}
 use Rattle.shader_runs.specs.Program.{Picking, Joining}
 use Rattle.shader_runs.specs.Program.{ConstantTrees, no_constant, constant, Expression, Constant}
 use Rattle.shader_runs.specs.Program.{Operator, Access, AccessIndex, Logical, Swizzle, Request}
@@ -26,7 +26,7 @@ abbrev mutual
   pub constant_signatures : Module → ConstantTree → List Signature
   constant_signatures p (Fixed v) = []
   constant_signatures p (NamedConstant i) = []
-  constant_signatures p (Constructed w ty es) =
+  constant_signatures p (Composed w ty es) =
       record { word = Spelled w; operands = constant_types_of p es; result = ty } ∷
       constants_signatures p es
   constant_signatures p (Indexing ty b i) =
@@ -114,7 +114,7 @@ abbrev mutual
   pub TreeFits : Module → ConstantTree → Type 0
   TreeFits p (Fixed v) = Unit {0}
   TreeFits p (NamedConstant i) = Unit {0}
-  TreeFits p (Constructed w ty es) = TreesFit p es
+  TreeFits p (Composed w ty es) = TreesFit p es
   TreeFits p (Indexing ty b i) = IsNoPointer (constant_type p b) × TreeFits p b × TreeFits p i
   TreeFits p (Picking x ty b) = IsNoPointer (constant_type p b) × TreeFits p b
   TreeFits p (Joining j ty l r) =

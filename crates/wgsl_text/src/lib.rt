@@ -95,7 +95,7 @@ pub fn called_words_are_expressions()
 {}
 
 /// The text of appended pieces is the appended texts.
-pub fn text_of_appended()
+pub fn text_of_joined()
     ensures { (first second : List Piece) → text (first ++ second) ≡ text first ++ text second }
 {}
 

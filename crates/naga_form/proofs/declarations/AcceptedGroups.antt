@@ -55,7 +55,7 @@ use Rattle.module_semantics.specs.acceptance.Ranges.{special_types_fit, constant
 use Rattle.module_semantics.specs.acceptance.Ranges.{override_in_range, global_in_range, is_below}
 use Rattle.module_semantics.specs.acceptance.Soundness.{module_is_sound, function_is_sound}
 use Rattle.module_semantics.specs.acceptance.Soundness.{entry_point_is_sound, declarations_are_sound}
-use Rattle.module_semantics.proofs.Lists.{list_all_at, placed_at}
+use Rattle.module_semantics.proofs.Lists.{list_all_at, numbered_at}
 use Rattle.naga_names.proofs.Refusal.{element}
 use Rattle.naga_form.proofs.operators.AgreeingUses.{AreKnown, AllFit, IsIn, in_right}
 use Rattle.module_semantics.proofs.FunctionNumbers.{in_append, in_left}
@@ -198,7 +198,7 @@ module _ (m : Module) (info : ModuleInfo) where
       below = λ h e at. (in_range h e at).0;
       typed = λ h e r here there.
           let at : 0 + h ≡ h = omega arith in
-          let one = placed_at (has_its_type m f g.known) 0 g.expressions h e typed here in
+          let one = numbered_at (has_its_type m f g.known) 0 g.expressions h e typed here in
           sym (ap (λ k. option_map_or (expression_type_fits m f g.known e) (slice_get g.known k) false) at
           ∙ ap (λ o. option_map_or (expression_type_fits m f g.known e) o false) there) ∙ one;
       demands = λ h e at. list_all_at (operands_fit m.types g.known) g.expressions h e demands at;
@@ -231,7 +231,7 @@ module _ (m : Module) (info : ModuleInfo) where
         ∙ sym (length-map es (λ e. e.ty)))
         (known_test (resolution_fits (length m.overrides) (length m.types)) es known)
         (λ h e at. let from : 0 + h ≡ h = omega arith in sym (ap (λ n. test n e) from)
-        ∙ placed_at test 0 f.expressions h e four.0 at)
+        ∙ numbered_at test 0 f.expressions h e four.0 at)
         typed.0 typed.1
 
     -- each function
@@ -250,7 +250,7 @@ module _ (m : Module) (info : ModuleInfo) where
         )
         (paired_at function_size_fits m.functions info.functions.items sizes.0 k f es here there)
         (sym (ap (λ n. function_in_range m n f) from)
-        ∙ placed_at (function_in_range m) 0 m.functions k f functions.0 here)
+        ∙ numbered_at (function_in_range m) 0 m.functions k f functions.0 here)
         (list_all_at (list_all (λ k. resolution_fits (length m.overrides) (length m.types) k.ty))
         info.functions.items k es (and_parts _ _ ranges_parts.3).0 there)
         (paired_at (function_is_sound m) m.functions info.functions.items sound_parts.1 k f es here there)
@@ -339,5 +339,5 @@ module _ (m : Module) (info : ModuleInfo) where
         (λ h e at. let from : 0 + h ≡ h = omega arith in
         (and_parts (expression_in_range m 0 0 h e)
         _ (sym (ap (λ n. global_expression_in_range m n e) from)
-        ∙ placed_at (global_expression_in_range m) 0 m.global_expressions h e d4.1 at)).0)
+        ∙ numbered_at (global_expression_in_range m) 0 m.global_expressions h e d4.1 at)).0)
         typed.0 typed.1

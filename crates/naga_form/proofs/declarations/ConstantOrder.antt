@@ -18,7 +18,7 @@ use Rattle.naga_ir.specs.declared.module.Module.{Module}
 use Rattle.naga_info.specs.declared.info.ModuleInfo.{ModuleInfo}
 use Rattle.naga_info.specs.declared.info.TypeResolution.TheVariants.{Handle}
 use Rattle.naga_info.proofs.Options.{then_some, map_some}
-use Rattle.shader_runs.specs.Program.{ConstantTree, Fixed, NamedConstant, Constructed}
+use Rattle.shader_runs.specs.Program.{ConstantTree, Fixed, NamedConstant, Composed}
 use Rattle.shader_runs.specs.Program.{ConstantTrees, no_constant, constant, constant_count}
 use Rattle.shader_runs.specs.Program.{Indexing, Picking, Joining}
 use Rattle.shader_runs.specs.Program as program
@@ -52,7 +52,7 @@ mutual
       EachLeaf AnyValue Q t
   leaves_follow P Q more (Fixed v) are = tt
   leaves_follow P Q more (NamedConstant k) are = more k are
-  leaves_follow P Q more (Constructed w ty ts) are = all_leaves_follow P Q more ts are
+  leaves_follow P Q more (Composed w ty ts) are = all_leaves_follow P Q more ts are
   leaves_follow P Q more (Indexing ty b i) are = (leaves_follow P Q more b are.0, leaves_follow P Q more i are.1)
   leaves_follow P Q more (Picking x ty b) are = leaves_follow P Q more b are
   leaves_follow P Q more (Joining j ty l r) are = (leaves_follow P Q more l are.0, leaves_follow P Q more r are.1)
@@ -119,7 +119,7 @@ module _ (m : Module) (info : ModuleInfo) where
           EachLeafOf AnyValue (Before bound) (trees ts) → (t : ConstantTree) →
           built inside h o ts ≡ Some t → EachLeaf AnyValue (Before bound) t
       built_before h bound o ts before t made =
-          let parts = map_some (λ r. Constructed (run_word o) (inside.value_type r) (trees ts))
+          let parts = map_some (λ r. Composed (run_word o) (inside.value_type r) (trees ts))
           (global_types_known info h) t made in
           subst (EachLeaf AnyValue (Before bound)) parts.2 before
 

@@ -88,13 +88,13 @@ use Rattle.naga_form.specs.Types.{type_form}
 
 -- ---- lists
 -- items beside their indices, from this one on or from the first
-placed_from : {X : Type 0} (Holds : ℕ × X → Type 0) (n : ℕ) (xs : List X) →
+numbered_each : {X : Type 0} (Holds : ℕ × X → Type 0) (n : ℕ) (xs : List X) →
     ((i : ℕ) (x : X) → slice_get xs i ≡ Some x → Holds (n + i, x)) → Each Holds (enumerate_from n xs)
-placed_from Holds n [] each = tt
-placed_from Holds n (x ∷ xs) each =
+numbered_each Holds n [] each = tt
+numbered_each Holds n (x ∷ xs) each =
     let here : n + 0 ≡ n = omega arith in (
       subst (λ k. Holds (k, x)) here (each 0 x refl),
-      placed_from Holds (n + 1) xs (λ i y there.
+      numbered_each Holds (n + 1) xs (λ i y there.
           let next : n + suc i ≡ (n + 1) + i = omega arith in
           subst (λ k. Holds (k, y)) next (each (suc i) y there)),
     )
@@ -102,7 +102,7 @@ placed_from Holds n (x ∷ xs) each =
 placed : {X : Type 0} (Holds : ℕ × X → Type 0) (xs : List X) →
     ((i : ℕ) (x : X) → slice_get xs i ≡ Some x → Holds (i, x)) → Each Holds (enumerate_from 0 xs)
 placed Holds xs each =
-    placed_from Holds 0 xs
+    numbered_each Holds 0 xs
     (λ i x there. subst (λ k. Holds (k, x)) (sym (zero-add i)) (each i x there))
 
 -- the forms of these, of all or of those that have one

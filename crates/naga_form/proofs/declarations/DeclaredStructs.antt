@@ -26,7 +26,7 @@ use Rattle.text_semantics.specs.Resolution.{index_among, struct_named}
 use Rattle.wgsl_text.specs.Declarations.{Program, Struct}
 use Rattle.naga_form.proofs.names.DistinguishedItems.{items_are_distinguished}
 use Rattle.naga_form.proofs.ListIndices.{formed_at, formed_from, made_at, made_from, numbered_at}
-use Rattle.naga_form.proofs.ListIndices.{numbered_from, numbered_taken, place_found, place_none}
+use Rattle.naga_form.proofs.ListIndices.{numbered_from, numbered_taken, index_found, index_none}
 use Rattle.naga_form.specs.Declarations.{member_form, program_under}
 use Rattle.naga_back.specs.declared.flags.WriterFlags.{WriterFlags}
 
@@ -105,7 +105,7 @@ module _ (m : Module) (info : ModuleInfo) (flags : WriterFlags) (labels : LabelN
       is_declared m.special_types h t.inner ≡ true →
       struct_named program.structs (struct_name h) ≡ Some (struct_number m h)
   struct_found h t at is =
-      place_found (struct_name h) struct_names (struct_number m h)
+      index_found (struct_name h) struct_names (struct_number m h)
       (slice_get-map (λ s. s.name) program.structs (struct_number m h)
       ∙ ap (option_map (λ s. s.name)) (struct_at h t at is))
       (λ j there.
@@ -120,7 +120,7 @@ module _ (m : Module) (info : ModuleInfo) (flags : WriterFlags) (labels : LabelN
   pub override_not_found : (o : ℕ) → o < length m.overrides →
       struct_named program.structs (override_name (module_names m) o) ≡ None
   override_not_found o lt =
-      place_none (override_name (module_names m) o) struct_names
+      index_none (override_name (module_names m) o) struct_names
       (λ j there.
       let x = name_from j (override_name (module_names m) o) there in
       (items_are_distinguished m).types.apart x.1.handle o x.1.type x.1.there
@@ -137,7 +137,7 @@ module _ (m : Module) (info : ModuleInfo) (flags : WriterFlags) (labels : LabelN
       (option_and_then (slice_get program.structs) o)) (struct_found h t at is)
       ∙ (ap (option_and_then (λ s. index_among word (map (λ l. l.name) s.members)))
       (struct_at h t at is)
-      ∙ place_found word (map (λ l. l.name) made) i
+      ∙ index_found word (map (λ l. l.name) made) i
       (slice_get-map (λ l. l.name) made i
       ∙ ap (option_map (λ l. l.name)) (made_at make (members_of t.inner) i member there))
       (λ j other.
@@ -152,7 +152,7 @@ pub own_members_found : (m : Module) → OwnMembersResolve m
 own_members_found m h t at own i member there =
     let name : ℕ × StructMember → List ℕ = λ p. name_in (module_names m) (key.StructMember h p.0) in
     let word = name (i, member) in
-    place_found word (words_of_members (module_names m) h t) i
+    index_found word (words_of_members (module_names m) h t) i
     (made_at name (members_of t.inner) i member there)
     (λ j other.
     let x = made_from name (members_of t.inner) j word other in

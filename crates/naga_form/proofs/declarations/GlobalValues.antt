@@ -16,7 +16,7 @@ use Rattle.shader_runs.specs.Constants.{text_initialiser_value}
 use Rattle.shader_runs.specs.Form.{form_module_with}
 use Rattle.shader_runs.specs.Premises.{EachLeaf, EachLeafOf, IsLiteral, IsTyped, SettingsFit}
 use Rattle.shader_runs.specs.Program as shapes
-use Rattle.shader_runs.specs.Program.{ConstantTree, Fixed, NamedConstant, Constructed}
+use Rattle.shader_runs.specs.Program.{ConstantTree, Fixed, NamedConstant, Composed}
 use Rattle.shader_runs.specs.Program.{ConstantTrees, no_constant, constant}
 use Rattle.shader_runs.specs.ProgramRun.{also, operator_value, tree_value, tree_values}
 use Rattle.shader_runs.specs.Scope.{ModuleNames}
@@ -63,7 +63,7 @@ module _ (known : ℕ → Option Value) (meaning : Meaning) (P : ℕ → Type 0)
         (v : Value) × (tree_value known meaning e ≡ Some v)
     tree_has_value (Fixed v) is leaves = (v, refl)
     tree_has_value (NamedConstant i) is leaves = there i leaves
-    tree_has_value (Constructed w ty es) is leaves =
+    tree_has_value (Composed w ty es) is leaves =
         let vs = trees_have_values es is leaves in
         (meaning (Spelled w) vs.0, ap (operator_value meaning (Spelled w)) vs.1)
     tree_has_value _ is leaves = absurd is

@@ -22,7 +22,7 @@ use Rattle.shader_runs.specs.Form.{globals_from}
 use Rattle.shader_runs.specs.Premises.{AllTypedIn, ConstantTyped, ConstantsFit, ConstantsTyped}
 use Rattle.shader_runs.specs.Premises.{EachWord, EachWordOf, IsTyped, OperatesOutside, SettingsFit}
 use Rattle.shader_runs.specs.Premises.{choice_fits, choices_fit, constant_type, constant_types_of}
-use Rattle.shader_runs.specs.Program.{AtPlace, ConstantTree, ConstantTrees, Constructed, Fixed}
+use Rattle.shader_runs.specs.Program.{AtPlace, ConstantTree, ConstantTrees, Composed, Fixed}
 use Rattle.shader_runs.specs.Program.{Function, Held, Indexing, Joining, Module, NamedConstant}
 use Rattle.shader_runs.specs.Program.{Picking, VariableShape, constant, constant_count, no_constant}
 use Rattle.shader_runs.specs.Program.{pointer_to}
@@ -60,7 +60,7 @@ module _ (p : Module) (globals : List VariableShape) where
   same_type_of : (e : ConstantTree) → constant_type q e ≡ constant_type p e
   same_type_of (Fixed v) = refl
   same_type_of (NamedConstant i) = refl
-  same_type_of (Constructed w ty es) = refl
+  same_type_of (Composed w ty es) = refl
   same_type_of (Indexing ty b i) = refl
   same_type_of (Picking x ty b) = refl
   same_type_of (Joining j ty l r) = refl
@@ -79,7 +79,7 @@ module _ (p : Module) (globals : List VariableShape) where
       tree_typed : (e : ConstantTree) → ConstantTyped parts p m e → ConstantTyped parts q m e
       tree_typed (Fixed v) typed = tt
       tree_typed (NamedConstant i) typed = tt
-      tree_typed (Constructed w ty es) typed = (
+      tree_typed (Composed w ty es) typed = (
         λ vs have.
             typed.0 vs (subst (λ ks. IsTrue (has_types parts ks vs)) (same_types_of es) have),
         trees_typed es typed.1,
@@ -145,7 +145,7 @@ module _ (p : Module) (globals : List VariableShape) where
           EachWord (OperatesOutside q n) e
       words_with (Fixed v) each = tt
       words_with (NamedConstant i) each = tt
-      words_with (Constructed w ty es) each = (operates w each.0, all_words es each.1)
+      words_with (Composed w ty es) each = (operates w each.0, all_words es each.1)
       words_with (Indexing ty b i) each = (words_with b each.0, words_with i each.1)
       words_with (Picking x ty b) each = words_with b each
       words_with (Joining j ty l r) each = (words_with l each.0, words_with r each.1)

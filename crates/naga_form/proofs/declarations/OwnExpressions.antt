@@ -31,7 +31,7 @@ use Rattle.module_semantics.specs.acceptance.Ranges.{all_below, resolution_fits,
 use Rattle.module_semantics.specs.acceptance.Ranges.{function_in_range, entry_point_in_range}
 use Rattle.module_semantics.specs.acceptance.Soundness.{module_is_sound}
 use Rattle.module_semantics.specs.ExpressionContexts.{constant_over, global_tree, written_constant}
-use Rattle.module_semantics.proofs.Lists.{list_all_at, placed_at}
+use Rattle.module_semantics.proofs.Lists.{list_all_at, numbered_at}
 use Rattle.naga_form.proofs.declarations.AcceptedGroups.{IsSoundGroup, own_known, own_group}
 use Rattle.naga_form.proofs.declarations.AcceptedGroups.{declarations_are}
 use Rattle.naga_form.proofs.operators.ConstantTrees.{expected_there, availability_tree}
@@ -103,7 +103,7 @@ module _ (m : Module) (info : ModuleInfo) where
     global_is_in_range h e at =
         let from : 0 + h ≡ h = omega arith in
         sym (ap (λ n. global_expression_in_range m n e) from)
-        ∙ placed_at (global_expression_in_range m) 0 m.global_expressions h e own_parts.1 at
+        ∙ numbered_at (global_expression_in_range m) 0 m.global_expressions h e own_parts.1 at
 
     pub global_names_in_range : (h : ℕ) (e : Expression) → slice_get m.global_expressions h ≡ Some e →
         names_in_range m 0 0 e ≡ true

@@ -46,7 +46,7 @@ use Rattle.naga_form.proofs.Facts.{further}
 use Rattle.naga_form.proofs.Fits.{mapped_length, named_by_all_is}
 use Rattle.naga_form.proofs.names.GivenNames.{own_names_pass}
 use Rattle.naga_form.proofs.names.ItemKeys.{keys_tell}
-use Rattle.naga_form.proofs.ListIndices.{made_from, place_none}
+use Rattle.naga_form.proofs.ListIndices.{made_from, index_none}
 use Rattle.naga_form.proofs.names.Names.{argument_there, item_not_numbered, local_there}
 use Rattle.naga_form.specs.Declarations.{override_form, program_under}
 use Rattle.naga_back.specs.declared.flags.WriterFlags.{WriterFlags}
@@ -88,7 +88,7 @@ module _ (m : Module) (info : ModuleInfo) (flags : WriterFlags) (labels : LabelN
       is_in_types item.0 ≡ true → name_in (module_names m) item.0 ≢ w) →
       is_in_no_type program w ≡ true
   free_if w differs =
-      ap is_none (place_none w (struct_names m info flags labels ++ override_names)
+      ap is_none (index_none w (struct_names m info flags labels ++ override_names)
       (λ j at. ⊎_elim (λ here. in_structs j here) (λ there. in_overrides there.0 there.2)
       (in_append (struct_names m info flags labels) override_names j w at)))
     where

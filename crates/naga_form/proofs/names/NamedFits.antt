@@ -30,7 +30,7 @@ use Rattle.module_semantics.specs.FunctionNumbers.{all_functions, function_type}
 use Rattle.naga_back.specs.FunctionContext.{function_key}
 use Rattle.naga_info.specs.declared.info.TypeResolution.{TypeResolution}
 use Rattle.naga_info.specs.declared.info.TypeResolution.TheVariants.{Handle, Value}
-use Rattle.shader_runs.specs.Program.{Constructed, no_constant}
+use Rattle.shader_runs.specs.Program.{Composed, no_constant}
 use Rattle.std.specs.Option.{option_map, option_map_or, option_and_then, is_some, option_to_list}
 use Rattle.naga_form.proofs.operators.OperatingWords.{operates_freely, asks_freely, asking_free}
 use Rattle.naga_form.proofs.operators.OperatingWords.{silent_free, bits_free, unsupported_free}
@@ -242,7 +242,7 @@ module _ (m : Module) (info : ModuleInfo) (types : TypesAreFit m) (p : shapes.Mo
   zero_words : (word : List ℕ) → OperatesBy p own word → (o : Option TypeResolution) →
       WordFits p own
       (Some
-      (constant_shape (option_map (λ r. Constructed word (d.value_type r) no_constant) o)))
+      (constant_shape (option_map (λ r. Composed word (d.value_type r) no_constant) o)))
   zero_words word operates (Some r) = (operates, tt)
   zero_words word operates None = tt
 
@@ -318,7 +318,7 @@ module _ (m : Module) (info : ModuleInfo) (types : TypesAreFit m) (p : shapes.Mo
       (λ op. WordFits p own
       (Some
       (constant_shape
-      (option_map (λ r. Constructed (run_word op) (d.value_type r) no_constant)
+      (option_map (λ r. Composed (run_word op) (d.value_type r) no_constant)
       (d.context.known h)))))
       (λ word operates. zero_words word operates (d.context.known h))
       (λ operates.

@@ -24,14 +24,14 @@ use Rattle.module_semantics.specs.ExpressionShapes.{ModuleDeclarations, built, c
 use Rattle.module_semantics.specs.ExpressionShapes.{trees_of}
 use Rattle.module_semantics.specs.OperatorTable.{Operator, Splat, run_word}
 use Rattle.module_semantics.specs.Undeclared.{is_spellable}
-use Rattle.shader_runs.specs.Program.{ConstantTree, Fixed, NamedConstant, Constructed}
+use Rattle.shader_runs.specs.Program.{ConstantTree, Fixed, NamedConstant, Composed}
 use Rattle.shader_runs.specs.Program.{ConstantTrees, no_constant, constant}
 
 abbrev mutual
   pub IsBuilt : ConstantTree → Type 0
   IsBuilt (Fixed v) = Unit {0}
   IsBuilt (NamedConstant i) = Unit {0}
-  IsBuilt (Constructed w ty es) = AreBuilt es
+  IsBuilt (Composed w ty es) = AreBuilt es
   IsBuilt _ = ⊥
 
   pub AreBuilt : ConstantTrees → Type 0
@@ -64,7 +64,7 @@ module _ (m : Module) (info : ModuleInfo) where
     made_built : (h : ℕ) (o : Operator) (ts : List ConstantTree) → AreBuilt (trees ts) →
         (t : ConstantTree) → built inside h o ts ≡ Some t → IsBuilt t
     made_built h o ts are t e =
-        let parts = map_some (λ r. Constructed (run_word o) (inside.value_type r) (trees ts))
+        let parts = map_some (λ r. Composed (run_word o) (inside.value_type r) (trees ts))
         (global_types_known info h) t e in
         subst IsBuilt parts.2 are
 

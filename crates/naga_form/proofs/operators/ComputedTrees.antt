@@ -20,7 +20,7 @@ use Rattle.module_semantics.specs.ExpressionShapes.{indexed, operated, over_two,
 use Rattle.module_semantics.specs.ExpressionShapes.{part_tree, picked, swizzle_letters, tree_over}
 use Rattle.module_semantics.specs.ExpressionShapes.{tree_then, trees, trees_of, typed_tree}
 use Rattle.module_semantics.specs.OperatorTable.{Operator, asks, run_word}
-use Rattle.shader_runs.specs.Program.{ConstantTree, Constructed, Indexing, Picking, Joining}
+use Rattle.shader_runs.specs.Program.{ConstantTree, Composed, Indexing, Picking, Joining}
 use Rattle.shader_runs.specs.Program.{ConstantTrees, no_constant, constant}
 use Rattle.shader_runs.specs.Value.{MemberNamed, Selector, ShortCircuit, ShortCircuitAnd}
 use Rattle.shader_runs.specs.Value.{ShortCircuitOr, ValueType}
@@ -82,7 +82,7 @@ module _ (d : ModuleDeclarations) (tree_of : ℕ → Option ConstantTree) (Q : C
   -- an operator, of whose word it holds
   of_operator : (h : ℕ) (hs : List ℕ) → AllByRecursion OfOperand hs → (o : Option Operator) →
       ((a : Operator) → o ≡ Some a → asks a ≡ false → (ty : ValueType) (ts : ConstantTrees) →
-      Qs ts → Q (Constructed (run_word a) ty ts)) →
+      Qs ts → Q (Composed (run_word a) ty ts)) →
       (t : ConstantTree) → operated d tree_of h hs o ≡ Some t → Q t
   of_operator h hs all None word t e = absurd cc
   of_operator h hs all (Some a) word t e = by (asks a) refl e
@@ -92,7 +92,7 @@ module _ (d : ModuleDeclarations) (tree_of : ℕ → Option ConstantTree) (Q : C
       by true is e = absurd cc
       by false is e =
           let ts = then_some (built d h a) (trees_of tree_of hs) t e in
-          of_typed h (λ ty. Constructed (run_word a) ty (trees ts.0))
+          of_typed h (λ ty. Composed (run_word a) ty (trees ts.0))
           (λ ty. word a refl is ty (trees ts.0) (of_operands hs all ts.0 ts.1)) t ts.2
 
   -- an expression, where it holds of its tree as it is written out
@@ -100,7 +100,7 @@ module _ (d : ModuleDeclarations) (tree_of : ℕ → Option ConstantTree) (Q : C
       ((t : ConstantTree) → tree_over d tree_of h e ≡ Some t → Q t) →
       AllByRecursion OfOperand (expression_operands e) →
       ((a : Operator) → applied_operator d.context e ≡ Some a → asks a ≡ false →
-      (ty : ValueType) (ts : ConstantTrees) → Qs ts → Q (Constructed (run_word a) ty ts)) →
+      (ty : ValueType) (ts : ConstantTrees) → Qs ts → Q (Composed (run_word a) ty ts)) →
       (t : ConstantTree) → computed_over d tree_of h e ≡ Some t → Q t
   of_computed h (expression.Literal value) written all word t e = written t e
   of_computed h (expression.Constant handle) written all word t e = written t e

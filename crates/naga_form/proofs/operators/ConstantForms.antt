@@ -60,7 +60,7 @@ use Rattle.naga_names.proofs.Refusal.{element}
 use Rattle.naga_names.specs.declared.key.NameKey.TheVariants as key
 use Rattle.naga_words.specs.Contexts.{Names as TypeNames}
 use Rattle.shader_runs.specs.Form.{constant_form, constant_forms}
-use Rattle.shader_runs.specs.Program.{ConstantTree, Constructed, Fixed, NamedConstant}
+use Rattle.shader_runs.specs.Program.{ConstantTree, Composed, Fixed, NamedConstant}
 use Rattle.shader_runs.specs.Scope.{ModuleNames}
 use Rattle.shader_runs.specs.Text.{Apply, LiteralOf, Name, more, no_more}
 use Rattle.text_semantics.specs.Abstraction.{arguments_read, expression_read}
@@ -109,9 +109,9 @@ module _ (outer : ModuleNames) (m : Module) (constants : ℕ → Option Constant
     where
       by : (o : Option TypeResolution) → is_some o ≡ true →
           (c : ConstantTree)
-          × (option_map (λ r. Constructed (run_word op) (d.value_type r) (trees cs)) o ≡ Some c)
+          × (option_map (λ r. Composed (run_word op) (d.value_type r) (trees cs)) o ≡ Some c)
           × (expression_read e ≡ constant_form outer c)
-      by (Some r) is = (Constructed (run_word op) (d.value_type r) (trees cs), refl, read)
+      by (Some r) is = (Composed (run_word op) (d.value_type r) (trees cs), refl, read)
       by None is = absurd cc
 
   module _ (tree_of : ℕ → Option ConstantTree) (part constant : ℕ → Expression) where

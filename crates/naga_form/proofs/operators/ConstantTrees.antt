@@ -30,7 +30,7 @@ use Rattle.naga_info.specs.declared.info.ModuleInfo.{ModuleInfo}
 use Rattle.naga_info.specs.declared.info.TypeResolution.{TypeResolution}
 use Rattle.naga_info.specs.declared.info.TypeResolution.TheVariants.{Handle, Value}
 use Rattle.naga_info.proofs.Options.{then_some, map_some}
-use Rattle.shader_runs.specs.Program.{ConstantTree, Fixed, NamedConstant, Constructed}
+use Rattle.shader_runs.specs.Program.{ConstantTree, Fixed, NamedConstant, Composed}
 use Rattle.shader_runs.specs.Program.{ConstantTrees, no_constant, constant, Indexing, Picking}
 use Rattle.shader_runs.specs.Program.{Joining}
 use Rattle.shader_runs.specs.Program as program
@@ -261,7 +261,7 @@ module _ (m : Module) (info : ModuleInfo) where
           AreTreesOf (map value (expression_operands e)) (trees ts) → (t : ConstantTree) → built inside h o ts
           ≡ Some t → IsTreeOf (value h) t
       built_is h e at o called ts are t made =
-          let parts = map_some (λ r. Constructed (run_word o) (type_of_values m r) (trees ts))
+          let parts = map_some (λ r. Composed (run_word o) (type_of_values m r) (trees ts))
           (slice_get g.known h) t made in
           subst (IsTreeOf (value h)) parts.2 (record {
             type = sym (value_is m info g.known h parts.0 parts.1);
@@ -273,7 +273,7 @@ module _ (m : Module) (info : ModuleInfo) where
           spelled : (r : TypeResolution) → slice_get g.known h ≡ Some r →
               (x : Signature) →
               IsOneOf x (constant_signatures shape
-              (Constructed (run_word o) (type_of_values m r) (trees ts))) → IsOfExpression m info x
+              (Composed (run_word o) (type_of_values m r) (trees ts))) → IsOfExpression m info x
           spelled r there x one =
               first_or (record {
                 word = Spelled (run_word o);

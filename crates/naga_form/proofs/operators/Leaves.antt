@@ -46,7 +46,7 @@ use Rattle.shader_runs.specs.Premises.{LeafFits, ConstantInRange, ConstantsInRan
 use Rattle.shader_runs.specs.Premises.{constant_type as constant_tree_type}
 use Rattle.shader_runs.specs.Program as shapes
 use Rattle.shader_runs.specs.Program.{Constant, ConstantTree, expression_of, handle_type, Load}
-use Rattle.shader_runs.specs.Program.{Fixed, Constructed, no_constant, Held, AtPlace, is_held}
+use Rattle.shader_runs.specs.Program.{Fixed, Composed, no_constant, Held, AtPlace, is_held}
 use Rattle.shader_runs.specs.Value.{Selector, BooleanType, PointerType, type_at}
 use Rattle.naga_form.proofs.declarations.AcceptedGroups.{IsSoundGroup, own_known}
 use Rattle.naga_form.proofs.operators.AgreeingUses.{value_at}
@@ -241,9 +241,9 @@ module _ (m : Module) (info : ModuleInfo) (f : Function) (es : List ExpressionIn
     leaf_at h (expression.ZeroValue ty) at =
         let own = own_known m info (Some f) (function_group f es) group h (expression.ZeroValue ty) at in
         let operator = constructor context.context (Handle ty) 0 in
-        let t = Constructed (run_word operator) (type_of_values m own.0) no_constant in
+        let t = Composed (run_word operator) (type_of_values m own.0) no_constant in
         let is : built context h operator [] ≡ Some t =
-        ap (option_map (λ r. Constructed (run_word operator) (type_of_values m r) no_constant)) own.1 in
+        ap (option_map (λ r. Composed (run_word operator) (type_of_values m r) no_constant)) own.1 in
         subst (λ o. Fits h (constant_shape o)) (sym is)
         (tree_fits h (expression.ZeroValue ty) t at is)
     leaf_at h (expression.Compose ty components) at = applied_fits h _ _

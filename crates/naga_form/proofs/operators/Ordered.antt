@@ -18,7 +18,7 @@ use Rattle.module_semantics.specs.acceptance.Ranges.{expression_in_range, names_
 use Rattle.module_semantics.specs.Premises.{OperandsStandBefore}
 use Rattle.module_semantics.specs.ExpressionContexts.{declared, types_known}
 use Rattle.module_semantics.proofs.ExpressionShapes.{shape_operands}
-use Rattle.module_semantics.proofs.Lists.{placed_at}
+use Rattle.module_semantics.proofs.Lists.{numbered_at}
 use Rattle.shader_runs.specs.Premises.{AllBelow}
 use Rattle.shader_runs.specs.Program.{ConstantTree, operands_of, expression_of}
 use Rattle.naga_form.proofs.statements.AcceptedFunctions.{ranges_are}
@@ -66,7 +66,7 @@ operands_below m callees f ranges h e at =
     expression_in_range m (length f.arguments.items) (length f.local_variables) in
     (and_parts (all_below h (expression_operands e))
     (names_in_range m (length f.arguments.items) (length f.local_variables) e)
-    (sym (ap (λ n. test n e) from) ∙ placed_at test 0 f.expressions h e (ranges_are m callees f ranges).0 at)).0
+    (sym (ap (λ n. test n e) from) ∙ numbered_at test 0 f.expressions h e (ranges_are m callees f ranges).0 at)).0
 
 -- so do those of its shape
 pub ordered : (m : Module) (info : ModuleInfo) (callees : ℕ) (f : Function)

@@ -17,7 +17,7 @@ use Rattle.shader_runs.specs.Value.{MemberNamed, Truth, ValueType, BooleanType, 
 use Rattle.shader_runs.specs.Value.{PointerType, Selector, ElementAt, type_at}
 use Rattle.module_semantics.specs.OperatorTable.{run_word, zero_is_written, WithoutForm, PartAt}
 use Rattle.module_semantics.specs.OperatorTable.{Operator}
-use Rattle.shader_runs.specs.Program.{Constructed, Fixed, no_constant, ConstantTree, handle_type}
+use Rattle.shader_runs.specs.Program.{Composed, Fixed, no_constant, ConstantTree, handle_type}
 use Rattle.naga_form.specs.Expressions.{operator_type, constant_form, value_forms, zero_is_whole}
 use Rattle.naga_form.specs.Expressions.{is_pointer_type, part_plain, is_pointer, selected_part}
 use Rattle.naga_form.specs.Expressions.{variable_plain, PlainForm, ValueForm, ReferenceForm}
@@ -196,7 +196,7 @@ module _ (m : Module) (n : Naming) (code : Source)
       (Some
       (constant_shape
       (option_map
-      (λ r. Constructed (run_word (constructor code.declared.context (Handle ty) 0))
+      (λ r. Composed (run_word (constructor code.declared.context (Handle ty) 0))
       (code.declared.value_type r) no_constant)
       o)))
   zero_reads operand like ty declared (Some r) known =

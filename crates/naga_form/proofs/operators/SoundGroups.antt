@@ -16,7 +16,7 @@ use Rattle.naga_form.proofs.declarations.AcceptedGroups.{IsSoundGroup, functions
 use Rattle.naga_form.proofs.declarations.AcceptedGroups.{entry_points_are, declarations_are}
 use Rattle.naga_form.proofs.declarations.AcceptedGroups.{own_group}
 use Rattle.naga_form.proofs.operators.AgreeingUses.{IsIn}
-use Rattle.module_semantics.proofs.Lists.{in_row}
+use Rattle.module_semantics.proofs.Lists.{in_joined}
 use Rattle.naga_form.proofs.ModuleIndices.{in_image}
 
 -- where a group of functions comes from
@@ -55,7 +55,7 @@ of_functions (f ∷ fs) (es ∷ ess) (suc i) g at =
 module _ (m : Module) (info : ModuleInfo) (accepted : IsTrue (is_accepted m info)) where
   pub groups_are : (g : Group) → IsIn (groups_of m info) g → (f : Option Function) × IsSoundGroup m info f g
   groups_are g index =
-      by (in_row (function_groups m.functions info.functions.items) (further_groups_of m info) index.0 g index.1)
+      by (in_joined (function_groups m.functions info.functions.items) (further_groups_of m info) index.0 g index.1)
     where
       further : ((k : ℕ)
           × (slice_get (function_groups (map (λ p. p.function) m.entry_points.items) info.entry_points.items) k
@@ -83,5 +83,5 @@ module _ (m : Module) (info : ModuleInfo) (accepted : IsTrue (is_accepted m info
                 (functions_are m info accepted k.index k.function k.known k.here k.there),
           )
       by (inr later) =
-          further (in_row (function_groups (map (λ p. p.function) m.entry_points.items) info.entry_points.items)
+          further (in_joined (function_groups (map (λ p. p.function) m.entry_points.items) info.entry_points.items)
           _ later.0 g later.1)

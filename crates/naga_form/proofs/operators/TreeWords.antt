@@ -29,7 +29,7 @@ use Rattle.module_semantics.specs.ExpressionContexts.{constant_number, constant_
 use Rattle.module_semantics.specs.ExpressionContexts.{declared_over, global_tree, global_tree_within}
 use Rattle.module_semantics.specs.ExpressionContexts.{global_types_known, expression_context}
 use Rattle.module_semantics.specs.ExpressionContexts.{written_constant, zero_of_type}
-use Rattle.shader_runs.specs.Program.{ConstantTree, Fixed, NamedConstant, Constructed}
+use Rattle.shader_runs.specs.Program.{ConstantTree, Fixed, NamedConstant, Composed}
 use Rattle.shader_runs.specs.Premises.{EachWord, EachWordOf}
 use Rattle.shader_runs.specs.Value.{Truth}
 
@@ -47,7 +47,7 @@ module _ (m : Module) (info : ModuleInfo) (P : List ℕ → Type 0)
     built_words : (h : ℕ) (o : Operator) → P (run_word o) → (ts : List ConstantTree) → EachWordOf P (trees ts) →
         (t : ConstantTree) → built context h o ts ≡ Some t → EachWord P t
     built_words h o is ts words t e =
-        let r = map_some (λ r. Constructed (run_word o) (context.value_type r) (trees ts))
+        let r = map_some (λ r. Composed (run_word o) (context.value_type r) (trees ts))
         (context.context.known h) t e in
         subst (EachWord P) r.2 (is, words)
 

@@ -37,7 +37,7 @@ use Rattle.module_semantics.specs.acceptance.Initialisers.{locals_are_sound}
 use Rattle.module_semantics.specs.acceptance.Soundness.{expressions_are_sound, module_is_sound}
 use Rattle.module_semantics.specs.acceptance.Soundness.{function_is_sound, entry_point_is_sound}
 use Rattle.module_semantics.specs.acceptance.StatementsFit.{body_is_sound}
-use Rattle.module_semantics.proofs.Lists.{list_all_at, placed_at}
+use Rattle.module_semantics.proofs.Lists.{list_all_at, numbered_at}
 use Rattle.naga_names.proofs.Refusal.{element}
 use Rattle.naga_form.proofs.declarations.AcceptedGroups.{IsSoundGroup, functions_are}
 use Rattle.naga_form.proofs.declarations.AcceptedGroups.{entry_points_are}
@@ -107,7 +107,7 @@ names_are_in_range m callees f ranges h e at =
     (and_parts (all_below h (expression_operands e))
     (names_in_range m (length f.arguments.items) (length f.local_variables) e)
     (sym (ap (λ n. test n e) from) ∙
-    placed_at test 0 f.expressions h e (ranges_are m callees f ranges).0 at)).1
+    numbered_at test 0 f.expressions h e (ranges_are m callees f ranges).0 at)).1
 
 -- its expressions and its body are sound
 pub soundness_is : (m : Module) (f : Function) (es : List ExpressionInfo) →
@@ -156,7 +156,7 @@ module _ (m : Module) (info : ModuleInfo) (accepted : IsTrue (is_accepted m info
       let from : 0 + k ≡ k = omega arith in
       let range = and_parts _ _ ranges_parts.1 in let functions = and_parts _ _ range.1 in
       sym (ap (λ n. function_in_range m n f) from) ∙
-      placed_at (function_in_range m) 0 m.functions k f functions.0 here
+      numbered_at (function_in_range m) 0 m.functions k f functions.0 here
 
   -- all that an entry point names is there
   pub entry_point_is_in_range : (j : ℕ) (p : EntryPoint) → slice_get m.entry_points.items j ≡ Some p →

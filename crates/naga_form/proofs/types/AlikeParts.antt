@@ -42,7 +42,7 @@ use Rattle.module_semantics.specs.acceptance.InfoSizes.{is_handle_space, is_hand
 use Rattle.module_semantics.specs.acceptance.InfoSizes.{resolution_is_fit}
 use Rattle.naga_words.specs.Spelling.{is_struct}
 use Rattle.module_semantics.specs.acceptance.Ranges.{parts_before, parts_stand_before}
-use Rattle.module_semantics.proofs.Lists.{placed_at}
+use Rattle.module_semantics.proofs.Lists.{numbered_at}
 use Rattle.module_semantics.specs.TypeIdentity.{identity, identity_code, word_of_unspelled_type}
 use Rattle.module_semantics.specs.TypeIdentity.{level, kind_number, length_kind, length_number}
 use Rattle.module_semantics.specs.TypeIdentity.{component_count, space_number, truth_number}
@@ -126,7 +126,7 @@ pub parts_stand : (m : Module) → IsTrue (parts_stand_before m.types) → Parts
 parts_stand m stand h t at =
     let from : 0 + h ≡ h = omega arith in
     sym (ap (λ k. parts_before k t.inner) from)
-    ∙ placed_at (λ here t. parts_before here t.inner) 0 m.types h t stand at
+    ∙ numbered_at (λ here t. parts_before here t.inner) 0 m.types h t stand at
 
 -- ---- forms at any depth that suffices
 same_found : (f g : ℕ → Option (List ℕ)) (h : ℕ) → ((b : ℕ) → b < h → f b ≡ g b) →

@@ -18,7 +18,7 @@ use Rattle.naga_names.specs.Keys.{NameMap}
 use Rattle.naga_names.specs.declared.key.NameKey.TheVariants as key
 use Rattle.naga_words.specs.Contexts.{name_or_nothing}
 use Rattle.naga_words.specs.Spelling.{end_of_base, length_within}
-use Rattle.module_semantics.proofs.Lists.{placed_at}
+use Rattle.module_semantics.proofs.Lists.{numbered_at}
 use Rattle.module_semantics.specs.acceptance.Accepted.{is_accepted}
 use Rattle.module_semantics.specs.acceptance.InfoSizes.{resolution_is_fit}
 use Rattle.module_semantics.specs.Names.{HasNamesOf, module_names}
@@ -44,7 +44,7 @@ module _ (m : Module) (info : ModuleInfo) (accepted : IsTrue (is_accepted m info
   type_before h t at =
       let here : 0 + h ≡ h = omega arith in
       ends_before h t.inner
-      (sym (ap (λ n. parts_before n t.inner) here) ∙ placed_at (λ here (t : Type_). parts_before here t.inner) 0
+      (sym (ap (λ n. parts_before n t.inner) here) ∙ numbered_at (λ here (t : Type_). parts_before here t.inner) 0
       m.types h t
       (and_parts (parts_stand_before m.types) _ (types_range m info accepted)).0 at)
 

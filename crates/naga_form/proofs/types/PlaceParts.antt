@@ -41,7 +41,7 @@ use Rattle.module_semantics.specs.TypeParts.{inner_at, part_type}
 use Rattle.module_semantics.specs.Types.{type_of_values, word_of_values}
 use Rattle.naga_names.specs.Reset.{members_of}
 use Rattle.module_semantics.proofs.FunctionNumbers.{in_left}
-use Rattle.module_semantics.proofs.Lists.{list_all_at, in_row}
+use Rattle.module_semantics.proofs.Lists.{list_all_at, in_joined}
 use Rattle.naga_form.proofs.declarations.AcceptedGroups.{IsSoundGroup, types_are_counted}
 use Rattle.naga_form.proofs.operators.AgreeingSignatures.{types_stand}
 use Rattle.naga_form.proofs.operators.AgreeingUses.{IsIn, in_flat_map}
@@ -133,7 +133,7 @@ module _ (m : ir_module.Module) (info : ModuleInfo) (accepted : IsTrue (is_accep
   -- each pointer of the module is fit
   pointer_types_fit : (i : ℕ) (r : TypeResolution) → slice_get (pointer_types m info) i ≡ Some r → IsFit m r
   pointer_types_fit i r at =
-      by (in_row (flat_map (λ g. g.known) (groups_of m info))
+      by (in_joined (flat_map (λ g. g.known) (groups_of m info))
       (own_types m ++ flat_map (pointers_in m) place_spaces) i r at)
     where
       known : {g : Group} → (f : _) × IsSoundGroup m info f g → IsIn g.known r → IsFit m r
@@ -159,7 +159,7 @@ module _ (m : ir_module.Module) (info : ModuleInfo) (accepted : IsTrue (is_accep
       by (inl here) =
           let k = in_some (λ g. g.known) (groups_of m info) here.0 r here.1 in
           known (groups_are m info accepted k.item (k.number, k.there)) k.inside
-      by (inr there) = others (in_row (own_types m) (flat_map (pointers_in m) place_spaces) there.0 r there.1)
+      by (inr there) = others (in_joined (own_types m) (flat_map (pointers_in m) place_spaces) there.0 r there.1)
 
   -- a pointer that is known of an expression
   pub record IsPointer (r : TypeResolution) (whole : Bytes) : Type 0 where

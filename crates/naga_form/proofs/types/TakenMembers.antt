@@ -29,7 +29,7 @@ use Rattle.module_semantics.specs.Types.{type_of_values}
 use Rattle.naga_form.proofs.declarations.AcceptedGroups.{IsSoundGroup}
 use Rattle.naga_form.proofs.operators.AgreeingSignatures.{signatures_agree}
 use Rattle.naga_form.proofs.operators.AgreeingUses.{IsIn, in_flat_map, value_at, value_is}
-use Rattle.module_semantics.proofs.Lists.{in_row}
+use Rattle.module_semantics.proofs.Lists.{in_joined}
 use Rattle.naga_form.proofs.operators.Signatures.{declared_for, by_part}
 use Rattle.naga_form.proofs.operators.SoundGroups.{groups_are}
 
@@ -44,7 +44,7 @@ pub record IsInFlat {X Y : Type 0} (f : X → List Y) (xs : List X) (y : Y) : Ty
 pub in_some : {X Y : Type 0} (f : X → List Y) (xs : List X) (i : ℕ) (y : Y) → slice_get (flat_map f xs) i
     ≡ Some y → IsInFlat f xs y
 in_some f [] i y at = absurd cc
-in_some f (x ∷ xs) i y at = by (in_row (f x) (flat_map f xs) i y at) (in_some f xs)
+in_some f (x ∷ xs) i y at = by (in_joined (f x) (flat_map f xs) i y at) (in_some f xs)
   where
     by : ((k : ℕ) × (slice_get (f x) k ≡ Some y)) ⊎ ((k : ℕ) × (slice_get (flat_map f xs) k ≡ Some y)) →
         ((k : ℕ) (z : _) → slice_get (flat_map f xs) k ≡ Some z → IsInFlat f xs z) → IsInFlat f (x ∷ xs) y

@@ -199,7 +199,7 @@ two_words : (a b : List ℕ) (o : Option (List ℕ)) → o ≡ None →
     option_map (λ r. a ++ r) (option_map (λ r. b ++ r) o) ≡ None
 two_words a b o e = rw e refl
 
-module _ (text_of_appended : (first second : List Piece) → text (first ++ second) ≡ text first ++ text second) where
+module _ (text_of_joined : (first second : List Piece) → text (first ++ second) ≡ text first ++ text second) where
   pointer_row : (space : List ℕ) (access : Option (List ℕ)) (ps : List Segment)
       (o : Option TypeSpecifier) → known_text ps ≡ option_map printed_type o →
       known_text (pointer_in space access ps) ≡ option_map printed_type
@@ -208,10 +208,10 @@ module _ (text_of_appended : (first second : List Piece) → text (first ++ seco
       (known_none ps (access_segments access) e)
   pointer_row space None ps (Some t) e =
       rw (known_append ps (access_segments None) (printed_type t) _ e refl)
-      (rw (text_of_appended (type_pieces t) (mark GreaterThan ∷ [])) refl)
+      (rw (text_of_joined (type_pieces t) (mark GreaterThan ∷ [])) refl)
   pointer_row space (Some a) ps (Some t) e =
       rw (known_append ps (access_segments (Some a)) (printed_type t) _ e refl)
-      (rw (text_of_appended (type_pieces t) (mark Comma ∷ Blank ∷ word a ∷ mark GreaterThan ∷ [])) refl)
+      (rw (text_of_joined (type_pieces t) (mark Comma ∷ Blank ∷ word a ∷ mark GreaterThan ∷ [])) refl)
 
   pointer_in_row : (space access : Option (List ℕ)) (ps : List Segment) (o : Option TypeSpecifier) →
       known_text ps ≡ option_map printed_type o → known_text (pointer_segments space access ps) ≡
@@ -235,17 +235,17 @@ module _ (text_of_appended : (first second : List Piece) → text (first ++ seco
       two_words w (codes "<") _ (known_none ps (length_segments (writer_context n knows) it) e)
   array_row n knows w gaps (size.Constant number) ps (Some t) e =
       rw (known_append ps (length_segments (writer_context n knows) (size.Constant number)) (printed_type t) _ e refl)
-      (rw gaps (rw (text_of_appended (type_pieces t)
+      (rw gaps (rw (text_of_joined (type_pieces t)
       (mark Comma ∷ Blank ∷ plain (non_zero_u32_get number) ∷ mark GreaterThan ∷ []))
       (ap (λ v. Some (w ++ (codes "<" ++ (printed_type t ++ (codes ", " ++ (v ++ (codes ">" ++ [])))))))
       (sym (append-nil (decimal (non_zero_u32_get number)))))))
   array_row n knows w gaps (size.Pending handle) ps (Some t) e =
       rw (known_append ps (length_segments (writer_context n knows) (size.Pending handle)) (printed_type t) _ e refl)
-      (rw gaps (rw (text_of_appended (type_pieces t)
+      (rw gaps (rw (text_of_joined (type_pieces t)
       (mark Comma ∷ Blank ∷ word (n.override_name handle) ∷ mark GreaterThan ∷ [])) refl))
   array_row n knows w gaps size.Dynamic ps (Some t) e =
       rw (known_append ps (length_segments (writer_context n knows) size.Dynamic) (printed_type t) _ e refl)
-      (rw (text_of_appended (type_pieces t) (mark GreaterThan ∷ [])) refl)
+      (rw (text_of_joined (type_pieces t) (mark GreaterThan ∷ [])) refl)
 
   -- a type, from the types that it names
   inner_row : (n : Names) (knows : ℕ → Bool) (f : ℕ → List Segment) (g : ℕ → Option TypeSpecifier) →

@@ -1,6 +1,6 @@
 use Rattle.std.proofs.Common.{◌≡◌, ◌≤◌, ◌∙◌, ap, arith, length}
 use Rattle.naga_acceptance.proofs.Counting.{counted_by_uses}
-use Rattle.naga_acceptance.proofs.Writing.{take_written_back}
+use Rattle.naga_acceptance.proofs.Writing.{take_put_back}
 use Rattle.naga_acceptance.proofs.counts.count_function.Goals as goal
 
 pub returns : goal.returns
@@ -16,7 +16,7 @@ returns c =
       c.clear_counts.auto.infos,
       c.as_mut_slice-infos.ensures.len,
     )
-    in take_written_back c.info.inside.expressions.len c.add_block_uses.new.infos
+    in take_put_back c.info.inside.expressions.len c.add_block_uses.new.infos
     c.info.inside.expressions.items same room
     ∙ c.add_block_uses.ensures
     ∙ rw (

@@ -3,8 +3,8 @@ use Rattle.naga_form.proofs.types.text_of_a_form.Goals as goal
 
 pub returns : goal.returns
 returns c = record {
-  type_ = type_row c.text_of_appended.ensures;
-  inner = inner_tree_row c.text_of_appended.ensures;
+  type_ = type_row c.text_of_joined.ensures;
+  inner = inner_tree_row c.text_of_joined.ensures;
   only = only_text;
   refused = lacks_unknown;
 }
