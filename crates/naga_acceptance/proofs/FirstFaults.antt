@@ -358,12 +358,12 @@ module _ (m : Module) (info : ModuleInfo) where
       (λ fails. and_left _ _ fails)
       (λ _. finds_map (λ h. at (item.Function h part.Whole) fault.InfoSize) _
       (finds_weaker (first_unfit (λ _ p. function_size_fits p.0 p.1)
-      (enumerate_from 0 (zip m.functions info.functions.items))) placed
+      (enumerate_from 0 (zip m.functions info.functions.items))) at_item
       (finds_plain (λ p. function_size_fits p.0 p.1) (zip m.functions info.functions.items))))
     where
-      placed : (h : ℕ) → Unfit (λ p. function_size_fits p.0 p.1) (zip m.functions info.functions.items) h →
+      at_item : (h : ℕ) → Unfit (λ p. function_size_fits p.0 p.1) (zip m.functions info.functions.items) h →
           Fails m info (at (item.Function h part.Whole) fault.InfoSize)
-      placed h fails =
+      at_item h fails =
           let found = unfit_item (λ p. function_size_fits p.0 p.1) (zip m.functions info.functions.items) h fails
           in let both = zip_parts m.functions info.functions.items h found.0 found.1
           in (found.0.0, both.0, size_of_known found.0.0 info.functions.items h found.0.1 both.1 found.2)
@@ -375,13 +375,13 @@ module _ (m : Module) (info : ModuleInfo) where
       (λ fails. and_right (length m.functions == length info.functions.items) _ (and_left _ _ fails))
       (λ _. finds_map (λ h. at (item.EntryPoint h part.Whole) fault.InfoSize) _
       (finds_weaker (first_unfit (λ _ p. entry_point_size_fits p.0 p.1)
-      (enumerate_from 0 (zip m.entry_points.items info.entry_points.items))) placed
+      (enumerate_from 0 (zip m.entry_points.items info.entry_points.items))) at_item
       (finds_plain (λ p. entry_point_size_fits p.0 p.1) (zip m.entry_points.items info.entry_points.items))))
     where
-      placed : (h : ℕ) → Unfit (λ p. entry_point_size_fits p.0 p.1)
+      at_item : (h : ℕ) → Unfit (λ p. entry_point_size_fits p.0 p.1)
           (zip m.entry_points.items info.entry_points.items) h →
           Fails m info (at (item.EntryPoint h part.Whole) fault.InfoSize)
-      placed h fails =
+      at_item h fails =
           let found = unfit_item (λ p. entry_point_size_fits p.0 p.1)
           (zip m.entry_points.items info.entry_points.items) h fails
           in let both = zip_parts m.entry_points.items info.entry_points.items h found.0 found.1
@@ -534,17 +534,17 @@ module _ (m : Module) (info : ModuleInfo) where
       (λ fails. and_left _ _ fails)
       (λ _. finds_map (λ found. at_function found.0 found.1) _
       (finds_weaker (first_faulty (λ _ p. function_sound_fault m p.0 (map (λ k. k.ty) p.1))
-      (enumerate_from 0 (zip m.functions info.functions.items))) placed
+      (enumerate_from 0 (zip m.functions info.functions.items))) at_item
       (finds_plain_faulty
       (λ h p found. FunctionPositionFails m h p.0 (map (λ k. k.ty) p.1) found.0 found.1)
       (λ p. function_is_sound m p.0 p.1) (λ _ p. function_sound_fault m p.0 (map (λ k. k.ty) p.1))
       (zip m.functions info.functions.items)
       (λ h p here. function_sound m h p.0 (map (λ k. k.ty) p.1)))))
     where
-      placed : (found : ℕ × (FunctionPosition × Fault)) → AtItem (zip m.functions info.functions.items)
+      at_item : (found : ℕ × (FunctionPosition × Fault)) → AtItem (zip m.functions info.functions.items)
           (λ h p reported. FunctionPositionFails m h p.0 (map (λ k. k.ty) p.1) reported.0 reported.1) found →
           Fails m info (at_function found.0 found.1)
-      placed found at =
+      at_item found at =
           let both = zip_parts m.functions info.functions.items found.0 at.0 at.1
           in function_fails found.0 at.0.0 both.0 found.1.1 found.1.0
           (subst (λ known. FunctionPositionFails m found.0 at.0.0 known found.1.0 found.1.1)
@@ -557,19 +557,19 @@ module _ (m : Module) (info : ModuleInfo) where
       (λ fails. and_right (length m.functions == length info.functions.items) _ (and_left _ _ fails))
       (λ _. finds_map (λ found. at_entry_point found.0 found.1) _
       (finds_weaker (first_faulty (λ _ p. function_sound_fault m p.0.function (map (λ k. k.ty) p.1))
-      (enumerate_from 0 (zip m.entry_points.items info.entry_points.items))) placed
+      (enumerate_from 0 (zip m.entry_points.items info.entry_points.items))) at_item
       (finds_plain_faulty (λ h p found. FunctionPositionFails m (length m.functions) p.0.function
       (map (λ k. k.ty) p.1) found.0 found.1)
       (λ p. entry_point_is_sound m p.0 p.1) (λ _ p. function_sound_fault m p.0.function (map (λ k. k.ty) p.1))
       (zip m.entry_points.items info.entry_points.items)
       (λ h p here. function_sound m (length m.functions) p.0.function (map (λ k. k.ty) p.1)))))
     where
-      placed : (found : ℕ × (FunctionPosition × Fault)) →
+      at_item : (found : ℕ × (FunctionPosition × Fault)) →
           AtItem (zip m.entry_points.items info.entry_points.items)
           (λ h p reported. FunctionPositionFails m (length m.functions) p.0.function
           (map (λ k. k.ty) p.1) reported.0 reported.1) found →
           Fails m info (at_entry_point found.0 found.1)
-      placed found at =
+      at_item found at =
           let both = zip_parts m.entry_points.items info.entry_points.items found.0 at.0 at.1
           in entry_point_fails found.0 at.0.0 both.0 found.1.1 found.1.0
           (entry_part at.0.0 (known_of info.entry_points.items found.0) found.1.0 found.1.1

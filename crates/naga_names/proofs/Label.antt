@@ -391,28 +391,28 @@ pub lowercase_is_alphanumeric : (c : ℕ) → is_ascii_lowercase c ≡ true
     → is_ascii_alphanumeric c ≡ true
 lowercase_is_alphanumeric c e = grind (arith, nat_tests)
 
-pub alike-nothing : StaysSame []
-alike-nothing = record { ascii = IsAscii-nil; alike = ascii_of-nil }
+pub stays-nothing : StaysSame []
+stays-nothing = record { ascii = IsAscii-nil; same = ascii_of-nil }
 
-pub alike-letter : (cs : List ℕ) (c : ℕ) → StaysSame cs → is_ascii_alphanumeric c ≡ true
+pub stays-letter : (cs : List ℕ) (c : ℕ) → StaysSame cs → is_ascii_alphanumeric c ≡ true
     → StaysSame (cs ++ c ∷ []) × (ends_separated (cs ++ c ∷ []) ≡ false)
-alike-letter cs c so_far letter =
+stays-letter cs c so_far letter =
     let other : (c == 95) ≡ false = grind (arith, nat_tests) in
     let test : (is_mark c || c == 95) ≡ false = grind (arith, nat_tests) in (
       record {
         ascii = IsAscii-push cs c so_far.ascii (alphanumeric_is_ascii c letter);
-        alike = ascii_of-alphanumeric cs c test letter ∙ ap (λ text. text ++ c ∷ []) so_far.alike;
+        same = ascii_of-alphanumeric cs c test letter ∙ ap (λ text. text ++ c ∷ []) so_far.same;
       },
       ends_separated-push cs c ∙ other,
     )
 
-pub alike-separator : (cs : List ℕ) (c : ℕ) → c ≡ 95 → StaysSame cs → ends_separated cs ≡ false
+pub stays-separator : (cs : List ℕ) (c : ℕ) → c ≡ 95 → StaysSame cs → ends_separated cs ≡ false
     → StaysSame (cs ++ c ∷ []) × (ends_separated (cs ++ c ∷ []) ≡ true)
-alike-separator cs c is so_far lone = (
+stays-separator cs c is so_far lone = (
   record {
     ascii = IsAscii-push cs c so_far.ascii (omega (arith, is));
-    alike = ap (λ d. ascii_of (cs ++ d ∷ [])) is ∙ ascii_of-underscore cs
-        ∙ ap with_separator so_far.alike ∙ with_separator-not cs lone
+    same = ap (λ d. ascii_of (cs ++ d ∷ [])) is ∙ ascii_of-underscore cs
+        ∙ ap with_separator so_far.same ∙ with_separator-not cs lone
         ∙ ap (λ d. cs ++ d ∷ []) (sym is);
   },
   ends_separated-push cs c ∙ ap (λ d. d == 95) is,
@@ -422,16 +422,16 @@ stem_of-front : (prefixes : List (List ℕ)) (c : ℕ) (cs rest : List ℕ) → 
     → list_any (starts_with nat_eq (c ∷ cs)) prefixes ≡ false → StaysSame (c ∷ rest)
     → without_last_separators (c ∷ rest) ≡ c ∷ cs → stem_of prefixes (chars (c ∷ rest)) ≡ c ∷ cs
 unfolding stem_of
-stem_of-front prefixes c cs rest first free alike done =
+stem_of-front prefixes c cs rest first free stays done =
     ap (λ text.
     set_apart prefixes (or_unnamed (without_last_separators (ascii_of (after_numerics text)))))
-    (chars-IsAscii (c ∷ rest) alike.ascii)
+    (chars-IsAscii (c ∷ rest) stays.ascii)
     ∙ ap (λ b.
     set_apart prefixes
     (or_unnamed (without_last_separators (ascii_of (cond b (after_numerics rest) (c ∷ rest))))))
     first
     ∙ ap (λ text. set_apart prefixes (or_unnamed text))
-    (ap without_last_separators alike.alike ∙ done)
+    (ap without_last_separators stays.same ∙ done)
     ∙ ap (λ b. cond b (codes "gen_" ++ c ∷ cs) (c ∷ cs)) free
 
 -- a plain text is the stem of itself, also where a `_` follows it
@@ -442,12 +442,12 @@ stem_of-plain prefixes [] label plain either free =
     let some = plain.some in absurd (omega (arith, some))
 stem_of-plain prefixes (c ∷ cs) label plain (inl same) free =
     ap (λ text. stem_of prefixes (chars text)) same
-    ∙ stem_of-front prefixes c cs cs plain.first free plain.alike
+    ∙ stem_of-front prefixes c cs cs plain.first free plain.stays
     (without_last-done (c ∷ cs) plain.last)
 stem_of-plain prefixes (c ∷ cs) label plain (inr more) free =
     ap (λ text. stem_of prefixes (chars text)) more
     ∙ stem_of-front prefixes c cs (cs ++ 95 ∷ []) plain.first free
-    (alike-separator (c ∷ cs) 95 refl plain.alike plain.last).0
+    (stays-separator (c ∷ cs) 95 refl plain.stays plain.last).0
     (without_last-push (c ∷ cs) ∙ without_last-done (c ∷ cs) plain.last)
 
 -- ---- what holds on `Ok`

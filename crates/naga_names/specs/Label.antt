@@ -99,14 +99,14 @@ set_apart prefixes text =
 -- an ASCII text that is spelled as it stands
 pub record StaysSame (text : List ℕ) : Type 0 where
   pub ascii : IsAscii text
-  pub alike : ascii_of text ≡ text
+  pub same : ascii_of text ≡ text
 
 -- an ASCII text that a label keeps: spelled as it stands,
 -- with no number first and no `_` at its end
 pub record IsPlain (text : List ℕ) : Type 0 where
   pub some : 0 < length text
   pub first : is_numeric (slice_index text 0) ≡ false
-  pub alike : StaysSame text
+  pub stays : StaysSame text
   pub last : ends_separated text ≡ false
 
 -- the stem of a label, of which these are the characters, where identifiers keep off these prefixes

@@ -362,7 +362,7 @@ access_rows = record {
   image_layers = record { form = search rules; text = refl };
   image_samples = record { form = search rules; text = refl };
   cooperative_load = record { form = search rules; text = refl };
-  cooperative_load_of_rows = record { form = search rules; text = refl };
+  cooperative_load_row_major = record { form = search rules; text = refl };
   cooperative_multiply_add = record { form = search rules; text = refl };
 }
 

@@ -243,7 +243,7 @@ pub record AccessRows : Type 0 where
   pub cooperative_load : IsExpressionText
       (Call (template "coopLoad" (template_of "coop_mat8x8" ("f32" ∷ "A" ∷ []) ∷ []))
       (operands (AddressOf (name "a") ∷ name "n" ∷ []))) "coopLoad<coop_mat8x8<f32,A>>((&a), n)"
-  pub cooperative_load_of_rows : IsExpressionText
+  pub cooperative_load_row_major : IsExpressionText
       (Call (template "coopLoadT" (template_of "coop_mat8x8" ("f32" ∷ "C" ∷ []) ∷ []))
       (operands (AddressOf (name "a") ∷ name "n" ∷ []))) "coopLoadT<coop_mat8x8<f32,C>>((&a), n)"
   pub cooperative_multiply_add : IsExpressionText

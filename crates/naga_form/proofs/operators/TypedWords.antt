@@ -294,9 +294,9 @@ unsupported_distinguished (MatrixLoad columns rows role row_major) =
     λ i. MatrixLoad (cooperative_distinguished columns i) (cooperative_distinguished rows i)
     (role_distinguished role i) (truth_distinguished row_major i)
 
-unsupported_share : (x y : Unsupported) → unsupported_word x ≡ unsupported_word y → one_unsupported x
+unsupported_by_word : (x y : Unsupported) → unsupported_word x ≡ unsupported_word y → one_unsupported x
     ≡ one_unsupported y
-unsupported_share x y e = sym (unsupported_distinguished x)
+unsupported_by_word x y e = sym (unsupported_distinguished x)
     ∙ (ap unsupported_of e ∙ unsupported_distinguished y)
 
 -- no type is spelled so
@@ -380,7 +380,7 @@ typed_one_word (CooperativeLoad true w) (CooperativeLoad false x) ua ub sa sb e 
     absurd (other_call (codes "coopLoadT") (codes "coopLoad") transposed_takes load_takes refl w x e)
 typed_one_word (CooperativeLoad true w) (CooperativeLoad true x) ua ub sa sb e =
     ap (CooperativeLoad true) (same_call (codes "coopLoadT") w x e)
-typed_one_word (WithoutForm x) (WithoutForm y) ua ub sa sb e = ap WithoutForm (unsupported_share x y e)
+typed_one_word (WithoutForm x) (WithoutForm y) ua ub sa sb e = ap WithoutForm (unsupported_by_word x y e)
 typed_one_word (WithoutForm x) (MakeSpelled w n) ua ub sa sb e = absurd (no_unsupported w x sb (sym e))
 typed_one_word (WithoutForm x) (Convert w) ua ub sa sb e = absurd (no_unsupported w x sb (sym e))
 typed_one_word (WithoutForm x) (Reinterpret w) ua ub sa sb e = absurd (no_unsupported_reinterpret w x (sym e))

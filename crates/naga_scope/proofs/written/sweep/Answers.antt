@@ -14,7 +14,7 @@ loop-end-init c =
     let len : length es ≡ c.len-end.result = sym c.len-end.ensures in
     record {
       size = c.requires.size;
-      bound = omega (arith, len);
+      end_fits = omega (arith, len);
       swept = λ writes just. swept_begun es writes c.args.lines.now just c.requires.size c.len-end.result
           (omega (arith, len));
       found = found_begun formed es c.args.lines.now c.len-end.result (omega (arith, len));
@@ -24,7 +24,7 @@ pub loop-end-preserved-in-Some : goal.loop-end-preserved-in-Some
 loop-end-preserved-in-Some c =
     let es = c.args.function.now.expressions in
     let formed = expression_has_form c.args.module.now c.args.info.now es in
-    let bound : c.loop-end.end ≤ length es = c.loop-end.invariant.bound in
+    let fits : c.loop-end.end ≤ length es = c.loop-end.invariant.end_fits in
     let some : 0 < c.loop-end.end = c.loop-end-test.true in
     let x = c.loop-end.end - 1 in
     let last : suc x ≡ c.loop-end.end = omega (arith, some) in
@@ -35,7 +35,7 @@ loop-end-preserved-in-Some c =
     let line = c.in-Some.line in
     record {
       size = size_kept c.note_operands.ensures ∙ c.loop-end.invariant.size;
-      bound = omega (arith, bound);
+      end_fits = omega (arith, fits);
       swept = λ writes just.
           swept_next es writes c.args.lines.now c.loop-end.lines c.note_operands.new.lines x e line
           c.loop-end.invariant.size at below is
@@ -57,14 +57,14 @@ pub loop-end-preserved : goal.loop-end-preserved
 loop-end-preserved c =
     let es = c.args.function.now.expressions in
     let formed = expression_has_form c.args.module.now c.args.info.now es in
-    let bound : c.loop-end.end ≤ length es = c.loop-end.invariant.bound in
+    let fits : c.loop-end.end ≤ length es = c.loop-end.invariant.end_fits in
     let some : 0 < c.loop-end.end = c.loop-end-test.true in
     let x = c.loop-end.end - 1 in
     let last : suc x ≡ c.loop-end.end = omega (arith, some) in
     let none = sym c.line_at.ensures ∙ c.in_default.is in
     record {
       size = c.loop-end.invariant.size;
-      bound = omega (arith, bound);
+      end_fits = omega (arith, fits);
       swept = λ writes just.
           swept_passed es writes c.args.lines.now c.loop-end.lines x none
           (subst (SweptTo es writes c.args.lines.now c.loop-end.lines) (sym last)

@@ -8,7 +8,7 @@ use Rattle.naga_scope.proofs.written.sweep.Given as goal
 abbrev pub invariant-loop-end : goal.invariant-loop-end
 invariant-loop-end l = record {
   size : length l.lines ≡ length l.function.expressions;
-  bound : l.end ≤ length l.function.expressions;
+  end_fits : l.end ≤ length l.function.expressions;
   swept : (writes : List (Line × ℕ)) → WritesJust writes l.initial.lines →
       SweptTo l.function.expressions writes l.initial.lines l.lines l.end;
   found : FoundFrom (expression_has_form l.module l.info l.function.expressions) l.function.expressions l.end
