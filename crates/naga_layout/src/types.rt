@@ -62,7 +62,7 @@ pub fn type_layout(types: &UniqueArena<Type_>, handle: Handle<Type_>) -> Option<
     requires there { handle < length types.now }
     ensures { result ≡ option_map told (layout_at user_rule types.now handle) }
 {
-    match kept_afresh(types, handle) {
+    match layout_afresh(types, handle) {
         Some(layout) => Some(TypeLayout {
             align: layout.alignment,
             size: user_size(layout.size),
@@ -131,13 +131,13 @@ fn remember(
 }
 
 /// How the type at a handle is laid out, with cells that remember nothing yet, on the stack.
-fn kept_afresh(types: &UniqueArena<Type_>, handle: Handle<Type_>) -> Option<Layout>
+fn layout_afresh(types: &UniqueArena<Type_>, handle: Handle<Type_>) -> Option<Layout>
     requires ordered { StandInOrder types.now }
     requires there { handle < length types.now }
     ensures { result ≡ option_map capped (layout_at user_rule types.now handle) }
 {
     let mut seen: [Option<Known>; 256] = [None; 256];
-    kept_layout(types, handle, seen.as_mut_slice())
+    remembered_layout(types, handle, seen.as_mut_slice())
 }
 
 /// The size as users are told it: none that has more than 32 bits.
@@ -253,7 +253,7 @@ pub(crate) fn laid_matrix(columns: VectorSize, rows: VectorSize, scalar: Scalar)
 /// How the type at a handle is laid out, as [`type_layout`] tells it, with what is remembered.
 #[cycle(layouts)]
 #[tactic(auto, using(crate::proofs::Left::cell_aligned))]
-fn kept_layout(
+fn remembered_layout(
     types: &UniqueArena<Type_>,
     handle: Handle<Type_>,
     seen: &mut [Option<Known>],
@@ -270,12 +270,12 @@ fn kept_layout(
             return layout;
         }
     }
-    kept_new(types, handle, seen)
+    new_layout(types, handle, seen)
 }
 
 /// The same of one that no cell remembers; a struct is remembered then.
 #[cycle(layouts)]
-fn kept_new(
+fn new_layout(
     types: &UniqueArena<Type_>,
     handle: Handle<Type_>,
     seen: &mut [Option<Known>],
@@ -287,14 +287,14 @@ fn kept_new(
     ensures layout { result ≡ option_map capped (layout_at user_rule types.now handle) }
     ensures aligned { IfSome result (λ l. IsAlignment l.alignment) }
 {
-    let layout = kept_inner(types, handle, &types[handle].inner, seen);
+    let layout = remembered_inner(types, handle, &types[handle].inner, seen);
     remember(types, handle, layout, seen);
     layout
 }
 
 /// The same of a type by itself, whose elements and members are of types before `here`.
 #[cycle(layouts)]
-fn kept_inner(
+fn remembered_inner(
     types: &UniqueArena<Type_>,
     here: Handle<Type_>,
     inner: &TypeInner,
@@ -319,16 +319,16 @@ fn kept_inner(
             scalar,
         } => laid_matrix(*columns, *rows, *scalar),
         TypeInner::Array { base, size, stride } => {
-            kept_array(types, here, *base, *size, *stride, seen)
+            remembered_array(types, here, *base, *size, *stride, seen)
         }
-        TypeInner::Struct { members, span } => kept_struct(types, here, members, *span, seen),
+        TypeInner::Struct { members, span } => remembered_struct(types, here, members, *span, seen),
         _ => None,
     }
 }
 
 /// The layout of an array, if its elements begin as far apart as WGSL has them begin.
 #[cycle(layouts)]
-fn kept_array(
+fn remembered_array(
     types: &UniqueArena<Type_>,
     here: Handle<Type_>,
     base: Handle<Type_>,
@@ -347,7 +347,7 @@ fn kept_array(
     ensures aligned { IfSome result (λ l. IsAlignment l.alignment) }
 {
     match told_length(size) {
-        Some(length) => match kept_layout(types, base, seen) {
+        Some(length) => match remembered_layout(types, base, seen) {
             Some(element) => array_layout(stride, length, element),
             None => None,
         },
@@ -357,7 +357,7 @@ fn kept_array(
 
 /// The layout of a struct, if each member can stay where it is.
 #[cycle(layouts)]
-fn kept_struct(
+fn remembered_struct(
     types: &UniqueArena<Type_>,
     here: Handle<Type_>,
     members: &[StructMember],
@@ -376,7 +376,7 @@ fn kept_struct(
     let mut before: Option<Placed> = None;
     let mut alignment: u32 = 0;
     for member in members {
-        let placed = match kept_member(types, here, member, seen) {
+        let placed = match remembered_member(types, here, member, seen) {
             Some(placed) => placed,
             None => return None,
         };
@@ -394,7 +394,7 @@ fn kept_struct(
 
 /// A member with its type's layout, if that is laid out and the member has no binding.
 #[cycle(layouts)]
-fn kept_member(
+fn remembered_member(
     types: &UniqueArena<Type_>,
     here: Handle<Type_>,
     member: &StructMember,
@@ -412,7 +412,7 @@ fn kept_member(
     if member.binding.is_some() {
         return None;
     }
-    match kept_layout(types, member.ty, seen) {
+    match remembered_layout(types, member.ty, seen) {
         Some(layout) => Some(Placed {
             layout,
             offset: member.offset,

@@ -324,8 +324,8 @@ body_cons c cs = either (is_foreign c) (is_mark c) (is_identifier_char c) refl r
     either false false false f_is m_is p_is =
         absurd (cc (ap (λ b. not b && not (is_identifier_char c)) m_is, ap not p_is, f_is))
 
-pub spelling_cons : (c : ℕ) (cs : List ℕ) → (d : ℕ) × (ds : List ℕ) × (ascii_of (c ∷ cs) ≡ d ∷ ds)
-spelling_cons c cs =
+pub ascii_of-cons : (c : ℕ) (cs : List ℕ) → (d : ℕ) × (ds : List ℕ) × (ascii_of (c ∷ cs) ≡ d ∷ ds)
+ascii_of-cons c cs =
     let some = body_cons c cs in
     let text = squeezed_cons some.0 some.1 in
     (text.0, text.1, ascii_of-body (c ∷ cs) ∙ ap without_repeated_underscores some.2 ∙ text.2)
@@ -340,7 +340,7 @@ pub ascii_of-first_foreign : (cs : List ℕ) (c : ℕ) → is_foreign c ≡ true
     ascii_of (cs ++ c ∷ []) ≡ by_number c
 ascii_of-first_foreign [] c foreign none = ascii_of-body (c ∷ []) ∙ ap without_repeated_underscores
     (body-foreign c foreign) ∙ without_repeated_underscores-by_number c
-ascii_of-first_foreign (d ∷ cs) c foreign none = let some = spelling_cons d cs in let long = ap length some.2 in
+ascii_of-first_foreign (d ∷ cs) c foreign none = let some = ascii_of-cons d cs in let long = ap length some.2 in
     absurd (omega (arith, long))
 
 pub ascii_of-later_foreign : (cs : List ℕ) (c : ℕ) → is_foreign c ≡ true → (length (ascii_of cs) ≡ 0 → ⊥) →

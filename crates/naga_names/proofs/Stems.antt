@@ -66,9 +66,9 @@ only_squeezed (c ∷ cs) e =
     either true one rest = rest
     either false one rest = and_from _ _ one rest
 
-only_spelling : (cs : List ℕ) → only (ascii_of cs)
+only_ascii : (cs : List ℕ) → only (ascii_of cs)
 unfolding ascii_of
-only_spelling cs = either (begins_foreign cs)
+only_ascii cs = either (begins_foreign cs)
   where
     either : (b : Bool) → only (cond b (drop 1 (without_repeated_underscores (flat_map character_ascii cs)))
         (without_repeated_underscores (flat_map character_ascii cs)))
@@ -232,7 +232,7 @@ before_prefix : (characters : List ℕ) →
     is_word (or_unnamed (without_last_separators (ascii_of (after_numerics characters)))) ≡ true
 before_prefix characters =
     let cs = after_numerics characters in
-    unnamed_word (without_last_separators (ascii_of cs)) (only_without (ascii_of cs) (only_spelling cs))
+    unnamed_word (without_last_separators (ascii_of cs)) (only_without (ascii_of cs) (only_ascii cs))
     (without-first is_ascii_digit (ascii_of cs) (ap (begins_by is_ascii_digit) (ascii_of-body cs)
     ∙ without_repeated_underscores-first is_ascii_digit (body cs)
     ∙ body-first cs (after_numerics-first characters)))

@@ -130,21 +130,21 @@ module _ (m : Module) (info : ModuleInfo) (f : ir_function.Function) (es : List 
   one_more n h = test_is (constant_to n) h
 
   -- the bound doesn't matter past the handle
-  pub any_bound : (n k h : ℕ) → h < n → h < k → constant_to n h ≡ constant_to k h
-  any_bound zero k h ln lk = absurd (omega arith)
-  any_bound (suc n) zero h ln lk = absurd (omega arith)
-  any_bound (suc n) (suc k) h ln lk =
+  pub any_limit : (n k h : ℕ) → h < n → h < k → constant_to n h ≡ constant_to k h
+  any_limit zero k h ln lk = absurd (omega arith)
+  any_limit (suc n) zero h ln lk = absurd (omega arith)
+  any_limit (suc n) (suc k) h ln lk =
       let each : (x : ℕ) → x < h → constant_to n x ≡ constant_to k x =
-      λ x lt. any_bound n k x (omega arith) (omega arith) in
+      λ x lt. any_limit n k x (omega arith) (omega arith) in
       one_more n h
       ∙ ap (λ t. leaf h || (pure h && t))
       (all_alike (constant_to n) (constant_to k) h each (own h) (below h))
       ∙ sym (one_more k h)
 
-  unfolded : (n h : ℕ) → h < n →
+  constant_to_step : (n h : ℕ) → h < n →
       constant_to n h ≡ (leaf h || (pure h && all_constant (constant_to n) (own h)))
-  unfolded n h lt =
-      let more : h < suc n = omega (arith, lt) in any_bound n (suc n) h lt more ∙ one_more n h
+  constant_to_step n h lt =
+      let more : h < suc n = omega (arith, lt) in any_limit n (suc n) h lt more ∙ one_more n h
 
   -- by such a table, a handle below i is seen to be constant
   constant_by_cell : (table : List Availability) (i h : ℕ) → i ≤ all → IsStart m info f es table i →
@@ -154,9 +154,9 @@ module _ (m : Module) (info : ModuleInfo) (f : ir_function.Function) (es : List 
       ap (λ c. leaf h || is_everywhere c) (s.cells h lt)
       ∙ ap (λ t. leaf h || t)
       (first_everywhere (pure h && constant_to all h)
-      ∙ ap (λ t. pure h && t) (unfolded all h within))
+      ∙ ap (λ t. pure h && t) (constant_to_step all h within))
       ∙ test_again (leaf h) (pure h) (all_constant (constant_to all) (own h))
-      ∙ sym (unfolded all h within)
+      ∙ sym (constant_to_step all h within)
 
   next_cell : (table : List Availability) (i : ℕ) → i < all → IsStart m info f es table i →
       (pure i && all_constant (is_constant_by table f.expressions) (own i)) ≡
@@ -167,7 +167,7 @@ module _ (m : Module) (info : ModuleInfo) (f : ir_function.Function) (es : List 
       (all_alike (is_constant_by table f.expressions) (constant_to all) i
       (λ x l. constant_by_cell table i x le s l) (own i) (below i))
       ∙ no_leaf (kind_at f.expressions i) (all_constant (constant_to all) (own i))
-      ∙ ap (λ t. pure i && t) (sym (unfolded all i lt))
+      ∙ ap (λ t. pure i && t) (sym (constant_to_step all i lt))
 
   pub is_start_more : (table : List Availability) (i : ℕ) (cell : Availability) → i < all →
       IsStart m info f es table i →

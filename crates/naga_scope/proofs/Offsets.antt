@@ -25,7 +25,7 @@ use Rattle.naga_ir.specs.declared.module.Function as ir_function
 use Rattle.naga_ir.specs.declared.module.Module.{Module}
 use Rattle.naga_ir.specs.Kinds.{kind_of}
 use Rattle.naga_ir.specs.declared.kind.ExpressionKind.TheVariants as kind
-use Rattle.naga_scope.proofs.Constants.{any_bound, constant_to, counted, one_more}
+use Rattle.naga_scope.proofs.Constants.{any_limit, constant_to, counted, one_more}
 use Rattle.naga_scope.proofs.ShapeKinds.{pure_at, usable_is}
 use Rattle.naga_scope.specs.Availabilities.{KeepsStart, is_constant_kind, is_pure_kind, operands_at}
 use Rattle.naga_scope.specs.Availabilities.{usable_by}
@@ -120,7 +120,7 @@ module _ (m : Module) (info : ModuleInfo) (f : ir_function.Function) (es : List 
           (ap₂ (λ p b. is_present (start_availability (p && b)))
           (pure_at m info f es x
           ∙ (ap (λ o. is_pure_kind (option_map_or kind_of o kind.Result)) here ∙ pure))
-          (any_bound m info f es ordered (length shape.expressions) (suc x) x within one ∙ whole))
+          (any_limit m info f es ordered (length shape.expressions) (suc x) x within one ∙ whole))
 
       by : (o : Option ir.Expression) → slice_get f.expressions x ≡ o →
           is_some (option_and_then (tree_over d (tree_within x d f.expressions) x) o) ≡ true →

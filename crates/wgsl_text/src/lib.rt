@@ -117,7 +117,7 @@ pub fn words_are_spelled()
 
 /// The texts of worked programs, byte for byte.
 pub fn worked_programs()
-    ensures written_out { WorkedPrograms }
+    ensures texts { WorkedPrograms }
     ensures large { LargePrograms }
 {}
 

@@ -584,9 +584,9 @@ module _ (m : Module) (are : TypesAreCounted m) (stand : PartsStand m) where
       loose : IsFree ib
       loose = is_free b ib q bt
 
-      one_spelling : (n k x y : ℕ) → n ≡ x → k ≡ y → (o : Option (List ℕ)) →
+      same_numbers : (n k x y : ℕ) → n ≡ x → k ≡ y → (o : Option (List ℕ)) →
           option_map (λ it. level 5 n k 0 0 0 ++ it) o ≡ option_map (λ it. level 5 x y 0 0 0 ++ it) o
-      one_spelling n k x y f g o = λ i. option_map (λ it. level 5 (f i) (g i) 0 0 0 ++ it) o
+      same_numbers n k x y f g o = λ i. option_map (λ it. level 5 (f i) (g i) 0 0 0 ++ it) o
 
       both : (x : List ℕ) → Pointed ia x → Pointed ib x → AlikePlaces ia ib
       both x (Plain n k y f other parts kind) (Plain l j z g another others other_kind) =
@@ -608,7 +608,7 @@ module _ (m : Module) (are : TypesAreCounted m) (stand : PartsStand m) where
           (access_number to) (level 8 j 0 0 0 0) x f g in
           let bases : h ≡ j = ap (λ y. get_or y 1 0) one.followings in
           OneStruct h at to is (other ∙ ap (λ base. inner.Pointer base to) (sym bases)) members
-          (one_spelling (space_number at) (access_number at) (space_number to) (access_number to) one.numbers
+          (same_numbers (space_number at) (access_number at) (space_number to) (access_number to) one.numbers
           one.accesses)
 
       by : Alike a b → AlikePlaces ia ib

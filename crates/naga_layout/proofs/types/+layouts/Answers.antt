@@ -8,22 +8,22 @@ use Rattle.naga_ir.proofs.Listed.{drop_first}
 use Rattle.naga_layout.proofs.Left.{one_more, struct_left}
 use Rattle.naga_layout.proofs.types.+layouts.Goals as goal
 
-pub kept_new-remember-requires-clause-layout : goal.kept_new-remember-requires-clause-layout
-kept_new-remember-requires-clause-layout t c =
-    c.kept_inner-layout.ensures.layout
+pub new_layout-remember-requires-clause-layout : goal.new_layout-remember-requires-clause-layout
+new_layout-remember-requires-clause-layout t c =
+    c.remembered_inner-layout.ensures.layout
     ∙ ap (option_map capped)
     (sym (layout_is user_rule c.args.types.now c.requires.ordered c.args.handle c.index.result.now c.index.ensures
     ∙ told_is (layout_at user_rule c.args.types.now) c.args.handle c.index.result.now.inner))
 
-pub kept_new-returns-clause-layout : goal.kept_new-returns-clause-layout
-kept_new-returns-clause-layout t c =
-    c.kept_inner-layout.ensures.layout
+pub new_layout-returns-clause-layout : goal.new_layout-returns-clause-layout
+new_layout-returns-clause-layout t c =
+    c.remembered_inner-layout.ensures.layout
     ∙ ap (option_map capped)
     (sym (layout_is user_rule c.args.types.now c.requires.ordered c.args.handle c.index.result.now c.index.ensures
     ∙ told_is (layout_at user_rule c.args.types.now) c.args.handle c.index.result.now.inner))
 
-pub kept_struct-loop-member-init : goal.kept_struct-loop-member-init
-kept_struct-loop-member-init t c = (
+pub remembered_struct-loop-member-init : goal.remembered_struct-loop-member-init
+remembered_struct-loop-member-init t c = (
   None,
   refl,
   refl,
@@ -31,8 +31,8 @@ kept_struct-loop-member-init t c = (
   struct_left user_rule c.args.types.now c.args.span c.args.members.now,
 )
 
-pub kept_struct-loop-member-preserved : goal.kept_struct-loop-member-preserved
-kept_struct-loop-member-preserved t c =
+pub remembered_struct-loop-member-preserved : goal.remembered_struct-loop-member-preserved
+remembered_struct-loop-member-preserved t c =
     let so_far = c.loop-member.invariant in
     let ms = c.args.members.now in
     let f = layout_at user_rule c.args.types.now in
@@ -40,12 +40,12 @@ kept_struct-loop-member-preserved t c =
     let goes = one_more f c.args.span ms c.loop-member.member-index c.member-item.result so_far.0
     c.loop-member.alignment q c.loop-member.before (kept_struct f ms c.args.span)
     (drop_first c.loop-member.member-index ms c.member-item.result c.loop-member-test.true c.member-item.is)
-    so_far.1 so_far.2 so_far.4 (sym c.in-Some.is ∙ c.kept_member.ensures.placed) c.in-Some.ensures.aligned
+    so_far.1 so_far.2 so_far.4 (sym c.in-Some.is ∙ c.remembered_member.ensures.placed) c.in-Some.ensures.aligned
     (λ b p held same. sym c.if-not-stands_after.false ∙ c.stands_after.ensures b p held same) in (
       goes.0,
       goes.1,
       subst (IsGreatest goes.0) (sym c.max-alignment.ensures) goes.2,
-      c.kept_member.ensures.told,
+      c.remembered_member.ensures.told,
       goes.3 ∙ ap (λ a. left_from f c.args.span goes.0 a (drop (c.loop-member.member-index + 1) ms))
           (sym c.max-alignment.ensures),
     )
