@@ -310,15 +310,15 @@ module _ (m : Module) where
       (unsigned_apart m.types s.width s.kind)
   case_value_type_holds s switch_value.Default = tt
 
-  label_types_hold : (s : Scalar) (cs : CaseTrees) → Holds (case_value_types_reason s cs)
-  label_types_hold s no_cases = tt
-  label_types_hold s (case v b falls cs) =
+  case_value_types_hold : (s : Scalar) (cs : CaseTrees) → Holds (case_value_types_reason s cs)
+  case_value_types_hold s no_cases = tt
+  case_value_types_hold s (case v b falls cs) =
       or_holds (IsReason m) (case_value_type_reason s v) (case_value_types_reason s cs) (case_value_type_holds s v)
-      (label_types_hold s cs)
+      (case_value_types_hold s cs)
 
   case_value_holds : (cs : CaseTrees) (it : TypeInner) → Holds (case_value_reason cs it)
   case_value_holds cs (inner.Scalar s) =
-      or_holds (IsReason m) (case_value_types_reason s cs) _ (label_types_hold s cs)
+      or_holds (IsReason m) (case_value_types_reason s cs) _ (case_value_types_hold s cs)
       (three_needs (case_values_differ cs) (has_case_value switch_value.Default cs)
       (not (last_falls_through false cs)) need.DistinctCaseValues need.Default need.End)
   case_value_holds cs _ = tt

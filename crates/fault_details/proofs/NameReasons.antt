@@ -83,9 +83,9 @@ any_told true false c x y z fails first second third = some_first x (option_or y
 any_told false b c x y z fails first second third = some_second x (option_or y z) (some_second y z (third refl))
 
 -- one that passes, and one that fails before it
-kept : (a b : Bool) → b ≡ true → (a && b) ≡ false → a ≡ false
-kept true b passes fails = absurd (true≢false (sym passes ∙ fails))
-kept false b passes fails = refl
+earlier_fails : (a b : Bool) → b ≡ true → (a && b) ≡ false → a ≡ false
+earlier_fails true b passes fails = absurd (true≢false (sym passes ∙ fails))
+earlier_fails false b passes fails = refl
 
 first_told : {X : Type 0} (test : X → Bool) (why : X → Option Reason) → ((x : X) → test x ≡ false → IsSome (why x)) →
     (xs : List X) → list_all test xs ≡ false → IsSome (first_reason why xs)
@@ -175,7 +175,7 @@ declared_told m name count known ty init fails =
 
 -- without the numbers after them, which are of their types
 without_numbers : (a b numbers : Bool) → numbers ≡ true → (a && (b && numbers)) ≡ false → (a && b) ≡ false
-without_numbers true b numbers fit fails = kept b numbers fit fails
+without_numbers true b numbers fit fails = earlier_fails b numbers fit fails
 without_numbers false b numbers fit fails = refl
 
 -- ---- expressions
@@ -263,7 +263,7 @@ statement_told m callees expressions (switch selector cs) fit fails =
     some_first (first_reason (absent list.Expressions expressions) (selector ∷ [])) None
     (some_first (absent list.Expressions expressions selector) None
     (absent_told list.Expressions expressions selector
-    (kept (nat_lt selector expressions) (case_values_fit_32_bits cs) fit fails)))
+    (earlier_fails (nat_lt selector expressions) (case_values_fit_32_bits cs) fit fails)))
 statement_told m callees expressions (loop body continuing break_if) fit fails =
     some_first (first_reason (absent list.Expressions expressions) (option_to_list break_if)) None
     (operand break_if fails)
@@ -295,7 +295,7 @@ module _ (m : Module) (f : Function) (known : List TypeResolution) (callees : �
   whole_told fault.InfoSize of fails = number_told counted.Expressions (length f.expressions) (length known) fails
   whole_told fault.Signature of fails =
       signature_told (length m.types) f
-      (kept (signature_types_fit (length m.types) f) (signature_fits_32_bits f) fit.signature fails)
+      (earlier_fails (signature_types_fit (length m.types) f) (signature_fits_32_bits f) fit.signature fails)
   whole_told fault.NamedExpressions of fails =
       all_told list.Expressions (length f.expressions) (keys f.named_expressions) fails
   whole_told _ of fails = absurd fails
@@ -394,9 +394,9 @@ module _ (m : Module) (info : ModuleInfo) (fit : AreOfTheirTypes m) (numbered : 
       let t = unfit_item (λ t. numbers_in_range (length m.overrides) t.inner) m.types h fails in
       some_then (made_reason m fault.TypeLength h) (inner_at m.types h) t.0.inner (ap (option_map (λ t. t.inner)) t.1)
       (length_told (length m.overrides) t.0.inner
-      (kept (length_within (length m.overrides) t.0.inner) (type_fits_32_bits t.0.inner)
+      (earlier_fails (length_within (length m.overrides) t.0.inner) (type_fits_32_bits t.0.inner)
       (list_all_at (λ t. type_fits_32_bits t.inner) m.types h t.0 fit.types t.1) t.2))
-  type_told h fault.TypeForm of fails = absurd of
+  type_told h fault.HandlePointer of fails = absurd of
   type_told h _ of fails = absurd fails
 
   constant_told : (h : ℕ) (kind : Fault) → IsOfNames kind → ConstantFails m info h kind →
@@ -481,7 +481,7 @@ module _ (m : Module) (info : ModuleInfo) (fit : AreOfTheirTypes m) (numbered : 
       (or_told task (ray && group) (option_and_then (absent list.GlobalVariables n) p.task_payload)
       (option_and_then (absent list.GlobalVariables n) p.incoming_ray_payload)
       (below_told list.GlobalVariables n p.task_payload)
-      (λ fails. below_told list.GlobalVariables n p.incoming_ray_payload (kept ray group sizes fails))) fails
+      (λ fails. below_told list.GlobalVariables n p.incoming_ray_payload (earlier_fails ray group sizes fails))) fails
 
   entry_told : (p : EntryPoint) (known : List TypeResolution) →
       IsTrue (workgroup_fits_32_bits p.workgroup_size) × HasItsNumbers p.function →

@@ -95,12 +95,12 @@ unsupported_at types h t is none = by _ (is_struct t.inner) (sym (ap (found_key_
     by rest false e = refl
 
 -- what tells a type is something
-by_form : (o : Option (List ℕ)) (code : List ℕ) → begins_plain o ≡ true →
+by_key : (o : Option (List ℕ)) (code : List ℕ) → begins_plain o ≡ true →
     (bytes_eq [] (unwrap_or o (32 ∷ code)) ≡ false) × (bytes_eq (unwrap_or o (32 ∷ code)) [] ≡ false)
-by_form None code plain = (refl, refl)
-by_form (Some []) code plain = absurd (true≢false (sym plain))
-by_form (Some (n ∷ w)) code plain = (refl, refl)
+by_key None code plain = (refl, refl)
+by_key (Some []) code plain = absurd (true≢false (sym plain))
+by_key (Some (n ∷ w)) code plain = (refl, refl)
 
 pub identity_some : (types : List Type_) (r : TypeResolution) → (bytes_eq [] (type_identity types r) ≡ false)
     × (bytes_eq (type_identity types r) [] ≡ false)
-identity_some types r = by_form (type_key types r) (identity_code (identity types r)) (key_plain types r)
+identity_some types r = by_key (type_key types r) (identity_code (identity types r)) (key_plain types r)

@@ -87,14 +87,14 @@ binding_array_length = refl
 binding_array_length-of_33_bits : resolution_in_range 0 1 (Value (inner.BindingArray 0 too_great)) ≡ false
 binding_array_length-of_33_bits = refl
 
-declared_length : types_in_range 0 (record { name = None; inner = inner.Sampler false }
+listed_length : types_in_range 0 (record { name = None; inner = inner.Sampler false }
     ∷ record { name = None; inner = inner.Array 0 greatest 4 } ∷ []) ≡ true
-declared_length = refl
+listed_length = refl
 
-declared_length-of_33_bits : types_in_range 0
+listed_length-of_33_bits : types_in_range 0
     (record { name = None; inner = inner.Sampler false }
     ∷ record { name = None; inner = inner.Array 0 too_great 4 } ∷ []) ≡ false
-declared_length-of_33_bits = refl
+listed_length-of_33_bits = refl
 
 -- ---- bindings
 abbrev at_location : (location : ℕ) (blend_src : Option ℕ) → Binding

@@ -298,8 +298,8 @@ own_level_word Exact = codes "Exact"
 own_level_word Biased = codes "Biased"
 own_level_word Graded = codes "Graded"
 
-abbrev pub own_form_word : Level → (compares clamped : Bool) → List ℕ
-own_form_word level compares clamped =
+abbrev pub own_sampling_word : Level → (compares clamped : Bool) → List ℕ
+own_sampling_word level compares clamped =
     if_word compares (codes "Compare")
     ++ (if_word clamped (codes "Clamped") ++ own_level_word level)
 
@@ -331,9 +331,9 @@ abbrev pub own_word : Operator → List ℕ
 own_word (Math fun) = own_math_word fun
 own_word (Relational fun) = own_relational_word fun
 own_word (Sample level compares clamped arrayed offset) =
-    codes "textureSample " ++ own_form_word level compares clamped
+    codes "textureSample " ++ own_sampling_word level compares clamped
 own_word (Gather component level compares clamped arrayed offset) =
-    codes "textureGather " ++ (own_form_word level compares clamped ++ component_word component)
+    codes "textureGather " ++ (own_sampling_word level compares clamped ++ component_word component)
 own_word (Texel arrayed of_) = codes "textureLoad Both"
 own_word (TexelChange way arrayed) = codes " textureAtomicCompareExchangeWeak"
 own_word (Collective op collective) = own_collective_word op collective

@@ -93,8 +93,8 @@ member_words =
 
 -- A struct's member is written: it is there, and a text declares the struct, or the member has one
 -- of these words for its name.
-abbrev pub member_is_written : Module → (h : ℕ) → List StructMember → (index : ℕ) → Bool
-member_is_written m h members index =
+abbrev pub member_has_form : Module → (h : ℕ) → List StructMember → (index : ℕ) → Bool
+member_has_form m h members index =
     nat_lt index (length members) &&
     (not (is_undeclared m.special_types h) ||
     stands_in member_words (name_in (module_names m) (key.StructMember h index)))
@@ -103,7 +103,7 @@ member_is_written m h members index =
 abbrev pub part_has_form_at : Module → (index h : ℕ) → Bool
 part_has_form_at m index h =
     option_map_or
-    (λ t. not (is_struct t.inner) || member_is_written m h (members_of t.inner) index)
+    (λ t. not (is_struct t.inner) || member_has_form m h (members_of t.inner) index)
     (slice_get m.types h) true
 
 -- the type of which a value's or a pointer's part is taken, by its handle, if it has one

@@ -210,7 +210,7 @@ module _ (m : Module) (info : ModuleInfo) where
   ranges_other =
       of_or ItemIsOther (sizes_fault m info) _ sizes_other
       (of_or ItemIsOther _ _
-      (of_map ItemIsOther (λ h. at (item.Type h) fault.TypeForm) _
+      (of_map ItemIsOther (λ h. at (item.Type h) fault.HandlePointer) _
       (of_any _ (first_unfit (λ _. type_is_fit) (enumerate_from 0 m.types)) (λ h typed. typed)))
       (of_or ItemIsOther (module_range_fault m) (info_fault m info) (module_other m) info_other))
 

@@ -14,9 +14,9 @@ use Rattle.naga_acceptance.specs.Searching.{first_faulty, first_unfit, or_furthe
 use Rattle.naga_acceptance.specs.TextOrder.{numbered}
 
 -- what a call of `is_none` tells
-pub none_reported : {F : Type 0} (found : Option F) (none : Bool) → is_some found ≡ not none → none ≡ is_none found
-none_reported found true e = ap not (sym e)
-none_reported found false e = ap not (sym e)
+pub none_found : {F : Type 0} (found : Option F) (none : Bool) → is_some found ≡ not none → none ≡ is_none found
+none_found found true e = ap not (sym e)
+none_found found false e = ap not (sym e)
 
 -- nothing is found where the test passes, and what is found fails
 pub record Finds {F : Type 0} (found : Option F) (test : Bool) (P : F → Type 0) : Type 0 where

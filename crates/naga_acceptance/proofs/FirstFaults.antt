@@ -463,14 +463,14 @@ module _ (m : Module) (info : ModuleInfo) where
           let p = item_beside m.entry_points.items info.entry_points.items found.0 at.0 entry_points at.1
           in subst (λ reported. Fails m info (at_entry_point found.0 reported)) (sym at.2.1) (p.0, p.1, at.2.2)
 
-  forms_found : Finds (first_unfit (λ _. type_is_fit) (enumerate_from 0 m.types)) (list_all type_is_fit m.types)
-      (λ h. Fails m info (at (item.Type h) fault.TypeForm))
-  forms_found = finds_plain type_is_fit m.types
+  fits_found : Finds (first_unfit (λ _. type_is_fit) (enumerate_from 0 m.types)) (list_all type_is_fit m.types)
+      (λ h. Fails m info (at (item.Type h) fault.HandlePointer))
+  fits_found = finds_plain type_is_fit m.types
 
   pub ranges_found : Finds (ranges_fault m info) (module_ranges_fit m info) (Fails m info)
   unfolding module_ranges_fit
   ranges_found =
-      finds_or _ _ sizes (λ fits. finds_or _ _ (finds_map (λ h. at (item.Type h) fault.TypeForm) _ forms_found)
+      finds_or _ _ sizes (λ fits. finds_or _ _ (finds_map (λ h. at (item.Type h) fault.HandlePointer) _ fits_found)
       (λ _. finds_or _ _ module_range (λ _. info_found
       (eqb-true _ _ (left_true _ _ (left_true _ _ fits)))
       (eqb-true _ _ (left_true _ _ (left_true _ _ (right_true _ _ fits)))))))

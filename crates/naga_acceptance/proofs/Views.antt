@@ -139,7 +139,7 @@ module _ (types : List Type_) where
       ∙ (ap (λ b. identity_code (if b then StructAt h else Itself t.inner)) (sym (unsupported_at types h t is none))
       ∙ ap (λ o. identity_code (identity_at h (option_map (λ t. t.inner) o))) (sym is))
 
-  pub nothing_reported : (h : ℕ) → slice_get types h ≡ None → unsupported_code None
+  pub nothing_there : (h : ℕ) → slice_get types h ≡ None → unsupported_code None
       ≡ identity_code (identity types (Handle h))
-  nothing_reported h is = ap (λ o. identity_code (identity_at h (option_map (λ t. t.inner) o)))
+  nothing_there h is = ap (λ o. identity_code (identity_at h (option_map (λ t. t.inner) o)))
       (sym is)

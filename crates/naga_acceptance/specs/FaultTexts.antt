@@ -14,7 +14,7 @@ use Rattle.naga_acceptance.specs.declared.faults.Unaccepted.{Unaccepted}
 -- a kind of fault
 abbrev pub fault_text : Fault → List ℕ
 fault_text fault.InfoSize = codes "not one thing is known of each"
-fault_text fault.TypeForm = codes "a pointer in the space of handles"
+fault_text fault.HandlePointer = codes "a pointer in the space of handles"
 fault_text fault.TypeParts = codes "a part does not stand before the type"
 fault_text fault.TypeLength = codes "the override of the length is not there"
 fault_text fault.SpecialTypes = codes "a special type is not there"

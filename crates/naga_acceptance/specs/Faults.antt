@@ -176,7 +176,7 @@ ModuleFails m info fault.SpecialTypes =
 ModuleFails m info _ = ⊥
 
 abbrev pub TypeFails : Module → (h : ℕ) → Fault → Type 0
-TypeFails m h fault.TypeForm = Unfit type_is_fit m.types h
+TypeFails m h fault.HandlePointer = Unfit type_is_fit m.types h
 TypeFails m h fault.TypeParts = Unfit (λ t. parts_before h t.inner) m.types h
 TypeFails m h fault.TypeLength =
     Unfit (λ t. numbers_in_range (length m.overrides) t.inner) m.types h

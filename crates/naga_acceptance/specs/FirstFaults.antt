@@ -196,7 +196,7 @@ info_fault m info =
 abbrev pub ranges_fault : Module → ModuleInfo → Option Unaccepted
 ranges_fault m info =
     option_or (sizes_fault m info)
-    (option_or (option_map (λ h. at (item.Type h) fault.TypeForm)
+    (option_or (option_map (λ h. at (item.Type h) fault.HandlePointer)
     (first_unfit (λ _. type_is_fit) (enumerate_from 0 m.types)))
     (option_or (module_range_fault m) (info_fault m info)))
 

@@ -49,7 +49,7 @@ pub enum Fault {
     /// as there are expressions, or not of as many functions or entry points as there are.
     InfoSize,
     /// A type is a pointer in the space of handles.
-    TypeForm,
+    HandlePointer,
     /// A type's parts do not stand before it.
     TypeParts,
     /// The override of a type's length is not there.
@@ -171,7 +171,7 @@ impl fmt::Display for Fault {
     fn fmt<W: fmt::Write>(&self, f: &mut fmt::Formatter<W>) -> fmt::Result {
         f.write_str(match self {
             Fault::InfoSize => "not one thing is known of each",
-            Fault::TypeForm => "a pointer in the space of handles",
+            Fault::HandlePointer => "a pointer in the space of handles",
             Fault::TypeParts => "a part does not stand before the type",
             Fault::TypeLength => "the override of the length is not there",
             Fault::SpecialTypes => "a special type is not there",

@@ -425,7 +425,7 @@ pub(crate) fn ranges_fault(module: &Module, info: &ModuleInfo) -> Option<Unaccep
         return sizes;
     }
     if let Some(handle) = first_handle_pointer(&module.types) {
-        return Some(at(FaultPosition::Type(handle), Fault::TypeForm));
+        return Some(at(FaultPosition::Type(handle), Fault::HandlePointer));
     }
     let named = module_range_fault(module);
     if named.is_some() {

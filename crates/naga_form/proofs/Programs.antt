@@ -15,7 +15,7 @@ use Rattle.naga_form.proofs.statements.AcceptedFunctions.{ranges_are, soundness_
 use Rattle.naga_form.proofs.declarations.Attributes.{passing_io, passing_is}
 use Rattle.naga_form.proofs.declarations.DeclaredPrograms.{constants_are, overrides_are}
 use Rattle.naga_form.proofs.declarations.DeclaredPrograms.{stage_there, structs_are, variables_are}
-use Rattle.naga_form.proofs.declarations.DeclaredPrograms.{written_constants}
+use Rattle.naga_form.proofs.declarations.DeclaredPrograms.{formed_constants}
 use Rattle.std.proofs.Common.{◌≡◌, ℕ, ◌<◌, ◌≤◌, suc, Bool, true, false, List, [], ◌∷◌, length, refl}
 use Rattle.std.proofs.Common.{sym, ap, ◌∙◌, arith, nat_lt, ◌+◌, Option, Some, None, ◌^◌, map}
 use Rattle.std.proofs.Common.{nat_le, add-zero, zero-add, cond}
@@ -235,7 +235,7 @@ module _ (flags : WriterFlags) (m : Module) (info : ModuleInfo) (accepted : IsTr
       function_is m info g f found es is.callees is.there is.ranges sound.1 (IsWrittenIn m info f es)
       (written_are_closed m info f es) have.expressions (types_are_fit m info accepted)
       (known_fits m info accepted g es here) demands flags have.types few named named_are
-      (written_constants m info accepted) have.statements
+      (formed_constants m info accepted) have.statements
 
   module _ (have : AllWrittenHaveForms (annotates_types flags) m info) (few : IsTrue (handles_are_counted m))
       (named : LabelNames) (are : AreLabelNames m named) where

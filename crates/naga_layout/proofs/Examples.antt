@@ -182,9 +182,9 @@ module _ (v : Vec StructMember Global) where
   unfolding layout_at
   with_binding = refl
 
-  head : told_at 16 ≡ None
+  endless_first : told_at 16 ≡ None
   unfolding layout_at
-  head = refl
+  endless_first = refl
 
   -- longer than 32 bits say
   long : told_at 17 ≡ bytes 4 4294967296

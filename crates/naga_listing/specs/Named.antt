@@ -97,21 +97,21 @@ global_spots e =
     map spot.GlobalExpression (take most_named (expression_operands e)) ++ beside_operands e
 
 -- what a declaration names
-abbrev pub declared_spots : Module → Spot → List Spot
-declared_spots m (spot.Type_ handle) =
+abbrev pub declaration_spots : Module → Spot → List Spot
+declaration_spots m (spot.Type_ handle) =
     option_map_or (λ t. type_spots t.inner) (slice_get m.types handle) []
-declared_spots m (spot.Constant handle) =
+declaration_spots m (spot.Constant handle) =
     option_map_or (λ c. typed_spots c.ty (Some c.init)) (slice_get m.constants handle) []
-declared_spots m (spot.Override handle) =
+declaration_spots m (spot.Override handle) =
     option_map_or (λ o. typed_spots o.ty o.init) (slice_get m.overrides handle) []
-declared_spots m (spot.GlobalVariable handle) =
+declaration_spots m (spot.GlobalVariable handle) =
     option_map_or (λ v. typed_spots v.ty v.init) (slice_get m.global_variables handle) []
-declared_spots m (spot.GlobalExpression handle) =
+declaration_spots m (spot.GlobalExpression handle) =
     option_map_or global_spots (slice_get m.global_expressions handle) []
-declared_spots m _ = []
+declaration_spots m _ = []
 
 abbrev pub listed_spots : Module → Listed → Spot → List Spot
-listed_spots m listed.Declarations s = declared_spots m s
+listed_spots m listed.Declarations s = declaration_spots m s
 listed_spots m (listed.Function handle) s =
     option_map_or (λ f. spots_in_function f s) (slice_get m.functions handle) []
 listed_spots m (listed.EntryPoint index) s =

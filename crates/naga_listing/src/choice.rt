@@ -79,7 +79,7 @@ fn marked_line(spot: &Spot, lines: &[Line]) -> usize
         .unwrap_or(0)
 }
 
-#[tactic(auto, using(crate::proofs::Choosing::kept_next))]
+#[tactic(auto, using(crate::proofs::Choosing::shown_next))]
 fn chosen_lines(
     alloc: Global,
     marked: usize,

@@ -14,7 +14,7 @@ const MOST_MEMBERS: usize = 6;
 
 /// Appends a type of the module, with the types that it names by their numbers:
 /// `Array of 3, 4 elements, stride 16`.
-pub(crate) fn push_declared_type(
+pub(crate) fn push_listed_type(
     alloc: Global,
     module: &Module,
     handle: Handle<Type_>,

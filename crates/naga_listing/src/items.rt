@@ -1,7 +1,7 @@
 //! Items, each in a line with its type.
 
 use crate::declarations::{
-    push_constant, push_declared_type, push_init, push_override, push_variable,
+    push_constant, push_init, push_listed_type, push_override, push_variable,
 };
 use crate::expressions::{push_expression, push_function};
 use crate::lookup::item_at;
@@ -86,7 +86,7 @@ impl<'m, 'i, 'p> Lister<'m, 'i, 'p> {
     /// Appends what an item is, without its type.
     fn push_words(&self, spot: &Spot, out: &mut String) -> Result<(), AllocError> {
         match spot {
-            Spot::Type_(handle) => push_declared_type(self.alloc, self.module, *handle, out),
+            Spot::Type_(handle) => push_listed_type(self.alloc, self.module, *handle, out),
             Spot::Constant(handle) => push_constant(self.module, *handle, out),
             Spot::Override(handle) => push_override(self.module, *handle, out),
             Spot::GlobalVariable(handle) => push_variable(self.module, *handle, out),

@@ -5,7 +5,7 @@ ghost use Rattle.std.specs.Option.{option_to_list};
 ghost use Rattle.naga_ir.specs.Operands.{expression_operands, own_operands};
 ghost use Rattle.naga_ir.specs.StatementViews.{tree_of};
 ghost use Rattle.naga_listing.specs.declared.positions.Spot.TheVariants as spot;
-ghost use Rattle.naga_listing.specs.Named.{beside_operands, declared_spots, global_spots};
+ghost use Rattle.naga_listing.specs.Named.{beside_operands, declaration_spots, global_spots};
 ghost use Rattle.naga_listing.specs.Named.{given_spots, listed_spots, most_named, named_spots, operand_spots};
 ghost use Rattle.naga_listing.specs.Named.{spots_in_function};
 ghost use Rattle.naga_listing.specs.Named.{size_spots, statement_spots, type_spots, typed_spots};
@@ -61,7 +61,7 @@ fn listed_spots(
     ensures { IfOk result (λ spots. spots.items ≡ listed_spots «module».now listed.now spot.now) }
 {
     match listed {
-        Listed::Declarations => declared_spots(alloc, module, spot),
+        Listed::Declarations => declaration_spots(alloc, module, spot),
         Listed::Function(handle) => match item_at(&module.functions, *handle) {
             Some(function) => spots_in_function(alloc, function, spot),
             None => Ok(Vec::new(alloc)),
@@ -164,8 +164,8 @@ fn statement_operand_spots(alloc: Global, statement: &Statement) -> Result<Vec<S
 
 // ---- in a declaration
 
-fn declared_spots(alloc: Global, module: &Module, spot: &Spot) -> Result<Vec<Spot>, AllocError>
-    ensures { IfOk result (λ spots. spots.items ≡ declared_spots «module».now spot.now) }
+fn declaration_spots(alloc: Global, module: &Module, spot: &Spot) -> Result<Vec<Spot>, AllocError>
+    ensures { IfOk result (λ spots. spots.items ≡ declaration_spots «module».now spot.now) }
 {
     match spot {
         Spot::Type_(handle) => match type_at(module, *handle) {

@@ -252,11 +252,11 @@ pub name_after_is_word : (start : Names) (earlier : List (List ℕ)) (label : Li
 name_after_is_word start earlier label = word_of_stem start (label_stem start label)
     (stem_is_word start.reserved_prefixes (chars label)) (labels_with_stem start earlier (label_stem start label))
 
-kept_three : (start : Names) (word : List ℕ) → is_taken start word ≡ false →
+free_of_three : (start : Names) (word : List ℕ) → is_taken start word ≡ false →
     (set.contains start.keywords word ≡ false) ×
     (set.contains start.builtin_identifiers word ≡ false) ×
     (set.contains start.caseless_keywords (in_lower_case word) ≡ false)
-kept_three start word e =
+free_of_three start word e =
     let outer = or_parts (set.contains start.keywords word || set.contains start.builtin_identifiers word)
     (set.contains start.caseless_keywords (in_lower_case word)) e in
     let inner = or_parts (set.contains start.keywords word) (set.contains start.builtin_identifiers word) outer.0 in
@@ -361,7 +361,7 @@ pub name_after_no_keyword : (start : Names) (earlier : List (List ℕ)) (label :
     HasPlainEnds start.keywords → set.contains start.keywords (name_after start earlier label) ≡ false
 name_after_no_keyword start earlier label plain =
     free_of_stem start (label_stem start label) (set.contains start.keywords) plain.no_end
-    (λ e. (kept_three start (label_stem start label) e).0)
+    (λ e. (free_of_three start (label_stem start label) e).0)
     (labels_with_stem start earlier (label_stem start label))
 
 pub name_after_no_builtin : (start : Names) (earlier : List (List ℕ)) (label : List ℕ) →
@@ -370,7 +370,7 @@ pub name_after_no_builtin : (start : Names) (earlier : List (List ℕ)) (label :
 name_after_no_builtin start earlier label plain =
     let stem = label_stem start label in
     free_of_stem start stem (set.contains start.builtin_identifiers) plain.no_end
-    (λ e. (kept_three start stem e).1) (labels_with_stem start earlier stem)
+    (λ e. (free_of_three start stem e).1) (labels_with_stem start earlier stem)
 
 pub name_after_no_caseless : (start : Names) (earlier : List (List ℕ)) (label : List ℕ) →
     HasPlainEnds start.caseless_keywords →
@@ -380,7 +380,7 @@ name_after_no_caseless start earlier label plain =
     free_of_stem start stem (λ word. set.contains start.caseless_keywords (in_lower_case word))
     (λ front digits all. ap (set.contains start.caseless_keywords) (lowered_end front digits)
     ∙ plain.no_end (in_lower_case front) (in_lower_case digits) (lowered_digits digits all))
-    (λ e. (kept_three start stem e).2) (labels_with_stem start earlier stem)
+    (λ e. (free_of_three start stem e).2) (labels_with_stem start earlier stem)
   where
     lowered_end : (front digits : List ℕ) → in_lower_case (front ++ 95 ∷ digits) ≡ in_lower_case front ++ 95
         ∷ in_lower_case digits

@@ -306,9 +306,9 @@ module _ (f : Function) (e : ScopeFault) where
     abbrev here : Standing
     here = record { at = at; statement = st }
 
-    at_head : (s : Standing) (c : ScopeFault) → slice_get (here ∷ inside f at st) 0 ≡ Some s →
+    at_first : (s : Standing) (c : ScopeFault) → slice_get (here ∷ inside f at st) 0 ≡ Some s →
         BreaksWith f s (m + 0) c → BreaksWith f here m c
-    at_head s c is breaks =
+    at_first s c is breaks =
         let same : m + 0 ≡ m = omega arith in
         subst (λ s. BreaksWith f s m c) (sym (same_Some here s is)) (subst (λ n. BreaksWith f s n c) same breaks)
 
@@ -337,7 +337,7 @@ module _ (f : Function) (e : ScopeFault) where
         by : (i : ℕ) (s : Standing) (c : ScopeFault) → slice_get (here ∷ inside f at st) i ≡ Some s →
             BreaksWith f s (m + i) c → is_before (line_of_fault c) (line_of_fault e) ≡ false
         by zero s c is breaks =
-            absurd (own_breaks_none f at st own (breaks_scope f here m c (at_head s c is breaks)))
+            absurd (own_breaks_none f at st own (breaks_scope f here m c (at_first s c is breaks)))
         by (suc i) s c is breaks = x.first i s c is (at_later i s c breaks)
 
     -- or one inside a loop,
@@ -350,7 +350,7 @@ module _ (f : Function) (e : ScopeFault) where
         by zero s c is breaks =
             let found = x.there in
             let le = nested_inside f at st found.0 found.1 found.2 in
-            ap (λ l. is_before l (line_of_fault e)) (loop_line f here m loops c (at_head s c is breaks))
+            ap (λ l. is_before l (line_of_fault e)) (loop_line f here m loops c (at_first s c is breaks))
             ∙ after_loop m (suc m + length (inside f at st)) (line_of_fault e)
             (from_less (suc m) (suc m + found.0) (line_of_fault e) (omega arith)
             (from_line f found.1 (suc m + found.0) e found.3))
@@ -366,7 +366,7 @@ module _ (f : Function) (e : ScopeFault) where
             BreaksWith f s (m + i) c → is_before (line_of_fault c) (line_of_fault e) ≡ false
         by zero s c is breaks =
             ap (λ l. is_before l (line_of_fault e))
-            (loop_line f here m loops c (at_head s c is breaks) ∙ sym (loop_line f here m loops e own))
+            (loop_line f here m loops c (at_first s c is breaks) ∙ sym (loop_line f here m loops e own))
             ∙ not_before_itself (line_of_fault e)
         by (suc i) s c is breaks = absurd (hold i s is (breaks_scope f s (m + suc i) c breaks))
 

@@ -278,11 +278,11 @@ named_decided false spelled name key named same = same
 
 module _ (m : Module) (stand : IsTrue (parts_stand_before m.types)) where
   -- so a type is spelled by which of those before it are
-  pub spelled_by : (h : ℕ) (t : Type_) → slice_get m.types h ≡ Some t → (marks : List Bool) →
+  pub formed_by : (h : ℕ) (t : Type_) → slice_get m.types h ≡ Some t → (marks : List Bool) →
       MarksBelow (λ h. has_type_form m.types (Handle h)) (length m.types) marks h →
       item_has_type_form marks t.inner ≡ has_type_form m.types (Handle h)
   unfolding handle_key
-  spelled_by h t at marks below =
+  formed_by h t at marks below =
       named_decided (is_struct t.inner) (type_form_over marks t.inner) (Some (level 8 h 0 0 0 0))
       (inner_key_by (key_within h m.types) t.inner) refl (by (base_type t.inner) refl)
       ∙ sym (ap (λ o. is_some (found_key_by (key_within h m.types) h o)) at)

@@ -34,11 +34,11 @@ use Rattle.naga_scope.specs.Marks.{GlobalsStandInOrder, MarksGlobals, is_marked}
 -- which are spelled, how each is laid out, and whether the arrays that each is made of have the
 -- stride that WGSL gives them.
 pub record Tables : Type 0 where
-  pub written : List Bool
+  pub global_forms : List Bool
   pub representatives : List ℕ
   pub undeclared : List Bool
   pub naming : List Bool
-  pub spelled : List Bool
+  pub type_forms : List Bool
   pub layouts : List (Option Layout)
   pub strides : List Bool
 
@@ -147,10 +147,10 @@ pub record ItemsStandInOrder (m : Module) : Type 0 where
 
 -- the tables are those of the module
 pub record AreTablesOf (m : Module) (t : Tables) : Type 0 where
-  pub written : MarksGlobals m t.written
+  pub global_forms : MarksGlobals m t.global_forms
   pub representatives : AreRepresentatives m t.representatives
   pub undeclared : MarksUndeclared m t.undeclared
   pub naming : MarksNaming m t.naming
-  pub spelled : MarksTypeForms m t.spelled
+  pub type_forms : MarksTypeForms m t.type_forms
   pub layouts : TellsLayouts m t.layouts
   pub strides : TellsStrides m t.strides

@@ -45,11 +45,11 @@ use wgsl_layout::{Layout, Misplaced};
 /// searched.
 #[derive(Debug, Drop)]
 pub struct ModuleTables {
-    written: Vec<bool>,
+    global_forms: Vec<bool>,
     representatives: Vec<Handle<Expression>>,
     undeclared: Vec<bool>,
     naming: Vec<bool>,
-    spelled: Vec<bool>,
+    type_forms: Vec<bool>,
     layouts: Vec<Option<Layout>>,
     strides: Vec<bool>,
 }
@@ -61,11 +61,11 @@ impl Model for ModuleTables {
     ghost Value = { Tables };
 
     ghost view = { λ t. record {
-      written = t.written.items;
+      global_forms = t.global_forms.items;
       representatives = t.representatives.items;
       undeclared = t.undeclared.items;
       naming = t.naming.items;
-      spelled = t.spelled.items;
+      type_forms = t.type_forms.items;
       layouts = t.layouts.items;
       strides = t.strides.items;
     } };
@@ -83,17 +83,17 @@ impl ModuleTables {
     {
         let undeclared = undeclared_structs(alloc, module)?;
         let naming = naming_types(alloc, module, &undeclared)?;
-        let spelled = type_form_marks(alloc, module)?;
-        let written = written_globals(alloc, module, &naming, &spelled)?;
+        let type_forms = type_form_marks(alloc, module)?;
+        let global_forms = global_form_marks(alloc, module, &naming, &type_forms)?;
         let representatives = representatives_of(alloc, module)?;
         let layouts = layouts(alloc, module, &undeclared)?;
         let strides = strides(alloc, module, &undeclared, &layouts)?;
         Ok(ModuleTables {
-            written,
+            global_forms,
             representatives,
             undeclared,
             naming,
-            spelled,
+            type_forms,
             layouts,
             strides,
         })
@@ -106,7 +106,7 @@ impl ModuleTables {
         requires tables { AreTablesOf «module».now self.now }
         ensures { result ≡ global_has_form «module».now handle }
     {
-        is_marked(&self.written, handle)
+        is_marked(&self.global_forms, handle)
     }
 
     /// Whether a constant is written: it has a name, or its initialiser is written.
@@ -114,7 +114,7 @@ impl ModuleTables {
         requires tables { AreTablesOf «module».now self.now }
         ensures { result ≡ constant_has_form «module».now constant }
     {
-        constant_is_marked(&self.written, module, constant)
+        constant_is_marked(&self.global_forms, module, constant)
     }
 
     /// The expression by which one of the module's own is written: itself, or, if it is a constant
@@ -149,7 +149,7 @@ impl ModuleTables {
         requires tables { AreTablesOf «module».now self.now }
         ensures { result ≡ is_spellable «module».now (OfHandle ty) }
     {
-        is_spellable_by(&self.naming, &self.spelled, module, ty)
+        is_spellable_by(&self.naming, &self.type_forms, module, ty)
     }
 
     /// Whether WGSL spells an expression's type.
@@ -157,7 +157,7 @@ impl ModuleTables {
         requires tables { AreTablesOf «module».now self.now }
         ensures { result ≡ has_type_form «module».now.types ty.now }
     {
-        type_has_form_by_marks(&self.spelled, ty)
+        type_has_form_by_marks(&self.type_forms, ty)
     }
 
     /// How the type with this handle is laid out, as the module's text is to be written: none where
@@ -374,8 +374,8 @@ fn mark_type_forms(marks: &mut [bool], module: &Module)
 {
     for index in 0..module.types.len() {
         let handle: Handle<Type_> = ItemIndex::from_index(index);
-        let spelled = item_has_type_form(marks, &module.types[handle].inner);
-        marks[index] = spelled;
+        let has_form = item_has_type_form(marks, &module.types[handle].inner);
+        marks[index] = has_form;
     }
 }
 
@@ -411,20 +411,20 @@ fn type_has_form_by_marks(marks: &[bool], ty: &TypeResolution) -> bool
 
 /// Whether a text can spell the type with this handle, by marks of those that name a struct which no
 /// text declares, and of those that WGSL spells.
-fn is_spellable_by(naming: &[bool], spelled: &[bool], module: &Module, ty: Handle<Type_>) -> bool
+fn is_spellable_by(naming: &[bool], type_forms: &[bool], module: &Module, ty: Handle<Type_>) -> bool
     requires naming { MarksNaming «module».now naming.now }
-    requires spelled { MarksTypeForms «module».now spelled.now }
+    requires type_forms { MarksTypeForms «module».now type_forms.now }
     ensures { result ≡ is_spellable «module».now (OfHandle ty) }
 {
-    handle_has_type_form(spelled, module, ty) && !handle_names(naming, module, ty)
+    handle_has_type_form(type_forms, module, ty) && !handle_names(naming, module, ty)
 }
 
 /// Whether WGSL spells the type with this handle, by such marks.
-fn handle_has_type_form(spelled: &[bool], module: &Module, ty: Handle<Type_>) -> bool
-    requires spelled { MarksTypeForms «module».now spelled.now }
+fn handle_has_type_form(type_forms: &[bool], module: &Module, ty: Handle<Type_>) -> bool
+    requires type_forms { MarksTypeForms «module».now type_forms.now }
     ensures { result ≡ has_type_form «module».now.types (OfHandle ty) }
 {
-    is_marked(spelled, ty)
+    is_marked(type_forms, ty)
 }
 
 /// Whether the type with this handle names a struct that no text declares, by such marks.
@@ -436,33 +436,33 @@ fn handle_names(naming: &[bool], module: &Module, ty: Handle<Type_>) -> bool
 }
 
 /// Marks the module's own expressions that are written.
-fn written_globals(
+fn global_form_marks(
     alloc: Global,
     module: &Module,
     naming: &[bool],
-    spelled: &[bool],
+    type_forms: &[bool],
 ) -> Result<Vec<bool>, AllocError>
     requires ordered { ItemsStandInOrder «module».now }
     requires naming { MarksNaming «module».now naming.now }
-    requires spelled { MarksTypeForms «module».now spelled.now }
+    requires type_forms { MarksTypeForms «module».now type_forms.now }
     ensures { IfOk result (λ marks. MarksGlobals «module».now marks.items) }
 {
     let mut marks = no_marks(alloc, module.global_expressions.len())?;
-    mark_globals(&mut marks, naming, spelled, module);
+    mark_globals(&mut marks, naming, type_forms, module);
     Ok(marks)
 }
 
 /// Marks them from the first to the last.
-fn mark_globals(marks: &mut [bool], naming: &[bool], spelled: &[bool], module: &Module)
+fn mark_globals(marks: &mut [bool], naming: &[bool], type_forms: &[bool], module: &Module)
     requires size { length marks.old ≡ length «module».now.global_expressions }
     requires ordered { ItemsStandInOrder «module».now }
     requires naming { MarksNaming «module».now naming.now }
-    requires spelled { MarksTypeForms «module».now spelled.now }
+    requires type_forms { MarksTypeForms «module».now type_forms.now }
     ensures { MarksGlobals «module».now marks.new }
 {
     for index in 0..module.global_expressions.len() {
         let expression = &module.global_expressions[ItemIndex::from_index(index)];
-        let has_form = has_form_over(marks, naming, spelled, module, expression);
+        let has_form = has_form_over(marks, naming, type_forms, module, expression);
         marks[index] = has_form;
     }
 }
@@ -471,21 +471,21 @@ fn mark_globals(marks: &mut [bool], naming: &[bool], spelled: &[bool], module: &
 fn has_form_over(
     marks: &[bool],
     naming: &[bool],
-    spelled: &[bool],
+    type_forms: &[bool],
     module: &Module,
     expression: &Expression,
 ) -> bool
     requires naming { MarksNaming «module».now naming.now }
-    requires spelled { MarksTypeForms «module».now spelled.now }
+    requires type_forms { MarksTypeForms «module».now type_forms.now }
     ensures { result ≡ global_has_form_over «module».now (is_marked marks.now) expression.now }
 {
     match expression {
         Expression::Literal(literal) => literal_has_form(*literal),
         Expression::Constant(constant) => constant_is_marked(marks, module, *constant),
         Expression::Override(_) => true,
-        Expression::ZeroValue(ty) => is_spellable_by(naming, spelled, module, *ty),
+        Expression::ZeroValue(ty) => is_spellable_by(naming, type_forms, module, *ty),
         Expression::Compose { ty, components } => {
-            is_spellable_by(naming, spelled, module, *ty)
+            is_spellable_by(naming, type_forms, module, *ty)
                 && are_marked(marks, components.as_slice())
         }
         Expression::Splat { value, .. } => is_marked(marks, *value),

@@ -72,8 +72,8 @@ pub if_row : (f : FunctionText) (k : ℕ) (s : Handles) (i c : ℕ) (a r : Block
 unfolding statement_text block_text around_text else_text joined_texts
 if_row f k s i c a r = by r
   where
-    accepted : Statements
-    accepted = lines_form (naming f) (let_annotation f) (source f) k a s
+    accept_form : Statements
+    accept_form = lines_form (naming f) (let_annotation f) (source f) k a s
 
     rejected : BlockTree → Statements
     rejected r = lines_form (naming f) (let_annotation f) (source f) (named_following f a k) r s
@@ -82,23 +82,23 @@ if_row f k s i c a r = by r
     condition = printed_expression (value_form (naming f) (source f) s c)
 
     by : (r : BlockTree) →
-        lines_text i (tree.Then (tree.If (value_form (naming f) (source f) s c) accepted
+        lines_text i (tree.Then (tree.If (value_form (naming f) (source f) s c) accept_form
         (optional_form r (rejected r))) NoStatements) ≡
-        (line_start i (codes "if ") ++ (condition ++ codes " {\n")) ++ (text (statements_pieces accepted (suc i)) ++
+        (line_start i (codes "if ") ++ (condition ++ codes " {\n")) ++ (text (statements_pieces accept_form (suc i)) ++
         ((cond (has_no_statements r) [] (line_start i (codes "} else {\n")
         ++ text (statements_pieces (rejected r) (suc i)))) ++ line_start i (codes "}\n")))
     by no_statements =
-        one_line (tree.If (value_form (naming f) (source f) s c) accepted tree.NoBlock) i
-        ∙ (if_text (value_form (naming f) (source f) s c) accepted tree.NoBlock i
-        ∙ if_lines_alone i condition (text (statements_pieces accepted (suc i))))
+        one_line (tree.If (value_form (naming f) (source f) s c) accept_form tree.NoBlock) i
+        ∙ (if_text (value_form (naming f) (source f) s c) accept_form tree.NoBlock i
+        ∙ if_lines_alone i condition (text (statements_pieces accept_form (suc i))))
     by (statement st b) =
         let other = rejected (statement st b) in
-        one_line (tree.If (value_form (naming f) (source f) s c) accepted (tree.SomeBlock other)) i
-        ∙ (if_text (value_form (naming f) (source f) s c) accepted (tree.SomeBlock other) i
+        one_line (tree.If (value_form (naming f) (source f) s c) accept_form (tree.SomeBlock other)) i
+        ∙ (if_text (value_form (naming f) (source f) s c) accept_form (tree.SomeBlock other) i
         ∙ (ap (λ t. replicate (4 * i) 32
         ++ (codes "if "
         ++ (condition
-        ++ (codes " {\n" ++ (text (statements_pieces accepted (suc i))
+        ++ (codes " {\n" ++ (text (statements_pieces accept_form (suc i))
         ++ (replicate (4 * i) 32 ++ (codes "}" ++ t)))))))
         (else_row_text other i)
-        ∙ if_lines i condition (text (statements_pieces accepted (suc i))) (text (statements_pieces other (suc i)))))
+        ∙ if_lines i condition (text (statements_pieces accept_form (suc i))) (text (statements_pieces other (suc i)))))

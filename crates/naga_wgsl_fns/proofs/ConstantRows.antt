@@ -91,9 +91,9 @@ module _ (m : Module) (ordered : GlobalsStandInOrder m) where
       by None at is = absurd cc
 
   -- it is so by what stands before it
-  written_over : (h : ℕ) (e : ir.Expression) → slice_get m.global_expressions h ≡ Some e →
+  passes_over : (h : ℕ) (e : ir.Expression) → slice_get m.global_expressions h ≡ Some e →
       global_has_form m h ≡ true → global_has_form_over m (global_has_form m) e ≡ true
-  written_over h e at is =
+  passes_over h e at is =
       by_those_before false m.global_expressions (global_has_form_over m)
       (λ k h. global_has_form_within k m h) (λ k h. refl) (global_same m ordered) h e at
       (global_has_form m) (λ x lt. refl)
@@ -106,9 +106,9 @@ module _ (m : Module) (ordered : GlobalsStandInOrder m) where
       let both = and_parts (global_has_form m x) (list_all (global_has_form m) xs) is in
       ((below.0, both.0), parts_of h xs below.1 both.1)
 
-  pub parts_are_written : (h : ℕ) (e : ir.Expression) → slice_get m.global_expressions h ≡ Some e →
+  pub parts_have_forms : (h : ℕ) (e : ir.Expression) → slice_get m.global_expressions h ≡ Some e →
       global_has_form m h ≡ true → ArePartsBelow m h (expression_operands e)
-  parts_are_written h e at is = by e at (ordered.operands h e at) (written_over h e at is)
+  parts_have_forms h e at is = by e at (ordered.operands h e at) (passes_over h e at is)
     where
       by : (e : ir.Expression) → slice_get m.global_expressions h ≡ Some e →
           AllBelow h (expression_operands e) →
@@ -141,9 +141,9 @@ module _ (m : Module) (ordered : GlobalsStandInOrder m) where
   pub constant_there : (c : ℕ) → constant_has_form m c ≡ true → c < length m.constants
   constant_there c is = let k = constant_over c is in slice_get_within m.constants c k.0 k.1
 
-  pub initialiser_written : (c : ℕ) → constant_has_form m c ≡ true → (k : ir_constant.Constant) →
+  pub initialiser_has_form : (c : ℕ) → constant_has_form m c ≡ true → (k : ir_constant.Constant) →
       slice_get m.constants c ≡ Some k → is_some k.name ≡ false → global_has_form m k.init ≡ true
-  initialiser_written c is k there unnamed =
+  initialiser_has_form c is k there unnamed =
       let one = constant_over c is in
       let same = same_Some one.0 k (sym one.1 ∙ there) in
       ap (λ b. b || global_has_form m k.init) (sym unnamed)
@@ -153,7 +153,7 @@ module _ (m : Module) (ordered : GlobalsStandInOrder m) where
   pub constant_passes : (h : ℕ) (e : ir.Expression) (c : ℕ) →
       slice_get m.global_expressions h ≡ Some e → e ≡ expression.Constant c →
       global_has_form m h ≡ true → constant_has_form m c ≡ true
-  constant_passes h e c at same is = written_over h (expression.Constant c) (at ∙ ap Some same) is
+  constant_passes h e c at same is = passes_over h (expression.Constant c) (at ∙ ap Some same) is
 
   pub initialiser_before : (h : ℕ) (e : ir.Expression) (c : ℕ) →
       slice_get m.global_expressions h ≡ Some e → e ≡ expression.Constant c →
@@ -166,7 +166,7 @@ module _ (m : Module) (ordered : GlobalsStandInOrder m) where
   -- no other expression is written
   pub no_other_global : (h : ℕ) (e : ir.Expression) → slice_get m.global_expressions h ≡ Some e →
       global_has_form m h ≡ true → IsNoOtherGlobal e → ⊥
-  no_other_global h e at is none = by e (written_over h e at is) none
+  no_other_global h e at is none = by e (passes_over h e at is) none
     where
       by : (e : ir.Expression) → global_has_form_over m (global_has_form m) e ≡ true →
           IsNoOtherGlobal e → ⊥
@@ -181,13 +181,13 @@ module _ (m : Module) (ordered : GlobalsStandInOrder m) where
   pub literal_passes : (h : ℕ) (e : ir.Expression) (value : _) →
       slice_get m.global_expressions h ≡ Some e → e ≡ expression.Literal value →
       global_has_form m h ≡ true → literal_has_form value ≡ true
-  literal_passes h e value at same is = written_over h (expression.Literal value) (at ∙ ap Some same) is
+  literal_passes h e value at same is = passes_over h (expression.Literal value) (at ∙ ap Some same) is
 
   pub zero_passes : (h : ℕ) (e : ir.Expression) (ty : ℕ) → slice_get m.global_expressions h ≡ Some e →
       e ≡ expression.ZeroValue ty → global_has_form m h ≡ true →
       has_type_form m.types (Handle ty) ≡ true
   zero_passes h e ty at same is =
-      type_form_of_spellable m (Handle ty) (written_over h (expression.ZeroValue ty) (at ∙ ap Some same) is)
+      type_form_of_spellable m (Handle ty) (passes_over h (expression.ZeroValue ty) (at ∙ ap Some same) is)
 
   pub composed_passes : (h : ℕ) (e : ir.Expression) (ty : ℕ) (parts : _) →
       slice_get m.global_expressions h ≡ Some e → e ≡ expression.Compose ty parts →
@@ -195,7 +195,7 @@ module _ (m : Module) (ordered : GlobalsStandInOrder m) where
   composed_passes h e ty parts at same is =
       type_form_of_spellable m (Handle ty)
       (and_parts (is_spellable m (Handle ty)) (list_all (global_has_form m) parts.items)
-      (written_over h (expression.Compose ty parts) (at ∙ ap Some same) is)).0
+      (passes_over h (expression.Compose ty parts) (at ∙ ap Some same) is)).0
 
   -- ---- forms
   map_same : (a b : ℕ → Expression) (h : ℕ) (xs : List ℕ) → AllBelow h xs →

@@ -77,7 +77,7 @@ use Rattle.naga_wgsl_fns.specs.Literals.{literal_text}
 use Rattle.wgsl_text.specs.Reading.{printed_expression}
 use Rattle.naga_wgsl_fns.specs.declared.functions.FunctionText.{FunctionText}
 use Rattle.naga_wgsl_fns.proofs.PartForms.{part_form, referred_part, valued_part}
-use Rattle.naga_wgsl_fns.proofs.VariableRows.{handle_variable_reference, kept_reference}
+use Rattle.naga_wgsl_fns.proofs.VariableRows.{handle_variable_reference, memory_variable_reference}
 use Rattle.wgsl_text.proofs.Types.{named_text}
 
 -- ---- handles below another
@@ -414,7 +414,7 @@ reference_row f table handle can within =
     of_module mine variable at false is =
         let name = Name (name_of_global f variable) in
         ap (λ b. printed_expression (as_reference (variable_plain b name))) is
-        ∙ (name_text (name_of_global f variable) ∙ kept_reference f table handle variable is)
+        ∙ (name_text (name_of_global f variable) ∙ memory_variable_reference f table handle variable is)
 
     kind : form_at f table handle ≡ own e → (o : Option ir.Expression) → e ≡ o →
         printed_expression (as_reference (own o)) ≡ reference_by f table handle o

@@ -78,8 +78,8 @@ module _ (other : Module) (more : ModuleInfo) (o : Override) (first : Function)
       let formed : false ≡ true = (have 1 second known refl refl).statements in
       cc
 
-  not_all_declared : DeclarationsHaveForms m → ⊥
-  not_all_declared have =
+  not_all_have_forms : DeclarationsHaveForms m → ⊥
+  not_all_have_forms have =
       let formed : false ≡ true =
       have.initialisers 1 (IsInitialiser.OfOverride 0 scale 1 refl refl) in
       cc

@@ -62,7 +62,7 @@ use Rattle.naga_names.proofs.Refusal.{element}
 use Rattle.naga_names.specs.Keys.{names_in}
 use Rattle.naga_names.specs.Reset.{members_of}
 use Rattle.naga_names.specs.declared.key.NameKey.TheVariants as key
-use Rattle.module_semantics.specs.Undeclared.{is_spellable, member_is_written, names_undeclared}
+use Rattle.module_semantics.specs.Undeclared.{is_spellable, member_has_form, names_undeclared}
 use Rattle.module_semantics.specs.Undeclared.{part_has_form_at, whole_known, whole_of}
 use Rattle.shader_runs.specs.Value.{MemberNamed}
 use Rattle.naga_wgsl_fns.specs.Expressions.{accessed_base, is_of_components, struct_at, struct_known}
@@ -292,7 +292,7 @@ module _ (t : FunctionText) (can : CanWrite t) where
       by s.type.inner s.is whole.0
       (sym
       (ap (λ o. option_map_or
-      (λ ty. not (is_struct ty.inner) || member_is_written m whole.0 (members_of ty.inner) index) o
+      (λ ty. not (is_struct ty.inner) || member_has_form m whole.0 (members_of ty.inner) index) o
       true) s.there)
       ∙ (sym (ap (λ o. option_map_or (part_has_form_at m index) o true) whole.1) ∙ written)) in
       let a = element (members_of s.type.inner) index (ltb-true index _ lt) in
@@ -302,7 +302,7 @@ module _ (t : FunctionText) (can : CanWrite t) where
       s.same (can.named.members whole.0 s.type s.there index a.0 a.1)
     where
       by : (it : TypeInner) → is_struct it ≡ true → (k : ℕ) →
-          (not (is_struct it) || member_is_written m k (members_of it) index) ≡ true →
+          (not (is_struct it) || member_has_form m k (members_of it) index) ≡ true →
           nat_lt index (length (members_of it)) ≡ true
       by (inner.Struct members span) is k written =
           (and_parts (nat_lt index (length members.items)) _ written).0
@@ -538,7 +538,7 @@ module _ (t : FunctionText) (can : CanWrite t) where
   converted_is x kind convert may from known =
       let c = conversion m info es x kind convert may in
       let same = same_Some c.from from (sym c.known ∙ known) in
-      (c.to, (ap (λ it. conversion_target it kind convert) (sym same) ∙ c.target, c.written))
+      (c.to, (ap (λ it. conversion_target it kind convert) (sym same) ∙ c.target, c.formed))
 
   -- no other expression is a part at an index
   pub no_other_part : (h base : ℕ) (e : Expression) → slice_get f.expressions h ≡ Some e →

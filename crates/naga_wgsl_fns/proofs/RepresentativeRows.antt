@@ -14,19 +14,19 @@ use Rattle.naga_ir.specs.declared.module.Constant.{Constant}
 use Rattle.naga_ir.specs.declared.module.Module.{Module}
 use Rattle.naga_scope.specs.Tables.{AreRepresentatives, representative_at, representative_over}
 use Rattle.naga_wgsl_fns.proofs.ConstantRows.{constant_passes, constant_row, in_order}
-use Rattle.naga_wgsl_fns.proofs.ConstantRows.{initialiser_written, unnamed_constant}
+use Rattle.naga_wgsl_fns.proofs.ConstantRows.{initialiser_has_form, unnamed_constant}
 use Rattle.naga_wgsl_fns.specs.Constants.{global_text}
 use Rattle.naga_wgsl_fns.specs.ModuleText.{CanWriteOf}
 
 -- what one is written by has its text, is written as it is, and does not stand after it
 pub record IsRepresentative (m : Module) (h representative : ℕ) : Type 0 where
   pub text : global_text m representative ≡ global_text m h
-  pub written : global_has_form m representative ≡ true
+  pub has_form : global_has_form m representative ≡ true
   pub before : representative ≤ h
 
 module _ (m : Module) (can : CanWriteOf m) (representatives : List ℕ) (are : AreRepresentatives m representatives) where
   itself : (h : ℕ) → global_has_form m h ≡ true → IsRepresentative m h h
-  itself h is = record { text = refl; written = is; before = omega arith }
+  itself h is = record { text = refl; has_form = is; before = omega arith }
 
   -- by the initialiser of the constant that it names
   of_initialiser : (h c : ℕ) (k : Constant) →
@@ -40,18 +40,18 @@ module _ (m : Module) (can : CanWriteOf m) (representatives : List ℕ) (are : A
             of.text
             ∙ (unnamed_constant m c k there unnamed
             ∙ constant_row m can h (expression.Constant c) c at refl);
-        written = of.written;
+        has_form = of.has_form;
         before = omega (arith, before, of.before);
       }
 
   -- the initialiser of a constant without a name is written where the constant is
-  written_initialiser : (h c : ℕ) (k : Constant) →
+  formed_initialiser : (h c : ℕ) (k : Constant) →
       slice_get m.global_expressions h ≡ Some (expression.Constant c) →
       slice_get m.constants c ≡ Some k → is_some k.name ≡ false → global_has_form m h ≡ true →
       global_has_form m k.init ≡ true
-  written_initialiser h c k at there unnamed is =
+  formed_initialiser h c k at there unnamed is =
       let order = in_order m can in
-      initialiser_written m order c (constant_passes m order h (expression.Constant c) c at refl is) k
+      initialiser_has_form m order c (constant_passes m order h (expression.Constant c) c at refl is) k
       there unnamed
 
   -- so it is for one by those before it
@@ -68,7 +68,7 @@ module _ (m : Module) (can : CanWriteOf m) (representatives : List ℕ) (are : A
       named k there false unnamed =
           of_initialiser h c k at there unnamed is (representative_at representatives k.init)
           (earlier k.init ((in_order m can).initialisers h c k at there)
-          (written_initialiser h c k at there unnamed is))
+          (formed_initialiser h c k at there unnamed is))
 
       by : (o : Option Constant) → slice_get m.constants c ≡ o →
           IsRepresentative m h

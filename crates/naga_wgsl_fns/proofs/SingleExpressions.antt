@@ -7,7 +7,7 @@ use Rattle.naga_info.specs.declared.info.ModuleInfo.{ModuleInfo}
 use Rattle.module_semantics.specs.acceptance.Accepted.{is_accepted}
 use Rattle.module_semantics.specs.ExpressionForms.{global_has_form}
 use Rattle.module_semantics.specs.Types.{type_names}
-use Rattle.naga_form.proofs.declarations.DeclaredPrograms.{written_global}
+use Rattle.naga_form.proofs.declarations.DeclaredPrograms.{formed_global}
 use Rattle.naga_form.proofs.declarations.GlobalValues.{has_value_of}
 use Rattle.naga_form.specs.ConstantForms.{global_form}
 use Rattle.naga_form.specs.Declarations.{program_under}
@@ -60,7 +60,7 @@ module _ (m : Module) (handle : ℕ) where
     unfolding global_text
     one_expression =
         expression_has_one_reading (global_form m (type_names m) handle)
-        (written_global m info accepted handle formed)
+        (formed_global m info accepted handle formed)
 
     -- and that has the value
     has_the_value : (content now : List ℕ) → now ≡ content ++ global_text m handle →

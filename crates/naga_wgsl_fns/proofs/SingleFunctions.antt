@@ -21,7 +21,7 @@ use Rattle.module_semantics.specs.DeclarationForms.{HeadHasForm}
 use Rattle.module_semantics.specs.FunctionNumbers.{IsFunctionOf, all_functions, all_infos}
 use Rattle.module_semantics.specs.FunctionNumbers.{function_number}
 use Rattle.naga_form.proofs.statements.AcceptedFunctions.{all_counted}
-use Rattle.naga_form.proofs.declarations.DeclaredPrograms.{stage_written}
+use Rattle.naga_form.proofs.declarations.DeclaredPrograms.{stage_formed}
 use Rattle.naga_form.proofs.statements.WrittenFunctions.{entry_point_at}
 use Rattle.naga_form.proofs.names.Names.{is_identifier}
 use Rattle.naga_form.proofs.Programs.{one_is}
@@ -169,7 +169,7 @@ module _ (m : Module) (info : ModuleInfo) (flags : WriterFlags) (earlier : List 
       (entry_point_tree j p)
   entry_point_reading j is head p at =
       let stage =
-      stage_written m info accepted j p at (head.stage p (entry_point_at m j ∙ at)) in
+      stage_formed m info accepted j p at (head.stage p (entry_point_at m j ∙ at)) in
       subst (λ t. HasOneReading ReadsEntryPoint t (entry_point_tree j p)) (sym (entry_point_text_is j p at))
       (entry_point_has_one_reading (entry_point_tree j p) (record {
         attributes = stage.0;

@@ -37,7 +37,7 @@ use Rattle.wgsl_text.specs.Reading.{printed_type}
 use Rattle.wgsl_words.specs.Words.{scalar_word, space_access_word, space_word}
 use Rattle.module_semantics.specs.AlikeTypes.{has_type_form, type_key}
 use Rattle.module_semantics.specs.Undeclared.{is_spellable, names_undeclared}
-use Rattle.naga_form.proofs.types.AlikeTypes.{form_is_read, form_read}
+use Rattle.naga_form.proofs.types.AlikeTypes.{key_is_read, key_read}
 use Rattle.naga_form.proofs.types.TypeTrees.{type_row}
 
 -- ---- debug texts
@@ -170,10 +170,10 @@ written_has_type_form m names h content now written =
     by (type_key m.types (Handle h))
     (sym (text_known written.is_text (type_shows (names_of m.types names) (λ o. true) h))
     ∙ (type_row text-append (names_of m.types names) (λ o. true) h
-    ∙ ap (option_map printed_type) (form_is_read (names_of m.types names) (Handle h))))
+    ∙ ap (option_map printed_type) (key_is_read (names_of m.types names) (Handle h))))
   where
     by : (o : Option (List ℕ)) →
-        Some written.text ≡ option_map printed_type (option_map (form_read (names_of m.types names)) o) →
+        Some written.text ≡ option_map printed_type (option_map (key_read (names_of m.types names)) o) →
         is_some o ≡ true
     by None e = absurd cc
     by (Some key) e = refl

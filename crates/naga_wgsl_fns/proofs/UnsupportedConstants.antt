@@ -44,17 +44,17 @@ module _ (m : Module) where
   unwritten h = not (global_has_form m h)
 
   -- where none is found that is not written, all are
-  all_written : (xs : List ℕ) →
+  all_have_forms : (xs : List ℕ) →
       ((i x : ℕ) → slice_get xs i ≡ Some x → unwritten x ≡ false) →
       list_all (global_has_form m) xs ≡ true
-  all_written [] each = refl
-  all_written (x ∷ xs) each =
+  all_have_forms [] each = refl
+  all_have_forms (x ∷ xs) each =
       ap₂ (λ a b. a && b) (not-false (global_has_form m x) (each 0 x refl))
-      (all_written xs (λ i y at. each (suc i) y at))
+      (all_have_forms xs (λ i y at. each (suc i) y at))
 
   pub none_unwritten : (xs : List ℕ) → None ≡ find unwritten xs →
       list_all (global_has_form m) xs ≡ true
-  none_unwritten xs is = all_written xs (none_passes unwritten xs (sym is))
+  none_unwritten xs is = all_have_forms xs (none_passes unwritten xs (sym is))
 
   -- the one that is found is among these, and is not written
   pub one_unwritten : (xs : List ℕ) (x : ℕ) → Some x ≡ find unwritten xs →

@@ -28,11 +28,11 @@ unfolding global_value_text
 handle_variable_value f variable is =
     sym (ap (λ b. if b then name_of_global f variable else global_address_text f variable) is)
 
-pub kept_value : (f : FunctionText) (variable : ℕ) →
+pub memory_variable_value : (f : FunctionText) (variable : ℕ) →
     is_handle_variable f.shader.now variable ≡ false →
     global_address_text f variable ≡ global_value_text f variable
 unfolding global_value_text
-kept_value f variable is =
+memory_variable_value f variable is =
     sym (ap (λ b. if b then name_of_global f variable else global_address_text f variable) is)
 
 module _ (f : FunctionText) (table : List Availability) (handle variable : ℕ) where
@@ -42,8 +42,8 @@ module _ (f : FunctionText) (table : List Availability) (handle variable : ℕ) 
   handle_variable_reference is =
       sym (ap (λ b. if b then pointed_text f table handle else name_of_global f variable) is)
 
-  pub kept_reference : is_handle_variable f.shader.now variable ≡ false →
+  pub memory_variable_reference : is_handle_variable f.shader.now variable ≡ false →
       name_of_global f variable ≡ global_reference_text f table handle variable
   unfolding global_reference_text
-  kept_reference is =
+  memory_variable_reference is =
       sym (ap (λ b. if b then pointed_text f table handle else name_of_global f variable) is)

@@ -26,7 +26,7 @@ impl FunctionText<'_> {
         out: &mut Output<'_, W>,
     )
         requires can { CanWrite self.now }
-        requires written { IsTrue (constant_has_form self.now.shader.now constant) }
+        requires has_form { IsTrue (constant_has_form self.now.shader.now constant) }
         ensures { Writes W.text W.failures out.old out.new
             (constant_text self.now.shader.now constant) }
     {
@@ -58,7 +58,7 @@ impl ModuleText<'_> {
         out: &mut Output<'_, W>,
     )
         requires can { CanWriteIn self.now }
-        requires written { IsTrue (global_has_form self.now.shader.now handle) }
+        requires has_form { IsTrue (global_has_form self.now.shader.now handle) }
         ensures { Writes W.text W.failures out.old out.new
             (global_text self.now.shader.now handle) }
     {
@@ -74,7 +74,7 @@ impl ModuleText<'_> {
         out: &mut Output<'_, W>,
     )
         requires can { CanWriteIn self.now }
-        requires written { IsTrue (global_has_form self.now.shader.now handle) }
+        requires has_form { IsTrue (global_has_form self.now.shader.now handle) }
         ensures { Writes W.text W.failures out.old out.new
             (global_text self.now.shader.now handle) }
     {
@@ -100,7 +100,7 @@ impl ModuleText<'_> {
         out: &mut Output<'_, W>,
     )
         requires can { CanWriteIn self.now }
-        requires written { IsTrue (constant_has_form self.now.shader.now constant) }
+        requires has_form { IsTrue (constant_has_form self.now.shader.now constant) }
         ensures { Writes W.text W.failures out.old out.new
             (constant_text self.now.shader.now constant) }
     {
@@ -124,7 +124,7 @@ impl ModuleText<'_> {
     )
         requires can { CanWriteIn self.now }
         requires formed { IsTrue (has_type_form self.now.shader.now.types (resolution.Handle ty)) }
-        requires written { IsTrue (global_has_form self.now.shader.now handle) }
+        requires has_form { IsTrue (global_has_form self.now.shader.now handle) }
         ensures { Writes W.text W.failures out.old out.new
             (made_global_text self.now.shader.now ty handle) }
     {
@@ -144,7 +144,7 @@ impl ModuleText<'_> {
         out: &mut Output<'_, W>,
     )
         requires can { CanWriteIn self.now }
-        requires written { IsTrue (global_has_form self.now.shader.now handle) }
+        requires has_form { IsTrue (global_has_form self.now.shader.now handle) }
         ensures { Writes W.text W.failures out.old out.new
             (called_global_text self.now.shader.now word.now handle) }
     {
@@ -162,7 +162,7 @@ impl ModuleText<'_> {
         out: &mut Output<'_, W>,
     )
         requires can { CanWriteIn self.now }
-        requires written { IsTrue (global_has_form self.now.shader.now handle) }
+        requires has_form { IsTrue (global_has_form self.now.shader.now handle) }
         ensures { Writes W.text W.failures out.old out.new (parts_text self.now.shader.now handle) }
     {
         let mut is_first = true;
@@ -185,7 +185,7 @@ impl ModuleText<'_> {
         out: &mut Output<'_, W>,
     )
         requires can { CanWriteIn self.now }
-        requires written { IsTrue (global_has_form self.now.shader.now part) }
+        requires has_form { IsTrue (global_has_form self.now.shader.now part) }
         ensures { Writes W.text W.failures out.old out.new
             (next_part_text self.now.shader.now is_first part) }
     {

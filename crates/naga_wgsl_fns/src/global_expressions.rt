@@ -79,7 +79,7 @@ fn write_written_global<W: TextSink>(
     out: &mut W,
 ) -> Result<(), Error>
     requires can { CanWriteIn text }
-    requires written { IsTrue (global_has_form text.shader.now handle) }
+    requires has_form { IsTrue (global_has_form text.shader.now handle) }
     ensures text_ok { OnOk result
         (W.text out.new ≡ W.text out.old ++ global_text text.entry.shader.now handle) }
     ensures text_err { OnErr result

@@ -78,7 +78,7 @@ impl FunctionText<'_> {
     )
         requires can { CanWrite self.now }
         requires image { IsInText self.now image }
-        requires written { IsTrue (sampling_has_form gather level compares clamped) }
+        requires has_form { IsTrue (sampling_has_form gather level compares clamped) }
         ensures { Writes W.text W.failures out.old out.new
             (head_text self.now image gather level compares clamped) }
     {

@@ -82,7 +82,7 @@ impl FunctionText<'_> {
         requires can { CanWrite self.now }
         requires bound { is_bound ≡ bound self.now handle }
         requires handle { handle < length self.now.function.now.expressions }
-        requires root { IsTrue (bound self.now handle) → IsInText self.now handle }
+        requires in_text { IsTrue (bound self.now handle) → IsInText self.now handle }
         requires named { IsTrue (bound self.now handle) → IsLet self.now handle }
         ensures { Writes W.text W.failures out.old out.new
             (text_at self.now at.now.scope emitted_text at.now.indent handle) }

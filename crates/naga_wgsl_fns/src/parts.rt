@@ -181,7 +181,7 @@ impl FunctionText<'_> {
         out: &mut Output<'_, W>,
     )
         requires can { CanWrite self.now }
-        requires written { IsTrue (expression_has_own_form self.now.shader.now self.now.info.now
+        requires has_form { IsTrue (expression_has_own_form self.now.shader.now self.now.info.now
             (AccessIndex base index)) }
         ensures { Writes W.text W.failures out.old out.new (selector_text self.now base index) }
     {
@@ -215,7 +215,7 @@ impl FunctionText<'_> {
         out: &mut Output<'_, W>,
     )
         requires can { CanWrite self.now }
-        requires written { IsTrue (expression_has_own_form self.now.shader.now self.now.info.now
+        requires has_form { IsTrue (expression_has_own_form self.now.shader.now self.now.info.now
             (AccessIndex base index)) }
         requires no_member { struct_known self.now base ≡ None }
         ensures { Writes W.text W.failures out.old out.new (selector_text self.now base index) }
@@ -241,7 +241,7 @@ impl FunctionText<'_> {
     /// The letter of a component of a vector, or of one that is pointed at. Other parts have none.
     fn component(&self, base: Handle<Expression>, index: u32) -> Option<&'static str>
         requires can { CanWrite self.now }
-        requires written { IsTrue (expression_has_own_form self.now.shader.now self.now.info.now
+        requires has_form { IsTrue (expression_has_own_form self.now.shader.now self.now.info.now
             (AccessIndex base index)) }
         requires no_member { struct_known self.now base ≡ None }
         ensures { part_selector (source self.now).declared base index

@@ -22,11 +22,11 @@ unfolding declarations_text structs_text constants_text overrides_text variables
 declarations_row m = refl
 
 -- a whole text: what it enables, its declarations, its functions and its entry points
-pub layout_row : (p : Program) →
+pub program_row : (p : Program) →
     printed_program p ≡
     enables_text p.enables ++
     (declarations_of p ++ (text (functions_pieces p.functions) ++ text (entry_points_pieces p.entry_points)))
-layout_row p =
+program_row p =
     let enables = text (enables_pieces p.enables) in
     let after_enables = text (group_end p.enables) in
     let structs = text (structs_pieces p.structs) in

@@ -176,9 +176,9 @@ module _ (m : Module) (info : ModuleInfo) (flags : WriterFlags)
       pub leaves : Leaves flags m info r content now before after
 
   -- each label has a name
-  none_reported : AllPlanned → NamerIsFull m → ⊥
-  none_reported planned (inl items) = has.nameable items
-  none_reported planned (inr full) = by (slice_get (all_functions m) full.0) refl
+  none_full : AllPlanned → NamerIsFull m → ⊥
+  none_full planned (inl items) = has.nameable items
+  none_full planned (inr full) = by (slice_get (all_functions m) full.0) refl
     where
       by : (o : Option Function) → slice_get (all_functions m) full.0 ≡ o → ⊥
       by None past = none_past m full.0 past full.1
@@ -231,7 +231,7 @@ module _ (m : Module) (info : ModuleInfo) (flags : WriterFlags)
                 declarations = declarations;
                 in_scope = rules;
                 formed = have;
-                nameable = none_reported planned;
+                nameable = none_full planned;
                 keys = has.keys;
               };
               reading = record {

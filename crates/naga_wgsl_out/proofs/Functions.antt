@@ -53,7 +53,7 @@ use Rattle.naga_back.specs.declared.flags.WriterFlags.{WriterFlags}
 use Rattle.naga_wgsl_fns.specs.Refusals.{IsPlanRefusal}
 use Rattle.naga_wgsl_out.specs.Declarations.{declarations_of, declarations_text}
 use Rattle.naga_wgsl_out.specs.Enables.{enables_text}
-use Rattle.naga_wgsl_out.proofs.DeclarationRows.{layout_row}
+use Rattle.naga_wgsl_out.proofs.DeclarationRows.{program_row}
 use Rattle.naga_wgsl_out.specs.ModuleRefusals.{HasNamedBefore, KeyIsOutOfRange}
 use Rattle.naga_wgsl_out.specs.Writing.{HasNoPlan, HasPlan, IsNamedPlan, MetNoPlan, WritesFunctions}
 use Rattle.naga_wgsl_out.specs.Writing.{WritesNext, WroteFunctions, WroteNext, front_text, spaced_function_at}
@@ -83,16 +83,16 @@ module _ (m : Module) (info : ModuleInfo) (flags : WriterFlags)
   lines_are g f ty stage ty_is is =
       λ i. (option_map_or (stage_text m) (is i) [] ++ own_text g f (known_of info g)) ++ line_after m (ty_is i)
 
-  function_line : (h : ℕ) (f : Function) → h < length m.functions →
+  spaced_own_text : (h : ℕ) (f : Function) → h < length m.functions →
       spaced_function m info flags (h, f) ≡ own_text h f (known_of info h) ++ codes "\n"
-  function_line h f lt =
+  spaced_own_text h f lt =
       lines_are h f (item.Function h) None (type_of_function m h lt) (no_entry_point m h lt)
 
-  entry_point_line : (j : ℕ) (p : EntryPoint) → slice_get m.entry_points.items j ≡ Some p →
+  spaced_entry_point : (j : ℕ) (p : EntryPoint) → slice_get m.entry_points.items j ≡ Some p →
       spaced_function m info flags (length m.functions + j, p.function) ≡
       (stage_text m p ++ own_text (length m.functions + j) p.function (known_of info (length m.functions + j)))
       ++ line_after m (item.EntryPoint j)
-  entry_point_line j p at =
+  spaced_entry_point j p at =
       lines_are (length m.functions + j) p.function (item.EntryPoint j) (Some p)
       (type_of_entry_point m j) (entry_point_at m j ∙ at)
 
@@ -116,7 +116,7 @@ module _ (m : Module) (info : ModuleInfo) (flags : WriterFlags)
       (functions_text (g + 1) fs ess (omega (arith, within)) (ap pred size) (later g ess es known))
       ∙ (ap (λ ks. own_text g f ks ++ (10 ∷ more)) (sym same)
       ∙ (sym (append_assoc (own_text g f (known_of info g)) (codes "\n") more)
-      ∙ ap (λ t. t ++ more) (sym (function_line g f (omega (arith, within)))))))
+      ∙ ap (λ t. t ++ more) (sym (spaced_own_text g f (omega (arith, within)))))))
     where
       later : (g : ℕ) (ess : List (List ExpressionInfo)) (es : List ExpressionInfo) →
           ((i : ℕ) (ks : List ExpressionInfo) → slice_get (es ∷ ess) i ≡ Some ks → known_of info (g + i) ≡ ks) →
@@ -149,7 +149,7 @@ module _ (m : Module) (info : ModuleInfo) (flags : WriterFlags)
       ap (λ t. t ++ (if more then codes "\n" else []))
       (entry_point_text_is g p es ∙ ap (λ ks. stage_text m p ++ own_text g p.function ks) (sym same))
       ∙ ap (λ b. (stage_text m p ++ own_text g p.function (known_of info g)) ++ (if b then codes "\n" else [])) (sym is)
-      ∙ sym (entry_point_line j p here)
+      ∙ sym (spaced_entry_point j p here)
 
   entry_points_text : (j : ℕ) (ps : List EntryPoint) (ess : List (List ExpressionInfo)) → length ps ≡ length ess →
       j + length ps ≡ length m.entry_points.items →
@@ -212,7 +212,7 @@ written_lines m info flags accepted =
     ∙ (flat_map-append (spaced_function m info flags) first (enumerate_from (0 + length m.functions) points)
     ∙ sym (λ i. functions_are i ++ points_are i)))
     ∙ (front_then m info flags (text (functions_pieces functions) ++ text (entry_points_pieces entry_points))
-    ∙ sym (layout_row (written_program m info flags)))
+    ∙ sym (program_row (written_program m info flags)))
   where
     functions : List FunctionTree
     functions = functions_form flags (module_names m) m info 0 m.functions info.functions.items

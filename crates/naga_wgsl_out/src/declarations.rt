@@ -103,7 +103,7 @@ pub(crate) fn write_value<W: TextSink>(
     out: &mut Output<'_, W>,
 )
     requires can { CanWriteIn text.now }
-    requires written { (h : ℕ) → value ≡ Some h →
+    requires has_form { (h : ℕ) → value ≡ Some h →
         IsTrue (global_has_form text.now.shader.now h) }
     ensures { Writes W.text W.failures out.old out.new (value_text text.now.shader.now value) }
 {
@@ -122,7 +122,7 @@ pub(crate) fn write_first_value<W: TextSink>(
     out: &mut Output<'_, W>,
 )
     requires can { CanWriteIn text.now }
-    requires written { IsTrue (global_has_form text.now.shader.now value) }
+    requires has_form { IsTrue (global_has_form text.now.shader.now value) }
     ensures { Writes W.text W.failures out.old out.new
         (first_value_text text.now.shader.now value) }
 {

@@ -6,9 +6,9 @@
 //!
 //! ```text
 //! #[derive(Drop)]
-//! struct Kept { text: String }
+//! struct Held { text: String }
 //!
-//! impl TextSink for Kept {
+//! impl TextSink for Held {
 //!     ghost text = { λ k. string_bytes k.text };
 //!
 //!     ghost failures = { λ _. 0 };

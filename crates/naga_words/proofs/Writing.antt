@@ -37,11 +37,11 @@ after_whole content failed text middle more now among failures (Some want) at ke
     (after_then content text middle more now at lies.0, subst (λ n. IsReason ⊥ n failures want) kept lies.1)
 
 -- and where a beginning of the first does
-after_segment : (content : List ℕ) (failed : ℕ) (text more : List ℕ) (middle after : OutputView)
+after_beginning : (content : List ℕ) (failed : ℕ) (text more : List ℕ) (middle after : OutputView)
     (want : TypeTextError) → HasAppended content failed text middle.content middle.failures (Some want) →
     middle.want ≡ Some want → after ≡ middle
     → HasAppended content failed (text ++ more) after.content after.failures after.want
-after_segment content failed text more middle after want lies is same =
+after_beginning content failed text more middle after want lies is same =
     subst (λ (s : OutputView). HasAppended content failed (text ++ more) s.content s.failures s.want)
     (sym same)
     (subst (λ w. HasAppended content failed (text ++ more) middle.content middle.failures w) (sym is)
@@ -61,7 +61,7 @@ writes_then {before} {middle} {after} {first} {more} w v =
     on None is lies follows =
         after_whole before.content before.failures first middle.content more after.content middle.failures
         after.failures after.want lies.0 lies.1 follows
-    on (Some want) is lies follows = after_segment before.content before.failures first more middle after want
+    on (Some want) is lies follows = after_beginning before.content before.failures first more middle after want
         lies (sym is) follows
 
     by : (want : Option TypeTextError) → want ≡ before.want → AppendsUnlessWanting want before first middle →

@@ -545,8 +545,8 @@ module _ (p : Module) (n : ModuleNames) (uses : Bytes → WordUse) (uses_fit : U
         ∙ one_more_variable f (take i all) o 0 (entries t) (parameter_names n f vs)
         ∙ ap (λ k. bind (names_before i) (f.names.local_ k) (variable_place f (entries t) k)) count
 
-    abbrev spelled : Words
-    spelled = words own d
+    abbrev text_words : Words
+    text_words = words own d
 
     abbrev kept : EmittedValues
     kept = constants_at_start f.function env m
@@ -559,14 +559,14 @@ module _ (p : Module) (n : ModuleNames) (uses : Bytes → WordUse) (uses_fit : U
         (os : Option (List (Option Value))) (rest : List Event →
         ReachedOrHalted (List (Option Value))) →
         ((t2 : List Event) → rest t2 ≡ reached_firsts os t2) →
-        (t1 : List Event) → first_then spelled (value_if f (at_start f.function) o) names t1 rest ≡
+        (t1 : List Event) → first_then text_words (value_if f (at_start f.function) o) names t1 rest ≡
         reached_firsts (with_first (first_used own kept o) os) t1
     first_reached k e i None u names q os rest r t1 = ap (put_first None) (r t1) ∙ put_reached os t1
     first_reached k e i (Some h) u names q os rest r t1 =
         let fit1 = starting_before p f i n start in
         let value = first_value_here callees calls d alike (before f i) fit1
         (typed_before p f i env.parts m typed) vs t k e h u t1 in
-        ap (λ z. first_followed (value_of spelled (value_at f (at_start f.function) h) z t1) rest) q
+        ap (λ z. first_followed (value_of text_words (value_at f (at_start f.function) h) z t1) rest) q
         ∙ ap (λ q. first_followed q rest) value
         ∙ followed_firsts (used_value own kept h) os t1 rest r
 
@@ -574,7 +574,7 @@ module _ (p : Module) (n : ModuleNames) (uses : Bytes → WordUse) (uses_fit : U
         length vs ≡ argument_count f.function → (os : List (Option ℕ)) (i : ℕ) →
         ((k : ℕ) → slice_get os k ≡ slice_get all (k + i)) →
         IsTrue (first_values_fit f.function i os) → (names : Scope) → names ≡ names_before i →
-        (t1 : List Event) → first_of_each spelled (variables_from f i os) (entries t) i names t1 ≡
+        (t1 : List Event) → first_of_each text_words (variables_from f i os) (entries t) i names t1 ≡
         reached_firsts (first_used_all own kept os) t1
     firsts_reached k e [] i at u names q t1 = refl
     firsts_reached k e (o ∷ os) i at u names q t1 =
@@ -584,7 +584,7 @@ module _ (p : Module) (n : ModuleNames) (uses : Bytes → WordUse) (uses_fit : U
         let next = bind names (f.names.local_ i) (variable_place f (entries t) i) in
         let known : next ≡ names_before (suc i) =
         ap (λ z. bind z (f.names.local_ i) (variable_place f (entries t) i)) q ∙ sym (next_names i o there) in
-        let rest = first_of_each spelled (variables_from f (suc i) os) (entries t) (suc i) next in
+        let rest = first_of_each text_words (variables_from f (suc i) os) (entries t) (suc i) next in
         first_reached k e i o (and_left here later u) names q (first_used_all own kept os) rest
         (firsts_reached k e os (suc i) further (and_right here later u) next known) t1
       where
@@ -672,19 +672,19 @@ module _ (p : Module) (n : ModuleNames) (uses : Bytes → WordUse) (uses_fit : U
       let calls = run_numbered (functions_of fs) in
       let c = call_over (functions_of fs) calls f vs t in
       let there = length (functions_of fs) in
-      let spelled = length (form_functions fs) in
-      let same_place : spelled ≡ there = length-form_functions fs ∙ sym place in
+      let in_text = length (form_functions fs) in
+      let same_count : in_text ≡ there = length-form_functions fs ∙ sym place in
       pick_alike (Returns env.parts callee) (same_bytes (n.function g) own_name)
-      (nat_eq g there) (program_call c there f vs t) (text_call (responses fs) spelled f vs t)
+      (nat_eq g there) (program_call c there f vs t) (text_call (responses fs) in_text f vs t)
       (calls g vs t) ((responses fs).1 (n.function g) vs t) test
       (λ q. let same : f.function ≡ callee =
       same_Some f.function callee
       (ap (λ b. cond b (Some f.function) (function_numbered (functions_of fs) g)) (sym q) ∙ e)
       in subst (λ k. Answers (Returns env.parts k) (program_call c there f vs t)
-      (text_call (responses fs) spelled f vs t)) same
+      (text_call (responses fs) in_text f vs t)) same
       (call_alike (functions_of fs) calls (responses fs) (named_alike fs fewer fits.1 earlier) f
-      (starting p n (functions_of fs) f fits.0) fits.0.regular fits.0.cases fits.0.scope typed.0 vs t there spelled
-      same_place
+      (starting p n (functions_of fs) f fits.0) fits.0.regular fits.0.cases fits.0.scope typed.0 vs t there in_text
+      same_count
       (subst (λ k. IsTrue (has_types env.parts k.argument_types vs)) (sym same) h)))
       (λ q. earlier g callee
       (ap (λ b. cond b (Some f.function) (function_numbered (functions_of fs) g)) (sym q)

@@ -389,8 +389,8 @@ module _ (p : Module) (n : ModuleNames) (fits : ConstantsFit p n) (s : Settings)
           (λ i le lt e. o.constants i (omega (arith, lt)) e) found outside
           ∙ globals_other n.global word p.globals 0 (λ i le lt e. o.globals i (omega (arith, lt)) e) s.globals no_names
 
-      undeclared : (word : Bytes) → OperatesOutside p n word → is_declared text word ≡ false
-      undeclared word o =
+      not_declared : (word : Bytes) → OperatesOutside p n word → is_declared text word ≡ false
+      not_declared word o =
           ap (λ b. b || names_function functions word)
           (no_constant_called n word p.initialisers 0
           (λ i le lt e. let counted = fits.counted in o.constants i (omega (arith, lt, counted)) e))
@@ -409,7 +409,7 @@ module _ (p : Module) (n : ModuleNames) (fits : ConstantsFit p n) (s : Settings)
 
           tests : refused (is_declared text word) (n.vocabulary.is_request word) (n.vocabulary.is_operator word) ≡ false
           tests =
-              ap (λ b. refused b (n.vocabulary.is_request word) (n.vocabulary.is_operator word)) (undeclared word o)
+              ap (λ b. refused b (n.vocabulary.is_request word) (n.vocabulary.is_operator word)) (not_declared word o)
               ∙ ap₂ (refused false) o.asks_nothing o.operates
 
           operates_so : (os : Option (List Value)) → as_value (word_answer l word (reach os t))

@@ -19,7 +19,7 @@ use Rattle.shader_runs.specs.Passes.{own_case, other_case, Comes, into_block, in
 use Rattle.shader_runs.specs.Passes.{into_reject, into_case, into_loop, Passes, is_here, goes_after}
 use Rattle.shader_runs.specs.Passes.{goes_inside}
 use Rattle.shader_runs.specs.Ends.{end_of, is_simple, stops_early, is_early, EndsAt, EndsAreReached}
-use Rattle.shader_runs.proofs.Passes.{same_state, same_events, then_parts, one_more_turn}
+use Rattle.shader_runs.proofs.Passes.{same_done, same_events, then_parts, one_more_turn}
 
 not_early : {A : Type 0} → IsTrue false → A
 not_early e = absurd (true≢false (sym e))
@@ -304,7 +304,7 @@ module _ (c : Call) (n : ℕ) where
   end_reached : (ss : Statements) (kept kept1 : EmittedValues) (t t1 : List Event) → run_all c n ss kept t
       ≡ Done kept1 t1 → Passes c n ss (end_of ss) kept t kept1 t1
   end_reached end kept kept1 t t1 e =
-      subst (λ k. Passes c n end here kept t k t1) (same_state kept kept1 t t1 e)
+      subst (λ k. Passes c n end here kept t k t1) (same_done kept kept1 t t1 e)
       (subst (λ x. Passes c n end here kept t kept x) (same_events kept kept1 t t1 e) is_here)
   end_reached (then st ss) kept kept1 t t1 e =
       let parts = then_parts (run c n st kept t) (run_all c n ss) kept1 t1 e in

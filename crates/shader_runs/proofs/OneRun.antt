@@ -150,7 +150,7 @@ environment_alike : (p : Module) (n : ModuleNames) (later : List TextFunction) (
     (n.function f.names.earlier) vs t ≡ run_call env w m turns p.functions f.names.earlier vs t
 environment_alike p n later f between callees fits env environment m typed vs h w turns t keeps =
     followed_among_first env.parts outer w m uses turns p n fits.items.distinct later (form_function f ∷ rest)
-    fits.items.named whole g (omega (arith, number, same_place)) vs t
+    fits.items.named whole g (omega (arith, number, same_count)) vs t
     ∙ (taken (same_bytes (n.function g) own_name) (same_bytes_equal (n.function g) own_name (sym is_name)) _ _
     ∙ (alike ∙ sym run_own))
   where
@@ -188,8 +188,8 @@ environment_alike p n later f between callees fits env environment m typed vs h 
     is_name : own_name ≡ n.function g
     is_name = ap (λ n. n.function f.names.earlier) fits.own.outer
 
-    same_place : length rest ≡ length before
-    same_place =
+    same_count : length rest ≡ length before
+    same_count =
         let texts = length-append between (form_functions callees) in
         let shapes = length-append fits.uncalled (functions_of callees) in
         let spelled = length-form_functions callees in
@@ -276,7 +276,7 @@ environment_alike p n later f between callees fits env environment m typed vs h 
         answers_same (Returns env.parts f.function) _ _ (subst KeepsTypes run_own keeps)
         (call_alike p n uses known env environment w m turns (functions_of callees) calls responses
         callees_alike f (starting p n before f fits.own) fits.calls fits.own.cases fits.own.scope all.0 vs t
-        (length before) (length rest) same_place
+        (length before) (length rest) same_count
         (subst (λ parts. IsTrue (has_types parts f.function.argument_types vs)) (sym environment.parts) h))
 
 -- the names that the text of the whole module computes

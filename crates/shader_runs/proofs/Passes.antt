@@ -50,8 +50,8 @@ use Rattle.shader_runs.proofs.Scope.{extends_all}
 use Rattle.shader_runs.proofs.Places.{from_split}
 use Rattle.shader_runs.proofs.Checked.{Fits, FitsAll, FitsCases, JoinsNext, MayEmitAll}
 
-pub same_state : {S : Type 0} (s k : S) (e t : List Event) → Done s e ≡ Done k t → s ≡ k
-same_state s k e t q = cc
+pub same_done : {S : Type 0} (s k : S) (e t : List Event) → Done s e ≡ Done k t → s ≡ k
+same_done s k e t q = cc
 
 pub same_events : {S : Type 0} (s k : S) (e t : List Event) → Done s e ≡ Done k t → e ≡ t
 same_events s k e t q = cc
@@ -73,7 +73,7 @@ both_done : {S T : Type 0} {R : Option Value → Type 0} {P Q B : S → T → Ty
     {o' : Outcome T} → Alike R P Q B o o' → (k : S) (t : List Event) → o ≡ Done k t → (l : T) ×
     (o' ≡ Done l t) × P k l
 both_done {P = P} (done {s = s} {t = l} {e = e} h) k t q =
-    (l, ap (λ e. Done l e) (same_events s k e t q), subst (λ s. P s l) (same_state s k e t q) h)
+    (l, ap (λ e. Done l e) (same_events s k e t q), subst (λ s. P s l) (same_done s k e t q) h)
 both_done (continued {s = s} {e = e} h) k t q = absurd (not_continued s k e t q)
 both_done (broke {s = s} {e = e} h) k t q = absurd (not_broke s k e t q)
 both_done (returned_alike {v = v} {e = e} h) k t q = absurd (not_returned v k e t q)
@@ -114,7 +114,7 @@ closed_again true s (Stopped x t) = refl
 closed_again false s o = then_done (closed_outcome s o)
 
 closed_done : {S : Type 0} (s s1 : S) (t : List Event) (o : Outcome S) → closed_outcome s o ≡ Done s1 t → s1 ≡ s
-closed_done s s1 t (Done s2 e) q = sym (same_state s s1 e t q)
+closed_done s s1 t (Done s2 e) q = sym (same_done s s1 e t q)
 closed_done s s1 t (Continued s2 e) q = absurd (not_continued s s1 e t q)
 closed_done s s1 t (Broke s2 e) q = absurd (not_broke s s1 e t q)
 closed_done s s1 t (Returned v e) q = absurd (not_returned v s1 e t q)
@@ -257,7 +257,7 @@ module _ (p : Module) (c : Call) (n : Names) (d : Respond) (facts : Facts p c n 
       go true tail names1 e q names2 t2 h =
           goes_after_line (sym (then_done (follow (words c d) bound (Let x own) names t)) ∙ e) h
       go false tail names1 e q names2 t2 h =
-          subst (λ l. Text tail q l t names2 t2) (sym (same_state names names1 t t1 e))
+          subst (λ l. Text tail q l t names2 t2) (sym (same_done names names1 t t1 e))
           (subst (λ e. Text tail q names1 e names2 t2) (sym (same_events names names1 t t1 e)) h)
 
   emits_all : (k : ℕ) (hs : List ℕ) (s : Handles) (names : Scope) (kept kept1 : EmittedValues)
@@ -269,7 +269,7 @@ module _ (p : Module) (c : Call) (n : Names) (d : Respond) (facts : Facts p c n 
       names1 t1)
   emits_all k [] s names kept kept1 t t1 r m e = (
     names,
-    subst (λ k. Related c n s names k) (same_state kept kept1 t t1 e) r,
+    subst (λ k. Related c n s names k) (same_done kept kept1 t t1 e) r,
     λ tail q names2 t2 h. subst (λ e. Text tail q names e names2 t2) (sym (same_events kept kept1 t t1 e)) h,
   )
   emits_all k (h ∷ hs) s names kept kept1 t t1 r m e =
@@ -295,7 +295,7 @@ module _ (p : Module) (c : Call) (n : Names) (d : Respond) (facts : Facts p c n 
       ((tail : Lines) → Leads (perform_each ws tail) (after_lines (length ws)) names t tail names
       t1)
   asks_all [] s names kept kept1 t t1 r m e = (
-    sym (same_state kept kept1 t t1 e),
+    sym (same_done kept kept1 t t1 e),
     λ tail q names2 t2 h. subst (λ e. Text tail q names e names2 t2)
         (sym (same_events kept kept1 t t1 e)) h,
   )
@@ -435,7 +435,7 @@ module _ (p : Module) (c : Call) (n : Names) (d : Respond) (facts : Facts p c n 
   -- a case that falls through is empty
   nothing_done : (b : Statements) (cs : Cases) (kept kept1 : EmittedValues) (t t1 : List Event) →
       JoinsNext true b cs → run_all c bound b kept t ≡ Done kept1 t1 → (kept1 ≡ kept) × (t1 ≡ t)
-  nothing_done end cs kept kept1 t t1 m e = (sym (same_state kept kept1 t t1 e), sym (same_events kept kept1 t t1 e))
+  nothing_done end cs kept kept1 t t1 m e = (sym (same_done kept kept1 t t1 e), sym (same_events kept kept1 t t1 e))
   nothing_done (then st ss) cs kept kept1 t t1 m e = absurd m
 
   falls_to : {cs : Cases} {i : ℕ} {kept kept1 : EmittedValues} {t t1 : List Event} →
@@ -504,7 +504,7 @@ module _ (p : Module) (c : Call) (n : Names) (d : Respond) (facts : Facts p c n 
       names,
       ap (λ e. Done names e) (same_events kept kept1 t t1 q),
       subst (λ k. Related c n s names k)
-          (same_state kept kept1 t t1 q) r,
+          (same_done kept kept1 t t1 q) r,
     )
     turns_go (suc j) names kept kept1 t t1 r q =
         let parts = then_parts (module_turn c bound b b2 e kept t) (after_turns (module_turn c bound b b2 e) j)

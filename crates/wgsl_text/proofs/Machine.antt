@@ -373,13 +373,14 @@ abbrev pub expect_zero : Stack → Reader
 expect_zero (InArguments t done s) = AfterArgument t (ZeroArgument false done) s
 expect_zero _ = Failed
 
-abbrev pub want : Token → Stack → Reader
-want (Fixed m) s = expect_mark m s
-want (Word w) s = Got (Name w) s
-want (Number negative n suffix) s = expect_number suffix negative n s
-want (Decimal negative whole fraction precision) s = Got (Constant (Floating negative whole fraction precision)) s
-want ZeroPointZero s = expect_zero s
-want (Foreign b) s = Failed
+abbrev pub expected_token : Token → Stack → Reader
+expected_token (Fixed m) s = expect_mark m s
+expected_token (Word w) s = Got (Name w) s
+expected_token (Number negative n suffix) s = expect_number suffix negative n s
+expected_token (Decimal negative whole fraction precision) s =
+    Got (Constant (Floating negative whole fraction precision)) s
+expected_token ZeroPointZero s = expect_zero s
+expected_token (Foreign b) s = Failed
 
 abbrev pub after_argument_mark : Mark → TypeSpecifier → Arguments → Stack → Reader
 after_argument_mark Comma t done s = Expect (InArguments t done s)
@@ -740,7 +741,7 @@ after_space _ a s = Failed
 -- takes_types: is this the word of a type, or of a call that takes a type?
 abbrev pub step : (List ℕ → Bool) → Reader → Token → Reader
 step takes_types Failed t = Failed
-step takes_types (Expect s) t = want t s
+step takes_types (Expect s) t = expected_token t s
 step takes_types (Got e s) t = at_mark (λ m. got_mark takes_types m e s) t
 step takes_types (ExpectOperand op s) t = at_mark (λ m. expect_operand m op s) t
 step takes_types (ExpectMember e s) t = expect_member t e s

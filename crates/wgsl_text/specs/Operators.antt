@@ -93,7 +93,7 @@ pub record OperatorWords : Type 0 where
   pub array : IsTrue (is_operator [] (codes "array<vec3<f32>, 4>"))
   -- a struct is known by its declaration
   pub declared : IsTrue (is_operator (codes "Light" ∷ []) (codes "Light"))
-  pub undeclared : IsFalse (is_operator (codes "Light" ∷ []) (codes "Shadow"))
+  pub other_struct : IsFalse (is_operator (codes "Light" ∷ []) (codes "Shadow"))
   -- no word is an operator's that nothing declares, and no built-in word but of functions and types
   pub unknown : IsFalse (is_operator [] (codes "frobnicate"))
   pub longer : IsFalse (is_operator [] (codes "maximum"))

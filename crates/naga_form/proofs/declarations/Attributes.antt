@@ -405,20 +405,20 @@ pub id_attributes_are : (id : Option ℕ) → option_map_or fits_16_bits id true
 id_attributes_are None fits = tt
 id_attributes_are (Some n) fits = let lt = ltb-true n (2 ^ 16) fits in (omega (arith, lt), tt)
 
-global_io : (b : Option ResourceBinding) (coherent volatile : Bool) →
+global_binds : (b : Option ResourceBinding) (coherent volatile : Bool) →
     is_global_binding (resource_attributes b
     ++ (attribute_if (Plain Coherent) coherent ++ attribute_if (Plain Volatile) volatile)) ≡ true
-global_io None true true = refl
-global_io None true false = refl
-global_io None false true = refl
-global_io None false false = refl
-global_io (Some b) true true = refl
-global_io (Some b) true false = refl
-global_io (Some b) false true = refl
-global_io (Some b) false false = refl
+global_binds None true true = refl
+global_binds None true false = refl
+global_binds None false true = refl
+global_binds None false false = refl
+global_binds (Some b) true true = refl
+global_binds (Some b) true false = refl
+global_binds (Some b) false true = refl
+global_binds (Some b) false false = refl
 
 pub global_is : (g : GlobalVariable) → is_global_binding (global_attributes g) ≡ true
-global_is g = global_io g.binding (is_coherent_memory g.memory_decorations) (is_volatile_memory g.memory_decorations)
+global_is g = global_binds g.binding (is_coherent_memory g.memory_decorations) (is_volatile_memory g.memory_decorations)
 
 resource_is : (b : Option ResourceBinding) → option_map_or resource_fits_32_bits b true ≡ true →
     IsAttributes (resource_attributes b)

@@ -30,7 +30,7 @@ use Rattle.module_semantics.specs.Types.{type_of_values}
 use Rattle.naga_form.proofs.declarations.AcceptedGroups.{IsSoundGroup}
 use Rattle.naga_form.proofs.operators.AgreeingUses.{value_at}
 use Rattle.naga_form.proofs.operators.ConstantTrees.{IsTreeOf, trees_are, initialiser_is}
-use Rattle.naga_form.proofs.declarations.NamedConstants.{is_named, place_typed}
+use Rattle.naga_form.proofs.declarations.NamedConstants.{is_named, index_typed}
 use Rattle.naga_form.proofs.operators.Signatures.{declared_for, only_signature, IsOfExpression}
 use Rattle.naga_form.proofs.operators.Signatures.{IsOfZero}
 
@@ -164,7 +164,7 @@ module _ (m : Module) (info : ModuleInfo) (accepted : IsTrue (is_accepted m info
       type_at (module_shape m info).constant_types i ≡ constant_type (module_shape m info) e
   initialiser_typed i e at =
       let k = initialiser_of i e at in
-      place_typed m info i k.constant k.named
+      index_typed m info i k.constant k.named
       ∙ (initialiser_by
       (λ t. type_of_values m (Handle k.constant.ty) ≡ constant_type (module_shape m info) t)
       k.handle k.constant k.there refl (λ t is. sym is.type)

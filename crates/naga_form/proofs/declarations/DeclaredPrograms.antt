@@ -99,9 +99,9 @@ numbered_each Holds n (x ∷ xs) each =
           subst (λ k. Holds (k, y)) next (each (suc i) y there)),
     )
 
-placed : {X : Type 0} (Holds : ℕ × X → Type 0) (xs : List X) →
+numbered : {X : Type 0} (Holds : ℕ × X → Type 0) (xs : List X) →
     ((i : ℕ) (x : X) → slice_get xs i ≡ Some x → Holds (i, x)) → Each Holds (enumerate_from 0 xs)
-placed Holds xs each =
+numbered Holds xs each =
     numbered_each Holds 0 xs
     (λ i x there. subst (λ k. Holds (k, x)) (sym (zero-add i)) (each i x there))
 
@@ -125,14 +125,14 @@ module _ {X Y : Type 0} (Holds : Y → Type 0) where
   each_form : (form : ℕ × X → Y) (xs : List X) →
       ((i : ℕ) (x : X) → slice_get xs i ≡ Some x → Holds (form (i, x))) →
       Each Holds (map form (enumerate_from 0 xs))
-  each_form form xs each = of_all form (enumerate_from 0 xs) (placed (λ p. Holds (form p)) xs each)
+  each_form form xs each = of_all form (enumerate_from 0 xs) (numbered (λ p. Holds (form p)) xs each)
 
   each_kept : (form : ℕ × X → Option Y) (xs : List X) →
       ((i : ℕ) (x : X) → slice_get xs i ≡ Some x → (y : Y) → form (i, x) ≡ Some y → Holds y) →
       Each Holds (filter_map form (enumerate_from 0 xs))
   each_kept form xs each =
       of_some form (enumerate_from 0 xs)
-      (placed (λ p. (y : Y) → form p ≡ Some y → Holds y) xs each)
+      (numbered (λ p. (y : Y) → form p ≡ Some y → Holds y) xs each)
 
 -- what has a form where a test passes
 kept_if : {Y : Type 0} (Holds : Y → Type 0) (test : Bool) (form : Y) →
@@ -187,13 +187,13 @@ module _ (m : Module) (info : ModuleInfo) (accepted : IsTrue (is_accepted m info
       (global_names_in_range m info accepted h (expression.Override o) at))
 
   -- each that is written is of the grammar, and so each constant
-  pub written_global : (h : ℕ) → global_has_form m h ≡ true → IsExpression (global_form m (type_names m) h)
-  written_global h is = global_is m (type_names m) literal_there (constant_identifier m) override_there
+  pub formed_global : (h : ℕ) → global_has_form m h ≡ true → IsExpression (global_form m (type_names m) h)
+  formed_global h is = global_is m (type_names m) literal_there (constant_identifier m) override_there
       formed_there (suc h) h is
 
-  pub written_constants : (c : ℕ) → constant_has_form m c ≡ true →
+  pub formed_constants : (c : ℕ) → constant_has_form m c ≡ true →
       IsExpression (written_constant_form m (type_names m) c)
-  written_constants = constant_is m (type_names m) literal_there (constant_identifier m) override_there formed_there
+  formed_constants = constant_is m (type_names m) literal_there (constant_identifier m) override_there formed_there
 
   -- ---- numbers
   -- those of overrides and of what variables are bound to
@@ -214,34 +214,34 @@ module _ (m : Module) (info : ModuleInfo) (accepted : IsTrue (is_accepted m info
   abbrev names : NameMap
   names = module_names m
 
-  abbrev spelled : TypeNames
-  spelled = type_names m
+  abbrev type_words : TypeNames
+  type_words = type_names m
 
   module _ (declarations : DeclarationsHaveForms m) where
     -- a type that is told
-    declared_type : (ty : ℕ) → IsDeclaredType m ty → IsType (type_form spelled ty)
+    declared_type : (ty : ℕ) → IsDeclaredType m ty → IsType (type_form type_words ty)
     declared_type ty is =
         is_type_at m types ty (type_form_of_spellable m (Handle ty) (declarations.types ty is))
 
     -- an initialiser, if there is one
     value_is : (o : Option ℕ) → ((handle : ℕ) → o ≡ Some handle → IsInitialiser m handle) →
-        IsValue (option_map (global_form m spelled) o)
+        IsValue (option_map (global_form m type_words) o)
     value_is None is = tt
-    value_is (Some handle) is = written_global handle (declarations.initialisers handle (is handle refl))
+    value_is (Some handle) is = formed_global handle (declarations.initialisers handle (is handle refl))
 
     -- ---- structs
     struct_is : (h : ℕ) (t : Type_) → slice_get m.types h ≡ Some t →
         is_declared m.special_types h t.inner ≡ true → IsStruct (record {
           name = name_in names (key.Type_ h);
-          members = map (member_form names spelled m h) (enumerate_from 0 (members_of t.inner));
+          members = map (member_form names type_words m h) (enumerate_from 0 (members_of t.inner));
         })
     struct_is h t at declared = record {
       name = item_is_identifier m (key.Type_ h, _) (type_stands wgsl_names m h t at);
-      members = each_form IsMember (member_form names spelled m h) (members_of t.inner) member_is;
+      members = each_form IsMember (member_form names type_words m h) (members_of t.inner) member_is;
     }
       where
         member_is : (i : ℕ) (s : ir_member.StructMember) → slice_get (members_of t.inner) i ≡ Some s →
-            IsMember (member_form names spelled m h (i, s))
+            IsMember (member_form names type_words m h (i, s))
         member_is i s there = record {
           attributes =
               let fits = (numbers_at m info accepted h t at).1 in
@@ -253,25 +253,25 @@ module _ (m : Module) (info : ModuleInfo) (accepted : IsTrue (is_accepted m info
         }
 
     pub structs_are :
-        Each IsStruct (filter_map (struct_form names spelled m) (enumerate_from 0 m.types))
+        Each IsStruct (filter_map (struct_form names type_words m) (enumerate_from 0 m.types))
     structs_are =
-        each_kept IsStruct (struct_form names spelled m) m.types
+        each_kept IsStruct (struct_form names type_words m) m.types
         (λ h t at. kept_if IsStruct (is_declared m.special_types h t.inner) _ (struct_is h t at))
 
     -- ---- constants, overrides and variables
     pub constants_are :
-        Each IsNamedConstant (filter_map (constant_form names spelled m) (enumerate_from 0 m.constants))
+        Each IsNamedConstant (filter_map (constant_form names type_words m) (enumerate_from 0 m.constants))
     constants_are =
-        each_kept IsNamedConstant (constant_form names spelled m) m.constants
+        each_kept IsNamedConstant (constant_form names type_words m) m.constants
         (λ c k at. kept_if IsNamedConstant (is_some k.name) _ (λ named. record {
           name = item_is_identifier m (key.Constant c, _) (constant_stands wgsl_names m c k at);
           type = declared_type k.ty (IsDeclaredType.OfConstant c k at named);
-          value = written_global k.init
+          value = formed_global k.init
               (declarations.initialisers k.init (IsInitialiser.OfConstant c k at named));
         }))
 
     override_is : (o : ℕ) (k : ir_override.Override) → slice_get m.overrides o ≡ Some k →
-        IsOverride (override_form names spelled m (o, k))
+        IsOverride (override_form names type_words m (o, k))
     override_is o k at =
         let fits = list_all_at (override_in_range (length m.types) (length m.global_expressions))
         m.overrides o k items_in_range.0 at in
@@ -286,12 +286,12 @@ module _ (m : Module) (info : ModuleInfo) (accepted : IsTrue (is_accepted m info
         }
 
     pub overrides_are :
-        Each IsOverride (map (override_form names spelled m) (enumerate_from 0 m.overrides))
+        Each IsOverride (map (override_form names type_words m) (enumerate_from 0 m.overrides))
     overrides_are =
-        each_form IsOverride (override_form names spelled m) m.overrides override_is
+        each_form IsOverride (override_form names type_words m) m.overrides override_is
 
     variable_is : (v : ℕ) (k : GlobalVariable) → slice_get m.global_variables v ≡ Some k →
-        IsGlobal (variable_form names spelled m (v, k))
+        IsGlobal (variable_form names type_words m (v, k))
     variable_is v k at =
         let fits = list_all_at (global_in_range (length m.types) (length m.global_expressions))
         m.global_variables v k items_in_range.1 at in
@@ -307,17 +307,17 @@ module _ (m : Module) (info : ModuleInfo) (accepted : IsTrue (is_accepted m info
         }
 
     pub variables_are :
-        Each IsGlobal (map (variable_form names spelled m) (enumerate_from 0 m.global_variables))
+        Each IsGlobal (map (variable_form names type_words m) (enumerate_from 0 m.global_variables))
     variables_are =
-        each_form IsGlobal (variable_form names spelled m) m.global_variables variable_is
+        each_form IsGlobal (variable_form names type_words m) m.global_variables variable_is
 
   -- ---- entry points
   -- its stage, where that has a form
-  pub stage_written : (j : ℕ) (p : ir_entry_point.EntryPoint) →
+  pub stage_formed : (j : ℕ) (p : ir_entry_point.EntryPoint) →
       slice_get m.entry_points.items j ≡ Some p → stage_has_form p p.stage ≡ true →
       IsAttributes (stage_attributes names p p.stage) ×
       (is_stage (stage_attributes names p p.stage) ≡ true)
-  stage_written j p at has =
+  stage_formed j p at has =
       let count = length m.global_variables in
       let one = and_parts (is_below count (option_map (λ k. k.output_variable) p.mesh_info)) _
       (entry_point_is_in_range m info accepted j p at) in
@@ -336,5 +336,5 @@ module _ (m : Module) (info : ModuleInfo) (accepted : IsTrue (is_accepted m info
       IsAttributes (stage_attributes names p p.stage) ×
       (is_stage (stage_attributes names p p.stage) ≡ true)
   stage_there declarations j p at =
-      stage_written j p at
+      stage_formed j p at
       ((declarations.heads (length m.functions + j)).stage p (entry_point_at m j ∙ at))

@@ -43,7 +43,7 @@ use Rattle.naga_form.specs.ConstantForms.{global_form}
 use Rattle.naga_form.specs.Declarations.{program_under}
 use Rattle.naga_form.specs.GlobalValues.{HasValueOf}
 use Rattle.naga_form.proofs.declarations.AcceptedGroups.{declarations_are}
-use Rattle.naga_form.proofs.operators.BuiltTrees.{AreBuilt, IsBuilt, written_is_built}
+use Rattle.naga_form.proofs.operators.BuiltTrees.{AreBuilt, IsBuilt, formed_is_built}
 use Rattle.naga_form.proofs.names.DeclaredNames.{one_vocabulary}
 use Rattle.naga_form.proofs.ModuleFits.{constants as constants_fit, global_in_range, global_words}
 use Rattle.naga_form.proofs.Fits.{mapped_length}
@@ -51,7 +51,7 @@ use Rattle.naga_form.proofs.declarations.OtherVariables.{items_with, read_as_the
 use Rattle.naga_form.proofs.declarations.OtherVariables.{settings_with, typed_with, value_with}
 use Rattle.naga_form.proofs.declarations.OtherVariables.{with_variables, words_with}
 use Rattle.naga_form.proofs.declarations.ReadDeclarations.{constants_read, overrides_read}
-use Rattle.naga_form.proofs.declarations.ReadDeclarations.{written_is_read}
+use Rattle.naga_form.proofs.declarations.ReadDeclarations.{formed_is_read}
 use Rattle.naga_form.proofs.declarations.TextItems.{items_fit}
 use Rattle.naga_back.specs.declared.flags.WriterFlags.{WriterFlags}
 
@@ -79,9 +79,9 @@ module _ (known : ℕ → Option Value) (meaning : Meaning) (P : ℕ → Type 0)
         )
 
 -- what is written is one of the module's own expressions
-written_within : (m : Module) (h : ℕ) → global_has_form m h ≡ true →
+formed_within : (m : Module) (h : ℕ) → global_has_form m h ≡ true →
     h < length m.global_expressions
-written_within m h is = by (slice_get m.global_expressions h) refl is
+formed_within m h is = by (slice_get m.global_expressions h) refl is
   where
     by : (o : Option Expression) → slice_get m.global_expressions h ≡ o →
         option_map_or (global_has_form_over m (global_has_form_within h m)) o false ≡ true →
@@ -126,17 +126,17 @@ module _ (m : Module) (info : ModuleInfo) (accepted : IsTrue (is_accepted m info
       (typed : IsTyped shape meaning) (h : ℕ) (is : IsTrue (global_has_form m h)) where
     -- what is written of it is read as its tree
     abbrev tree : ConstantTree
-    tree = (written_is_read m info (declarations_are m info accepted).size h is).0
+    tree = (formed_is_read m info (declarations_are m info accepted).size h is).0
 
     tree_is : global_tree m info h ≡ Some tree
-    tree_is = (written_is_read m info (declarations_are m info accepted).size h is).1
+    tree_is = (formed_is_read m info (declarations_are m info accepted).size h is).1
 
     -- there is a value
     pub global_has_value :
         (v : Value) × (global_expression_value m info settings meaning h ≡ Some v)
     global_has_value =
         let env : Environment = environment_of shape settings meaning in
-        let range = global_in_range m info accepted h tree (written_within m h is) tree_is in
+        let range = global_in_range m info accepted h tree (formed_within m h is) tree_is in
         let computed =
         constants_are_computed shape outer (constants_fit m info accepted) settings fit
         meaning typed in
@@ -145,7 +145,7 @@ module _ (m : Module) (info : ModuleInfo) (accepted : IsTrue (is_accepted m info
         (λ i lt.
         let v = has_type_at env.parts shape.constant_types env.constants computed.0.constants i lt
         in (v.0, v.1))
-        tree (written_is_built m info h is tree tree_is) range in (
+        tree (formed_is_built m info h is tree tree_is) range in (
           value.0,
           ap (option_and_then (module_initialiser_value shape settings meaning)) tree_is ∙ value.1,
         )
@@ -159,7 +159,7 @@ module _ (m : Module) (info : ModuleInfo) (accepted : IsTrue (is_accepted m info
         global_expression_value m info settings meaning h
     values_alike have flags labels world =
         let program : Program = program_under labels m info flags in
-        let own = written_is_read m info (declarations_are m info accepted).size h is in
+        let own = formed_is_read m info (declarations_are m info accepted).size h is in
         ap
         (λ (vocabulary : Vocabulary).
         text_initialiser_value (program_read program) shape.parts settings world meaning vocabulary
@@ -180,7 +180,7 @@ module _ (m : Module) (info : ModuleInfo) (accepted : IsTrue (is_accepted m info
         (typed_with shape variables meaning typed) world tree
         (words_with shape variables outer counted tree
         (global_words m info accepted h tree tree_is))
-        (global_in_range m info accepted h tree (written_within m h is) tree_is)
+        (global_in_range m info accepted h tree (formed_within m h is) tree_is)
         ∙ (value_with shape variables settings meaning tree
         ∙ sym (ap (option_and_then (module_initialiser_value shape settings meaning)) tree_is)))))
 

@@ -327,11 +327,11 @@ module _ (m : Module) where
       (declarations : DeclarationsHaveForms m)
       (ends : (g : ℕ) (f : ir_function.Function) → slice_get (all_functions m) g ≡ Some f →
       AllEnd f.body) where
-    body_declared : (named : ℕ → List ℕ) (g : ℕ) (f : ir_function.Function)
+    body_is_read : (named : ℕ → List ℕ) (g : ℕ) (f : ir_function.Function)
         (es : List ExpressionInfo) → slice_get (all_functions m) g ≡ Some f →
         function_interface_read (function_form flags names named m info g f es) ≡
         body_interface t (function_name m names g) f
-    body_declared named g f es at =
+    body_is_read named g f es at =
         let bound : BindingsHaveForms f = (declarations.heads g).bindings f at in
         let arguments =
         parameters_io names m g 0 f.arguments.items
@@ -366,14 +366,14 @@ module _ (m : Module) where
     functions_declared g (f ∷ fs) (es ∷ ess) size there =
         let here : g + 0 ≡ g = omega arith in
         let at = ap (slice_get m.functions) (sym here) ∙ there 0 f refl in
-        λ i. body_declared (labels g) g f es (function_among m g f at) i
+        λ i. body_is_read (labels g) g f es (function_among m g f at) i
         ∷ functions_declared (g + 1) fs ess (ap pred size) (further m.functions g f fs there) i
 
     -- ---- entry points
     module _ (accepted : IsTrue (is_accepted m info)) where
-      stage_declared : (j : ℕ) (p : EntryPoint) → slice_get m.entry_points.items j ≡ Some p →
+      own_stage_is_read : (j : ℕ) (p : EntryPoint) → slice_get m.entry_points.items j ≡ Some p →
           stage_read (stage_attributes names p p.stage) ≡ stage_of names p p.stage
-      stage_declared j p at = by p.workgroup_size refl three
+      own_stage_is_read j p at = by p.workgroup_size refl three
         where
           three : length p.workgroup_size ≡ 3
           three =
@@ -415,7 +415,7 @@ module _ (m : Module) where
           let number = length m.functions + j in
           let next : number + 1 ≡ length m.functions + (j + 1) = omega arith in
           let function =
-          body_declared (labels number) number p.function es (entry_point_among m j p at)
+          body_is_read (labels number) number p.function es (entry_point_among m j p at)
           ∙ ap (λ ty. body_interface t (name_in names (function_key ty)) p.function)
           (type_of_entry_point m j) in
           let rest =
@@ -425,7 +425,7 @@ module _ (m : Module) where
           (entry_points_under labels flags names m info n ps ess)) next
           ∙ entry_points_declared (j + 1) ps ess (ap pred size)
           (further m.entry_points.items j p ps there) in
-          λ i. record { stage = stage_declared j p at i; function = function i } ∷ rest i
+          λ i. record { stage = own_stage_is_read j p at i; function = function i } ∷ rest i
 
 -- ---- modules
 module _ (m : Module) (info : ModuleInfo) (flags : WriterFlags) (labels : LabelNames)

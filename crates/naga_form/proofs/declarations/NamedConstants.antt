@@ -242,16 +242,16 @@ module _ (m : Module) (info : ModuleInfo) where
       omega (arith, own, named, all, left)
 
   -- the type of a named constant, by its index
-  pub place_typed : (i : ℕ) (c : Constant) → slice_get (named_constants m) i ≡ Some c →
+  pub index_typed : (i : ℕ) (c : Constant) → slice_get (named_constants m) i ≡ Some c →
       type_at (module_shape m info).constant_types i ≡ type_of_values m (Handle c.ty)
-  place_typed i c here =
+  index_typed i c here =
       left_type types_of_constants types_of_overrides i (type_of_constant c)
       (slice_get-map type_of_constant (named_constants m) i ∙ ap (option_map type_of_constant) here)
 
   -- and by its number
   pub named_typed : (h : ℕ) (c : Constant) → slice_get m.constants h ≡ Some c → is_some c.name ≡ true →
       type_at (module_shape m info).constant_types (constant_number m h) ≡ type_of_values m (Handle c.ty)
-  named_typed h c here named = place_typed (constant_number m h) c (named_at m.constants h c here named)
+  named_typed h c here named = index_typed (constant_number m h) c (named_at m.constants h c here named)
 
   -- which lies in the list
   pub named_within : (h : ℕ) (c : Constant) → slice_get m.constants h ≡ Some c → is_some c.name ≡ true →

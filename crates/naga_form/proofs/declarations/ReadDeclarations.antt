@@ -62,21 +62,21 @@ use Rattle.naga_form.proofs.types.WrittenTypes.{tree_there}
 
 -- ---- pointers to variables
 -- a variable in a space that has a word is read by the printed pointer to it
-layout_read : (word : List ℕ) (access : Option (List ℕ)) (t : TypeSpecifier) →
+pointer_printed : (word : List ℕ) (access : Option (List ℕ)) (t : TypeSpecifier) →
     global_pointer_read (space_of_words (Some word) access) t ≡
     Some (printed_type (pointer_tree word access t))
-layout_read word None t = refl
-layout_read word (Some access) t = refl
+pointer_printed word None t = refl
+pointer_printed word (Some access) t = refl
 
 -- which is how that pointer is spelled
-placed_read : (m : Module) (at : AddressSpace) (word : List ℕ) → space_word at ≡ Some word →
+pointer_spelled : (m : Module) (at : AddressSpace) (word : List ℕ) → space_word at ≡ Some word →
     (ty : ℕ) (t : TypeSpecifier) → type_tree (type_names m) ty ≡ Some t →
     global_pointer_read (space_form at) (type_form (type_names m) ty) ≡
     Some (word_of_values m (Value (inner.Pointer ty at)))
-placed_read m at word named ty t is =
+pointer_spelled m at word named ty t is =
     (λ i. global_pointer_read (space_of_words (named i) (space_access_word at))
     (unwrap_or (is i) (TypeSpecifier.Named [])))
-    ∙ (layout_read word (space_access_word at) t
+    ∙ (pointer_printed word (space_access_word at) t
     ∙ sym (ap (λ o. Some (unwrap_or o
     (word_of_unspelled_type (identity m.types (Value (inner.Pointer ty at))))))
     (inner_tree_row text-append (type_names m) (λ handle. true) (inner.Pointer ty at)
@@ -98,15 +98,15 @@ variable_read m v is = by v.space
         (if is_handle_space at then Held (declared_type m v.ty)
         else AtPlace (word_of_values m (variable_type at v.ty)))
     by space.Handle = refl
-    by at = placed_read m at _ refl v.ty form.0 form.1
+    by at = pointer_spelled m at _ refl v.ty form.0 form.1
 
 -- what is written of the module's own expressions is read as its tree
-pub written_is_read : (m : Module) (info : ModuleInfo) →
+pub formed_is_read : (m : Module) (info : ModuleInfo) →
     length m.global_expressions ≡ length info.const_expression_types.items → (h : ℕ) →
     global_has_form m h ≡ true →
     IsReadAs (outer_names (module_names m) m) (global_tree m info h)
     (global_form m (type_names m) h)
-written_is_read m info size h is =
+formed_is_read m info size h is =
     globals_read (outer_names (module_names m) m) m info (type_names m)
     (spelled_as_trees m (λ h. None)) (names_are_read m) size h is
 
@@ -297,7 +297,7 @@ module _ (m : Module) where
               constants_from outer number
               (map (initialiser m info) (if b then c ∷ filter is_named cs else filter is_named cs))
           by true named here more =
-              let is = written_is_read m info size c.init (initial 0 c refl named) in
+              let is = formed_is_read m info size c.init (initial 0 c refl named) in
               let first : Some k ≡ slice_get all number =
               here 0 ∙ ap (slice_get all) (add-zero number) in
               let name : constant_name names k ≡ outer.constant number =

@@ -50,8 +50,8 @@ use Rattle.naga_form.proofs.declarations.NamedConstants.{is_named}
 use Rattle.naga_form.proofs.operators.OperatingWords.{free_parts, names_no_item, operates_freely}
 use Rattle.naga_form.proofs.operators.OperatingWords.{plain_types_free}
 use Rattle.naga_form.proofs.types.PartTypes.{known_within}
-use Rattle.naga_form.proofs.declarations.ReadDeclarations.{written_is_read}
-use Rattle.naga_form.proofs.types.SameValues.{one_layout, or_nothing, spelling_of, tree_is}
+use Rattle.naga_form.proofs.declarations.ReadDeclarations.{formed_is_read}
+use Rattle.naga_form.proofs.types.SameValues.{one_tree, or_nothing, spelling_of, tree_is}
 use Rattle.naga_form.proofs.names.StageTargets.{stages_named}
 use Rattle.naga_form.proofs.types.TypeItems.{ItemsAreNamed, resolution_named}
 use Rattle.naga_form.proofs.types.WrittenTypes.{tree_there}
@@ -116,7 +116,7 @@ module _ (m : Module) (info : ModuleInfo) (flags : WriterFlags) (labels : LabelN
           (map (initialiser m info) (if b then c ∷ filter is_named cs else filter is_named cs)))
       by true named rest =
           let written = is 0 c refl named in
-          let read = written_is_read m info (declarations_are m info accepted).size c.init written in
+          let read = formed_is_read m info (declarations_are m info accepted).size c.init written in
           let here =
           initialiser_found m info flags labels accepted c.init written
           ∙ (ap (λ o. map Some (option_map_or constant_targets o [])) read.1
@@ -197,7 +197,7 @@ module _ (m : Module) (info : ModuleInfo) (flags : WriterFlags) (labels : LabelN
       let same : printed_type t ≡ printed_type tree.0 =
       same_Some _ _ (sym e ∙ spelling_of m counted r ∙ ap (option_map printed_type) tree.1) in
       let one : t ≡ tree.0 =
-      one_layout m counted t tree.0 is (tree_is m types r (fit_of m info accepted r fits) tree.0 tree.1) same in
+      one_tree m counted t tree.0 is (tree_is m types r (fit_of m info accepted r fits) tree.0 tree.1) same in
       subst (λ u. type_items (item_named program) u ≡ map Some (resolution_items m r)) (sym one)
       (resolution_named m (item_named program) named types.within r parts.1
       (known_within m info accepted r fits) tree.0 tree.1)

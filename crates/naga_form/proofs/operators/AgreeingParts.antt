@@ -42,8 +42,8 @@ use Rattle.naga_form.proofs.operators.Signatures.{declared_for}
 use Rattle.naga_names.proofs.Refusal.{element}
 
 -- ---- the struct of which a type's numbers tell, by itself or through a pointer
-abbrev pub struct_distinguished : List ℕ → Option ℕ
-struct_distinguished x =
+abbrev pub struct_told : List ℕ → Option ℕ
+struct_told x =
     if nat_eq (get_or x 0 0) 8 then Some (get_or x 1 0) else (
     if nat_eq (get_or x 0 0) 5 && nat_eq (get_or x 6 0) 8 then Some (get_or x 7 0) else None)
 
@@ -75,34 +75,34 @@ module _ (m : Module) (info : ModuleInfo) where
   pub data Named (r : TypeResolution) (index : ℕ) (s : Selector) : Type 0 where
     ByNumber : s ≡ ElementAt index → Named r index s
     ByLetter : (w : List ℕ) → slice_get component_letters index ≡ Some w → s ≡ MemberNamed w →
-        struct_distinguished (type_identity m.types r) ≡ None → Named r index s
+        struct_told (type_identity m.types r) ≡ None → Named r index s
     ByName : (h : ℕ) (t : Type_) (k : StructMember) → slice_get m.types h ≡ Some t →
         slice_get (members_of t.inner) index ≡ Some k →
         s ≡ MemberNamed (name_in (module_names m) (key.StructMember h index)) →
-        struct_distinguished (type_identity m.types r) ≡ Some h → Named r index s
+        struct_told (type_identity m.types r) ≡ Some h → Named r index s
 
   -- ---- what numbers tell of a struct
   abbrev identity_by : Option (List ℕ) → TypeResolution → List ℕ
   identity_by form r = unwrap_or form (word_of_unspelled_type (identity m.types r))
 
   -- none of a vector
-  vector_distinguished : (n : VectorSize) (s : Scalar) (r : TypeResolution) →
-      struct_distinguished (identity_by (over_scalar 1 s (component_count n) 0 0) r) ≡ None
-  vector_distinguished n s r = by (is_some (scalar_word s))
+  vector_tells_none : (n : VectorSize) (s : Scalar) (r : TypeResolution) →
+      struct_told (identity_by (over_scalar 1 s (component_count n) 0 0) r) ≡ None
+  vector_tells_none n s r = by (is_some (scalar_word s))
     where
       by : (b : Bool) →
-          struct_distinguished
+          struct_told
           (identity_by (if b then Some (level 1 (kind_number s.kind) s.width (component_count n) 0 0) else None)
           r) ≡ None
       by true = refl
       by false = refl
 
   pointee_vector : (at : AddressSpace) (n : VectorSize) (s : Scalar) (r : TypeResolution) →
-      struct_distinguished (identity_by (pointer_key at (over_scalar 1 s (component_count n) 0 0)) r) ≡ None
+      struct_told (identity_by (pointer_key at (over_scalar 1 s (component_count n) 0 0)) r) ≡ None
   pointee_vector at n s r = by (is_some (scalar_word s))
     where
       by : (b : Bool) →
-          struct_distinguished
+          struct_told
           (identity_by (pointer_key at
           (if b then Some (level 1 (kind_number s.kind) s.width (component_count n) 0 0) else None)) r) ≡ None
       by true = refl
@@ -111,7 +111,7 @@ module _ (m : Module) (info : ModuleInfo) where
   -- ---- names
   -- what a type's numbers are to tell: no struct of a vector, and a struct by its handle
   abbrev VectorsTell : TypeResolution → (form : Option (List ℕ)) → TypeInner → Type 0
-  VectorsTell r form (inner.Vector n scalar) = struct_distinguished (identity_by form r) ≡ None
+  VectorsTell r form (inner.Vector n scalar) = struct_told (identity_by form r) ≡ None
   VectorsTell r form _ = Unit {0}
 
   -- the struct at this handle
@@ -121,7 +121,7 @@ module _ (m : Module) (info : ModuleInfo) where
     whole_is : whole ≡ Some h
     there : slice_get m.types h ≡ Some t
     itself : t.inner ≡ it
-    distinguished : struct_distinguished (identity_by form r) ≡ Some h
+    distinguished : struct_told (identity_by form r) ≡ Some h
 
   abbrev StructsTell : TypeResolution → (form : Option (List ℕ)) → (whole : Option ℕ) → TypeInner → Type 0
   StructsTell r form whole (inner.Struct members span) = IsStructAt r form whole (inner.Struct members span)
@@ -140,7 +140,7 @@ module _ (m : Module) (info : ModuleInfo) where
         by : (o : Option (List ℕ)) → slice_get component_letters index ≡ o →
             Some (option_map_or MemberNamed o (ElementAt index)) ≡ Some s → Named r index s
         by (Some w) at e =
-            ByLetter w at (sym (same_Some _ s e)) (ap (λ f. struct_distinguished (identity_by f r)) is_form ∙ vectors)
+            ByLetter w at (sym (same_Some _ s e)) (ap (λ f. struct_told (identity_by f r)) is_form ∙ vectors)
         by None at e = ByNumber (sym (same_Some _ s e))
     named r whole form is_form index s (inner.Matrix columns rows scalar) vectors structs selected within =
         ByNumber (sym (same_Some _ s selected))
@@ -155,7 +155,7 @@ module _ (m : Module) (info : ModuleInfo) where
         (sym (same_Some _ s selected)
         ∙ ap (λ o. MemberNamed (option_map_or (λ h. name_in (module_names m) (key.StructMember h index))
         o [])) structs.whole_is)
-        (ap (λ f. struct_distinguished (identity_by f r)) is_form ∙ structs.distinguished)
+        (ap (λ f. struct_told (identity_by f r)) is_form ∙ structs.distinguished)
     named r whole form is_form index s _ vectors structs selected within = absurd cc
 
     -- through a pointer
@@ -202,7 +202,7 @@ module _ (m : Module) (info : ModuleInfo) where
     of_value (inner.Vector n scalar) fit index s selected within =
         named (Value (inner.Vector n scalar)) None
         (type_key m.types (Value (inner.Vector n scalar))) refl index s (inner.Vector n scalar)
-        (vector_distinguished n scalar (Value (inner.Vector n scalar))) tt selected within
+        (vector_tells_none n scalar (Value (inner.Vector n scalar))) tt selected within
     of_value (inner.Struct members span) fit index s selected within = absurd (true≢false (sym fit))
     of_value (inner.Matrix columns rows scalar) fit index s selected within = ByNumber (sym (same_Some _ s selected))
     of_value (inner.Array base size stride) fit index s selected within = ByNumber (sym (same_Some _ s selected))
@@ -227,7 +227,7 @@ module _ (m : Module) (info : ModuleInfo) where
       of_handle h t there (inner.ValuePointer None scalar at) is form index s selected within = absurd cc
       of_handle h t there (inner.Vector n scalar) is form index s selected within =
           named (Handle h) (Some h) (over_scalar 1 scalar (component_count n) 0 0) form index s
-          (inner.Vector n scalar) (vector_distinguished n scalar (Handle h)) tt selected within
+          (inner.Vector n scalar) (vector_tells_none n scalar (Handle h)) tt selected within
       of_handle h t there (inner.Struct members span) is form index s selected within =
           named (Handle h) (Some h) (Some (level 8 h 0 0 0 0)) form index s (inner.Struct members span) tt
           (record { h = h; t = t; whole_is = refl; there = there; itself = is; distinguished = refl }) selected within
@@ -262,10 +262,10 @@ module _ (m : Module) (info : ModuleInfo) where
   -- where one tells of a struct, so does the other
   distinguished_alike : (r q : TypeResolution) (h : ℕ) →
       type_identity m.types r ≡ type_identity m.types q →
-      struct_distinguished (type_identity m.types r) ≡ None →
-      struct_distinguished (type_identity m.types q) ≡ Some h → ⊥
+      struct_told (type_identity m.types r) ≡ None →
+      struct_told (type_identity m.types q) ≡ Some h → ⊥
   distinguished_alike r q h e none some = let clash : None ≡ Some h = sym none
-      ∙ (ap struct_distinguished e ∙ some) in absurd cc
+      ∙ (ap struct_told e ∙ some) in absurd cc
 
   member_named : (v w : List ℕ) (s : Selector) → s ≡ MemberNamed v → s ≡ MemberNamed w → v ≡ w
   member_named v w s x y = let same : MemberNamed v ≡ MemberNamed w = sym x ∙ y in cc
@@ -290,7 +290,7 @@ module _ (m : Module) (info : ModuleInfo) where
   one_number items r q i j s e (ByName h t k there member x distinguished) (ByLetter w at y other) =
       absurd (distinguished_alike q r h (sym e) other distinguished)
   one_number items r q i j s e (ByName h t k there member x distinguished) (ByName g u l found other_member y other) =
-      let handles : h ≡ g = same_Some h g (sym distinguished ∙ (ap struct_distinguished e ∙ other))
+      let handles : h ≡ g = same_Some h g (sym distinguished ∙ (ap struct_told e ∙ other))
       in
       let types : u ≡ t = same_Some u t (sym found ∙ (ap (slice_get m.types) (sym handles) ∙ there)) in
       items.members h t there i j k l member (ap (λ t. slice_get (members_of t.inner) j) (sym types) ∙ other_member)
@@ -300,7 +300,7 @@ module _ (m : Module) (info : ModuleInfo) where
   -- a name of several letters is that of no part of a vector
   pub no_part : (r q : TypeResolution) (i : ℕ) (s : Selector) (w : List ℕ) →
       type_identity m.types r ≡ type_identity m.types q →
-      struct_distinguished (type_identity m.types q) ≡ None → s ≡ MemberNamed w → 2 ≤ length w →
+      struct_told (type_identity m.types q) ≡ None → s ≡ MemberNamed w → 2 ≤ length w →
       Named r i s → ⊥
   no_part r q i s w e distinguished y long (ByNumber x) = not_both i w s x y
   no_part r q i s w e distinguished y long (ByLetter v at x other) =
@@ -310,24 +310,24 @@ module _ (m : Module) (info : ModuleInfo) where
 
   -- a vector's numbers tell of no struct
   pub vector_is_none : (r : TypeResolution) (n : VectorSize) (scalar : Scalar) → inner_of r m.types
-      ≡ Some (inner.Vector n scalar) → struct_distinguished (type_identity m.types r) ≡ None
+      ≡ Some (inner.Vector n scalar) → struct_told (type_identity m.types r) ≡ None
   unfolding handle_key
   vector_is_none (Value it) n scalar is = by it (same_Some _ _ is)
     where
       by : (it : TypeInner) → it ≡ inner.Vector n scalar →
-          struct_distinguished (type_identity m.types (Value it)) ≡ None
-      by it is = subst (λ it. struct_distinguished (type_identity m.types (Value it)) ≡ None) (sym is)
-          (vector_distinguished n scalar (Value (inner.Vector n scalar)))
+          struct_told (type_identity m.types (Value it)) ≡ None
+      by it is = subst (λ it. struct_told (type_identity m.types (Value it)) ≡ None) (sym is)
+          (vector_tells_none n scalar (Value (inner.Vector n scalar)))
   vector_is_none (Handle h) n scalar is = by (slice_get m.types h) refl is
     where
       by : (o : Option Type_) → slice_get m.types h ≡ o → option_map (λ t. t.inner) o
-          ≡ Some (inner.Vector n scalar) → struct_distinguished (type_identity m.types (Handle h)) ≡ None
+          ≡ Some (inner.Vector n scalar) → struct_told (type_identity m.types (Handle h)) ≡ None
       by None at is = absurd cc
       by (Some t) at is =
-          ap (λ o. struct_distinguished (identity_by (found_key_by (key_within h m.types) h o) (Handle h))) at
-          ∙ (ap (λ it. struct_distinguished (identity_by (named_key_by (key_within h m.types) h it) (Handle h)))
+          ap (λ o. struct_told (identity_by (found_key_by (key_within h m.types) h o) (Handle h))) at
+          ∙ (ap (λ it. struct_told (identity_by (named_key_by (key_within h m.types) h it) (Handle h)))
           (same_Some _ _ is)
-          ∙ vector_distinguished n scalar (Handle h))
+          ∙ vector_tells_none n scalar (Handle h))
 
 -- the byte of a letter, and which it is
 abbrev pub byte : SwizzleComponent → ℕ

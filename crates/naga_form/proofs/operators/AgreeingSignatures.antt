@@ -32,7 +32,7 @@ use Rattle.naga_form.proofs.declarations.AcceptedGroups.{types_range}
 use Rattle.naga_form.proofs.operators.AgreeingExpressions.{operands_are, same_operands, by_key}
 use Rattle.naga_form.proofs.types.AlikeParts.{PartsStand, parts_stand}
 use Rattle.naga_form.proofs.operators.AgreeingParts.{Named, part_named, one_number, no_part}
-use Rattle.naga_form.proofs.operators.AgreeingParts.{vector_is_none, struct_distinguished, key_read}
+use Rattle.naga_form.proofs.operators.AgreeingParts.{vector_is_none, struct_told, key_read}
 use Rattle.naga_form.proofs.operators.AgreeingParts.{swizzle_distinguished, letters_are_several}
 use Rattle.naga_form.proofs.operators.AgreeingWords.{Call, Composed, Zeroed, Applied, Indexed}
 use Rattle.naga_form.proofs.operators.AgreeingWords.{Selected, Lettered, call, both_values}
@@ -84,7 +84,7 @@ module _ (m : Module) (info : ModuleInfo) (accepted : IsTrue (is_accepted m info
     -- what is swizzled is a vector
     swizzled_is_none : (size : VectorSize) (vector : ℕ) (pattern : List SwizzleComponent) →
         a.expression ≡ expression.Swizzle size vector pattern → (b : IsBase a vector) →
-        struct_distinguished (type_identity m.types b.r) ≡ None
+        struct_told (type_identity m.types b.r) ≡ None
     swizzled_is_none size vector pattern is b =
         by (inner_of b.r m.types) refl
         (sym (ap (λ o. option_map_or (is_swizzled size pattern)
@@ -93,7 +93,7 @@ module _ (m : Module) (info : ModuleInfo) (accepted : IsTrue (is_accepted m info
       where
         by : (o : Option TypeInner) → inner_of b.r m.types ≡ o →
             option_map_or (is_swizzled size pattern) o false ≡ true →
-            struct_distinguished (type_identity m.types b.r) ≡ None
+            struct_told (type_identity m.types b.r) ≡ None
         by (Some (inner.Vector n scalar)) at fits = vector_is_none m info b.r n scalar at
         by (Some _) at fits = absurd cc
         by None at fits = absurd cc

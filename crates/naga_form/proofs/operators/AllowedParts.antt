@@ -1,4 +1,4 @@
--- What the types of operands that let an expression be written say: a known index selects a part,
+-- What the types of operands that let an expression be formed say: a known index selects a part,
 -- and a conversion is to a type that has a form.
 use Rattle.std.proofs.Common.{◌≡◌, ℕ, Bool, true, false, List, Option, Some, None, refl, sym}
 use Rattle.std.proofs.Common.{ap, ◌∙◌, suc, zero, subst, ◌<◌, ◌^◌}
@@ -175,7 +175,7 @@ known_operand m es test h may = by (slice_get es h) refl may
     by (Some k) there may = inside k there (inner_of k.ty m.types) refl may
     by None there may = absurd cc
 
--- the base of a part that is written
+-- the base of a part that is formed
 abbrev pub KnownBase : Module → List ExpressionInfo → ℕ → Type 0
 KnownBase m es base = KnownOperand m es (has_parts m.types) base
 
@@ -229,23 +229,23 @@ member_well m h index t at lt =
     let member = element (members_of t.inner) index lt in
     member_is_word m h t at index member.0 member.1
 
--- what a conversion that is written takes, and what it gives, which has a form
+-- what a conversion that is formed takes, and what it gives, which has a form
 pub record Conversion (m : Module) (a : ExpressionContext) (operand : ℕ) (kind : ScalarKind)
     (convert : Option ℕ) : Type 0 where
   pub from : TypeInner
   pub known : type_known a operand ≡ Some from
   pub to : TypeInner
   pub target : conversion_target from kind convert ≡ Some to
-  pub written : has_type_form m.types (Value to) ≡ true
+  pub formed : has_type_form m.types (Value to) ≡ true
   pub tree : TypeSpecifier
   pub is : inner_tree (type_names m) to ≡ Some tree
 
--- the scalars of the matrix that a cooperative load that is written loads, whose type has a form
+-- the scalars of the matrix that a cooperative load that is formed loads, whose type has a form
 pub record LoadedMatrix (m : Module) (a : ExpressionContext) (columns rows : CooperativeSize)
     (role : CooperativeRole) (pointer : ℕ) : Type 0 where
   pub scalar : Scalar
   pub known : scalar_pointed a pointer ≡ Some scalar
-  pub written : has_type_form m.types (Value (inner.CooperativeMatrix columns rows scalar role)) ≡ true
+  pub formed : has_type_form m.types (Value (inner.CooperativeMatrix columns rows scalar role)) ≡ true
   pub tree : TypeSpecifier
   pub is : inner_tree (type_names m) (inner.CooperativeMatrix columns rows scalar role) ≡ Some tree
 
@@ -281,18 +281,18 @@ module _ (m : Module) (info : ModuleInfo) (es : List ExpressionInfo) where
           conversion_target it kind convert ≡ o →
           option_map_or (λ new. has_type_form m.types (Value new)) o false ≡ true →
           Conversion m d.context operand kind convert
-      by it known (Some new) target written =
-          let t = tree_there (type_names m) (Value new) written in
+      by it known (Some new) target formed =
+          let t = tree_there (type_names m) (Value new) formed in
           record {
             from = it;
             known = known;
             to = new;
             target = target;
-            written = written;
+            formed = formed;
             tree = t.0;
             is = t.1;
           }
-      by it known None target written = absurd cc
+      by it known None target formed = absurd cc
 
   pub loaded_matrix : (columns rows : CooperativeSize) (role : CooperativeRole)
       (place : CooperativeData) →
@@ -310,10 +310,10 @@ module _ (m : Module) (info : ModuleInfo) (es : List ExpressionInfo) where
           (λ s. has_type_form m.types (Value (inner.CooperativeMatrix columns rows s role))) o false ≡
           true →
           LoadedMatrix m d.context columns rows role place.pointer
-      by (Some s) known written =
-          let t = tree_there (type_names m) (Value (inner.CooperativeMatrix columns rows s role)) written in
-          record { scalar = s; known = known; written = written; tree = t.0; is = t.1 }
-      by None known written = absurd cc
+      by (Some s) known formed =
+          let t = tree_there (type_names m) (Value (inner.CooperativeMatrix columns rows s role)) formed in
+          record { scalar = s; known = known; formed = formed; tree = t.0; is = t.1 }
+      by None known formed = absurd cc
 
   pub selector_is : (base index : ℕ) → (b : KnownBase m es base) →
       part_selector d base index ≡ selector d (handle_of b.known.ty) b.type index

@@ -125,6 +125,6 @@ module _ (m : Module) (info : ModuleInfo) where
           over_built (global_has_form_within levels m) (global_tree_within levels m info) each h x is
           t e
 
-  pub written_is_built : (h : ℕ) → global_has_form m h ≡ true → (t : ConstantTree) →
+  pub formed_is_built : (h : ℕ) → global_has_form m h ≡ true → (t : ConstantTree) →
       global_tree m info h ≡ Some t → IsBuilt t
-  written_is_built h is t e = within_built (suc h) h is t e
+  formed_is_built h is t e = within_built (suc h) h is t e

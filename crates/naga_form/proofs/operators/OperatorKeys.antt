@@ -40,7 +40,7 @@ use Rattle.std.specs.Prelude.{unwrap_or}
 use Rattle.naga_form.specs.TypeTrees.{resolution_tree}
 use Rattle.module_semantics.specs.TypeParts.{known_inner}
 use Rattle.module_semantics.proofs.ExpressionForms.{called_spelled}
-use Rattle.naga_form.proofs.types.AlikeTypes.{form_read}
+use Rattle.naga_form.proofs.types.AlikeTypes.{key_read}
 use Rattle.naga_form.proofs.types.SameValues.{TypesAreCounted, IsFit, numbers_by_words, tree_of}
 use Rattle.naga_form.proofs.types.SameValues.{spelling_of, tree_is}
 use Rattle.naga_form.proofs.operators.TypedWords.{have_one_word}
@@ -111,7 +111,7 @@ module _ (m : Module) (are : TypesAreCounted m) where
   form_spelled r = ap is_some (spelling_of m are r ∙ ap (option_map printed_type) (tree_of m are r))
       ∙ by (type_key m.types r)
     where
-      by : (o : Option (List ℕ)) → is_some (option_map printed_type (option_map (form_read (type_names m)) o))
+      by : (o : Option (List ℕ)) → is_some (option_map printed_type (option_map (key_read (type_names m)) o))
           ≡ is_some o
       by None = refl
       by (Some w) = refl

@@ -508,16 +508,16 @@ notated a t m es (expression.CooperativeLoad columns rows role place) written ha
 notated a t m es expression.RayQueryProceedResult written has formed = absurd cc
 notated a t m es (expression.ImageQuery image asked) written has formed =
     own_notated (Some (query_operator asked)) (image ∷ query_operands asked)
-    (own_is_untyped (expression.ImageQuery image asked)) (query_is_written asked)
+    (own_is_untyped (expression.ImageQuery image asked)) (query_has_word asked)
     (query_takes asked)
   where
     query_takes : (q : ImageQuery) → takes (query_operator q) (image ∷ query_operands q) ≡ true
     query_takes (query.Size level) = refl
     query_takes _ = refl
 
-    query_is_written : (q : ImageQuery) → has_word (query_operator q) ≡ true
-    query_is_written (query.Size level) = refl
-    query_is_written _ = refl
+    query_has_word : (q : ImageQuery) → has_word (query_operator q) ≡ true
+    query_has_word (query.Size level) = refl
+    query_has_word _ = refl
 notated a t m es e written has formed =
     own_notated (own_operator e) (expression_operands e) (own_is_untyped e) written refl
 

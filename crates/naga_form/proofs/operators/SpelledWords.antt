@@ -50,11 +50,11 @@ module _ (m : Module) (types : TypesAreFit m) (W : List ℕ → Type 0)
       ∙ (ap (is_undeclared_struct m) (sym at) ∙ declared)) in
       λ i. is i && not (told i)
 
-  layout_is : (r : TypeResolution) (t : TypeSpecifier) → is_undeclared_struct m r ≡ false →
+  of_printed : (r : TypeResolution) (t : TypeSpecifier) → is_undeclared_struct m r ≡ false →
       (operates_freely (printed_type t) ≡ true) ⊎ IsStructNamed (type_names m) r t →
       W (printed_type t)
-  layout_is r t declared (inl is) = free (printed_type t) is
-  layout_is r t declared (inr is) =
+  of_printed r t declared (inl is) = free (printed_type t) is
+  of_printed r t declared (inr is) =
       subst W
       (sym
       (ap printed_type (is.named ∙ ap Named (struct_name is.handle))
@@ -79,7 +79,7 @@ module _ (m : Module) (types : TypesAreFit m) (W : List ℕ → Type 0)
           P (option_map_or makes (spelled_resolution (type_names m) r) without)
       by declared (Some t) at =
           subst (λ o. P (option_map_or makes o without)) (sym (row ∙ ap (option_map printed_type) at))
-          (is (printed_type t) (layout_is r t declared (free_form m types r fit t at)))
+          (is (printed_type t) (of_printed r t declared (free_form m types r fit t at)))
       by declared None at =
           subst (λ o. P (option_map_or makes o without)) (sym (row ∙ ap (option_map printed_type) at))
           none

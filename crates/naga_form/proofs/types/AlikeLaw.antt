@@ -22,9 +22,9 @@ use Rattle.module_semantics.specs.TypeIdentity.{identity_at, identity_code, word
 use Rattle.module_semantics.proofs.Lists.{list_all_at}
 use Rattle.module_semantics.proofs.TypeIdentity.{word_tells}
 use Rattle.naga_form.specs.Readable.{AreAlike, SpelledAlike, Unsupported, handle_names}
-use Rattle.naga_form.proofs.types.AlikeTypes.{form_read, form_is_read, other_read}
+use Rattle.naga_form.proofs.types.AlikeTypes.{key_read, key_is_read, other_read}
 use Rattle.naga_form.proofs.types.AlikeNumbers.{tree_numbers, own_handle, handles_are_distinguished}
-use Rattle.naga_form.proofs.types.AlikeNumbers.{resolution_is_distinguished, form_is_distinguished}
+use Rattle.naga_form.proofs.types.AlikeNumbers.{resolution_is_distinguished, key_is_distinguished}
 use Rattle.naga_form.proofs.types.AlikeNumbers.{no_numbers}
 
 -- a type without a form is told by what it is
@@ -61,19 +61,19 @@ module _ (types : List Type_) where
 
   module _ (named : (h : ℕ) (t : Type_) → slice_get types h ≡ Some t → is_handle_pointer t.inner ≡ false) where
     -- the numbers of a form are not those of a type without one
-    pub form_apart : (r : TypeResolution) → resolution_is_fit r ≡ true → (it code : List ℕ) → type_key types r
+    pub key_apart : (r : TypeResolution) → resolution_is_fit r ≡ true → (it code : List ℕ) → type_key types r
         ≡ Some it → it ≡ 32 ∷ code → ⊥
-    form_apart r fit it code at e =
+    key_apart r fit it code at e =
         let distinguished : Some it ≡
-        Some ((tree_numbers own_handle) (form_read (handle_names types) it)) =
-        sym at ∙ form_is_distinguished own_handle (handle_names types)
+        Some ((tree_numbers own_handle) (key_read (handle_names types) it)) =
+        sym at ∙ key_is_distinguished own_handle (handle_names types)
         (handles_are_distinguished types) named r (resolution_is_distinguished types r) fit
-        ∙ ap (option_map (tree_numbers own_handle)) (form_is_read (handle_names types) r
-        ∙ ap (option_map (form_read (handle_names types))) at)
+        ∙ ap (option_map (tree_numbers own_handle)) (key_is_read (handle_names types) r
+        ∙ ap (option_map (key_read (handle_names types))) at)
         in
         let nothing : it ≡ [] =
-        same_Some it ((tree_numbers own_handle) (form_read (handle_names types) it)) distinguished
-        ∙ (ap (λ w. (tree_numbers own_handle) (form_read (handle_names types) w)) e
+        same_Some it ((tree_numbers own_handle) (key_read (handle_names types) it)) distinguished
+        ∙ (ap (λ w. (tree_numbers own_handle) (key_read (handle_names types) w)) e
         ∙ (ap (tree_numbers own_handle) (other_read (handle_names types) code)
         ∙ no_numbers own_handle))
         in
@@ -88,37 +88,37 @@ module _ (types : List Type_) where
             type_key types b ≡ y → unwrap_or x (word_of_unspelled_type (identity types a)) ≡
             unwrap_or y (word_of_unspelled_type (identity types b)) → AreAlike types a b
         by (Some x) at (Some y) bt e =
-            SpelledAlike (form_read (handle_names types) x)
-            (form_is_read (handle_names types) a ∙ ap (option_map (form_read (handle_names types))) at)
-            (form_is_read (handle_names types) b ∙ ap (option_map (form_read (handle_names types)))
+            SpelledAlike (key_read (handle_names types) x)
+            (key_is_read (handle_names types) a ∙ ap (option_map (key_read (handle_names types))) at)
+            (key_is_read (handle_names types) b ∙ ap (option_map (key_read (handle_names types)))
             (bt ∙ ap Some (sym e)))
-        by (Some x) at None bt e = absurd (form_apart a p x (identity_code (identity types b)) at e)
-        by None at (Some y) bt e = absurd (form_apart b q y (identity_code (identity types a)) bt (sym e))
+        by (Some x) at None bt e = absurd (key_apart a p x (identity_code (identity types b)) at e)
+        by None at (Some y) bt e = absurd (key_apart b q y (identity_code (identity types a)) bt (sym e))
         by None at None bt e =
             let same = sym (distinguished_by_itself a p at)
             ∙ (word_tells types a b e ∙ distinguished_by_itself b q bt) in
-            Unsupported (form_is_read (handle_names types) a
-            ∙ ap (option_map (form_read (handle_names types))) at)
-            (form_is_read (handle_names types) b
-            ∙ ap (option_map (form_read (handle_names types))) bt)
+            Unsupported (key_is_read (handle_names types) a
+            ∙ ap (option_map (key_read (handle_names types))) at)
+            (key_is_read (handle_names types) b
+            ∙ ap (option_map (key_read (handle_names types))) bt)
             (sym (itself_back (inner_of a types)) ∙ (ap itself same ∙ itself_back (inner_of b types)))
 
     to_numbers : (a b : TypeResolution) → resolution_is_fit a ≡ true → resolution_is_fit b ≡ true →
         AreAlike types a b → type_identity types a ≡ type_identity types b
     to_numbers a b p q (SpelledAlike t x y) =
-        let of_a = form_is_distinguished own_handle (handle_names types)
+        let of_a = key_is_distinguished own_handle (handle_names types)
         (handles_are_distinguished types) named a (resolution_is_distinguished types a) p
         ∙ ap (option_map (tree_numbers own_handle)) x in
-        let of_b = form_is_distinguished own_handle (handle_names types)
+        let of_b = key_is_distinguished own_handle (handle_names types)
         (handles_are_distinguished types) named b (resolution_is_distinguished types b) q
         ∙ ap (option_map (tree_numbers own_handle)) y in
         ap (λ o. unwrap_or o (word_of_unspelled_type (identity types a))) of_a
         ∙ sym (ap (λ o. unwrap_or o (word_of_unspelled_type (identity types b))) of_b)
     to_numbers a b p q (Unsupported x y same) =
-        let of_a = form_is_distinguished own_handle (handle_names types)
+        let of_a = key_is_distinguished own_handle (handle_names types)
         (handles_are_distinguished types) named a (resolution_is_distinguished types a) p
         ∙ ap (option_map (tree_numbers own_handle)) x in
-        let of_b = form_is_distinguished own_handle (handle_names types)
+        let of_b = key_is_distinguished own_handle (handle_names types)
         (handles_are_distinguished types) named b (resolution_is_distinguished types b) q
         ∙ ap (option_map (tree_numbers own_handle)) y in
         let distinguished = distinguished_by_itself a p of_a

@@ -681,11 +681,11 @@ module _ (distinguished : List ℕ → ℕ) where
       handle_is_distinguished h = within_is_distinguished (suc h) h
 
       -- a type's numbers can be read off its tree
-      pub form_is_distinguished : (r : TypeResolution) →
+      pub key_is_distinguished : (r : TypeResolution) →
           ResolutionIsDistinguished distinguished under r → resolution_is_fit r ≡ true →
           type_key under.types r ≡ option_map (tree_numbers distinguished) (resolution_tree under r)
-      form_is_distinguished (Handle h) is fit = handle_is_distinguished h
-      form_is_distinguished (Value it) is fit = inner_is_distinguished (handle_key under.types)
+      key_is_distinguished (Handle h) is fit = handle_is_distinguished h
+      key_is_distinguished (Value it) is fit = inner_is_distinguished (handle_key under.types)
           (type_tree under) handle_is_distinguished it is (not-true (is_handle_pointer it) (and_parts _ _ fit).1)
 
 -- ---- names that are handles

@@ -50,7 +50,7 @@ use Rattle.module_semantics.specs.TypeIdentity.{dimension_number}
 use Rattle.module_semantics.specs.TypeParts.{part_type, pointed_part, member_type, inner_at}
 use Rattle.module_semantics.specs.TypeParts.{element_count}
 use Rattle.module_semantics.proofs.TypeIdentity.{word_tells}
-use Rattle.naga_form.proofs.types.AlikeLaw.{form_apart, distinguished_by_itself, each_named, itself}
+use Rattle.naga_form.proofs.types.AlikeLaw.{key_apart, distinguished_by_itself, each_named, itself}
 use Rattle.naga_form.proofs.types.AlikeLaw.{itself_back}
 use Rattle.naga_form.proofs.types.SameValues.{TypesAreCounted, IsFit}
 
@@ -91,26 +91,26 @@ has_members (MemberKind base) = true
 has_members _ = false
 
 -- how many elements an array of this form has, where it tells
-abbrev count_of_form : List ℕ → Option ℕ
-count_of_form y = if nat_eq (get_or y 1 0) 0 then Some (get_or y 2 0) else None
+abbrev count_of_key : List ℕ → Option ℕ
+count_of_key y = if nat_eq (get_or y 1 0) 0 then Some (get_or y 2 0) else None
 
 -- it is how many the array has
-counted_by_form : (n : ArraySize) → element_count n
+counted_by_key : (n : ArraySize) → element_count n
     ≡ (if nat_eq (length_kind n) 0 then Some (length_number n) else None)
-counted_by_form (length.Constant number) = refl
-counted_by_form _ = refl
+counted_by_key (length.Constant number) = refl
+counted_by_key _ = refl
 
 -- by the form of the whole, which is no struct
-abbrev kind_of_form : List ℕ → PartKind
-kind_of_form y =
+abbrev kind_of_key : List ℕ → PartKind
+kind_of_key y =
     if nat_eq (get_or y 0 0) 1 then ComponentKind (get_or y 3 0) else (
     if nat_eq (get_or y 0 0) 2 then ElementKind (Some (get_or y 3 0)) else (
-    if nat_eq (get_or y 0 0) 6 then ElementKind (count_of_form y) else (
-    if nat_eq (get_or y 0 0) 7 then ElementKind (count_of_form y) else NoKind)))
+    if nat_eq (get_or y 0 0) 6 then ElementKind (count_of_key y) else (
+    if nat_eq (get_or y 0 0) 7 then ElementKind (count_of_key y) else NoKind)))
 
 -- the form of a part, by the numbers of the space and the form of the whole, which is no struct
-abbrev part_form : (number access : ℕ) → List ℕ → Option (List ℕ)
-part_form number access y =
+abbrev part_key : (number access : ℕ) → List ℕ → Option (List ℕ)
+part_key number access y =
     if nat_eq (get_or y 0 0) 1 then Some
     (level 5 number access 0 0 0 ++ level 0 (get_or y 1 0) (get_or y 2 0) 0 0 0) else (
     if nat_eq (get_or y 0 0) 2 then Some
@@ -175,8 +175,8 @@ module _ (m : Module) (are : TypesAreCounted m) (stand : PartsStand m) where
   data Pointed (it : TypeInner) (form : List ℕ) : Type 0 where
     Plain : (number access : ℕ) (y : List ℕ) → form ≡ level 5 number access 0 0 0 ++ y → nat_eq (get_or y 0 0) 8
         ≡ false →
-        ((index : Option ℕ) → PartIs (part_form number access y) (part_type m.types it index)) →
-        pointee_kind m.types it ≡ kind_of_form y → Pointed it form
+        ((index : Option ℕ) → PartIs (part_key number access y) (part_type m.types it index)) →
+        pointee_kind m.types it ≡ kind_of_key y → Pointed it form
     Whole : (at : AddressSpace) (h : ℕ) → form ≡ following at (level 8 h 0 0 0 0) → it ≡ inner.Pointer h at →
         pointee_kind m.types it ≡ MemberKind h → Pointed it form
 
@@ -198,8 +198,8 @@ module _ (m : Module) (are : TypesAreCounted m) (stand : PartsStand m) where
   abbrev OfNoParts : Option (List ℕ) → Type 0
   OfNoParts None = Unit {0}
   OfNoParts (Some y) =
-      (nat_eq (get_or y 0 0) 8 ≡ false) × ((number access : ℕ) → part_form number access y ≡ None)
-      × (kind_of_form y ≡ NoKind)
+      (nat_eq (get_or y 0 0) 8 ≡ false) × ((number access : ℕ) → part_key number access y ≡ None)
+      × (kind_of_key y ≡ NoKind)
 
   over_no_parts : (tag : ℕ) (s : Scalar) (c d e : ℕ) →
       OfNoParts (Some (level tag (kind_number s.kind) s.width c d e)) → OfNoParts (over_scalar tag s c d e)
@@ -246,13 +246,13 @@ module _ (m : Module) (are : TypesAreCounted m) (stand : PartsStand m) where
         ∙ ap (kind_at base) is
 
     plain : (it : TypeInner) → t.inner ≡ it → (y : List ℕ) → nat_eq (get_or y 0 0) 8 ≡ false →
-        ((index : Option ℕ) → PartIs (part_form (space_number at) (access_number at) y)
-        (pointed_part at it index)) → kind_at base it ≡ kind_of_form y →
+        ((index : Option ℕ) → PartIs (part_key (space_number at) (access_number at) y)
+        (pointed_part at it index)) → kind_at base it ≡ kind_of_key y →
         (form : Option (List ℕ)) → form ≡ Some y → (x : List ℕ) → form ≡ Some x →
         Pointed (inner.Pointer base at) (following at x)
     plain it is y other parts kind form f x g =
         Plain (space_number at) (access_number at) y (ap (following at) (same_Some x y (sym g ∙ f))) other
-        (λ index. subst (PartIs (part_form (space_number at) (access_number at) y))
+        (λ index. subst (PartIs (part_key (space_number at) (access_number at) y))
         (sym (parts_are it is index)) (parts index))
         (kind_is it is ∙ kind)
 
@@ -271,9 +271,9 @@ module _ (m : Module) (are : TypesAreCounted m) (stand : PartsStand m) where
       -- an array's elements
       elements : (it : TypeInner) → t.inner ≡ it → (element : ℕ) (size : List ℕ → List ℕ) →
           ((z : List ℕ) → nat_eq (get_or (size z) 0 0) 8 ≡ false) →
-          ((z : List ℕ) → part_form (space_number at) (access_number at) (size z) ≡ Some (following at z)) →
+          ((z : List ℕ) → part_key (space_number at) (access_number at) (size z) ≡ Some (following at z)) →
           ((index : Option ℕ) → pointed_part at it index ≡ Some (Value (inner.Pointer element at))) →
-          ((z : List ℕ) → kind_at base it ≡ kind_of_form (size z)) →
+          ((z : List ℕ) → kind_at base it ≡ kind_of_key (size z)) →
           element < base →
           (o : Option (List ℕ)) → key_within n m.types element ≡ o → (x : List ℕ) → option_map size o ≡ Some x →
           Pointed (inner.Pointer base at) (following at x)
@@ -325,13 +325,13 @@ module _ (m : Module) (are : TypesAreCounted m) (stand : PartsStand m) where
       pointee (inner.Array element size stride) is x g =
           elements (inner.Array element size stride) is element
           (λ it. level 6 (length_kind size) (length_number size) 0 0 0 ++ it)
-          (λ z. refl) (λ z. refl) (λ index. refl) (λ z. ap ElementKind (counted_by_form size))
+          (λ z. refl) (λ z. refl) (λ index. refl) (λ z. ap ElementKind (counted_by_key size))
           (ltb-true element base (sym (ap (parts_before base) is) ∙ stand base t there))
           (key_within n m.types element) refl x g
       pointee (inner.BindingArray element size) is x g =
           elements (inner.BindingArray element size) is element
           (λ it. level 7 (length_kind size) (length_number size) 0 0 0 ++ it)
-          (λ z. refl) (λ z. refl) (λ index. refl) (λ z. ap ElementKind (counted_by_form size))
+          (λ z. refl) (λ z. refl) (λ index. refl) (λ z. ap ElementKind (counted_by_key size))
           (ltb-true element base (sym (ap (parts_before base) is) ∙ stand base t there))
           (key_within n m.types element) refl x g
       pointee (inner.Struct members span) is x g =
@@ -485,7 +485,7 @@ module _ (m : Module) (are : TypesAreCounted m) (stand : PartsStand m) where
 
   -- ---- two that are told by the same numbers
   data Alike (a b : TypeResolution) : Type 0 where
-    OneForm : (x : List ℕ) → type_key m.types a ≡ Some x → type_key m.types b ≡ Some x → Alike a b
+    OneKey : (x : List ℕ) → type_key m.types a ≡ Some x → type_key m.types b ≡ Some x → Alike a b
     Itselves : inner_of a m.types ≡ inner_of b m.types → Alike a b
 
   fit_of : (r : TypeResolution) → IsFit m r → resolution_is_fit r ≡ true
@@ -496,12 +496,12 @@ module _ (m : Module) (are : TypesAreCounted m) (stand : PartsStand m) where
   alike a b p q e = by (type_key m.types a) refl (type_key m.types b) refl e
     where
       apart : (r : TypeResolution) → IsFit m r → (it code : List ℕ) → type_key m.types r ≡ Some it → it ≡ 32 ∷ code → ⊥
-      apart r fit = form_apart m.types (each_named m.types are.types.fits) r (fit_of r fit)
+      apart r fit = key_apart m.types (each_named m.types are.types.fits) r (fit_of r fit)
 
       by : (x : Option (List ℕ)) → type_key m.types a ≡ x → (y : Option (List ℕ)) →
           type_key m.types b ≡ y → unwrap_or x (word_of_unspelled_type (identity m.types a)) ≡
           unwrap_or y (word_of_unspelled_type (identity m.types b)) → Alike a b
-      by (Some x) at (Some y) bt e = OneForm x at (bt ∙ ap Some (sym e))
+      by (Some x) at (Some y) bt e = OneKey x at (bt ∙ ap Some (sym e))
       by (Some x) at None bt e = absurd (apart a p x (identity_code (identity m.types b)) at e)
       by None at (Some y) bt e = absurd (apart b q y (identity_code (identity m.types a)) bt (sym e))
       by None at None bt e =
@@ -509,14 +509,14 @@ module _ (m : Module) (are : TypesAreCounted m) (stand : PartsStand m) where
           ∙ (word_tells m.types a b e ∙ distinguished_by_itself m.types b (fit_of b q) bt) in
           Itselves (sym (itself_back (inner_of a m.types)) ∙ (ap itself same ∙ itself_back (inner_of b m.types)))
 
-  parts_of_form : (z : Option (List ℕ)) (o u : Option TypeResolution) → PartIs z o → PartIs z u → FitPart o →
+  parts_of_key : (z : Option (List ℕ)) (o u : Option TypeResolution) → PartIs z o → PartIs z u → FitPart o →
       FitPart u → PartsAlike o u
-  parts_of_form None None None f g p q = tt
-  parts_of_form None (Some r) u f g p q = absurd f
-  parts_of_form None None (Some s) f g p q = absurd g
-  parts_of_form (Some z) None u f g p q = absurd f
-  parts_of_form (Some z) (Some r) None f g p q = absurd g
-  parts_of_form (Some z) (Some r) (Some s) f g p q = (
+  parts_of_key None None None f g p q = tt
+  parts_of_key None (Some r) u f g p q = absurd f
+  parts_of_key None None (Some s) f g p q = absurd g
+  parts_of_key (Some z) None u f g p q = absurd f
+  parts_of_key (Some z) (Some r) None f g p q = absurd g
+  parts_of_key (Some z) (Some r) (Some s) f g p q = (
     ap (λ o. unwrap_or o (word_of_unspelled_type (identity m.types r))) f
         ∙ sym (ap (λ o. unwrap_or o (word_of_unspelled_type (identity m.types s))) g),
     p,
@@ -543,18 +543,18 @@ module _ (m : Module) (are : TypesAreCounted m) (stand : PartsStand m) where
   not_whole : {A : Type 0} (y : List ℕ) (h : ℕ) → nat_eq (get_or y 0 0) 8 ≡ false → y ≡ level 8 h 0 0 0 0 → A
   not_whole y h other is = absurd (true≢false (sym (ap (λ y. nat_eq (get_or y 0 0) 8) is) ∙ other))
 
-  one_kind : (k : PartKind) (y z : List ℕ) → k ≡ kind_of_form y → y ≡ z → k ≡ kind_of_form z
-  one_kind k y z f same = f ∙ ap kind_of_form same
+  one_kind : (k : PartKind) (y z : List ℕ) → k ≡ kind_of_key y → y ≡ z → k ≡ kind_of_key z
+  one_kind k y z f same = f ∙ ap kind_of_key same
 
   -- where what is pointed to is no struct by its form, it is none
-  no_members_of_form : (y : List ℕ) → has_members (kind_of_form y) ≡ false
-  no_members_of_form y = by (nat_eq (get_or y 0 0) 1) (nat_eq (get_or y 0 0) 2) (nat_eq (get_or y 0 0) 6)
+  no_members_of_key : (y : List ℕ) → has_members (kind_of_key y) ≡ false
+  no_members_of_key y = by (nat_eq (get_or y 0 0) 1) (nat_eq (get_or y 0 0) 2) (nat_eq (get_or y 0 0) 6)
       (nat_eq (get_or y 0 0) 7)
     where
       by : (a b c d : Bool) →
           has_members (if a then ComponentKind (get_or y 3 0) else
           (if b then ElementKind (Some (get_or y 3 0)) else
-          (if c then ElementKind (count_of_form y) else (if d then ElementKind (count_of_form y) else NoKind)))) ≡ false
+          (if c then ElementKind (count_of_key y) else (if d then ElementKind (count_of_key y) else NoKind)))) ≡ false
       by true b c d = refl
       by false true c d = refl
       by false false true d = refl
@@ -592,10 +592,10 @@ module _ (m : Module) (are : TypesAreCounted m) (stand : PartsStand m) where
       both x (Plain n k y f other parts kind) (Plain l j z g another others other_kind) =
           let one = one_level n k y l j z x f g in
           OneKind (one_kind (pointee_kind m.types ia) y z kind one.followings ∙ sym other_kind)
-          (ap has_members kind ∙ no_members_of_form y) (λ index.
-          parts_of_form (part_form n k y) (part_type m.types ia index) (part_type m.types ib index) (parts index)
+          (ap has_members kind ∙ no_members_of_key y) (λ index.
+          parts_of_key (part_key n k y) (part_type m.types ia index) (part_type m.types ib index) (parts index)
           (subst (λ o. PartIs o (part_type m.types ib index))
-          (sym (λ i. part_form (one.numbers i) (one.accesses i) (one.followings i))) (others index))
+          (sym (λ i. part_key (one.numbers i) (one.accesses i) (one.followings i))) (others index))
           (part_fits ia free first index) (part_fits ib loose second index))
       both x (Plain n k y f other parts kind) (Whole at h g is members) =
           not_whole y h other (one_level n k y (space_number at) (access_number at)
@@ -612,7 +612,7 @@ module _ (m : Module) (are : TypesAreCounted m) (stand : PartsStand m) where
           one.accesses)
 
       by : Alike a b → AlikePlaces ia ib
-      by (OneForm x f g) = both x (pointed a ia free at first x f) (pointed b ib loose bt second x g)
+      by (OneKey x f g) = both x (pointed a ia free at first x f) (pointed b ib loose bt second x g)
       by (Itselves same) = Same (same_Some ia ib (sym at ∙ (same ∙ bt)))
 
 -- ---- why no struct

@@ -102,12 +102,12 @@ level_read under tag a b c d e more =
     []
     ) tag (Named [])
 
-abbrev pub form_read : Names → List ℕ → TypeSpecifier
-form_read under (tag ∷ a ∷ b ∷ c ∷ d ∷ e ∷ more) = level_read under tag a b c d e (form_read under more)
-form_read under _ = Named []
+abbrev pub key_read : Names → List ℕ → TypeSpecifier
+key_read under (tag ∷ a ∷ b ∷ c ∷ d ∷ e ∷ more) = level_read under tag a b c d e (key_read under more)
+key_read under _ = Named []
 
 -- no level begins with the number of a type without a form
-pub other_read : (under : Names) → (code : List ℕ) → form_read under (32 ∷ code) ≡ Named []
+pub other_read : (under : Names) → (code : List ℕ) → key_read under (32 ∷ code) ≡ Named []
 unfolding level_read
 other_read under [] = refl
 other_read under (a ∷ []) = refl
@@ -146,35 +146,35 @@ scalar_is_read s = λ i. Named (unwrap_or (scalar_word_of (kind_distinguished s.
 
 over_is_read : (under : Names) →
     (word : Option (List ℕ)) (over : TypeSpecifier → TypeSpecifier) (it : List ℕ) →
-    form_read under it ≡ over (Named (unwrap_or word [])) →
-    option_map over (option_map Named word) ≡ option_map (form_read under)
+    key_read under it ≡ over (Named (unwrap_or word [])) →
+    option_map over (option_map Named word) ≡ option_map (key_read under)
     (if is_some word then Some it else None)
 over_is_read under None over it e = refl
 over_is_read under (Some word) over it e = ap Some (sym e)
 
-scalar_form_is_read : (under : Names) → (s : Scalar) → option_map Named (scalar_word s)
-    ≡ option_map (form_read under) (over_scalar 0 s 0 0 0)
+scalar_key_is_read : (under : Names) → (s : Scalar) → option_map Named (scalar_word s)
+    ≡ option_map (key_read under) (over_scalar 0 s 0 0 0)
 unfolding level_read
-scalar_form_is_read under s = by (scalar_word s) (scalar_is_read s)
+scalar_key_is_read under s = by (scalar_word s) (scalar_is_read s)
   where
     by : (word : Option (List ℕ)) →
         scalar_read (kind_number s.kind) s.width ≡ Named (unwrap_or word []) →
-        option_map Named word ≡ option_map (form_read under)
+        option_map Named word ≡ option_map (key_read under)
         (if is_some word then Some (level 0 (kind_number s.kind) s.width 0 0 0) else None)
     by None e = refl
     by (Some word) e = ap Some (sym e)
 
-value_form_is_read : (under : Names) → (n : Option VectorSize) (s : Scalar) → value_tree n s
-    ≡ option_map (form_read under) (value_key n s)
+value_key_is_read : (under : Names) → (n : Option VectorSize) (s : Scalar) → value_tree n s
+    ≡ option_map (key_read under) (value_key n s)
 unfolding level_read
-value_form_is_read under None s = scalar_form_is_read under s
-value_form_is_read under (Some n) s = over_is_read under (scalar_word s) (of_one (vector_word n)) _
+value_key_is_read under None s = scalar_key_is_read under s
+value_key_is_read under (Some n) s = over_is_read under (scalar_word s) (of_one (vector_word n)) _
     (λ i. of_one (vector_word (vector_distinguished n i)) (scalar_is_read s i))
 
 pointer_is_read : (under : Names) →
     (at : AddressSpace) (o : Option TypeSpecifier) (p : Option (List ℕ)) →
-    o ≡ option_map (form_read under) p → pointer_tree_in (space_word at) (space_access_word at) o ≡
-    option_map (form_read under) (pointer_key at p)
+    o ≡ option_map (key_read under) p → pointer_tree_in (space_word at) (space_access_word at) o ≡
+    option_map (key_read under) (pointer_key at p)
 unfolding level_read
 pointer_is_read under at o p e = ap (pointer_tree_in (space_word at) (space_access_word at)) e ∙ by p
   where
@@ -188,16 +188,16 @@ pointer_is_read under at o p e = ap (pointer_tree_in (space_word at) (space_acce
     nothing (Some word) access = refl
 
     by : (p : Option (List ℕ)) → pointer_tree_in (space_word at) (space_access_word at)
-        (option_map (form_read under) p) ≡ option_map (form_read under) (pointer_key at p)
+        (option_map (key_read under) p) ≡ option_map (key_read under) (pointer_key at p)
     by None = nothing (space_word at) (space_access_word at)
     by (Some it) =
-        chosen (space_word at) (space_access_word at) (form_read under it) ∙
-        (λ i. Some (pointer_read (sym (space_is_read at) i) (sym (access_number_is_read at) i) (form_read under it)))
+        chosen (space_word at) (space_access_word at) (key_read under it) ∙
+        (λ i. Some (pointer_read (sym (space_is_read at) i) (sym (access_number_is_read at) i) (key_read under it)))
 
 value_pointer_is_read : (under : Names) →
     (at : AddressSpace) (o : Option TypeSpecifier) (p : Option (List ℕ)) →
-    o ≡ option_map (form_read under) p →
-    value_pointer_tree_in (space_word at) (space_access_word at) o ≡ option_map (form_read under)
+    o ≡ option_map (key_read under) p →
+    value_pointer_tree_in (space_word at) (space_access_word at) o ≡ option_map (key_read under)
     (value_pointer_key at p)
 value_pointer_is_read under space.Handle o p e = refl
 value_pointer_is_read under space.Function o p e = pointer_is_read under space.Function o p e
@@ -211,13 +211,13 @@ value_pointer_is_read under space.RayPayload o p e = pointer_is_read under space
 value_pointer_is_read under space.IncomingRayPayload o p e = pointer_is_read under space.IncomingRayPayload o p e
 
 array_is_read : (under : Names) → (n : ArraySize) (o : Option TypeSpecifier) (p : Option (List ℕ)) →
-    o ≡ option_map (form_read under) p → option_map (array_tree under (codes "array") n) o ≡
-    option_map (form_read under) (array_key 6 n p)
+    o ≡ option_map (key_read under) p → option_map (array_tree under (codes "array") n) o ≡
+    option_map (key_read under) (array_key 6 n p)
 unfolding level_read
 array_is_read under n o p e = ap (option_map (array_tree under (codes "array") n)) e ∙ by n p
   where
     by : (n : ArraySize) (p : Option (List ℕ)) → option_map (array_tree under (codes "array") n)
-        (option_map (form_read under) p) ≡ option_map (form_read under) (array_key 6 n p)
+        (option_map (key_read under) p) ≡ option_map (key_read under) (array_key 6 n p)
     by (size.Constant number) None = refl
     by (size.Constant number) (Some it) = refl
     by (size.Pending o) None = refl
@@ -227,13 +227,13 @@ array_is_read under n o p e = ap (option_map (array_tree under (codes "array") n
 
 binding_array_is_read : (under : Names) →
     (n : ArraySize) (o : Option TypeSpecifier) (p : Option (List ℕ)) →
-    o ≡ option_map (form_read under) p → option_map (array_tree under (codes "binding_array") n) o ≡
-    option_map (form_read under) (array_key 7 n p)
+    o ≡ option_map (key_read under) p → option_map (array_tree under (codes "binding_array") n) o ≡
+    option_map (key_read under) (array_key 7 n p)
 unfolding level_read
 binding_array_is_read under n o p e = ap (option_map (array_tree under (codes "binding_array") n)) e ∙ by n p
   where
     by : (n : ArraySize) (p : Option (List ℕ)) → option_map (array_tree under (codes "binding_array") n)
-        (option_map (form_read under) p) ≡ option_map (form_read under) (array_key 7 n p)
+        (option_map (key_read under) p) ≡ option_map (key_read under) (array_key 7 n p)
     by (size.Constant number) None = refl
     by (size.Constant number) (Some it) = refl
     by (size.Pending o) None = refl
@@ -242,7 +242,7 @@ binding_array_is_read under n o p e = ap (option_map (array_tree under (codes "b
     by size.Dynamic (Some it) = refl
 
 image_is_read : (under : Names) → (dim : ImageDimension) (arrayed : Bool) (c : ImageClass) →
-    image_tree dim arrayed c ≡ option_map (form_read under) (image_key dim arrayed c)
+    image_tree dim arrayed c ≡ option_map (key_read under) (image_key dim arrayed c)
 unfolding level_read image_read
 image_is_read under dim arrayed (class.Sampled k multi) =
     let s : Scalar = record { kind = k; width = 4 } in
@@ -263,11 +263,11 @@ image_is_read under dim arrayed (class.Storage f access) =
 
 module _ (under : Names) where
   inner_is_read : (f : ℕ → Option (List ℕ)) (g : ℕ → Option TypeSpecifier) →
-      ((h : ℕ) → g h ≡ option_map (form_read under) (f h)) →
-      (it : TypeInner) → inner_tree_by under g it ≡ option_map (form_read under) (inner_key_by f it)
+      ((h : ℕ) → g h ≡ option_map (key_read under) (f h)) →
+      (it : TypeInner) → inner_tree_by under g it ≡ option_map (key_read under) (inner_key_by f it)
   unfolding level_read
-  inner_is_read f g same (inner.Scalar s) = scalar_form_is_read under s
-  inner_is_read f g same (inner.Vector n s) = value_form_is_read under (Some n) s
+  inner_is_read f g same (inner.Scalar s) = scalar_key_is_read under s
+  inner_is_read f g same (inner.Vector n s) = value_key_is_read under (Some n) s
   inner_is_read f g same (inner.Matrix columns rows s) =
       over_is_read under (scalar_word s) (of_one (matrix_word columns rows)) _
       (λ i. of_one (matrix_word (vector_distinguished columns i) (vector_distinguished rows i))
@@ -281,7 +281,7 @@ module _ (under : Names) where
       (λ i. of_one (codes "atomic") (scalar_is_read s i))
   inner_is_read f g same (inner.Pointer base at) = pointer_is_read under at (g base) (f base) (same base)
   inner_is_read f g same (inner.ValuePointer n s at) = value_pointer_is_read under at (value_tree n s)
-      (value_key n s) (value_form_is_read under n s)
+      (value_key n s) (value_key_is_read under n s)
   inner_is_read f g same (inner.Array base n stride) = array_is_read under n (g base) (f base) (same base)
   inner_is_read f g same (inner.BindingArray base n) = binding_array_is_read under n (g base) (f base) (same base)
   inner_is_read f g same (inner.Struct members span) = refl
@@ -293,31 +293,31 @@ module _ (under : Names) where
   inner_is_read f g same (inner.RayQuery b) = λ i. Some (ray_tree (codes "ray_query") (sym (truth_distinguished b) i))
 
   found_is_read : (f : ℕ → Option (List ℕ)) (g : ℕ → Option TypeSpecifier) →
-      ((h : ℕ) → g h ≡ option_map (form_read under) (f h)) → (h : ℕ) (o : Option Type_) →
-      found_tree_by under g h o ≡ option_map (form_read under) (found_key_by f h o)
+      ((h : ℕ) → g h ≡ option_map (key_read under) (f h)) → (h : ℕ) (o : Option Type_) →
+      found_tree_by under g h o ≡ option_map (key_read under) (found_key_by f h o)
   unfolding level_read
   found_is_read f g same h None = refl
   found_is_read f g same h (Some t) = by (is_struct t.inner) _ _ (inner_is_read f g same t.inner)
     where
       by : (b : Bool) (x : Option TypeSpecifier) (y : Option (List ℕ)) →
-          x ≡ option_map (form_read under) y →
-          (if b then Some (Named (under.struct_name h)) else x) ≡ option_map (form_read under)
+          x ≡ option_map (key_read under) y →
+          (if b then Some (Named (under.struct_name h)) else x) ≡ option_map (key_read under)
           (if b then Some (level 8 h 0 0 0 0) else y)
       by true x y e = refl
       by false x y e = e
 
-  within_is_read : (levels h : ℕ) → tree_within levels under h ≡ option_map (form_read under)
+  within_is_read : (levels h : ℕ) → tree_within levels under h ≡ option_map (key_read under)
       (key_within levels under.types h)
   within_is_read zero h = refl
   within_is_read (suc levels) h = found_is_read (key_within levels under.types) (tree_within levels under)
       (within_is_read levels) h (slice_get under.types h)
 
-  handle_is_read : (h : ℕ) → type_tree under h ≡ option_map (form_read under) (handle_key under.types h)
+  handle_is_read : (h : ℕ) → type_tree under h ≡ option_map (key_read under) (handle_key under.types h)
   unfolding type_tree handle_key
   handle_is_read h = within_is_read (suc h) h
 
   -- a type's tree can be read off its numbers
-  pub form_is_read : (r : TypeResolution) → resolution_tree under r ≡ option_map (form_read under)
+  pub key_is_read : (r : TypeResolution) → resolution_tree under r ≡ option_map (key_read under)
       (type_key under.types r)
-  form_is_read (Handle h) = handle_is_read h
-  form_is_read (Value it) = inner_is_read (handle_key under.types) (type_tree under) handle_is_read it
+  key_is_read (Handle h) = handle_is_read h
+  key_is_read (Value it) = inner_is_read (handle_key under.types) (type_tree under) handle_is_read it

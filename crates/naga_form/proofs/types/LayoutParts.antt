@@ -70,9 +70,9 @@ size_is None = refl
 size_is (Some n) = refl
 
 -- what is known of one that has a place
-place_is : (f : ℕ → Option Layout) (k : ir_member.StructMember) (p : Placed) → placed_member f k ≡ Some p →
+placed_is : (f : ℕ → Option Layout) (k : ir_member.StructMember) (p : Placed) → placed_member f k ≡ Some p →
     (k.binding ≡ None) × (f k.ty ≡ Some p.layout)
-place_is f k p is =
+placed_is f k p is =
     let parts = if_some (is_none k.binding)
     (option_map (λ l. record { layout = l; offset = k.offset }) (f k.ty)) p is in
     let own = map_some (λ (l : Layout). record { layout = l; offset = k.offset }) (f k.ty) p parts.1 in
@@ -102,7 +102,7 @@ module _ (m : Module) (names : NameMap) (t : TypeNames) (h : ℕ) (f : List ℕ 
       ≡ w.given →
       member_laid f (member_form names t m h (i, k)) ≡ Some w
   one_laid i k p w placed before have given =
-      let is = place_is (layout_in m) k p placed in
+      let is = placed_is (layout_in m) k p placed in
       ap (option_map (λ l. record { layout = l; given = size_read (member_attributes (written_size m h i) k.binding) }))
       (reads k.ty p.layout (ltb-true k.ty h before) is.1)
       ∙ (ap (λ b. Some

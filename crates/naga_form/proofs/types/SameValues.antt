@@ -58,12 +58,12 @@ use Rattle.module_semantics.specs.TypeIdentity.{space_number, length_kind, lengt
 use Rattle.module_semantics.proofs.TypeIdentity.{word_tells}
 use Rattle.naga_form.specs.Readable.{AreNamed, ResolutionIsWithin, LengthIsWithin, InnerIsWithin}
 use Rattle.naga_form.specs.TypeTrees.{resolution_tree}
-use Rattle.naga_form.proofs.types.AlikeLaw.{form_apart, distinguished_by_itself, each_named}
+use Rattle.naga_form.proofs.types.AlikeLaw.{key_apart, distinguished_by_itself, each_named}
 use Rattle.naga_form.proofs.types.AlikeLaw.{by_itself, itself, itself_back}
 use Rattle.naga_form.proofs.types.AlikeNumbers.{AreDistinguished, InnerIsDistinguished}
 use Rattle.naga_form.proofs.types.AlikeNumbers.{LengthIsDistinguished, ResolutionIsDistinguished}
-use Rattle.naga_form.proofs.types.AlikeNumbers.{named_numbers, form_is_distinguished, tree_numbers}
-use Rattle.naga_form.proofs.types.AlikeTypes.{form_read, form_is_read}
+use Rattle.naga_form.proofs.types.AlikeNumbers.{named_numbers, key_is_distinguished, tree_numbers}
+use Rattle.naga_form.proofs.types.AlikeTypes.{key_read, key_is_read}
 use Rattle.naga_form.proofs.names.Names.{item_is_identifier}
 use Rattle.naga_form.proofs.types.TypeTrees.{resolution_is, resolution_row}
 use Rattle.wgsl_text.proofs.Text.{text-append}
@@ -327,20 +327,20 @@ module _ (m : Module) (are : TypesAreCounted m) where
   -- a type's numbers by its tree
   numbers_of : (r : TypeResolution) → IsFit m r → type_key m.types r ≡ option_map (tree_numbers handle_named)
       (resolution_tree names r)
-  numbers_of r fit = form_is_distinguished handle_named names are_distinguished
+  numbers_of r fit = key_is_distinguished handle_named names are_distinguished
       (each_named m.types are.types.fits) r (is_distinguished r fit) (is_fit r fit)
 
   -- the tree by the numbers
-  pub tree_of : (r : TypeResolution) → resolution_tree names r ≡ option_map (form_read names) (type_key m.types r)
-  tree_of r = form_is_read names r
+  pub tree_of : (r : TypeResolution) → resolution_tree names r ≡ option_map (key_read names) (type_key m.types r)
+  tree_of r = key_is_read names r
 
   -- the spelling by the tree
   pub spelling_of : (r : TypeResolution) →
       spelled_resolution names r ≡ option_map printed_type (resolution_tree names r)
   spelling_of r = resolution_row text-append names (λ handle. true) r
 
-  pub one_layout : (t u : TypeSpecifier) → IsType t → IsType u → printed_type t ≡ printed_type u → t ≡ u
-  one_layout t u p q e =
+  pub one_tree : (t u : TypeSpecifier) → IsType t → IsType u → printed_type t ≡ printed_type u → t ≡ u
+  one_tree t u p q e =
       let one = type_has_one_reading t p in let two = type_has_one_reading u q in
       two.only t (subst (λ w. ReadsType (tokens w) t) e one.read)
 
@@ -371,7 +371,7 @@ module _ (m : Module) (are : TypesAreCounted m) where
       by : (x : Option TypeSpecifier) → resolution_tree names a ≡ x → (y : Option TypeSpecifier) →
           resolution_tree names b ≡ y → word_of x a ≡ word_of y b → identity_of x a ≡ identity_of y b
       by (Some t) at (Some u) bt e =
-          ap (tree_numbers handle_named) (one_layout t u (tree_is m are.types a p t at)
+          ap (tree_numbers handle_named) (one_tree t u (tree_is m are.types a p t at)
           (tree_is m are.types b q u bt) e)
       by (Some t) at None bt e =
           absurd (no_blank_in t (tree_is m are.types a p t at) (identity_code (identity m.types b)) e)
@@ -380,38 +380,38 @@ module _ (m : Module) (are : TypesAreCounted m) where
       by None at None bt e = e
 
   -- and the other way
-  abbrev form_word : Option (List ℕ) → TypeResolution → List ℕ
-  form_word o r = unwrap_or (option_map printed_type (option_map (form_read names) o))
+  abbrev key_word : Option (List ℕ) → TypeResolution → List ℕ
+  key_word o r = unwrap_or (option_map printed_type (option_map (key_read names) o))
       (word_of_unspelled_type (identity m.types r))
 
-  word_by_form : (r : TypeResolution) → word_of_values m r ≡ form_word (type_key m.types r) r
-  word_by_form r = word_is r ∙ ap (λ o. word_of o r) (tree_of r)
+  word_by_key : (r : TypeResolution) → word_of_values m r ≡ key_word (type_key m.types r) r
+  word_by_key r = word_is r ∙ ap (λ o. word_of o r) (tree_of r)
 
   apart : (r : TypeResolution) → IsFit m r → (it code : List ℕ) → type_key m.types r ≡ Some it → it ≡ 32 ∷ code → ⊥
-  apart r fit = form_apart m.types (each_named m.types are.types.fits) r (is_fit r fit)
+  apart r fit = key_apart m.types (each_named m.types are.types.fits) r (is_fit r fit)
 
   -- the same, with the form of the other type
-  record AlikeForms (a b : TypeResolution) : Type 0 where
+  record AlikeKeys (a b : TypeResolution) : Type 0 where
     words : word_of_values m a ≡ word_of_values m b
     kinds : (type_key m.types a ≡ type_key m.types b)
         × ((type_key m.types a ≡ None) → identity m.types a ≡ identity m.types b)
 
-  alike_forms : (a b : TypeResolution) → IsFit m a → IsFit m b → type_identity m.types a
-      ≡ type_identity m.types b → AlikeForms a b
-  alike_forms a b p q e = by (type_key m.types a) refl (type_key m.types b) refl e
+  alike_keys : (a b : TypeResolution) → IsFit m a → IsFit m b → type_identity m.types a
+      ≡ type_identity m.types b → AlikeKeys a b
+  alike_keys a b p q e = by (type_key m.types a) refl (type_key m.types b) refl e
     where
       by : (x : Option (List ℕ)) → type_key m.types a ≡ x → (y : Option (List ℕ)) →
           type_key m.types b ≡ y → unwrap_or x (word_of_unspelled_type (identity m.types a)) ≡
-          unwrap_or y (word_of_unspelled_type (identity m.types b)) → AlikeForms a b
+          unwrap_or y (word_of_unspelled_type (identity m.types b)) → AlikeKeys a b
       by (Some x) at (Some y) bt e = record {
-        words = word_by_form a ∙ (ap (λ o. form_word o a) at
-            ∙ (ap (λ z. printed_type (form_read names z)) e ∙ sym (word_by_form b ∙ ap (λ o. form_word o b) bt)));
+        words = word_by_key a ∙ (ap (λ o. key_word o a) at
+            ∙ (ap (λ z. printed_type (key_read names z)) e ∙ sym (word_by_key b ∙ ap (λ o. key_word o b) bt)));
         kinds = (at ∙ (ap Some e ∙ sym bt), λ none. absurd (cc));
       }
       by (Some x) at None bt e = absurd (apart a p x (identity_code (identity m.types b)) at e)
       by None at (Some y) bt e = absurd (apart b q y (identity_code (identity m.types a)) bt (sym e))
       by None at None bt e = record {
-        words = word_by_form a ∙ (ap (λ o. form_word o a) at ∙ (e ∙ sym (word_by_form b ∙ ap (λ o. form_word o b) bt)));
+        words = word_by_key a ∙ (ap (λ o. key_word o a) at ∙ (e ∙ sym (word_by_key b ∙ ap (λ o. key_word o b) bt)));
         kinds = (at ∙ sym bt, λ none. word_tells m.types a b e);
       }
 
@@ -434,13 +434,13 @@ module _ (m : Module) (are : TypesAreCounted m) where
   values_numbered tag kind w =
       if nat_eq tag 0 then scalar_numbered kind w else (if nat_eq tag 5 then PointerType w else OtherType w)
 
-  abbrev values_by_form : Option (List ℕ) → Option TypeInner → List ℕ → ValueType
-  values_by_form (Some form) o w = values_numbered (get_or form 0 0) (get_or form 1 0) w
-  values_by_form None o w = option_map_or (λ it. values_of it w) o (OtherType w)
+  abbrev values_by_key : Option (List ℕ) → Option TypeInner → List ℕ → ValueType
+  values_by_key (Some form) o w = values_numbered (get_or form 0 0) (get_or form 1 0) w
+  values_by_key None o w = option_map_or (λ it. values_of it w) o (OtherType w)
 
   -- the tag of a form is that of its type
   abbrev IsOfTag : Option (List ℕ) → TypeInner → Type 0
-  IsOfTag o it = (w : List ℕ) → values_of it w ≡ values_by_form o (Some it) w
+  IsOfTag o it = (w : List ℕ) → values_of it w ≡ values_by_key o (Some it) w
 
   over_tag : (tag : ℕ) (s : Scalar) (c d e : ℕ) (it : TypeInner) →
       ((w : List ℕ) → values_of it w ≡ values_numbered tag (kind_number s.kind) w) →
@@ -448,13 +448,13 @@ module _ (m : Module) (are : TypesAreCounted m) where
   over_tag tag s c d e it is w = by (is_some (scalar_word s))
     where
       by : (b : Bool) → values_of it w
-          ≡ values_by_form (if b then Some (level tag (kind_number s.kind) s.width c d e) else None) (Some it) w
+          ≡ values_by_key (if b then Some (level tag (kind_number s.kind) s.width c d e) else None) (Some it) w
       by true = is w
       by false = refl
 
   mapped_tag : (f : List ℕ → List ℕ) (it : TypeInner) (w : List ℕ) →
       ((x : List ℕ) → values_of it w ≡ values_numbered (get_or (f x) 0 0) (get_or (f x) 1 0) w) →
-      (o : Option (List ℕ)) → values_of it w ≡ values_by_form (option_map f o) (Some it) w
+      (o : Option (List ℕ)) → values_of it w ≡ values_by_key (option_map f o) (Some it) w
   mapped_tag f it w is None = refl
   mapped_tag f it w is (Some x) = is x
 
@@ -463,7 +463,7 @@ module _ (m : Module) (are : TypesAreCounted m) where
   image_tag dim arrayed (class.Sampled kind multi) w = by (is_some (scalar_word (record { kind = kind; width = 4 })))
     where
       by : (b : Bool) →
-          OtherType w ≡ values_by_form
+          OtherType w ≡ values_by_key
           (if b then Some
           (level 9 (dimension_number dim) (truth_number arrayed) 0 (kind_number kind)
           (truth_number multi)) else None)
@@ -486,7 +486,7 @@ module _ (m : Module) (are : TypesAreCounted m) where
       (λ x. refl) (f base)
   inner_tag f (inner.ValuePointer n s at) w = by (is_none (space_word at))
     where
-      by : (b : Bool) → PointerType w ≡ values_by_form (if b then None else pointer_key at (value_key n s))
+      by : (b : Bool) → PointerType w ≡ values_by_key (if b then None else pointer_key at (value_key n s))
           (Some (inner.ValuePointer n s at)) w
       by true = refl
       by false = mapped_tag (λ it. level 5 (space_number at) (access_number at) 0 0 0 ++ it)
@@ -501,14 +501,14 @@ module _ (m : Module) (are : TypesAreCounted m) where
   inner_tag f _ w = refl
 
   abbrev ValuesAre : Option (List ℕ) → Option TypeInner → Type 0
-  ValuesAre form o = (w : List ℕ) → option_map_or (λ it. values_of it w) o (OtherType w) ≡ values_by_form form o w
+  ValuesAre form o = (w : List ℕ) → option_map_or (λ it. values_of it w) o (OtherType w) ≡ values_by_key form o w
 
   found_tag : (f : ℕ → Option (List ℕ)) (h : ℕ) (o : Option Type_) →
       ValuesAre (found_key_by f h o) (option_map (λ t. t.inner) o)
   found_tag f h None w = refl
   found_tag f h (Some t) w = by t.inner
     where
-      by : (it : TypeInner) → values_of it w ≡ values_by_form (named_key_by f h it) (Some it) w
+      by : (it : TypeInner) → values_of it w ≡ values_by_key (named_key_by f h it) (Some it) w
       by (inner.Struct members span) = refl
       by (inner.Scalar s) = inner_tag f (inner.Scalar s) w
       by (inner.Vector n s) = inner_tag f (inner.Vector n s) w
@@ -529,17 +529,17 @@ module _ (m : Module) (are : TypesAreCounted m) where
   values_are (Handle h) w = found_tag (key_within h m.types) h (slice_get m.types h) w
   values_are (Value it) w = inner_tag (handle_key m.types) it w
 
-  one_form : (a b : TypeResolution) → IsFit m a → IsFit m b → (o : Option (List ℕ)) →
-      type_key m.types a ≡ o → (k : AlikeForms a b) →
-      (w : List ℕ) → values_by_form (type_key m.types a) (inner_of a m.types) w ≡ values_by_form
+  one_key : (a b : TypeResolution) → IsFit m a → IsFit m b → (o : Option (List ℕ)) →
+      type_key m.types a ≡ o → (k : AlikeKeys a b) →
+      (w : List ℕ) → values_by_key (type_key m.types a) (inner_of a m.types) w ≡ values_by_key
       (type_key m.types b) (inner_of b m.types) w
-  one_form a b p q (Some x) at k w =
-      ap (λ o. values_by_form o (inner_of a m.types) w) at
-      ∙ sym (ap (λ o. values_by_form o (inner_of b m.types) w) (sym k.kinds.0 ∙ at))
-  one_form a b p q None at k w =
+  one_key a b p q (Some x) at k w =
+      ap (λ o. values_by_key o (inner_of a m.types) w) at
+      ∙ sym (ap (λ o. values_by_key o (inner_of b m.types) w) (sym k.kinds.0 ∙ at))
+  one_key a b p q None at k w =
       let inners = inner_by_identity a b (distinguished_by_itself m.types a (is_fit a p) at)
       (distinguished_by_itself m.types b (is_fit b q) (sym k.kinds.0 ∙ at)) (k.kinds.1 at) in
-      λ i. values_by_form (k.kinds.0 i) (inners i) w
+      λ i. values_by_key (k.kinds.0 i) (inners i) w
     where
       inner_by_identity : (a b : TypeResolution) →
           identity m.types a ≡ by_itself (inner_of a m.types) →
@@ -552,9 +552,9 @@ module _ (m : Module) (are : TypesAreCounted m) where
   pub values_by_numbers : (a b : TypeResolution) → IsFit m a → IsFit m b → type_identity m.types a
       ≡ type_identity m.types b → type_of_values m a ≡ type_of_values m b
   values_by_numbers a b p q e =
-      let k = alike_forms a b p q e in
+      let k = alike_keys a b p q e in
       values_are a (word_of_values m a)
-      ∙ (one_form a b p q (type_key m.types a) refl k (word_of_values m a)
+      ∙ (one_key a b p q (type_key m.types a) refl k (word_of_values m a)
       ∙ (sym (values_are b (word_of_values m a))
       ∙ ap (λ w. option_map_or (λ it. values_of it w) (inner_of b m.types) (OtherType w))
       k.words))

@@ -45,7 +45,7 @@ use Rattle.wgsl_text.specs.Types.{plain_type_words, pointer_tree, rule_among, ty
 use Rattle.wgsl_text.specs.Text.{text}
 use Rattle.wgsl_text.specs.Words.{stands_in}
 use Rattle.wgsl_words.specs.Words.{scalar_word, scalar_word_of, space_word, space_access_word}
-use Rattle.naga_form.proofs.types.AlikeTypes.{form_is_read, form_read}
+use Rattle.naga_form.proofs.types.AlikeTypes.{key_is_read, key_read}
 use Rattle.naga_form.proofs.operators.OperatingWords.{operates_freely, plain_types_free}
 use Rattle.naga_form.proofs.operators.OperatingWords.{templates_free}
 use Rattle.naga_form.proofs.types.AlikeLaw.{each_named}
@@ -60,12 +60,12 @@ use Rattle.naga_form.specs.Types.{annotated_type, type_form}
 -- a type that has a form has a tree, under any names
 pub tree_there : (n : Names) (r : TypeResolution) → has_type_form n.types r ≡ true →
     (t : TypeSpecifier) × (resolution_tree n r ≡ Some t)
-tree_there n r is = by (form_numbers n.types r) is (form_is_read n r)
+tree_there n r is = by (form_numbers n.types r) is (key_is_read n r)
   where
     by : (o : Option (List ℕ)) → is_some o ≡ true →
-        resolution_tree n r ≡ option_map (form_read n) o →
+        resolution_tree n r ≡ option_map (key_read n) o →
         (t : TypeSpecifier) × (resolution_tree n r ≡ Some t)
-    by (Some numbers) is read = (form_read n numbers, read)
+    by (Some numbers) is read = (key_read n numbers, read)
     by None is read = absurd cc
 
 -- ---- names that are the same

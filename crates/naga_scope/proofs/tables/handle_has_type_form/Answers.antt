@@ -2,4 +2,4 @@ use Rattle.std.proofs.Common.{◌∙◌}
 use Rattle.naga_scope.proofs.tables.handle_has_type_form.Goals as goal
 
 pub returns : goal.returns
-returns c = c.is_marked.ensures ∙ c.requires.spelled c.args.ty
+returns c = c.is_marked.ensures ∙ c.requires.type_forms c.args.ty

@@ -12,7 +12,7 @@ write_typed-requires-clause-formed g c =
     constant_has_type_form c.args.text.now c.requires.can c.args.handle c.args.constant.now
     c.requires.there c.requires.named
 
-pub write_first_value-requires-clause-written : goal.write_first_value-requires-clause-written
-write_first_value-requires-clause-written g c =
+pub write_first_value-requires-clause-has_form : goal.write_first_value-requires-clause-has_form
+write_first_value-requires-clause-has_form g c =
     constant_is_formed c.args.text.now c.requires.can c.args.handle c.args.constant.now
     c.requires.there c.requires.named

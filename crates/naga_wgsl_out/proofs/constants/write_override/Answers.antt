@@ -14,8 +14,8 @@ write_typed-requires-clause-formed g c =
     override_has_type_form c.args.text.now c.requires.can c.args.handle c.args.item.now
     c.requires.there
 
-pub write_value-requires-clause-written : goal.write_value-requires-clause-written
-write_value-requires-clause-written g c =
+pub write_value-requires-clause-has_form : goal.write_value-requires-clause-has_form
+write_value-requires-clause-has_form g c =
     override_is_formed c.args.text.now c.requires.can c.args.handle c.args.item.now
     c.requires.there
 

@@ -4,8 +4,8 @@ use Rattle.naga_wgsl_out.proofs.ItemRows.{no_value_row, value_row}
 use Rattle.naga_wgsl_out.specs.Items.{value_text}
 use Rattle.naga_wgsl_out.proofs.declarations.write_value.Goals as goal
 
-pub write_first_value-requires-clause-written : goal.write_first_value-requires-clause-written
-write_first_value-requires-clause-written g c = c.requires.written c.in-Some.value c.in-Some.is
+pub write_first_value-requires-clause-has_form : goal.write_first_value-requires-clause-has_form
+write_first_value-requires-clause-has_form g c = c.requires.has_form c.in-Some.value c.in-Some.is
 
 pub returns-in-Some : goal.returns-in-Some
 returns-in-Some g c =

@@ -7,5 +7,5 @@ pub returns : goal.returns
 returns c =
     c.is_marked.ensures
     ∙ (ap (λ marks. is_marked marks c.args.handle)
-    (c.deref.ensures.value ∙ ap (λ (t : Tables). t.written) c.self.view_is)
-    ∙ c.requires.tables.written c.args.handle)
+    (c.deref.ensures.value ∙ ap (λ (t : Tables). t.global_forms) c.self.view_is)
+    ∙ c.requires.tables.global_forms c.args.handle)

@@ -8,5 +8,5 @@ returns c =
     let m = c.args.module.now in
     c.type_has_form_by_marks.ensures
     ∙ (ap (λ marks. type_has_form_by_marks marks c.args.ty.now)
-    (c.deref.ensures.value ∙ ap (λ (t : Tables). t.spelled) c.self.view_is)
-    ∙ type_form_marked m c.args.self.now.spelled c.requires.tables.spelled c.args.ty.now)
+    (c.deref.ensures.value ∙ ap (λ (t : Tables). t.type_forms) c.self.view_is)
+    ∙ type_form_marked m c.args.self.now.type_forms c.requires.tables.type_forms c.args.ty.now)

@@ -8,8 +8,8 @@ is_spellable_by-requires c = record {
       subst (MarksNaming c.args.module.now)
       (sym (c.deref.ensures.value ∙ ap (λ (t : Tables). t.naming) c.self.view_is))
       c.requires.tables.naming;
-  spelled =
+  type_forms =
       subst (MarksTypeForms c.args.module.now)
-      (sym (c.deref-2.ensures.value ∙ ap (λ (t : Tables). t.spelled) c.self.view_is))
-      c.requires.tables.spelled;
+      (sym (c.deref-2.ensures.value ∙ ap (λ (t : Tables). t.type_forms) c.self.view_is))
+      c.requires.tables.type_forms;
 }

@@ -7,7 +7,7 @@ use Rattle.naga_scope.proofs.tables.ModuleTables.writes.Goals as goal
 pub returns : goal.returns
 returns c =
     let m = c.args.module.now in
-    let same = c.deref.ensures.value ∙ ap (λ (t : Tables). t.written) c.self.view_is in
+    let same = c.deref.ensures.value ∙ ap (λ (t : Tables). t.global_forms) c.self.view_is in
     c.constant_is_marked.ensures
     ∙ constant_marked m c.deref.result.now
-    (subst (MarksGlobals m) (sym same) c.requires.tables.written) c.args.constant
+    (subst (MarksGlobals m) (sym same) c.requires.tables.global_forms) c.args.constant

@@ -13,7 +13,7 @@ use Rattle.naga_wgsl_fns.proofs.Preconditions.{base_in, known_within_infos, no_o
 use Rattle.naga_wgsl_fns.proofs.Preconditions.{part_has_form, IsOperand, argument_within}
 use Rattle.naga_wgsl_fns.proofs.Preconditions.{local_within, made_value, operands_in, written_as}
 use Rattle.naga_wgsl_fns.proofs.ModuleTexts.{can_in}
-use Rattle.naga_wgsl_fns.proofs.VariableRows.{handle_variable_reference, kept_reference}
+use Rattle.naga_wgsl_fns.proofs.VariableRows.{handle_variable_reference, memory_variable_reference}
 use Rattle.naga_wgsl_fns.specs.Names.{name_of_override}
 use Rattle.naga_wgsl_fns.specs.Expressions.{next_operand_text, operands_left, operands_text}
 use Rattle.naga_wgsl_fns.specs.FunctionText.{AreInText, expressions}
@@ -34,8 +34,8 @@ pub write_own-write_literal-requires : goal.write_own-write_literal-requires
 write_own-write_literal-requires g t c =
     written_as c.args.self.now c.requires.can c.index.ensures c.requires.handle c.in-Literal.is
 
-pub write_own-write_constant-requires-clause-written : goal.write_own-write_constant-requires-clause-written
-write_own-write_constant-requires-clause-written g t c =
+pub write_own-write_constant-requires-clause-has_form : goal.write_own-write_constant-requires-clause-has_form
+write_own-write_constant-requires-clause-has_form g t c =
     written_as c.args.self.now c.requires.can c.index.ensures c.requires.handle c.in-Constant.is
 
 pub write_own-write_override_name-requires-clause-can : goal.write_own-write_override_name-requires-clause-can
@@ -82,7 +82,7 @@ pub write_global_reference-returns-else-is_handle_variable :
     goal.write_global_reference-returns-else-is_handle_variable
 write_global_reference-returns-else-is_handle_variable g t c =
     writes_as
-    (kept_reference c.args.self.now c.args.scope.now.table c.args.handle c.args.variable
+    (memory_variable_reference c.args.self.now c.args.scope.now.table c.args.handle c.args.variable
     (sym c.is_handle_variable.ensures ∙ c.if-is_handle_variable.false))
     c.write_global_name.ensures
 
@@ -393,8 +393,8 @@ write_part_end-write_index-requires g t c κs within =
     let before = index.0 in
     (omega (arith, before, c.decreases), (within, (c.requires.can, index.1)))
 
-pub write_part_end-write_selector-requires-clause-written : goal.write_part_end-write_selector-requires-clause-written
-write_part_end-write_selector-requires-clause-written g t c =
+pub write_part_end-write_selector-requires-clause-has_form : goal.write_part_end-write_selector-requires-clause-has_form
+write_part_end-write_selector-requires-clause-has_form g t c =
     part_has_form c.args.self.now c.requires.can c.args.handle c.args.base c.index.result.now _ _
     c.index.ensures c.requires.handle c.in-AccessIndex.is c.requires.part
 
@@ -529,9 +529,9 @@ write_sampling-write_sampling_head-requires-clause-image g t c =
     (operands_in c.args.self.now c.requires.can
     c.index.ensures c.in-ImageSample.is c.requires.handle).0.1
 
-pub write_sampling-write_sampling_head-requires-clause-written :
-    goal.write_sampling-write_sampling_head-requires-clause-written
-write_sampling-write_sampling_head-requires-clause-written g t c =
+pub write_sampling-write_sampling_head-requires-clause-has_form :
+    goal.write_sampling-write_sampling_head-requires-clause-has_form
+write_sampling-write_sampling_head-requires-clause-has_form g t c =
     let s = c.in-ImageSample in
     ap (λ b. sampling_has_form s.gather s.level b s.clamp_to_edge) c.is_some-compares.ensures
     ∙ written_as c.args.self.now c.requires.can c.index.ensures c.requires.handle s.is

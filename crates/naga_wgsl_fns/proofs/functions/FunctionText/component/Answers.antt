@@ -9,13 +9,13 @@ letter_if index b = if b then slice_get component_letters index else None
 
 pub returns-then-has_components : goal.returns-then-has_components
 returns-then-has_components c =
-    component_is c.args.self.now c.requires.can c.args.base c.args.index c.requires.written
+    component_is c.args.self.now c.requires.can c.args.base c.args.index c.requires.has_form
     c.requires.no_member _
     (c.component_letter.ensures
     ∙ sym (ap (letter_if c.args.index) (sym c.has_components.ensures ∙ c.if-has_components.true)))
 
 pub returns-else-has_components : goal.returns-else-has_components
 returns-else-has_components c =
-    component_is c.args.self.now c.requires.can c.args.base c.args.index c.requires.written
+    component_is c.args.self.now c.requires.can c.args.base c.args.index c.requires.has_form
     c.requires.no_member None
     (sym (ap (letter_if c.args.index) (sym c.has_components.ensures ∙ c.if-has_components.false)))

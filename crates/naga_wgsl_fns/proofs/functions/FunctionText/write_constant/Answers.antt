@@ -10,8 +10,8 @@ write_constant-requires-clause-can g c =
     can_in c.args.self.now c.requires.can c.of_module.result c.of_module.ensures.shader
     c.of_module.ensures.tables c.of_module.ensures.names
 
-pub write_constant-requires-clause-written : goal.write_constant-requires-clause-written
-write_constant-requires-clause-written g c =
+pub write_constant-requires-clause-has_form : goal.write_constant-requires-clause-has_form
+write_constant-requires-clause-has_form g c =
     ap (λ m. constant_has_form m c.args.constant) c.of_module.ensures.shader ∙ c.requires.written
 
 pub returns : goal.returns

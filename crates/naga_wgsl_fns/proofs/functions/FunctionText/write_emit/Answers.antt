@@ -42,8 +42,8 @@ write_emitted-requires-clause-handle g c =
     let more = c.loop-index-test.true in
     omega (arith, within, here, more)
 
-pub write_emitted-requires-clause-root : goal.write_emitted-requires-clause-root
-write_emitted-requires-clause-root g c =
+pub write_emitted-requires-clause-in_text : goal.write_emitted-requires-clause-in_text
+write_emitted-requires-clause-in_text g c =
     let self = c.args.self.now in
     subst (λ h. IsTrue (bound self h) → IsInText self h) (sym c.from_index-handle.ensures)
     (first_of (IsInText self) (bound self c.loop-index.index) c.loop-index.index

@@ -9,13 +9,13 @@ write_named_member-requires g c =
     record {
       named =
           member_there c.args.self.now c.requires.can c.args.base c.args.index c.in-Some.whole
-          c.requires.written (sym c.struct_known.ensures ∙ c.in-Some.is);
+          c.requires.has_form (sym c.struct_known.ensures ∙ c.in-Some.is);
     }
 
 pub returns-in-Some : goal.returns-in-Some
 returns-in-Some g c =
     writes_as
     (member_selector_row c.args.self.now c.args.base c.args.index c.in-Some.whole
-    (member_is c.args.self.now c.requires.can c.args.base c.args.index c.in-Some.whole c.requires.written
+    (member_is c.args.self.now c.requires.can c.args.base c.args.index c.in-Some.whole c.requires.has_form
     (sym c.struct_known.ensures ∙ c.in-Some.is)))
     c.write_named_member.ensures

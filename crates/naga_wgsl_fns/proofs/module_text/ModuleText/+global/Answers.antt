@@ -6,9 +6,9 @@ use Rattle.naga_words.proofs.Writing.{leaves_as, leaves_last, leaves_more, leave
 use Rattle.naga_wgsl_fns.proofs.ConstantRows.{ArePartsBelow, composed_passes, composed_row}
 use Rattle.naga_wgsl_fns.proofs.ConstantRows.{constant_passes, constant_row, constant_there}
 use Rattle.naga_wgsl_fns.proofs.ConstantRows.{global_there, in_order, initialiser_before}
-use Rattle.naga_wgsl_fns.proofs.ConstantRows.{initialiser_written, literal_passes, literal_row}
+use Rattle.naga_wgsl_fns.proofs.ConstantRows.{initialiser_has_form, literal_passes, literal_row}
 use Rattle.naga_wgsl_fns.proofs.ConstantRows.{named_constant, no_other_global, override_row}
-use Rattle.naga_wgsl_fns.proofs.ConstantRows.{override_there, unnamed_constant, parts_are_written}
+use Rattle.naga_wgsl_fns.proofs.ConstantRows.{override_there, unnamed_constant, parts_have_forms}
 use Rattle.naga_wgsl_fns.proofs.ConstantRows.{parts_more, parts_none, parts_start, splat_row}
 use Rattle.naga_wgsl_fns.proofs.ConstantRows.{zero_passes, zero_row}
 use Rattle.naga_wgsl_fns.proofs.RepresentativeRows.{representative_is}
@@ -20,31 +20,31 @@ pub write_global-write_representative-requires : goal.write_global-write_represe
 write_global-write_representative-requires g t c κs within =
     let text = c.args.self.now in
     let is = representative_is text.shader.now c.requires.can.of_module text.tables.now.representatives
-    c.requires.can.tables.representatives c.args.handle c.requires.written in
+    c.requires.can.tables.representatives c.args.handle c.requires.has_form in
     let found = c.representative.ensures in
     let before : c.representative.result ≤ c.args.handle = subst (λ h. h ≤ c.args.handle) (sym found) is.before in (
       omega (arith, before, c.decreases),
-      (within, (c.requires.can, ap (global_has_form text.shader.now) found ∙ is.written)),
+      (within, (c.requires.can, ap (global_has_form text.shader.now) found ∙ is.has_form)),
     )
 
 pub write_global-returns : goal.write_global-returns
 write_global-returns g t c =
     let text = c.args.self.now in
     let is = representative_is text.shader.now c.requires.can.of_module text.tables.now.representatives
-    c.requires.can.tables.representatives c.args.handle c.requires.written in
+    c.requires.can.tables.representatives c.args.handle c.requires.has_form in
     writes_as (ap (global_text text.shader.now) c.representative.ensures ∙ is.text) c.write_representative.ensures
 
 -- ---- one by what it is
 pub write_representative-index-requires : goal.write_representative-index-requires
 write_representative-index-requires g t c =
     let m = c.args.self.now.shader.now in
-    global_there m (in_order m c.requires.can.of_module) c.args.handle c.requires.written
+    global_there m (in_order m c.requires.can.of_module) c.args.handle c.requires.has_form
 
 pub write_representative-write_literal-requires : goal.write_representative-write_literal-requires
 write_representative-write_literal-requires g t c =
     let m = c.args.self.now.shader.now in
     literal_passes m (in_order m c.requires.can.of_module) c.args.handle c.index.result.now
-    c.in-Literal.literal c.index.ensures c.in-Literal.is c.requires.written
+    c.in-Literal.literal c.index.ensures c.in-Literal.is c.requires.has_form
 
 pub write_representative-write_constant-requires : goal.write_representative-write_constant-requires
 write_representative-write_constant-requires g t c κs within =
@@ -52,10 +52,10 @@ write_representative-write_constant-requires g t c κs within =
     let order = in_order m c.requires.can.of_module in
     let before =
     initialiser_before m order c.args.handle c.index.result.now c.in-Constant.constant
-    c.index.ensures c.in-Constant.is c.requires.written in
+    c.index.ensures c.in-Constant.is c.requires.has_form in
     let written =
     constant_passes m order c.args.handle c.index.result.now c.in-Constant.constant
-    c.index.ensures c.in-Constant.is c.requires.written in
+    c.index.ensures c.in-Constant.is c.requires.has_form in
     (omega (arith, before, c.decreases), (within, (c.requires.can, written)))
 
 pub write_representative-write_override_name-requires-clause-there :
@@ -67,20 +67,20 @@ write_representative-write_override_name-requires-clause-there g t c =
 pub write_constant-index-item-requires : goal.write_constant-index-item-requires
 write_constant-index-item-requires g t c =
     let m = c.args.self.now.shader.now in
-    constant_there m (in_order m c.requires.can.of_module) c.args.constant c.requires.written
+    constant_there m (in_order m c.requires.can.of_module) c.args.constant c.requires.has_form
 
 pub write_constant-write_constant_name-requires-clause-constant :
     goal.write_constant-write_constant_name-requires-clause-constant
 write_constant-write_constant_name-requires-clause-constant g t c =
     let m = c.args.self.now.shader.now in
-    constant_there m (in_order m c.requires.can.of_module) c.args.constant c.requires.written
+    constant_there m (in_order m c.requires.can.of_module) c.args.constant c.requires.has_form
 
 pub write_constant-write_global-requires : goal.write_constant-write_global-requires
 write_constant-write_global-requires g t c κs within =
     let m = c.args.self.now.shader.now in
     let item = c.index-item.result.now in
     let written =
-    initialiser_written m (in_order m c.requires.can.of_module) c.args.constant c.requires.written
+    initialiser_has_form m (in_order m c.requires.can.of_module) c.args.constant c.requires.has_form
     item c.index-item.ensures (sym c.is_some.ensures ∙ c.if-is_some.false) in
     let same = ap (λ o. option_map_or (λ k. k.init) o 0) c.index-item.ensures in
     (omega (arith, same, c.decreases), (within, (c.requires.can, written)))
@@ -104,8 +104,8 @@ write_representative-write_made_global-requires g t c κs within =
     let m = c.args.self.now.shader.now in
     let formed =
     zero_passes m (in_order m c.requires.can.of_module) c.args.handle c.index.result.now
-    c.in-ZeroValue.ty c.index.ensures c.in-ZeroValue.is c.requires.written in
-    (omega (arith, c.decreases), (within, (c.requires.can, (formed, c.requires.written))))
+    c.in-ZeroValue.ty c.index.ensures c.in-ZeroValue.is c.requires.has_form in
+    (omega (arith, c.decreases), (within, (c.requires.can, (formed, c.requires.has_form))))
 
 pub write_representative-write_made_global-requires-in-Compose :
     goal.write_representative-write_made_global-requires-in-Compose
@@ -113,8 +113,8 @@ write_representative-write_made_global-requires-in-Compose g t c κs within =
     let m = c.args.self.now.shader.now in
     let formed =
     composed_passes m (in_order m c.requires.can.of_module) c.args.handle c.index.result.now
-    c.in-Compose.ty _ c.index.ensures c.in-Compose.is c.requires.written in
-    (omega (arith, c.decreases), (within, (c.requires.can, (formed, c.requires.written))))
+    c.in-Compose.ty _ c.index.ensures c.in-Compose.is c.requires.has_form in
+    (omega (arith, c.decreases), (within, (c.requires.can, (formed, c.requires.has_form))))
 
 pub write_representative-returns-in-Literal : goal.write_representative-returns-in-Literal
 write_representative-returns-in-Literal g t c =
@@ -142,7 +142,7 @@ write_representative-returns-in-ZeroValue g t c =
     let m = c.args.self.now.shader.now in
     let formed =
     zero_passes m (in_order m c.requires.can.of_module) c.args.handle c.index.result.now
-    c.in-ZeroValue.ty c.index.ensures c.in-ZeroValue.is c.requires.written in
+    c.in-ZeroValue.ty c.index.ensures c.in-ZeroValue.is c.requires.has_form in
     writes_as
     (zero_row m c.requires.can.of_module c.args.handle c.in-ZeroValue.ty c.index.result.now c.index.ensures
     c.in-ZeroValue.is formed)
@@ -153,7 +153,7 @@ write_representative-returns-in-Compose g t c =
     let m = c.args.self.now.shader.now in
     let formed =
     composed_passes m (in_order m c.requires.can.of_module) c.args.handle c.index.result.now
-    c.in-Compose.ty _ c.index.ensures c.in-Compose.is c.requires.written in
+    c.in-Compose.ty _ c.index.ensures c.in-Compose.is c.requires.has_form in
     writes_as
     (composed_row m c.requires.can.of_module c.args.handle c.in-Compose.ty _ c.index.result.now
     c.index.ensures c.in-Compose.is formed)
@@ -170,7 +170,7 @@ pub write_representative-unreachable-requires : goal.write_representative-unreac
 write_representative-unreachable-requires g t c =
     let m = c.args.self.now.shader.now in
     no_other_global m (in_order m c.requires.can.of_module) c.args.handle c.index.result.now
-    c.index.ensures c.requires.written
+    c.index.ensures c.requires.has_form
     (record {
       literal = c.in_default.not-Literal;
       constant = c.in_default.not-Constant;
@@ -183,7 +183,7 @@ write_representative-unreachable-requires g t c =
 pub write_parts-index-requires : goal.write_parts-index-requires
 write_parts-index-requires g t c =
     let m = c.args.self.now.shader.now in
-    global_there m (in_order m c.requires.can.of_module) c.args.handle c.requires.written
+    global_there m (in_order m c.requires.can.of_module) c.args.handle c.requires.has_form
 
 pub write_parts-loop-part-init : goal.write_parts-loop-part-init
 write_parts-loop-part-init g t c =
@@ -196,8 +196,8 @@ write_parts-loop-part-init g t c =
           (parts_start m h ∙ ap (parts_left m true) (there ∙ sym items))
           (leaves_start _ (parts_text m h));
       before = subst (ArePartsBelow m h) (sym items)
-          (parts_are_written m (in_order m c.requires.can.of_module) h c.index.result.now
-          c.index.ensures c.requires.written);
+          (parts_have_forms m (in_order m c.requires.can.of_module) h c.index.result.now
+          c.index.ensures c.requires.has_form);
     }
 
 pub write_parts-write_next_part-requires : goal.write_parts-write_next_part-requires
