@@ -49,7 +49,7 @@ use Rattle.module_semantics.specs.Types.{type_names}
 use Rattle.naga_form.specs.Types.{annotated_type}
 use Rattle.naga_form.proofs.declarations.AcceptedGroups.{known_fits, types_are_fit}
 use Rattle.naga_form.proofs.types.SameValues.{IsFit, TypesAreFit}
-use Rattle.naga_form.proofs.types.WrittenTypes.{is_type_at, distinguished_is}
+use Rattle.naga_form.proofs.types.WrittenTypes.{is_type_at, annotated_is}
 use Rattle.module_semantics.specs.ExpressionShapes.{ModuleDeclarations}
 use Rattle.naga_form.specs.ConstantForms.{written_constant_form}
 use Rattle.naga_form.proofs.statements.Abstraction.{AreWritten}
@@ -212,7 +212,7 @@ module _ (m : Module) (info : ModuleInfo) (g : ℕ) (f : ir_function.Function)
             (λ k. ap (slice_get f.local_variables) (sym (add-zero k))) (locals_are_in_range m callees f ranges);
         body = lines_are flags m info g f es named identifiers few W formed unnamed_formed
             (annotated_type (annotates_types flags) m (type_names m) es)
-            (distinguished_is m types (annotates_types flags) es fits) 0
+            (annotated_is m types (annotates_types flags) es fits) 0
             f.body statements (at_start own.function) starts all_labels closed.body;
       }
 

@@ -156,14 +156,14 @@ scope_fails None fault holds = fault
 scope_fails (Some f) fault holds = fault_is_no_rule f fault holds
 
 -- a fault
-pub fault_fails : (explicit : Bool) (m : Module) (info : ModuleInfo) (earlier : List (List ℕ)) (i : ℕ)
+pub reason_fails : (explicit : Bool) (m : Module) (info : ModuleInfo) (earlier : List (List ℕ)) (i : ℕ)
     (error : Error) → IsReasonForNoPlan explicit m info earlier i error →
     IsWritableAt explicit m info earlier i → ⊥
-fault_fails explicit m info earlier i error (inl scope) w =
+reason_fails explicit m info earlier i error (inl scope) w =
     scope_fails (function_shape_at m info i) scope.1 w.in_scope
-fault_fails explicit m info earlier i error (inr (inl unsupported)) w =
+reason_fails explicit m info earlier i error (inr (inl unsupported)) w =
     unsupported_fails explicit m info i error unsupported earlier w
-fault_fails explicit m info earlier i error (inr (inr full)) w = w.nameable full.1
+reason_fails explicit m info earlier i error (inr (inr full)) w = w.nameable full.1
 
 -- ---- what is told of a plan's error
 -- no refusal that names a type is the sink's

@@ -36,7 +36,7 @@ use Rattle.naga_wgsl_out.specs.Writing.{WroteFunctionsBefore, front_text, spaced
 use Rattle.naga_wgsl_out.specs.Writing.{spaced_module, AppendsItsText, written_text}
 use Rattle.naga_wgsl_out.proofs.Functions.{lines_after, lines_split, written_lines}
 use Rattle.naga_wgsl_out.proofs.ModuleScopes.{all_planned_counted, all_planned_formed}
-use Rattle.naga_wgsl_out.proofs.ModuleScopes.{all_planned_hold, fault_refuses, fault_reported}
+use Rattle.naga_wgsl_out.proofs.ModuleScopes.{all_planned_hold, reason_refuses, reason_reported}
 use Rattle.naga_wgsl_fns.specs.Refusals.{TellsOfForm, TellsOfFullNamer, TellsOfModule, TellsOfScope}
 use Rattle.naga_wgsl_out.specs.ModuleRefusals.{ComesBeforeText, HasAllNames, IsNamesRefusal}
 use Rattle.naga_wgsl_out.specs.ModuleRefusals.{ItemsAreFull, IsRefusal, NamerIsFull}
@@ -258,7 +258,7 @@ module _ (m : Module) (info : ModuleInfo) (flags : WriterFlags)
           Concludes (Err e) content now before after
       met_no_plan e s first_told = record {
         is_faithful = refused flags m info e content now before after
-            (fault_refuses explicit m info s.before.handle before after e s.tells s.fault);
+            (reason_refuses explicit m info s.before.handle before after e s.tells s.reason);
         matches = tt;
         text = tt;
         leaves =
@@ -271,7 +271,7 @@ module _ (m : Module) (info : ModuleInfo) (flags : WriterFlags)
               s.before.written,
             )))
             (λ first. absurd (first.1
-            (fault_reported explicit m info s.before.handle declarations has.nameable e s.tells s.fault)))
+            (reason_reported explicit m info s.before.handle declarations has.nameable e s.tells s.reason)))
             (λ of. subst (λ t. WroteFunctionsBefore m info flags t now) stands.appended s.before)
             (λ of. s.kept ∙ stands.kept) first_told;
       }

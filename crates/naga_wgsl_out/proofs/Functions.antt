@@ -61,7 +61,7 @@ use Rattle.naga_wgsl_out.specs.Writing.{line_after, spaced_function, spaced_func
 use Rattle.naga_wgsl_out.specs.Writing.{spaced_functions, spaced_module}
 use Rattle.naga_wgsl_out.specs.Writing.{written_text}
 use Rattle.naga_wgsl_out.proofs.ExpressionNames.{named_plan, none_full}
-use Rattle.naga_wgsl_fns.proofs.PlanRefusals.{fault_fails}
+use Rattle.naga_wgsl_fns.proofs.PlanRefusals.{reason_fails}
 use Rattle.naga_wgsl_out.proofs.ModuleScopes.{has_plan_holds}
 use Rattle.module_semantics.proofs.FunctionNumbers.{info_among, type_of_entry_point, type_of_function}
 use Rattle.naga_form.proofs.statements.WrittenFunctions.{entry_point_at}
@@ -403,12 +403,12 @@ module _ (m : Module) (info : ModuleInfo) (flags : WriterFlags) {n : ℕ} {conte
     unplanned {error} none = record {
       before = record {
         handle = n;
-        fails = fault_fails (annotates_types flags) m info (labels_before m n) n error none.fault;
+        fails = reason_fails (annotates_types flags) m info (labels_before m n) n error none.reason;
         hold = λ i below. has_plan_holds (annotates_types flags) m info i (so_far.planned i below);
         written = none.untouched ∙ so_far.wrote.appended;
       };
       tells = none.tells;
-      fault = none.fault;
+      reason = none.reason;
       kept = none.kept ∙ so_far.wrote.kept;
     }
 
@@ -444,7 +444,7 @@ module _ (m : Module) (info : ModuleInfo) (flags : WriterFlags) (n : ℕ) (conte
     reason = tt;
   })
   no_plan _ refusal =
-      inr (record { untouched = refl; kept = refl; tells = refusal.0; fault = refusal.1 })
+      inr (record { untouched = refl; kept = refl; tells = refusal.0; reason = refusal.1 })
 
   -- where it has one
   pub next_written : n < length (all_functions m) → (old next : Names) (planned : Planned)

@@ -33,7 +33,7 @@ use Rattle.naga_wgsl_fns.specs.DeclarationRefusals.NamesDeclaration.{OfMember, O
 use Rattle.naga_wgsl_fns.specs.DeclarationRefusals.NamesDeclaration.{OfType as OfDeclaredType}
 use Rattle.naga_wgsl_fns.specs.DeclarationRefusals.NamesHead.{OfBinding, OfStage}
 use Rattle.naga_scope.specs.Plans.{HasScopeFaultIn}
-use Rattle.naga_wgsl_fns.proofs.PlanRefusals.{declaration_is_no_sink, fault_fails, named}
+use Rattle.naga_wgsl_fns.proofs.PlanRefusals.{declaration_is_no_sink, reason_fails, named}
 use Rattle.naga_wgsl_fns.proofs.PlanRefusals.{planned_holds, unsupported_fails}
 use Rattle.naga_wgsl_out.proofs.UnsupportedTexts.{of_expression, of_statement, of_type}
 use Rattle.naga_wgsl_out.specs.ModuleRefusals.{HasUnsupported, IsRefusal, ItemsAreFull}
@@ -125,30 +125,30 @@ module _ (m : Module) (declarations : DeclarationsHaveForms m) where
 
 -- what a fault tells
 module _ (explicit : Bool) (m : Module) (info : ModuleInfo) (i : ℕ) where
-  pub fault_reported : DeclarationsHaveForms m → (ItemsAreFull m → ⊥) → (error : Error) →
+  pub reason_reported : DeclarationsHaveForms m → (ItemsAreFull m → ⊥) → (error : Error) →
       TellsOfModule error → IsReasonForNoPlan explicit m info (labels_before m i) i error →
       TellsOfFunction m error
-  fault_reported declarations items error tells (inl scope) =
+  reason_reported declarations items error tells (inl scope) =
       record { declarations = declarations; tells = inl scope.0 }
-  fault_reported declarations items error tells (inr (inl unsupported)) =
+  reason_reported declarations items error tells (inr (inl unsupported)) =
       unsupported_reported m declarations explicit info i error unsupported tells
-  fault_reported declarations items error tells (inr (inr full)) =
+  reason_reported declarations items error tells (inr (inr full)) =
       record { declarations = declarations; tells = inr (inr (full.0, items)) }
 
-  pub fault_refuses : (before after : ℕ) → (error : Error) → TellsOfModule error →
+  pub reason_refuses : (before after : ℕ) → (error : Error) → TellsOfModule error →
       IsReasonForNoPlan explicit m info (labels_before m i) i error →
       IsRefusal explicit m info before after error
-  fault_refuses before after (FmtError e) tells fault = absurd tells
-  fault_refuses before after (Memory e) tells fault = absurd tells
-  fault_refuses before after (Custom message) tells (inl scope) =
+  reason_refuses before after (FmtError e) tells fault = absurd tells
+  reason_refuses before after (Memory e) tells fault = absurd tells
+  reason_refuses before after (Custom message) tells (inl scope) =
       inr (inl (scope.0, (i, scope.1)))
-  fault_refuses before after (Custom message) tells (inr (inl unsupported)) =
+  reason_refuses before after (Custom message) tells (inr (inl unsupported)) =
       inr (inr (inr (i, unsupported)))
-  fault_refuses before after (Custom message) tells (inr (inr full)) =
+  reason_refuses before after (Custom message) tells (inr (inr full)) =
       inl (inl (full.0, inr (i, full.1)))
-  fault_refuses before after _ tells (inl scope) = absurd scope.0
-  fault_refuses before after _ tells (inr (inl unsupported)) = inr (i, unsupported)
-  fault_refuses before after _ tells (inr (inr full)) = absurd full.0
+  reason_refuses before after _ tells (inl scope) = absurd scope.0
+  reason_refuses before after _ tells (inr (inl unsupported)) = inr (i, unsupported)
+  reason_refuses before after _ tells (inr (inr full)) = absurd full.0
 
 -- ---- declarations without a form
 -- none is named where all have forms
@@ -212,7 +212,7 @@ module _ (explicit : Bool) (m : Module) (info : ModuleInfo) (nothing : NothingIs
 
     none_out_of_scope : (error : Error) → TellsOfScope error → (i : ℕ) → HasScopeFaultIn m info i → ⊥
     none_out_of_scope error says i fault =
-        fault_fails explicit m info (labels_before m i) i error (inl (says, fault)) (each_writable i)
+        reason_fails explicit m info (labels_before m i) i error (inl (says, fault)) (each_writable i)
 
     -- so no error that tells of the module has a reason
     pub no_refusal : (before after : ℕ) (error : Error) → TellsOfModule error →

@@ -130,7 +130,7 @@ pub record HasNoPlan (m : Module) (info : ModuleInfo) (flags : WriterFlags) (num
   pub untouched : now ≡ content
   pub kept : failures ≡ failed
   pub tells : TellsOfModule error
-  pub fault : IsReasonForNoPlan (annotates_types flags) m info (labels_before m number) number error
+  pub reason : IsReasonForNoPlan (annotates_types flags) m info (labels_before m number) number error
 
 -- what a call that writes this function did, by its answer
 abbrev pub WritesNext : Module → ModuleInfo → WriterFlags → (number : ℕ) → Names →
@@ -152,7 +152,7 @@ pub record MetNoPlan (m : Module) (info : ModuleInfo) (flags : WriterFlags) (con
     (failed : ℕ) (now : List ℕ) (failures : ℕ) (error : Error) : Type 0 where
   pub before : WroteFunctionsBefore m info flags content now
   pub tells : TellsOfModule error
-  pub fault : IsReasonForNoPlan (annotates_types flags) m info (labels_before m before.handle) before.handle
+  pub reason : IsReasonForNoPlan (annotates_types flags) m info (labels_before m before.handle) before.handle
       error
   pub kept : failures ≡ failed
 

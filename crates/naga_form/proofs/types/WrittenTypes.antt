@@ -331,11 +331,11 @@ module _ (m : Module) (types : TypesAreFit m) where
       subst (λ o. IsType (unwrap_or o (Named []))) (sym t.1) (tree_is m types (Handle ty) tt t.0 t.1)
 
   -- what a `let` tells is a type of the grammar
-  pub distinguished_is : (explicit : Bool) (es : List ExpressionInfo) →
+  pub annotated_is : (explicit : Bool) (es : List ExpressionInfo) →
       ((h : ℕ) (k : ExpressionInfo) → slice_get es h ≡ Some k → IsFit m k.ty) →
       (h : ℕ) (tree : TypeSpecifier) →
       annotated_type explicit m (type_names m) es h ≡ Some tree → IsType tree
-  distinguished_is true es fits h tree is =
+  annotated_is true es fits h tree is =
       let k =
       then_some
       (λ k. if names_undeclared m k.ty then None else resolution_tree (type_names m) k.ty)
@@ -347,7 +347,7 @@ module _ (m : Module) (types : TypesAreFit m) where
           IsType tree
       by true k fit e = absurd cc
       by false k fit e = tree_is m types k.ty fit tree e
-  distinguished_is false es fits h tree is = absurd cc
+  annotated_is false es fits h tree is = absurd cc
 
   -- the tree of a type is spelled as no name is, or it names a struct
   pub free_form : (r : TypeResolution) → IsFit m r →
