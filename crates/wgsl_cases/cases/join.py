@@ -206,7 +206,7 @@ class Expected:
 
 def json_position(told, module):
     """The position in the JSON of what is told of a module that is not accepted, with the label there."""
-    item, number, part, at = POSITION.match(told).groups()
+    item, number, part, inner = POSITION.match(told).groups()
     if item == "module":
         return item
     at = f"module.{LISTS[item]}[{number}]"
@@ -214,7 +214,7 @@ def json_position(told, module):
         return at
     label = module[LISTS[item]][int(number)].get("name")
     function = ".function" if item == "entry point" else ""
-    within = PARTS[part].format(at) if part else ""
+    within = PARTS[part].format(inner) if part else ""
     return at + function + within + ("" if label is None else f", in {json.dumps(label, ensure_ascii=False)}")
 
 

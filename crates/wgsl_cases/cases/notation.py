@@ -204,7 +204,7 @@ class Reader:
         if labelled is not None:
             self.next()
             return labelled
-        return self.types.place(None, self.inner())
+        return self.types.index(None, self.inner())
 
     def resolution(self):
         """What is known of an expression's type: a handle, or after `~` the type itself."""
@@ -426,8 +426,8 @@ class Types:
         self.items = []
         self.labels = {}
 
-    def place(self, label, inner):
-        """Where a type stands, which is added if it is absent."""
+    def index(self, label, inner):
+        """The index of a type, which is added if it is absent."""
         item = labelled(label, inner)
         if item in self.items:
             return self.items.index(item)
