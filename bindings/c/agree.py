@@ -149,7 +149,7 @@ def rust_numbers_differ(wanted):
 
 
 def statuses_differ(wanted):
-    """Where the page in web/ or the library's test names another status, by its place in a list."""
+    """Where the page in web/ or the library's test names another status, by its index in a list."""
     left_out = {"VERSION", *LIMITS, *flags_of_calls()}
     statuses = {name: number for name, number in wanted.items() if name not in left_out}
     return [

@@ -287,7 +287,7 @@ def test_lines(folder, _):
 
 
 def in_function(answer):
-    """The label of an answer as a text has it after the place, of labels without what Rust escapes in another way than JSON."""
+    """The label of an answer as a text has it after the position, of labels without what Rust escapes in another way than JSON."""
     return ", in " + json.dumps(answer["function"], ensure_ascii=False) if "function" in answer else ""
 
 
@@ -332,7 +332,7 @@ def cut_answers(output, names):
     return answers
 
 
-# The label after a place: `, in "half"`.
+# The label after a position: `, in "half"`.
 LABEL = re.compile(r', in "(?:[^"\\]|\\.)*"')
 # Another use of an operator, as wgsl_cases tells it, and as the library does.
 ANOTHER_USE = re.compile(r"(?<= as at )(function|entry point|global expression) (\d+)(?:, expression (\d+))?(?=, got )")
@@ -349,7 +349,7 @@ def json_use(match):
 
 
 def wanted_of(answer, text):
-    """The status and the text that the library owes where wgsl_cases tells this. It tells places in other words."""
+    """The status and the text that the library owes where wgsl_cases tells this. It tells positions in other words."""
     front, _, last = answer[:-1].rpartition("\n")
     before = front.rpartition("\n")[2]
     if before.startswith("not accepted: "):

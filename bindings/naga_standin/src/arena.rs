@@ -7,7 +7,7 @@ use std::hash::{Hash, Hasher};
 use std::marker::PhantomData;
 use std::ops::Index;
 
-/// A place in an arena, told as its number.
+/// An index in an arena, told as a number.
 pub struct Handle<T> {
     index: u32,
     marker: PhantomData<T>,
