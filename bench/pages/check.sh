@@ -6,7 +6,8 @@
 #   pictures that are not as they would be made (pictures.py, which also makes them);
 #   counts in docs/ADDING.md that the tree has not (mentions.py, which also writes them);
 #   lemmas and definitions that nothing uses (unused.py);
-#   public names that no test imports (public.py).
+#   public names that no test imports (public.py);
+#   imports of what the named file has not (imports.py).
 # It is quiet, and its status is 0, where all is so. Run it at the top of the repository, with pages for the names of these alone.
 here=$(dirname "$0")
 status=0
@@ -16,4 +17,5 @@ python3 "$here/pictures.py" --check || status=1
 python3 "$here/mentions.py" --check || status=1
 python3 "$here/unused.py" || status=1
 python3 "$here/public.py" || status=1
+python3 "$here/imports.py" || status=1
 exit $status
