@@ -140,7 +140,7 @@ write_matrix_load-returns g t c =
     writes_as
     (sym
     (matrix_row c.args.self.now c.args.scope.now.table c.args.columns c.args.rows c.args.role
-    c.args.place c.args.handle))
+    c.args.memory c.args.handle))
     (writes_then c.write_matrix_callee.ensures (writes_then c.put.ensures c.write_operands.ensures))
 
 pub write_own-returns-in-CooperativeLoad : goal.write_own-returns-in-CooperativeLoad

@@ -12,7 +12,7 @@ write_constant-requires-clause-can g c =
 
 pub write_constant-requires-clause-has_form : goal.write_constant-requires-clause-has_form
 write_constant-requires-clause-has_form g c =
-    ap (λ m. constant_has_form m c.args.constant) c.of_module.ensures.shader ∙ c.requires.written
+    ap (λ m. constant_has_form m c.args.constant) c.of_module.ensures.shader ∙ c.requires.has_form
 
 pub returns : goal.returns
 returns g c =

@@ -27,7 +27,7 @@ returns-else-is_bound g c =
 
 pub write_let-requires-clause-handle : goal.write_let-requires-clause-handle
 write_let-requires-clause-handle g c =
-    c.requires.root (sym c.requires.bound ∙ c.if-is_bound.true)
+    c.requires.in_text (sym c.requires.bound ∙ c.if-is_bound.true)
 
 pub write_let-requires-clause-named : goal.write_let-requires-clause-named
 write_let-requires-clause-named g c =

@@ -12,13 +12,13 @@ pub write_taking-requires-clause-formed : goal.write_taking-requires-clause-form
 write_taking-requires-clause-formed g c =
     let self = c.args.self.now in
     let loaded =
-    matrix_loaded self c.requires.can c.args.columns c.args.rows c.args.role c.args.place
+    matrix_loaded self c.requires.can c.args.columns c.args.rows c.args.role c.args.memory
     c.requires.formed in
     subst
     (λ s. has_type_form self.shader.now.types
     (Value (CooperativeMatrix c.args.columns c.args.rows s c.args.role)) ≡
     true)
-    (same_Some loaded.scalar _ (sym loaded.known ∙ c.pointed_scalar-scalar.ensures)) loaded.written
+    (same_Some loaded.scalar _ (sym loaded.known ∙ c.pointed_scalar-scalar.ensures)) loaded.formed
 
 pub write_taking-requires-clause-fits : goal.write_taking-requires-clause-fits
 write_taking-requires-clause-fits g c = refl
@@ -27,16 +27,16 @@ pub returns : goal.returns
 returns g c =
     let self = c.args.self.now in
     let loaded =
-    matrix_loaded self c.requires.can c.args.columns c.args.rows c.args.role c.args.place
+    matrix_loaded self c.requires.can c.args.columns c.args.rows c.args.role c.args.memory
     c.requires.formed in
     let formed =
     subst
     (λ s. has_type_form self.shader.now.types
     (Value (CooperativeMatrix c.args.columns c.args.rows s c.args.role)) ≡
     true)
-    (same_Some loaded.scalar _ (sym loaded.known ∙ c.pointed_scalar-scalar.ensures)) loaded.written in
+    (same_Some loaded.scalar _ (sym loaded.known ∙ c.pointed_scalar-scalar.ensures)) loaded.formed in
     writes_as
-    (matrix_callee_row self c.args.columns c.args.rows c.args.role c.args.place
+    (matrix_callee_row self c.args.columns c.args.rows c.args.role c.args.memory
     c.pointed_scalar-scalar.result c.pointed_scalar-scalar.ensures formed c.load_str.result.now
     c.load_str.ensures)
     c.write_taking.ensures
