@@ -162,8 +162,8 @@ not_written json flags writer given m read info (unwritten.NotAccepted fault) to
           (subst (λ read. TellsFaultAt holder.Member m read fault text) is.3 line);
     }) refl says
 not_written json flags writer given m read info unwritten.TooLong told text known bits asked is says =
-    let asked = was_asked flags writer given m read info known bits (asked refl) is.accepted is.counted in
-    let long : IsTooLong flags = record { asked = asked; longer = is.longer } in
+    let asking = was_asked flags writer given m read info known bits (asked refl) is.accepted is.counted in
+    let long : IsTooLong flags = record { asked = asking; longer = is.longer } in
     said (TellsOfWriting json flags) status.TooLong told text long refl says.0
 not_written json flags writer given m read info (unwritten.Memory error) told text known bits asked is says =
     said (TellsOfWriting json flags) status.OutOfMemory told text (says.1 refl) refl says.0
