@@ -25,7 +25,7 @@ write_written_global-requires g c = record {
     named = c.requires.names;
     tables = c.in_ok-tables.ensures;
   };
-  written = sym c.has_form.ensures ∙ c.if-has_form.true;
+  has_form = sym c.has_form.ensures ∙ c.if-has_form.true;
 }
 
 pub returns-then-has_form : goal.returns-then-has_form
