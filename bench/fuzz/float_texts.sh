@@ -9,8 +9,8 @@ copy=$(mktemp -d)
 trap 'rm -rf "$copy"' EXIT
 cp HANDLES "$copy"
 mkdir -p "$copy/crates/float_texts/src" "$copy/crates/float_texts/specs" "$copy/crates/float_texts/proofs"
-cp -a crates/float_numerals "$copy/crates/"
-grep '^float_numerals:' crates.txt > "$copy/crates.txt"
+cp -a crates/decimal_numerals crates/float_numerals "$copy/crates/"
+grep -E '^(decimal|float)_numerals:' crates.txt > "$copy/crates.txt"
 echo 'float_texts: float_numerals' >> "$copy/crates.txt"
 cp bench/fuzz/float_texts/main.rt.txt "$copy/crates/float_texts/src/main.rt"
 rustc -O -o "$copy/compare" bench/fuzz/float_texts/compare.rs

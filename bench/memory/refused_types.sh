@@ -3,7 +3,7 @@
 # run, and counts the runs in which nothing was refused, in which a refusal was told and the call was whole
 # when it was repeated, and others, which are wrong: the status is 1 then. Run it at the top of the repository; it works
 # on a copy.
-set -- memory/refused_types naga_info wgsl_words naga_words
+set -- memory/refused_types naga_info wgsl_words naga_spelling naga_words
 . bench/memory/count_runs.sh
 . bench/on_a_copy.sh
 mkdir cases

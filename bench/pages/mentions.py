@@ -16,7 +16,7 @@ ASIDE = {
     "sample_modules", "wgsl_rows", "word_tests", "module_tests", "wgsl_tests", "wgsl_cases", "example_tint",
 }
 # the IR with its own tables, its reader and its builder
-OF_THE_IR = {"naga_ir", "naga_json", "naga_builder"}
+OF_THE_IR = {"naga_ir", "naga_fields", "naga_json", "naga_builder"}
 EXAMPLES = {
     "Select": "an operator that is called by a word",
     "Splat": "an operator whose text names its type, and of which constants are made",
@@ -101,7 +101,7 @@ def table(name):
 
 def counts():
     """The table of docs/ADDING.md."""
-    text = "| Name | Is | In `naga_ir`, `naga_json`, `naga_builder` | In all other crates |\n|---|---|---|---|\n"
+    text = "| Name | Is | In `naga_ir`, `naga_fields`, `naga_json`, `naga_builder` | In all other crates |\n|---|---|---|---|\n"
     for name, what in EXAMPLES.items():
         rows = list(rows_of(name))
         of_ir = [row[3] for row in rows if row[0] in OF_THE_IR]

@@ -21,17 +21,23 @@ INK, PALE = "#1b1f24", "#57606a"
 
 LAYERS = [
     ("data", CODE, [
-        ("float_numerals", "floats in decimal"),
+        ("decimal_numerals", "decimal numerals"),
         ("naga_ir", "modules as data"),
         ("naga_info", "types and counts"),
+        ("naga_fields", "names of fields"),
         ("naga_builder", "builders"),
         ("naga_json", "modules from JSON"),
     ]),
-    ("words, names", CODE, [
+    ("words", CODE, [
+        ("float_numerals", "floats in decimal"),
         ("naga_keywords", "sets of words"),
         ("wgsl_words", "words for values"),
+    ]),
+    ("names, types", CODE, [
+        ("naga_naming", "rules of names"),
         ("naga_names", "the namer"),
-        ("naga_words", "sinks, spellings"),
+        ("naga_spelling", "types spelled"),
+        ("naga_words", "sinks, outputs"),
         ("naga_back", "naga's helpers"),
         ("naga_listing", "lines around positions"),
     ]),

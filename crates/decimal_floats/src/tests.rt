@@ -1,7 +1,7 @@
 //! Which literals become decimal, wherever they stand.
 
 use crate::{decimal_literal, floats_to_decimals};
-use float_numerals::Decimal;
+use decimal_numerals::Decimal;
 use naga_ir::{Arena, EntryPoint, Expression, Function, ItemIndex, Literal, Module, ShaderStage};
 use std::alloc::{AllocError, Global};
 use std::process::Abort;

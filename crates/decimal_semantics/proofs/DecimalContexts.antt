@@ -10,8 +10,8 @@ use Rattle.naga_ir.specs.declared.module.Module.{Module}
 use Rattle.naga_info.specs.Resolution.{inner_of}
 use Rattle.naga_info.specs.declared.info.ModuleInfo.{ModuleInfo}
 use Rattle.naga_info.specs.declared.info.TypeResolution.TheVariants.{Handle}
-use Rattle.naga_names.specs.declared.key.NameKey.TheVariants as key
-use Rattle.naga_words.specs.Contexts.{names_of}
+use Rattle.naga_naming.specs.declared.key.NameKey.TheVariants as key
+use Rattle.naga_spelling.specs.Contexts.{names_of}
 use Rattle.module_semantics.specs.ExpressionContexts.{constant_number, constant_over, declared}
 use Rattle.module_semantics.specs.ExpressionContexts.{declared_over, expression_context}
 use Rattle.module_semantics.specs.ExpressionContexts.{global_tree, global_tree_within}

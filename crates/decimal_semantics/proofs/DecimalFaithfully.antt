@@ -7,8 +7,8 @@ use Rattle.std.specs.Prelude.{IsTrue, Some}
 use Rattle.naga_ir.specs.declared.module.Module.{Module}
 use Rattle.naga_back.specs.declared.flags.WriterFlags.{WriterFlags}
 use Rattle.naga_info.specs.declared.info.ModuleInfo.{ModuleInfo}
-use Rattle.naga_names.specs.Keys.{NameMap}
-use Rattle.naga_names.specs.declared.key.NameKey.TheVariants as key
+use Rattle.naga_naming.specs.Keys.{NameMap}
+use Rattle.naga_naming.specs.declared.key.NameKey.TheVariants as key
 use Rattle.wgsl_layout.specs.declared.layouts.Placed.{Placed}
 use Rattle.wgsl_text.specs.Declarations.{Program}
 use Rattle.shader_runs.specs.Value.{Value, has_types}

@@ -18,8 +18,8 @@ use Rattle.naga_back.specs.declared.context.FunctionType.TheVariants as item
 use Rattle.naga_back.specs.declared.flags.WriterFlags.{WriterFlags}
 use Rattle.naga_info.specs.declared.info.ExpressionInfo.{ExpressionInfo}
 use Rattle.naga_info.specs.declared.info.ModuleInfo.{ModuleInfo}
-use Rattle.naga_names.specs.Keys.{NameMap}
-use Rattle.naga_words.specs.Contexts.{names_of, Names as TypeNames}
+use Rattle.naga_naming.specs.Keys.{NameMap}
+use Rattle.naga_spelling.specs.Contexts.{names_of, Names as TypeNames}
 use Rattle.shader_runs.specs.Constants.{module_initialiser_value}
 use Rattle.shader_runs.specs.World.{Meaning, Settings}
 use Rattle.module_semantics.specs.Enables.{entry_point_needs, Extension, extensions, is_enabled}

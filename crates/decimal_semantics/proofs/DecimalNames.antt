@@ -9,14 +9,14 @@ use Rattle.std.specs.Map.{lookup, update_all}
 use Rattle.std.specs.Option.{option_or}
 use Rattle.naga_ir.specs.declared.module.EntryPoint.{EntryPoint}
 use Rattle.naga_ir.specs.declared.module.Module.{Module}
-use Rattle.naga_names.specs.Keys.{same_key}
-use Rattle.naga_names.specs.Naming.{label_or, Names}
-use Rattle.naga_names.specs.Reset.{is_struct, labelled_declarations, labelled_entry_point}
-use Rattle.naga_names.specs.Reset.{labelled_entry_points, labelled_function, labelled_functions}
-use Rattle.naga_names.specs.Reset.{labelled_globals, labelled_items, labelled_members}
-use Rattle.naga_names.specs.Reset.{labelled_types, labelled_values, members_of, named_items}
-use Rattle.naga_names.specs.Reset.{output_label, output_word, returns, type_name}
-use Rattle.naga_names.specs.declared.key.NameKey.TheVariants as key
+use Rattle.naga_naming.specs.Keys.{same_key}
+use Rattle.naga_naming.specs.Naming.{label_or, Names}
+use Rattle.naga_naming.specs.Reset.{is_struct, labelled_declarations, labelled_entry_point}
+use Rattle.naga_naming.specs.Reset.{labelled_entry_points, labelled_function, labelled_functions}
+use Rattle.naga_naming.specs.Reset.{labelled_globals, labelled_items, labelled_members}
+use Rattle.naga_naming.specs.Reset.{labelled_types, labelled_values, members_of, named_items}
+use Rattle.naga_naming.specs.Reset.{output_label, output_word, returns, type_name}
+use Rattle.naga_naming.specs.declared.key.NameKey.TheVariants as key
 use Rattle.module_semantics.specs.Names.{module_names, wgsl_names}
 use Rattle.decimal_floats.specs.Decimals.{IsDecimalEntryPoint, IsDecimalFunction, IsDecimalModule}
 use Rattle.decimal_semantics.proofs.SideBySide.{numbered_joined_same}

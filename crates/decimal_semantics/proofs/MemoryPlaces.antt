@@ -15,7 +15,7 @@ use Rattle.naga_info.specs.Resolution.{inner_of}
 use Rattle.naga_info.specs.declared.info.ExpressionInfo.{ExpressionInfo}
 use Rattle.naga_info.specs.declared.info.ModuleInfo.{ModuleInfo}
 use Rattle.naga_info.specs.declared.info.TypeResolution.TheVariants.{Value}
-use Rattle.naga_names.specs.declared.key.NameKey.TheVariants as key
+use Rattle.naga_naming.specs.declared.key.NameKey.TheVariants as key
 use Rattle.module_semantics.specs.acceptance.AgreeingOperators.{function_groups, further_groups_of}
 use Rattle.module_semantics.specs.acceptance.AgreeingOperators.{Group, groups_of}
 use Rattle.module_semantics.specs.AlikeTypes.{has_type_form}

@@ -6,9 +6,9 @@ use Rattle.naga_ir.specs.declared.types.TypeInner.{TypeInner}
 use Rattle.naga_ir.specs.declared.types.TypeInner.TheVariants as inner
 use Rattle.naga_ir.specs.declared.types.ArraySize.{ArraySize}
 use Rattle.naga_ir.specs.declared.types.ArraySize.TheVariants as size
-use Rattle.naga_words.specs.Contexts.{global_context}
-use Rattle.naga_words.specs.Spelling.{IsInOrder, StandsAfter, knows_override, knows_size}
-use Rattle.naga_words.specs.Spelling.{length_within, size_within}
+use Rattle.naga_spelling.specs.Contexts.{global_context}
+use Rattle.naga_spelling.specs.Spelling.{IsInOrder, StandsAfter, knows_override, knows_size}
+use Rattle.naga_spelling.specs.Spelling.{length_within, size_within}
 
 module _ (types : List Type_) (overrides : List Override) where
   so_many : (it : ArraySize) → knows_size (global_context types overrides) it ≡ size_within (length overrides) it

@@ -28,7 +28,7 @@ use Rattle.naga_ir.specs.declared.types.TypeInner.{TypeInner}
 use Rattle.naga_ir.specs.declared.types.TypeInner.TheVariants as inner
 use Rattle.naga_info.specs.declared.info.ModuleInfo.{ModuleInfo}
 use Rattle.naga_info.specs.declared.info.TypeResolution.{TypeResolution}
-use Rattle.naga_words.specs.Spelling.{length_within, size_within}
+use Rattle.naga_spelling.specs.Spelling.{length_within, size_within}
 use Rattle.naga_acceptance.specs.Faults.{ConstantFails, EntryPointFails, EntryPositionFails, FaultIs}
 use Rattle.naga_acceptance.specs.Faults.{FunctionFails, FunctionPositionFails, GlobalExpressionFails}
 use Rattle.naga_acceptance.specs.Faults.{GlobalFails, ItemFails, ModuleFails, OverrideFails, TypeFails}

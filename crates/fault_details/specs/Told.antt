@@ -11,9 +11,9 @@ use Rattle.naga_ir.specs.declared.types.TypeInner.{TypeInner}
 use Rattle.naga_ir.specs.declared.types.TypeInner.TheVariants as inner
 use Rattle.naga_info.specs.declared.info.TypeResolution.{TypeResolution}
 use Rattle.naga_info.specs.declared.info.TypeResolution.TheVariants.{Handle, Value}
-use Rattle.naga_words.specs.Contexts.{global_context}
-use Rattle.naga_words.specs.Segments.{IsText}
-use Rattle.naga_words.specs.Spelling.{Context, FitsResolution, IsInOrder, resolution_segments}
+use Rattle.naga_spelling.specs.Contexts.{global_context}
+use Rattle.naga_spelling.specs.Segments.{IsText}
+use Rattle.naga_spelling.specs.Spelling.{Context, FitsResolution, IsInOrder, resolution_segments}
 use Rattle.naga_listing.specs.OneLine.{on_one_line}
 use Rattle.fault_details.specs.Reasons.{Reason, OtherType, KnownType, OtherClass, NoValue}
 use Rattle.fault_details.specs.Reasons.{Unexpected, Absent, Later, OtherNumber, OtherUse, PastParts}

@@ -1,9 +1,9 @@
 //! Whether a type has a spelling in its module: types stand in order, and what it names is there.
 
 ghost use Rattle.std.specs.Prelude.{◌≡◌, ◌≤◌, ◌↔◌, IsTrue};
-ghost use Rattle.naga_words.specs.Contexts.{global_context};
-ghost use Rattle.naga_words.specs.Spelling.{FitsResolution, IsInOrder, StandsAfter, end_of_base};
-ghost use Rattle.naga_words.specs.Spelling.{length_within};
+ghost use Rattle.naga_spelling.specs.Contexts.{global_context};
+ghost use Rattle.naga_spelling.specs.Spelling.{FitsResolution, IsInOrder, StandsAfter, end_of_base};
+ghost use Rattle.naga_spelling.specs.Spelling.{length_within};
 
 use naga_info::TypeResolution;
 use naga_ir::{ArraySize, Handle, ItemIndex, Module, Type_, TypeInner};

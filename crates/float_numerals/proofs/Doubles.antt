@@ -18,8 +18,8 @@ use lib.Ieee.{round}
 use lib.Ieee.Scale.{round_same}
 use lib.Pow.{pow-add}
 use Rattle.fast_float.specs.Rounding.{nearest_to_decimal}
-use Rattle.float_numerals.specs.declared.decimal.Decimal.{Decimal}
-use Rattle.float_numerals.specs.Denoted.{denoted, decimal_float}
+use Rattle.decimal_numerals.specs.declared.decimal.Decimal.{Decimal}
+use Rattle.decimal_numerals.specs.Denoted.{denoted, decimal_float}
 use Rattle.float_numerals.specs.Texts.{whole_of, fraction_of, some_fraction_of, leading_power, has_plain_form}
 use Rattle.float_numerals.specs.Texts.{double_whole, double_fraction, double_exponent, double_numeral_text}
 use Rattle.float_numerals.proofs.Numerals.{after_append, zeros_after, front_digits, rest_digits}

@@ -3,9 +3,9 @@ use Rattle.std.proofs.Common.{◌≡◌, ℕ, List, refl, true, false, ℤ, pos,
 use Rattle.std.specs.Float.{binary32, binary64}
 use Rattle.std.specs.Fmt.{digits}
 use lib.Ieee.{round, size, to_bits}
-use Rattle.float_numerals.specs.declared.decimal.Decimal.{Decimal}
-use Rattle.float_numerals.specs.Denoted.{denoted_bits}
-use Rattle.float_numerals.specs.Half.{denoted_half}
+use Rattle.decimal_numerals.specs.declared.decimal.Decimal.{Decimal}
+use Rattle.decimal_numerals.specs.Denoted.{denoted_bits}
+use Rattle.decimal_numerals.specs.Half.{denoted_half}
 use Rattle.float_numerals.specs.Texts.{double_text, half_text, single_text}
 
 -- n * 10 ^ e, and its negative

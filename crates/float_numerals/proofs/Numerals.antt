@@ -17,9 +17,9 @@ use Rattle.std.proofs.lemmas.Bool.{ltb-true, ltb-false, true≢false}
 use native.Mathlib.Nat.{mul_assoc, pow-succ', pow-zero, mul-one, zero-mul}
 use lib.Ieee.{round}
 use Rattle.fast_float.specs.Rounding.{nearest_to_decimal}
-use Rattle.float_numerals.specs.declared.decimal.Decimal.{Decimal}
-use Rattle.float_numerals.specs.Half.{half_size, half_of, denoted_half, decimal_half}
-use Rattle.float_numerals.specs.Denoted.{denoted, decimal_float}
+use Rattle.decimal_numerals.specs.declared.decimal.Decimal.{Decimal}
+use Rattle.decimal_numerals.specs.Half.{half_size, half_of, denoted_half, decimal_half}
+use Rattle.decimal_numerals.specs.Denoted.{denoted, decimal_float}
 use Rattle.float_numerals.specs.Texts.{whole_of, fraction_of, whole_digits, fraction_digits}
 use Rattle.float_numerals.specs.Texts.{fraction_text, exponent_text, numeral_text}
 

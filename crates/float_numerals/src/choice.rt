@@ -2,11 +2,10 @@
 
 ghost use Rattle.std.specs.Prelude.{◌≡◌, ◌<◌, ◌%◌, ◌^◌, IfSome, IfOk, IsTrue};
 ghost use Rattle.std.specs.Float.{binary32, binary64};
-ghost use Rattle.float_numerals.specs.Denoted.{denoted_bits, is_finite_double, is_finite_single};
-ghost use Rattle.float_numerals.specs.Half.{denoted_half, is_finite_half};
+ghost use Rattle.decimal_numerals.specs.Denoted.{denoted_bits, is_finite_double, is_finite_single};
+ghost use Rattle.decimal_numerals.specs.Half.{denoted_half, is_finite_half};
 
-use crate::decimal::{DOUBLE_INFINITY, Decimal, SINGLE_INFINITY};
-use crate::half::HALF_INFINITY;
+use decimal_numerals::{DOUBLE_INFINITY, Decimal, HALF_INFINITY, SINGLE_INFINITY};
 use fast_float::Numeral;
 use std::alloc::{AllocError, Global};
 use std::num::{f32_from_bits_with_nan, f64_from_bits_with_nan};

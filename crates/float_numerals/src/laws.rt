@@ -4,13 +4,13 @@ ghost use Rattle.std.specs.Prelude.{◌≡◌, Some, pos};
 ghost use Rattle.std.specs.Float.{Format, binary64};
 ghost use Rattle.std.specs.Float.Parse.{parse_float};
 ghost use Rattle.std.specs.Str.Parse.{AllDigits, IsNumeral};
-ghost use Rattle.float_numerals.specs.Denoted.{denoted, decimal_float};
-ghost use Rattle.float_numerals.specs.Half.{denoted_half, decimal_half};
+ghost use Rattle.decimal_numerals.specs.Denoted.{denoted, decimal_float};
+ghost use Rattle.decimal_numerals.specs.Half.{denoted_half, decimal_half};
 ghost use Rattle.float_numerals.specs.Texts.{double_exponent, double_fraction, double_whole};
 ghost use Rattle.float_numerals.specs.Texts.{double_numeral_text, numeral_text};
 ghost use Rattle.float_numerals.specs.Texts.{fraction_digits, whole_digits};
 
-use crate::decimal::Decimal;
+use decimal_numerals::Decimal;
 
 /// The digits by which a numeral is written give what it denotes, and the text of them is read so,
 /// as Rust's `parse` reads it.

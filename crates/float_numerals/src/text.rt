@@ -9,7 +9,7 @@ ghost use Rattle.float_numerals.specs.Texts.{digits_text, double_digits_text, do
 ghost use Rattle.float_numerals.specs.Texts.{double_text, half_text, has_plain_form, numeral_text};
 ghost use Rattle.float_numerals.specs.Texts.{scientific_text, single_text};
 
-use crate::decimal::Decimal;
+use decimal_numerals::Decimal;
 use itoa::Buffer;
 use std::alloc::AllocError;
 

@@ -13,7 +13,7 @@ use Rattle.std.specs.Option.{is_some, option_and_then, option_or, option_to_list
 use Rattle.std.specs.Prelude.{All, IsSome, None, Option, Some, codes, slice_get, ◌==◌}
 use Rattle.module_answers.specs.Roles.{Role, component_role, expression_role, field_role}
 use Rattle.module_answers.specs.Roles.{first_role, level_fields, level_role, list_role, statement_role}
-use Rattle.naga_ir.specs.Fields.{Field, expression_fields, simple_fields, statement_fields}
+use Rattle.naga_fields.specs.Fields.{Field, expression_fields, simple_fields, statement_fields}
 use Rattle.naga_ir.specs.Operands.{expression_operands, level_operands, own_operands, simple_operands}
 use Rattle.naga_ir.specs.StatementTree.{SimpleStatement, return, image_store, atomic, StatementTree, simple, loop}
 use Rattle.naga_ir.specs.StatementTree.{image_atomic, call, subgroup_ballot, subgroup_gather, ray_pipeline_function}

@@ -9,7 +9,7 @@ use Rattle.naga_ir.specs.declared.module.Module.{Module}
 use Rattle.naga_wgsl_fns.specs.Refusals.{TellsOfModule}
 use Rattle.naga_wgsl_fns.specs.declared.refusals.error.Error.{Error}
 use Rattle.naga_wgsl_fns.specs.declared.refusals.error.Error.TheVariants.{Memory}
-use Rattle.naga_words.specs.Sink.{IsAfter}
+use Rattle.naga_spelling.specs.Sink.{IsAfter}
 use Rattle.std.specs.declared.alloc.AllocError.{AllocError}
 use Rattle.naga_wgsl_out.proofs.Faithful.{function_tells_of_module, refused}
 use Rattle.naga_wgsl_out.proofs.FirstRefusals.{one_position}

@@ -14,7 +14,7 @@ use Rattle.naga_ir.specs.declared.expression.SampleLevel.{SampleLevel}
 use Rattle.naga_ir.specs.declared.expression.SampleLevel.TheVariants.{Exact, Bias, Gradient}
 use Rattle.naga_ir.specs.declared.module.Function.{Function}
 use Rattle.naga_ir.specs.declared.module.Module.{Module}
-use Rattle.naga_ir.specs.Fields.{Field, expression_fields, holds, statement_fields}
+use Rattle.naga_fields.specs.Fields.{Field, expression_fields, holds, statement_fields}
 use Rattle.naga_ir.specs.Operands.{expression_operands, own_operands}
 use Rattle.naga_ir.specs.StatementTree.{StatementTree, simple, call}
 use Rattle.naga_ir.specs.InOrder.{trees_in}

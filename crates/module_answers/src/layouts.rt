@@ -4,9 +4,9 @@
 ghost use Rattle.std.specs.Prelude.{IsTrue};
 ghost use Rattle.module_semantics.specs.acceptance.Accepted.{is_accepted};
 ghost use Rattle.module_semantics.specs.acceptance.Ranges.{parts_stand_before};
-ghost use Rattle.naga_names.specs.Keys.{names_in};
-ghost use Rattle.naga_words.specs.Contexts.{names_context};
-ghost use Rattle.naga_words.specs.Spelling.{IsInOrder};
+ghost use Rattle.naga_naming.specs.Keys.{names_in};
+ghost use Rattle.naga_spelling.specs.Contexts.{names_context};
+ghost use Rattle.naga_spelling.specs.Spelling.{IsInOrder};
 
 use naga_info::ModuleInfo;
 use naga_wgsl_out::ir::{

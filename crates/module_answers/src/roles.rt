@@ -7,9 +7,10 @@ ghost use Rattle.module_answers.specs.Positions.{role_text};
 ghost use Rattle.module_answers.specs.Roles.{OperandsHaveRoles, expression_role, fault_role};
 ghost use Rattle.module_answers.specs.Roles.{field_role, first_role, level_fields, list_role};
 ghost use Rattle.module_answers.specs.Roles.{role_in, seen, statement_role};
-ghost use Rattle.naga_ir.specs.Fields.{expression_fields, statement_fields};
+ghost use Rattle.naga_fields.specs.Fields.{expression_fields, statement_fields};
 ghost use Rattle.naga_ir.specs.StatementViews.{tree_of};
 
+use naga_fields::{expression_field, statement_field};
 use naga_listing::{MOST_FIELDS, entry_point_at, item_at, statement_at};
 use naga_wgsl_out::ir::{Expression, Function, Handle, Module, SampleLevel, Statement};
 use naga_wgsl_out::wgsl::{FunctionRefusalPosition, RefusalPosition, ScopeFault};
@@ -155,7 +156,7 @@ fn nth_of_expression(
     ensures { option_map seen result ≡ option_and_then (field_role operand)
         (slice_get (expression_fields expression.now) number) }
 {
-    match expression.field(number) {
+    match expression_field(expression, number) {
         Some((name, held)) => field_role(operand, name, held),
         None => None,
     }
@@ -183,7 +184,7 @@ fn nth_of_statement(
     ensures { option_map seen result ≡ option_and_then (field_role operand)
         (slice_get (statement_fields (tree_of statement.now)) number) }
 {
-    match statement.field(number) {
+    match statement_field(statement, number) {
         Some((name, held)) => field_role(operand, name, held),
         None => None,
     }

@@ -14,7 +14,7 @@ use Rattle.naga_ir.specs.declared.types.VectorSize.TheVariants as vector
 use Rattle.naga_info.specs.declared.info.ModuleInfo.{ModuleInfo}
 use Rattle.naga_info.specs.declared.info.TypeResolution.{TypeResolution}
 use Rattle.naga_info.specs.declared.info.TypeResolution.TheVariants.{Handle}
-use Rattle.naga_words.specs.Spelling.{type_segments}
+use Rattle.naga_spelling.specs.Spelling.{type_segments}
 use Rattle.module_semantics.specs.ExpressionContexts.{declared}
 use Rattle.module_semantics.specs.ExpressionShapes.{shape_of}
 use Rattle.module_semantics.specs.ModuleShapes.{module_shape}

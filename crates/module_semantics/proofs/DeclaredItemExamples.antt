@@ -14,8 +14,8 @@ use Rattle.naga_ir.specs.declared.types.ScalarKind.TheVariants as kind
 use Rattle.naga_ir.specs.declared.types.StructMember as ir_member
 use Rattle.naga_ir.specs.declared.types.TypeInner.TheVariants as inner
 use Rattle.naga_info.specs.declared.info.TypeResolution.TheVariants.{Handle, Value}
-use Rattle.naga_names.specs.Keys.{NameMap}
-use Rattle.naga_names.specs.declared.key.NameKey.TheVariants as key
+use Rattle.naga_naming.specs.Keys.{NameMap}
+use Rattle.naga_naming.specs.declared.key.NameKey.TheVariants as key
 use Rattle.shader_runs.specs.Resolution.{ConstantTarget, GlobalTarget}
 use Rattle.wgsl_text.specs.Attributes as attributes
 use Rattle.wgsl_text.specs.Attributes.{WorkgroupSize}

@@ -9,7 +9,7 @@ use Rattle.naga_ir.specs.declared.types.Type_.{Type_}
 use Rattle.naga_info.specs.declared.info.ExpressionInfo.{ExpressionInfo}
 use Rattle.naga_info.specs.declared.info.TypeResolution.{TypeResolution}
 use Rattle.naga_info.specs.declared.info.TypeResolution.TheVariants.{Handle, Value}
-use Rattle.naga_words.specs.Spelling.{is_struct}
+use Rattle.naga_spelling.specs.Spelling.{is_struct}
 use Rattle.module_semantics.specs.AlikeTypes.{has_type_form}
 use Rattle.module_semantics.specs.ExpressionForms.{expression_has_form, expression_has_own_form}
 use Rattle.module_semantics.specs.Sampling.{own_offset_has_form}

@@ -34,9 +34,9 @@ use Rattle.naga_ir.specs.declared.types.VectorSize.TheVariants as vector
 use Rattle.naga_back.specs.declared.flags.WriterFlags.{WriterFlags}
 use Rattle.naga_info.specs.declared.info.ModuleInfo.{ModuleInfo}
 use Rattle.naga_layout.specs.Types.{layout_at}
-use Rattle.naga_names.specs.Keys.{NameMap}
-use Rattle.naga_names.specs.declared.key.NameKey.TheVariants as key
-use Rattle.naga_words.specs.Spelling.{type_segments}
+use Rattle.naga_naming.specs.Keys.{NameMap}
+use Rattle.naga_naming.specs.declared.key.NameKey.TheVariants as key
+use Rattle.naga_spelling.specs.Spelling.{type_segments}
 use Rattle.shader_runs.specs.Value.{NoParts, Value, Whole, integer_in, same_integer}
 use Rattle.shader_runs.specs.World.{Meaning, Settings, World}
 use Rattle.wgsl_text.specs.Attributes as attributes

@@ -24,8 +24,8 @@ use Rattle.naga_info.specs.declared.info.ExpressionInfo.{ExpressionInfo}
 use Rattle.naga_info.specs.declared.info.ModuleInfo.{ModuleInfo}
 use Rattle.naga_info.specs.declared.info.TypeResolution.{TypeResolution}
 use Rattle.naga_info.specs.declared.info.TypeResolution.TheVariants.{Handle, Value}
-use Rattle.naga_names.specs.declared.key.NameKey.TheVariants as key
-use Rattle.naga_words.specs.Spelling.{type_segments}
+use Rattle.naga_naming.specs.declared.key.NameKey.TheVariants as key
+use Rattle.naga_spelling.specs.Spelling.{type_segments}
 use Rattle.module_semantics.specs.ExpressionContexts as contexts
 use Rattle.module_semantics.specs.ExpressionShapes.{shape_of}
 use Rattle.module_semantics.specs.FunctionShapes.{function_shape}

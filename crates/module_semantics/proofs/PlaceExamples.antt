@@ -17,7 +17,7 @@ use Rattle.naga_ir.specs.declared.types.TypeInner.TheVariants as inner
 use Rattle.naga_ir.specs.declared.types.Type_.{Type_}
 use Rattle.naga_ir.specs.declared.types.VectorSize.TheVariants as vector
 use Rattle.naga_info.specs.declared.info.ModuleInfo.{ModuleInfo}
-use Rattle.naga_words.specs.Spelling.{type_segments}
+use Rattle.naga_spelling.specs.Spelling.{type_segments}
 use Rattle.module_semantics.specs.AlikeTypes.{handle_key}
 use Rattle.module_semantics.specs.FunctionShapes.{function_shape}
 use Rattle.module_semantics.specs.ModuleShapes.{module_shape}

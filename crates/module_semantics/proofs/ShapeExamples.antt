@@ -28,9 +28,9 @@ use Rattle.naga_ir.specs.declared.types.StructMember.{StructMember}
 use Rattle.naga_ir.specs.declared.types.Type_.{Type_}
 use Rattle.naga_ir.specs.declared.types.VectorSize.TheVariants as vector
 use Rattle.naga_info.specs.declared.info.TypeResolution.TheVariants.{Handle}
-use Rattle.naga_words.specs.Contexts.{writer_context}
-use Rattle.naga_words.specs.Segments.{known_text}
-use Rattle.naga_words.specs.Spelling.{resolution_segments, type_segments}
+use Rattle.naga_spelling.specs.Contexts.{writer_context}
+use Rattle.naga_spelling.specs.Segments.{known_text}
+use Rattle.naga_spelling.specs.Spelling.{resolution_segments, type_segments}
 use Rattle.module_semantics.specs.ExpressionOperators.{ExpressionContext, applied_operator}
 use Rattle.module_semantics.specs.ExpressionOperators.{constructor}
 use Rattle.module_semantics.specs.ExpressionShapes.{ModuleDeclarations, shape_of}

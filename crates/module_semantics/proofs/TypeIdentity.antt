@@ -32,7 +32,7 @@ use Rattle.naga_ir.specs.declared.types.ArraySize.{ArraySize}
 use Rattle.naga_ir.specs.declared.types.ArraySize.TheVariants as size
 use Rattle.naga_ir.specs.declared.types.TypeInner.{TypeInner}
 use Rattle.naga_ir.specs.declared.types.TypeInner.TheVariants as inner
-use Rattle.naga_words.specs.Spelling.{is_struct}
+use Rattle.naga_spelling.specs.Spelling.{is_struct}
 use Rattle.module_semantics.specs.TypeIdentity.{Identity, Nothing, StructAt, Itself, truth_number}
 use Rattle.module_semantics.specs.TypeIdentity.{kind_number, component_count, components_number}
 use Rattle.module_semantics.specs.TypeIdentity.{cooperative_number, matrix_role_number, space_number}

@@ -19,9 +19,9 @@ use Rattle.naga_ir.specs.declared.types.StructMember.{StructMember}
 use Rattle.naga_ir.specs.declared.types.TypeInner.TheVariants as inner
 use Rattle.naga_ir.specs.declared.types.Type_.{Type_}
 use Rattle.naga_info.specs.declared.info.TypeResolution.TheVariants.{Handle}
-use Rattle.naga_words.specs.Contexts.{writer_context}
-use Rattle.naga_words.specs.Segments.{known_text}
-use Rattle.naga_words.specs.Spelling.{resolution_segments, type_segments}
+use Rattle.naga_spelling.specs.Contexts.{writer_context}
+use Rattle.naga_spelling.specs.Segments.{known_text}
+use Rattle.naga_spelling.specs.Spelling.{resolution_segments, type_segments}
 use Rattle.shader_runs.specs.Form.{form_module}
 use Rattle.shader_runs.specs.Program.{Emit, Function, Module, NamedConstant, Return, Store, Jumps}
 use Rattle.shader_runs.specs.Resolution.{Target, ArgumentTarget, LiteralTarget, PartTarget}

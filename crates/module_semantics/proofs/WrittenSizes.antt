@@ -17,7 +17,7 @@ use Rattle.naga_layout.proofs.Left.{all_aligned, members_aligned}
 use Rattle.naga_layout.proofs.Levels.{layout_is}
 use Rattle.naga_layout.specs.Types.{StandInOrder, kept_members, kept_struct, named_layout_by}
 use Rattle.naga_layout.specs.Types.{placed_member, placed_members}
-use Rattle.naga_names.specs.Reset.{members_of}
+use Rattle.naga_naming.specs.Reset.{members_of}
 use Rattle.wgsl_layout.proofs.Concerned.{kept_concerned}
 use Rattle.wgsl_layout.proofs.Faults.{all_kept}
 use Rattle.wgsl_layout.proofs.Kept.{struct_kept}

@@ -31,7 +31,7 @@ use Rattle.naga_ir.specs.declared.types.TypeInner.TheVariants as inner
 use Rattle.naga_ir.specs.declared.types.VectorSize.{VectorSize}
 use Rattle.naga_info.specs.declared.info.TypeResolution.{TypeResolution}
 use Rattle.naga_info.specs.declared.info.TypeResolution.TheVariants.{Handle, Value}
-use Rattle.naga_words.specs.Spelling.{is_struct}
+use Rattle.naga_spelling.specs.Spelling.{is_struct}
 use Rattle.wgsl_words.specs.Words.{has, atomic_bit, load_bit, store_bit, scalar_word, space_word}
 use Rattle.module_semantics.specs.TypeIdentity.{level, length_kind, length_number}
 use Rattle.module_semantics.specs.TypeIdentity.{identity, word_of_unspelled_type, truth_number}

@@ -12,7 +12,7 @@ use Rattle.naga_info.specs.declared.info.ExpressionInfo.{ExpressionInfo}
 use Rattle.naga_info.specs.declared.info.ModuleInfo.{ModuleInfo}
 use Rattle.naga_info.specs.declared.info.TypeResolution.{TypeResolution}
 use Rattle.naga_info.specs.declared.info.TypeResolution.TheVariants.{Handle}
-use Rattle.naga_names.specs.declared.key.NameKey.TheVariants as key
+use Rattle.naga_naming.specs.declared.key.NameKey.TheVariants as key
 use Rattle.module_semantics.specs.ExpressionOperators.{ExpressionContext, constructor}
 use Rattle.module_semantics.specs.ExpressionShapes.{ModuleDeclarations, computed_over}
 use Rattle.module_semantics.specs.acceptance.InfoSizes.{is_handle_space}

@@ -27,7 +27,7 @@ use Rattle.naga_ir.specs.declared.types.TypeInner.TheVariants as inner
 use Rattle.naga_info.specs.Resolution.{inner_of}
 use Rattle.naga_info.specs.declared.info.ExpressionInfo.{ExpressionInfo}
 use Rattle.naga_info.specs.declared.info.TypeResolution.TheVariants.{Handle, Value}
-use Rattle.float_numerals.specs.Denoted.{is_in_range}
+use Rattle.decimal_numerals.specs.Denoted.{is_in_range}
 use Rattle.module_semantics.specs.AlikeTypes.{has_type_form}
 use Rattle.module_semantics.specs.Conversions.{conversion_target}
 use Rattle.module_semantics.specs.ExpressionOperators.{has_parts, own_operator, pointee_scalar}

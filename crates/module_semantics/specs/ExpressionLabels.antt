@@ -12,7 +12,7 @@ use Rattle.naga_ir.specs.StatementTree.{emit, StatementTree, simple, block, bran
 use Rattle.naga_ir.specs.StatementTree.{BlockTree, no_statements, statement, CaseTrees, no_cases}
 use Rattle.naga_ir.specs.StatementTree.{case}
 use Rattle.naga_ir.specs.declared.module.Function.{Function}
-use Rattle.naga_names.specs.Naming.{Names, label_stem, labels_with_stem, name_after}
+use Rattle.naga_naming.specs.Naming.{Names, label_stem, labels_with_stem, name_after}
 use Rattle.shader_runs.specs.Program.{from}
 
 -- ---- labels

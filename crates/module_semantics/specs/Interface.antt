@@ -21,12 +21,12 @@ use Rattle.naga_ir.specs.declared.module.ShaderStage.TheVariants as stage
 use Rattle.naga_ir.specs.declared.types.StructMember.{StructMember}
 use Rattle.naga_ir.specs.declared.types.Type_.{Type_}
 use Rattle.naga_info.specs.declared.info.ModuleInfo.{ModuleInfo}
-use Rattle.naga_names.specs.Keys.{NameMap}
-use Rattle.naga_names.specs.Reset.{members_of}
-use Rattle.naga_names.specs.declared.key.NameKey.TheVariants as key
+use Rattle.naga_naming.specs.Keys.{NameMap}
+use Rattle.naga_naming.specs.Reset.{members_of}
+use Rattle.naga_naming.specs.declared.key.NameKey.TheVariants as key
 use Rattle.naga_back.specs.declared.flags.WriterFlags.{WriterFlags}
 use Rattle.module_semantics.specs.Enables.{written_enables}
-use Rattle.naga_words.specs.Contexts.{names_of, Names as TypeNames}
+use Rattle.naga_spelling.specs.Contexts.{names_of, Names as TypeNames}
 use Rattle.wgsl_words.specs.Words.{space_word, space_access_word}
 use Rattle.shader_runs.specs.Constants.{module_initialiser_value}
 use Rattle.shader_runs.specs.Value.{Value}

@@ -19,8 +19,8 @@ use Rattle.naga_ir.specs.declared.types.Type_.{Type_}
 use Rattle.naga_ir.specs.declared.types.TypeInner.{TypeInner}
 use Rattle.naga_ir.specs.declared.types.TypeInner.TheVariants as inner
 use Rattle.naga_layout.specs.Types.{Rule, arrays_are_kept, layout_at, placed_members, user_rule}
-use Rattle.naga_names.specs.Reset.{members_of}
-use Rattle.naga_names.specs.declared.key.NameKey.TheVariants as key
+use Rattle.naga_naming.specs.Reset.{members_of}
+use Rattle.naga_naming.specs.declared.key.NameKey.TheVariants as key
 use Rattle.wgsl_layout.specs.Faults.{StandsAmong}
 use Rattle.wgsl_layout.specs.Members.{has_room_for_all, is_concerned, written_members}
 use Rattle.wgsl_layout.specs.declared.layouts.Layout.{Layout}

@@ -7,8 +7,8 @@ use Rattle.naga_ir.specs.declared.types.ScalarKind.{ScalarKind}
 use Rattle.naga_ir.specs.declared.types.ScalarKind.TheVariants as kind
 use Rattle.naga_ir.specs.declared.types.TypeInner.TheVariants as inner
 use Rattle.std.specs.Float.{binary32, binary64}
-use Rattle.float_numerals.specs.Denoted.{denoted_bits, is_finite_double, is_finite_single}
-use Rattle.float_numerals.specs.Half.{denoted_half, is_finite_half}
+use Rattle.decimal_numerals.specs.Denoted.{denoted_bits, is_finite_double, is_finite_single}
+use Rattle.decimal_numerals.specs.Half.{denoted_half, is_finite_half}
 use Rattle.module_semantics.specs.TypeIdentity.{Itself, word_of_unspelled_type}
 use Rattle.shader_runs.specs.Value.{Value, Truth as TruthValue, Whole, Opaque}
 

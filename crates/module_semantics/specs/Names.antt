@@ -10,13 +10,13 @@ use Rattle.naga_ir.specs.declared.module.Function as ir_function
 use Rattle.naga_ir.specs.declared.module.Module.{Module}
 use Rattle.naga_ir.specs.declared.types.StructMember.{StructMember}
 use Rattle.naga_ir.specs.declared.types.Type_.{Type_}
-use Rattle.naga_names.specs.Naming.{Names, new_names}
-use Rattle.naga_names.specs.Keys.{NameMap, same_key}
-use Rattle.naga_names.specs.Reset.{is_member, labelled_items, LabelledItem, labels_of, members_of}
-use Rattle.naga_names.specs.Reset.{named_items}
-use Rattle.naga_names.specs.declared.key.NameKey.{NameKey}
-use Rattle.naga_names.specs.declared.key.NameKey.TheVariants as key
-use Rattle.naga_words.specs.Spelling.{is_struct}
+use Rattle.naga_naming.specs.Naming.{Names, new_names}
+use Rattle.naga_naming.specs.Keys.{NameMap, same_key}
+use Rattle.naga_naming.specs.Reset.{is_member, labelled_items, LabelledItem, labels_of, members_of}
+use Rattle.naga_naming.specs.Reset.{named_items}
+use Rattle.naga_naming.specs.declared.key.NameKey.{NameKey}
+use Rattle.naga_naming.specs.declared.key.NameKey.TheVariants as key
+use Rattle.naga_spelling.specs.Spelling.{is_struct}
 use Rattle.module_semantics.specs.ExpressionLabels.{all_expression_labels, expression_labels}
 use Rattle.module_semantics.specs.ExpressionLabels.{name_of_label}
 use Rattle.module_semantics.specs.FunctionNumbers.{all_functions, function_type}

@@ -11,9 +11,9 @@ use Rattle.naga_ir.specs.declared.module.Function as ir_function
 use Rattle.naga_ir.specs.declared.module.Module as ir_module
 use Rattle.naga_info.specs.declared.info.ExpressionInfo.{ExpressionInfo}
 use Rattle.naga_info.specs.declared.info.ModuleInfo.{ModuleInfo}
-use Rattle.naga_names.specs.Keys.{NameMap}
-use Rattle.naga_names.specs.declared.key.NameKey.{NameKey}
-use Rattle.naga_names.specs.declared.key.NameKey.TheVariants as key
+use Rattle.naga_naming.specs.Keys.{NameMap}
+use Rattle.naga_naming.specs.declared.key.NameKey.{NameKey}
+use Rattle.naga_naming.specs.declared.key.NameKey.TheVariants as key
 use Rattle.module_semantics.specs.FunctionNumbers.{all_functions, all_infos}
 use Rattle.module_semantics.specs.FunctionShapes.{function_shape, function_shapes}
 use Rattle.module_semantics.specs.Names.{function_name, argument_name, expression_name, global_name}

@@ -32,7 +32,7 @@ use Rattle.naga_ir.specs.declared.operators.Direction.TheVariants as direction
 use Rattle.module_semantics.specs.TypeIdentity.{truth_number, kind_number, cooperative_number}
 use Rattle.module_semantics.specs.TypeIdentity.{matrix_role_number}
 use Rattle.wgsl_words.specs.Words.{math_word, operator_text, unary_text}
-use Rattle.naga_words.specs.Words.{vector_word}
+use Rattle.naga_spelling.specs.Words.{vector_word}
 use Rattle.wgsl_text.specs.Types.{TypeSpecifier, IsType}
 use Rattle.wgsl_text.specs.Reading.{printed_type}
 

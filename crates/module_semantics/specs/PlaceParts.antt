@@ -22,7 +22,7 @@ use Rattle.naga_info.specs.Resolution.{inner_of}
 use Rattle.naga_info.specs.declared.info.ModuleInfo.{ModuleInfo}
 use Rattle.naga_info.specs.declared.info.TypeResolution.{TypeResolution}
 use Rattle.naga_info.specs.declared.info.TypeResolution.TheVariants.{Handle, Value}
-use Rattle.naga_names.specs.declared.key.NameKey.TheVariants as key
+use Rattle.naga_naming.specs.declared.key.NameKey.TheVariants as key
 use Rattle.module_semantics.specs.acceptance.AgreeingOperators.{Group, groups_of}
 use Rattle.module_semantics.specs.AlikeTypes.{has_type_form}
 use Rattle.module_semantics.specs.ExpressionContexts.{declared}

@@ -17,9 +17,9 @@ use Rattle.naga_info.specs.Resolution.{inner_of}
 use Rattle.naga_info.specs.declared.info.ExpressionInfo.{ExpressionInfo}
 use Rattle.naga_info.specs.declared.info.TypeResolution.{TypeResolution}
 use Rattle.naga_info.specs.declared.info.TypeResolution.TheVariants.{Handle, Value}
-use Rattle.naga_words.specs.Contexts.{names_of, Names as TypeNames, writer_context}
-use Rattle.naga_words.specs.Segments.{known_text}
-use Rattle.naga_words.specs.Spelling.{Context, type_segments, resolution_segments}
+use Rattle.naga_spelling.specs.Contexts.{names_of, Names as TypeNames, writer_context}
+use Rattle.naga_spelling.specs.Segments.{known_text}
+use Rattle.naga_spelling.specs.Spelling.{Context, type_segments, resolution_segments}
 use Rattle.module_semantics.specs.TypeIdentity.{identity, word_of_unspelled_type}
 use Rattle.module_semantics.specs.Names.{module_names}
 use Rattle.module_semantics.specs.Undeclared.{is_undeclared_struct, names_undeclared}

@@ -22,10 +22,10 @@ use Rattle.naga_ir.specs.declared.types.StructMember.{StructMember}
 use Rattle.naga_ir.specs.declared.types.Type_.{Type_}
 use Rattle.naga_ir.specs.declared.types.TypeInner.{TypeInner}
 use Rattle.naga_ir.specs.declared.types.TypeInner.TheVariants as inner
-use Rattle.naga_names.specs.Keys.{NameMap}
-use Rattle.naga_names.specs.Reset.{members_of}
-use Rattle.naga_names.specs.declared.key.NameKey.TheVariants as key
-use Rattle.naga_words.specs.Spelling.{is_struct}
+use Rattle.naga_naming.specs.Keys.{NameMap}
+use Rattle.naga_naming.specs.Reset.{members_of}
+use Rattle.naga_naming.specs.declared.key.NameKey.TheVariants as key
+use Rattle.naga_spelling.specs.Spelling.{is_struct}
 use Rattle.wgsl_text.specs.Words.{stands_in}
 use Rattle.module_semantics.specs.AlikeTypes.{has_type_form}
 use Rattle.module_semantics.specs.LackingScalars.{base_type}

@@ -6,7 +6,7 @@ ghost use Rattle.module_semantics.specs.ExpressionOperators.{called_word, query_
 ghost use Rattle.module_semantics.specs.OperatorTable.{Derivative, relational_word, run_word};
 
 use naga_ir::{DerivativeAxis, DerivativeControl, Expression, ImageQuery, RelationalFunction};
-use naga_words::words::vector_str;
+use naga_spelling::words::vector_str;
 use wgsl_words::TryToWgsl;
 
 /// The word by which a text calls the operator that an expression applies by itself, with all of its

@@ -9,7 +9,7 @@ use Rattle.naga_ir.specs.declared.binding.BuiltIn.{BuiltIn}
 use Rattle.naga_ir.specs.declared.expression.Expression.{Expression}
 use Rattle.naga_ir.specs.declared.expression.Expression.TheVariants.{FunctionArgument, AccessIndex}
 use Rattle.naga_ir.specs.declared.module.FunctionArgument.{FunctionArgument as Argument}
-use Rattle.naga_names.proofs.Reset.{option_or-assoc, option_or-none}
+use Rattle.naga_naming.proofs.Reset.{option_or-assoc, option_or-none}
 use Rattle.naga_back.specs.FixedInput.{builtin_of, way_by, way_of, first_builtin}
 
 -- the value named by a way, or where it names none the one found so far

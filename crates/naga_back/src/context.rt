@@ -13,7 +13,7 @@ use naga_ir::{
     Arena, Expression, Function, Handle, LocalVariable, Module, ShaderStage, Type_, TypeInner,
     UniqueArena,
 };
-use naga_names::{EntryPointIndex, ExternalTextureNameKey, NameKey};
+use naga_naming::{EntryPointIndex, ExternalTextureNameKey, NameKey};
 
 /// Which of a module's functions is meant. Entry points are no functions of the module's arena.
 #[derive(Clone, Copy, Debug)]

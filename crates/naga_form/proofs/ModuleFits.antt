@@ -15,7 +15,7 @@ use Rattle.module_semantics.proofs.SideBySide.{zip_parts}
 use Rattle.naga_form.proofs.names.DistinguishedItems.{types_are_distinguished}
 use Rattle.naga_form.proofs.names.Names.{one_function}
 use Rattle.module_semantics.specs.FunctionNumbers.{all_functions, all_infos}
-use Rattle.naga_names.proofs.Refusal.{element}
+use Rattle.naga_naming.proofs.Refusal.{element}
 use Rattle.shader_runs.specs.Program as shapes
 use Rattle.shader_runs.specs.Scope.{Naming, fits_function, ModuleNames}
 use Rattle.shader_runs.specs.Form.{functions_of}

@@ -36,7 +36,7 @@ use Rattle.wgsl_text.specs.Declarations.{IsEnable, IsProgram}
 use Rattle.wgsl_text.specs.Expressions.{IsExpression}
 use Rattle.wgsl_text.specs.Functions.{IsValue, IsParameter, IsResult, IsLocal, Each, IsEntryPoint}
 use Rattle.wgsl_text.specs.Functions.{IsFunction}
-use Rattle.naga_names.proofs.Refusal.{element}
+use Rattle.naga_naming.proofs.Refusal.{element}
 use Rattle.naga_form.specs.Declarations.{entry_points_under, program_under, written_program}
 use Rattle.naga_form.specs.Expressions.{plain_form, value_form, unnamed_form, Source}
 use Rattle.naga_form.specs.Expressions.{function_source}

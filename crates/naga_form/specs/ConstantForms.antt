@@ -17,7 +17,7 @@ use Rattle.naga_info.specs.declared.info.TypeResolution.TheVariants.{Handle}
 use Rattle.naga_ir.specs.declared.expression.Expression as ir
 use Rattle.naga_ir.specs.declared.expression.Expression.TheVariants as expression
 use Rattle.naga_ir.specs.declared.module.Module.{Module}
-use Rattle.naga_words.specs.Contexts.{Names as TypeNames}
+use Rattle.naga_spelling.specs.Contexts.{Names as TypeNames}
 use Rattle.wgsl_text.specs.Expressions.{Expression, Constant, Name}
 use Rattle.wgsl_text.specs.Literals.{Truth}
 

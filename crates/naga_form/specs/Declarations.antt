@@ -18,10 +18,10 @@ use Rattle.naga_ir.specs.declared.module.Override as ir_override
 use Rattle.naga_ir.specs.declared.types.AddressSpace.{AddressSpace}
 use Rattle.naga_ir.specs.declared.types.StructMember as ir_member
 use Rattle.naga_ir.specs.declared.types.Type_.{Type_}
-use Rattle.naga_names.specs.Keys.{NameMap}
-use Rattle.naga_names.specs.Reset.{members_of}
-use Rattle.naga_names.specs.declared.key.NameKey.TheVariants as key
-use Rattle.naga_words.specs.Contexts.{Names as TypeNames}
+use Rattle.naga_naming.specs.Keys.{NameMap}
+use Rattle.naga_naming.specs.Reset.{members_of}
+use Rattle.naga_naming.specs.declared.key.NameKey.TheVariants as key
+use Rattle.naga_spelling.specs.Contexts.{Names as TypeNames}
 use Rattle.wgsl_text.specs.Declarations.{Program, StructMember, Struct}
 use Rattle.wgsl_text.specs.Declarations.{NamedConstant, Override, Global, Space, NoSpace}
 use Rattle.wgsl_text.specs.Declarations.{SpaceAlone, SpaceAndAccess}

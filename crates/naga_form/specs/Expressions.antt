@@ -34,7 +34,7 @@ use Rattle.module_semantics.specs.OperatorTable.{zero_is_written}
 use Rattle.module_semantics.specs.ExpressionContexts.{declared, types_known}
 pub use Rattle.module_semantics.specs.ExpressionContexts.{is_handle_variable}
 use Rattle.module_semantics.specs.Types.{type_names}
-use Rattle.naga_words.specs.Contexts.{Names as TypeNames}
+use Rattle.naga_spelling.specs.Contexts.{Names as TypeNames}
 use Rattle.wgsl_text.specs.Types.{TypeSpecifier, of_one}
 use Rattle.naga_form.specs.TypeTrees.{inner_tree, type_tree}
 use Rattle.naga_info.specs.declared.info.TypeResolution.TheVariants.{Handle}

@@ -9,10 +9,10 @@ use Rattle.naga_ir.specs.declared.module.Function as ir_function
 use Rattle.naga_ir.specs.declared.module.FunctionArgument.{FunctionArgument}
 use Rattle.naga_ir.specs.declared.module.FunctionResult.{FunctionResult}
 use Rattle.naga_ir.specs.declared.module.Module.{Module}
-use Rattle.naga_names.specs.Keys.{NameMap}
+use Rattle.naga_naming.specs.Keys.{NameMap}
 use Rattle.wgsl_text.specs.Functions.{Parameter, Result, NoResult, ResultOf, Local, Function}
 use Rattle.module_semantics.specs.Names.{function_name, argument_name, expression_name, LabelNames}
-use Rattle.naga_words.specs.Contexts.{names_of, Names as TypeNames}
+use Rattle.naga_spelling.specs.Contexts.{names_of, Names as TypeNames}
 use Rattle.naga_form.specs.Attributes.{passing_attributes}
 use Rattle.naga_form.specs.Types.{type_form, annotated_type}
 use Rattle.naga_ir.specs.declared.module.LocalVariable.{LocalVariable}

@@ -17,9 +17,9 @@ use Rattle.naga_info.specs.declared.info.ExpressionInfo.{ExpressionInfo}
 use Rattle.naga_info.specs.declared.info.ModuleInfo.{ModuleInfo}
 use Rattle.naga_info.specs.declared.info.TypeResolution.{TypeResolution}
 use Rattle.naga_info.specs.declared.info.TypeResolution.TheVariants as resolutions
-use Rattle.naga_words.specs.Contexts.{Names, writer_context}
-use Rattle.naga_words.specs.Segments.{Segment, IsText, known_text, lacks}
-use Rattle.naga_words.specs.Spelling.{inner_segments, type_segments}
+use Rattle.naga_spelling.specs.Contexts.{Names, writer_context}
+use Rattle.naga_spelling.specs.Segments.{Segment, IsText, known_text, lacks}
+use Rattle.naga_spelling.specs.Spelling.{inner_segments, type_segments}
 use Rattle.wgsl_text.specs.Types.{TypeSpecifier, IsType}
 use Rattle.naga_form.specs.Functions.{function_form}
 use Rattle.wgsl_text.specs.Declarations.{Program, IsProgram}

@@ -1,7 +1,7 @@
 -- Literals: how they are written, and the values that they have in the module and in its text.
 use Rattle.std.specs.Prelude.{zero, suc, ℤ, pos, negsuc, true, false, ◌==◌, if◌then◌else◌}
 use Rattle.std.specs.Fmt.{decimal}
-use Rattle.float_numerals.specs.declared.decimal.Decimal.{Decimal}
+use Rattle.decimal_numerals.specs.declared.decimal.Decimal.{Decimal}
 use Rattle.float_numerals.specs.Texts.{double_exponent, double_fraction, double_whole}
 use Rattle.float_numerals.specs.Texts.{fraction_digits, whole_digits}
 use Rattle.naga_ir.specs.declared.expression.Literal as ir

@@ -15,9 +15,9 @@ use Rattle.naga_ir.specs.declared.types.TypeInner.{TypeInner}
 use Rattle.naga_ir.specs.declared.types.TypeInner.TheVariants as inner
 use Rattle.wgsl_text.specs.Types.{TypeSpecifier}
 use Rattle.wgsl_text.specs.Words.{IsIdentifier}
-use Rattle.naga_words.specs.Spelling.{is_struct}
+use Rattle.naga_spelling.specs.Spelling.{is_struct}
 use Rattle.naga_form.specs.TypeTrees.{resolution_tree}
-use Rattle.naga_words.specs.Contexts.{Names}
+use Rattle.naga_spelling.specs.Contexts.{Names}
 
 -- Does the type have a form in WGSL? A struct without a handle has none.
 abbrev pub is_readable : Names → TypeResolution → Bool

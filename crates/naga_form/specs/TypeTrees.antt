@@ -24,10 +24,10 @@ use Rattle.naga_ir.specs.declared.image.ImageClass.TheVariants as class
 use Rattle.naga_ir.specs.declared.image.ImageDimension.{ImageDimension}
 use Rattle.wgsl_words.specs.Words.{scalar_word, space_word, space_access_word, image_access_word}
 use Rattle.wgsl_words.specs.Words.{matrix_role_word, format_word}
-use Rattle.naga_words.specs.Words.{vector_word, matrix_word, cooperative_word, image_word}
-use Rattle.naga_words.specs.Words.{sampler_word}
-use Rattle.naga_words.specs.Contexts.{Names}
-use Rattle.naga_words.specs.Spelling.{is_struct}
+use Rattle.naga_spelling.specs.Words.{vector_word, matrix_word, cooperative_word, image_word}
+use Rattle.naga_spelling.specs.Words.{sampler_word}
+use Rattle.naga_spelling.specs.Contexts.{Names}
+use Rattle.naga_spelling.specs.Spelling.{is_struct}
 
 abbrev pub scalar_tree : Scalar → Option TypeSpecifier
 scalar_tree scalar = option_map Named (scalar_word scalar)

@@ -6,7 +6,7 @@ use Rattle.naga_ir.specs.declared.module.LocalVariable.{LocalVariable}
 use Rattle.naga_ir.specs.declared.module.Module.{Module}
 use Rattle.module_semantics.specs.Undeclared.{names_undeclared}
 use Rattle.naga_info.specs.declared.info.ExpressionInfo.{ExpressionInfo}
-use Rattle.naga_words.specs.Contexts.{Names as TypeNames}
+use Rattle.naga_spelling.specs.Contexts.{Names as TypeNames}
 use Rattle.naga_form.specs.TypeTrees.{type_tree, resolution_tree}
 use Rattle.wgsl_text.specs.Types.{TypeSpecifier, Named}
 

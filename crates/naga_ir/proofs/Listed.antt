@@ -2,11 +2,8 @@
 use Rattle.std.proofs.Common.{◌≡◌, ℕ, zero, suc, ◌+◌, ◌<◌, ◌≤◌, List, [], ◌∷◌, length, drop, sym, ap, ◌∙◌}
 use Rattle.std.proofs.Common.{arith, slice_index_or, None}
 use Rattle.std.proofs.lemmas.List.{drop_all, drop_more}
-use Rattle.std.proofs.lemmas.Option.{none-some, slice_get-map}
-use Rattle.std.specs.Borrow.{Bor}
-use Rattle.std.specs.Option.{option_map}
-use Rattle.std.specs.Prelude.{Option, map, slice_get}
-use Rattle.naga_ir.specs.Fields.{seen}
+use Rattle.std.proofs.lemmas.Option.{none-some}
+use Rattle.std.specs.Prelude.{slice_get}
 use Rattle.naga_ir.specs.StatementTree.{statement, case}
 use Rattle.naga_ir.specs.StatementViews.{block_of, cases_of, tree_of}
 use Rattle.naga_ir.specs.declared.statement.Statement.{Statement}
@@ -35,8 +32,3 @@ none_of ss i le = ap block_of (drop_all i ss le)
 pub first_case : (cs : List SwitchCase) (i : ℕ) (x : SwitchCase) → i < length cs → x ≡ slice_index_or cs i x →
     cases_of (drop i cs) ≡ case x.value x.body x.fall_through (cases_of (drop (i + 1) cs))
 first_case cs i x lt is = ap cases_of (drop_first i cs x lt is)
-
--- a field among those that there are
-pub nth_seen : (fields : List (Bor (List ℕ) × Option ℕ)) (n : ℕ) →
-    option_map seen (slice_get fields n) ≡ slice_get (map seen fields) n
-nth_seen fields n = sym (slice_get-map seen fields n)

@@ -9,5 +9,3 @@ pub mod Kinds
 pub mod Arenas
 pub mod Literals
 pub mod Ranges
-pub mod Fields
-pub mod VariantNames

@@ -14,7 +14,6 @@ pub mod arena;
 pub mod binding;
 pub mod diagnostics;
 pub mod expression;
-pub mod fields;
 pub mod flags;
 pub mod image;
 pub mod kind;
@@ -32,7 +31,6 @@ pub use diagnostics::{FilterableTriggeringRule, Severity, StandardFilterableTrig
 pub use expression::{
     CooperativeData, Expression, ImageQuery, Literal, SampleLevel, SwizzleComponent,
 };
-pub use fields::Field;
 pub use flags::{Barrier, MemoryDecorations, StorageAccess};
 pub use image::{ImageClass, ImageDimension, StorageFormat};
 pub use kind::ExpressionKind;

@@ -54,7 +54,7 @@ fn level_handles(level: SampleLevel) -> (Option<Handle<Expression>>, Option<Hand
 }
 
 /// The handle that a query of an image holds, if it holds one.
-pub(crate) fn query_handle(query: ImageQuery) -> Option<Handle<Expression>>
+pub fn query_handle(query: ImageQuery) -> Option<Handle<Expression>>
     ensures { option_to_list result ≡ query_operands query }
 {
     match query {
@@ -172,7 +172,7 @@ impl Expression {
 
 /// The operands of an expression that are still to come, in the order in which WGSL writes them:
 /// two, if they are there, and those of the expression from this number on.
-#[derive(Debug, Drop)]
+#[derive(Drop)]
 pub struct Operands<'a> {
     first: Option<Handle<Expression>>,
     second: Option<Handle<Expression>>,

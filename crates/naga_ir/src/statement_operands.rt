@@ -16,7 +16,7 @@ use crate::statement::{RayPipelineFunction, Statement};
 use std::marker::Model;
 
 /// What the old value is compared with, if it is compared.
-pub(crate) fn compared(fun: AtomicFunction) -> Option<Handle<Expression>>
+pub fn compared(fun: AtomicFunction) -> Option<Handle<Expression>>
     ensures { option_to_list result ≡ atomic_operands fun }
 {
     match fun {
@@ -26,7 +26,7 @@ pub(crate) fn compared(fun: AtomicFunction) -> Option<Handle<Expression>>
 }
 
 /// By what the invocation is told from which a value comes, if it is told by an operand.
-pub(crate) fn told_by(mode: GatherMode) -> Option<Handle<Expression>>
+pub fn told_by(mode: GatherMode) -> Option<Handle<Expression>>
     ensures { option_to_list result ≡ gather_operands mode }
 {
     match mode {
@@ -148,7 +148,7 @@ impl Statement {
 
 /// The operands of a statement that are still to come, from this number on, in the order in which
 /// WGSL writes them.
-#[derive(Debug, Drop)]
+#[derive(Drop)]
 pub struct StatementOperands<'a> {
     statement: &'a Statement,
     number: usize,

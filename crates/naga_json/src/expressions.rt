@@ -5,7 +5,7 @@ use crate::shape::{
     FromJson, Variants, expect_members, is_object, item_of, items_of, member, mistyped,
     read_variant, unit, word,
 };
-use float_numerals::Decimal;
+use decimal_numerals::Decimal;
 use json::Value;
 use naga_ir::{CooperativeData, Expression, ImageQuery, Literal, SampleLevel, SwizzleComponent};
 use ryu::Buffer;

@@ -7,9 +7,9 @@ use Rattle.naga_ir.specs.declared.types.TypeInner.{TypeInner}
 use Rattle.naga_ir.specs.declared.types.TypeInner.TheVariants as inner
 use Rattle.naga_ir.specs.declared.types.ArraySize.{ArraySize}
 use Rattle.naga_ir.specs.declared.types.ArraySize.TheVariants as size
-use Rattle.naga_words.specs.Contexts.{global_context}
-use Rattle.naga_words.specs.Spelling.{Fits, StandsAfter, knows_override, knows_size}
-use Rattle.naga_words.specs.Spelling.{length_within, size_within}
+use Rattle.naga_spelling.specs.Contexts.{global_context}
+use Rattle.naga_spelling.specs.Spelling.{Fits, StandsAfter, knows_override, knows_size}
+use Rattle.naga_spelling.specs.Spelling.{length_within, size_within}
 
 module _ (types : List Type_) (overrides : List Override) where
   size_known : (it : ArraySize) → IsTrue (size_within (length overrides) it)

@@ -5,6 +5,7 @@ use crate::operands::{MOST_FIELDS, push_field, push_list, push_numbered, push_op
 use float_numerals::{
     double_decimal, half_decimal, push_double, push_half, push_single, single_decimal,
 };
+use naga_fields::{expression_field, expression_name};
 use naga_ir::{
     Constant, Expression, Function, GlobalVariable, Handle, ImageQuery, Literal, LocalVariable,
     Module, Override, SampleLevel, SwizzleComponent, Type_, VectorSize,
@@ -20,7 +21,7 @@ pub(crate) fn push_expression(
     expression: &Expression,
     out: &mut String,
 ) -> Result<(), AllocError> {
-    out.push_str(expression.name())?;
+    out.push_str(expression_name(expression))?;
     push_named(alloc, module, function, expression, out)?;
     push_choice(expression, out)?;
     push_of_expression(expression, out)
@@ -346,7 +347,7 @@ fn push_of_expression(expression: &Expression, out: &mut String) -> Result<(), A
     }
     let mut separator = " ";
     for number in 0..MOST_FIELDS {
-        if let Some((name, operand)) = expression.field(number) {
+        if let Some((name, operand)) = expression_field(expression, number) {
             if push_field(separator, name, operand, out)? {
                 separator = ", ";
             }

@@ -2,6 +2,7 @@
 
 use crate::expressions::push_function;
 use crate::operands::{MOST_FIELDS, push_field, push_list};
+use naga_fields::{statement_field, statement_name};
 use naga_ir::{AtomicFunction, Direction, GatherMode, Module, Range, Statement, SwitchValue};
 use std::alloc::AllocError;
 
@@ -11,7 +12,7 @@ pub(crate) fn push_statement(
     statement: &Statement,
     out: &mut String,
 ) -> Result<(), AllocError> {
-    out.push_str(statement.name())?;
+    out.push_str(statement_name(statement))?;
     push_choice(module, statement, out)?;
     push_of_statement(statement, out)
 }
@@ -77,7 +78,7 @@ fn push_of_statement(statement: &Statement, out: &mut String) -> Result<(), Allo
     }
     let mut separator = " ";
     for number in 0..MOST_FIELDS {
-        if let Some((name, operand)) = statement.field(number) {
+        if let Some((name, operand)) = statement_field(statement, number) {
             if push_field(separator, name, operand, out)? {
                 separator = ", ";
             }

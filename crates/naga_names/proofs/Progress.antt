@@ -9,17 +9,17 @@ use Rattle.std.specs.Option.{option_or, is_some}
 use Rattle.std.proofs.Math.Bool.{and-false}
 use Rattle.std.proofs.lemmas.List.Folds.{list_all-append}
 use Rattle.naga_ir.specs.declared.module.Module.{Module}
-use Rattle.naga_names.specs.Keys.{NameMap}
-use Rattle.naga_names.specs.declared.error.NamerError.{NamerError}
-use Rattle.naga_names.specs.declared.error.NamerError.TheVariants.{KeyFull, Memory}
-use Rattle.naga_names.specs.Naming.{Names}
-use Rattle.naga_names.specs.Refusal.{IsRefusalOfItems, RefusesItems}
-use Rattle.naga_names.specs.Reset.{LabelledItem, key_fits, keys_fit, named_items, PutsInto}
-use Rattle.naga_names.specs.Reset.{PutsBeginning, HasNamedItems, NamesItems, labelled_declarations}
-use Rattle.naga_names.specs.Reset.{labelled_values, labelled_items, type_name, type_names_in}
-use Rattle.naga_names.proofs.Naming.{has_named_nothing}
-use Rattle.naga_names.proofs.Reset.{begins, refusal_more, beginning_more, not_below}
-use Rattle.naga_names.proofs.TypeNames.{agree}
+use Rattle.naga_naming.specs.Keys.{NameMap}
+use Rattle.naga_naming.specs.declared.error.NamerError.{NamerError}
+use Rattle.naga_naming.specs.declared.error.NamerError.TheVariants.{KeyFull, Memory}
+use Rattle.naga_naming.specs.Naming.{Names}
+use Rattle.naga_naming.specs.Refusal.{IsRefusalOfItems, RefusesItems}
+use Rattle.naga_naming.specs.Reset.{LabelledItem, key_fits, keys_fit, named_items, PutsInto}
+use Rattle.naga_naming.specs.Reset.{PutsBeginning, HasNamedItems, NamesItems, labelled_declarations}
+use Rattle.naga_naming.specs.Reset.{labelled_values, labelled_items, type_name, type_names_in}
+use Rattle.naga_naming.proofs.Naming.{has_named_nothing}
+use Rattle.naga_naming.proofs.Reset.{begins, refusal_more, beginning_more, not_below}
+use Rattle.naga_naming.proofs.TypeNames.{agree}
 use Rattle.naga_names.specs.Progress.{Progress, Stands, Gives, GivesModule, Leaves, argument_key}
 use Rattle.naga_names.specs.declared.namer.items.Owner.{Owner}
 use Rattle.naga_names.specs.declared.namer.items.Owner.TheVariants as owner

@@ -1,10 +1,1 @@
-pub mod Keys
-pub mod Label
-pub mod Laws
-pub mod Members
-pub mod Naming
-pub mod Outputs
 pub mod Progress
-pub mod Refusal
-pub mod Reset
-pub mod Starts

@@ -6,15 +6,15 @@ use Rattle.naga_ir.specs.declared.module.FunctionArgument.{FunctionArgument}
 use Rattle.naga_ir.specs.declared.module.LocalVariable.{LocalVariable}
 use Rattle.naga_ir.specs.declared.module.Module.{Module}
 use Rattle.naga_ir.specs.declared.types.Type_.{Type_}
-use Rattle.naga_names.specs.Keys.{NameMap, names_in}
-use Rattle.naga_names.specs.declared.key.ExternalTextureNameKey.{ExternalTextureNameKey}
-use Rattle.naga_names.specs.declared.key.NameKey.{NameKey}
-use Rattle.naga_names.specs.declared.key.NameKey.TheVariants as key
-use Rattle.naga_names.specs.declared.error.NamerError.{NamerError}
-use Rattle.naga_names.specs.Naming.{Names, label_or}
-use Rattle.naga_names.specs.Refusal.{IsRefusalOfItems}
-use Rattle.naga_names.specs.Reset.{LabelledItem, HasNamedItems, PutsBeginning, labelled_items}
-use Rattle.naga_names.specs.Reset.{is_external, with_parts}
+use Rattle.naga_naming.specs.Keys.{NameMap, names_in}
+use Rattle.naga_naming.specs.declared.key.ExternalTextureNameKey.{ExternalTextureNameKey}
+use Rattle.naga_naming.specs.declared.key.NameKey.{NameKey}
+use Rattle.naga_naming.specs.declared.key.NameKey.TheVariants as key
+use Rattle.naga_naming.specs.declared.error.NamerError.{NamerError}
+use Rattle.naga_naming.specs.Naming.{Names, label_or}
+use Rattle.naga_naming.specs.Refusal.{IsRefusalOfItems}
+use Rattle.naga_naming.specs.Reset.{LabelledItem, HasNamedItems, PutsBeginning, labelled_items}
+use Rattle.naga_naming.specs.Reset.{is_external, with_parts}
 use Rattle.naga_names.specs.declared.namer.items.Naming.{Naming}
 use Rattle.naga_names.specs.declared.namer.items.Owner.{Owner}
 use Rattle.naga_names.specs.declared.namer.items.Owner.TheVariants as owner

@@ -2,15 +2,15 @@
 ghost use Rattle.std.specs.Prelude.{◌≡◌, ◌<◌, ◌^◌, true, ◌∷◌, [], ◌++◌, List, ℕ, map, length};
 ghost use Rattle.std.specs.Prelude.{false, codes, IfOk, IfErr, OnOk, OnErr, IsErr, string_bytes};
 ghost use Rattle.std.specs.FinSet as set;
-ghost use Rattle.naga_names.specs.Starts.{start_of};
-ghost use Rattle.naga_names.specs.Naming.{Names, names_code, new_names, no_names, label_or};
-ghost use Rattle.naga_names.specs.Naming.{first_name};
-ghost use Rattle.naga_names.specs.Naming.{is_taken, name_of, name_of_stem, uses_of, with_use};
-ghost use Rattle.naga_names.specs.Naming.{with_use_of_stem, IsFull, HasNamed, name_after};
-ghost use Rattle.naga_names.specs.Members.{PutsName, PutsNoName, HasNamedMembers, RefusesMembers};
-ghost use Rattle.naga_names.specs.Refusal.{IsRefusalOf, IsRefusalOfStem, IsReset, RefusesItems};
-ghost use Rattle.naga_names.specs.Keys.{names_in};
-ghost use Rattle.naga_names.specs.Reset.{labelled_members, NamesItems};
+ghost use Rattle.naga_naming.specs.Starts.{start_of};
+ghost use Rattle.naga_naming.specs.Naming.{Names, names_code, new_names, no_names, label_or};
+ghost use Rattle.naga_naming.specs.Naming.{first_name};
+ghost use Rattle.naga_naming.specs.Naming.{is_taken, name_of, name_of_stem, uses_of, with_use};
+ghost use Rattle.naga_naming.specs.Naming.{with_use_of_stem, IsFull, HasNamed, name_after};
+ghost use Rattle.naga_naming.specs.Members.{PutsName, PutsNoName, HasNamedMembers, RefusesMembers};
+ghost use Rattle.naga_naming.specs.Refusal.{IsRefusalOf, IsRefusalOfStem, IsReset, RefusesItems};
+ghost use Rattle.naga_naming.specs.Keys.{names_in};
+ghost use Rattle.naga_naming.specs.Reset.{labelled_members, NamesItems};
 
 use crate::namer::fallback::label_or;
 use crate::namer::items::Naming;

@@ -16,7 +16,7 @@ use Rattle.naga_ir.specs.declared.module.Function as ir_function
 use Rattle.naga_ir.specs.declared.module.Module.{Module}
 use Rattle.naga_info.specs.declared.info.ExpressionInfo.{ExpressionInfo}
 use Rattle.naga_info.specs.declared.info.ModuleInfo.{ModuleInfo}
-use Rattle.naga_names.specs.Keys.{NameMap}
+use Rattle.naga_naming.specs.Keys.{NameMap}
 use Rattle.shader_runs.specs.World.{update}
 use Rattle.shader_runs.specs.Program.{Function, binds, binds_as, expression_of, operands_of, from}
 use Rattle.shader_runs.specs.Program.{is_pure, is_emittable}

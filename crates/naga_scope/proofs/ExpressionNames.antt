@@ -3,12 +3,12 @@ use Rattle.std.proofs.Common.{◌≡◌, ◌≤◌, ◌^◌, ◌++◌, ◌∙◌
 use Rattle.std.proofs.Common.{ap, refl, arith, length-append, subst, sym}
 use Rattle.std.specs.Prelude.{Err, Ok, OnOk, Result}
 use Rattle.module_semantics.specs.ExpressionLabels.{SomeLabelIsFull}
-use Rattle.naga_names.proofs.NameShapes.{counted_more}
-use Rattle.naga_names.specs.Naming.{HasNamed, Names, Uses, label_stem, labels_with_stem, name_after}
-use Rattle.naga_names.specs.Naming.{with_use}
-use Rattle.naga_names.specs.Refusal.{IsRefusalOf}
-use Rattle.naga_names.specs.declared.error.NamerError.{NamerError}
-use Rattle.naga_names.specs.declared.error.NamerError.TheVariants.{Full, KeyFull, Memory}
+use Rattle.naga_naming.proofs.NameShapes.{counted_more}
+use Rattle.naga_naming.specs.Naming.{HasNamed, Names, Uses, label_stem, labels_with_stem, name_after}
+use Rattle.naga_naming.specs.Naming.{with_use}
+use Rattle.naga_naming.specs.Refusal.{IsRefusalOf}
+use Rattle.naga_naming.specs.declared.error.NamerError.{NamerError}
+use Rattle.naga_naming.specs.declared.error.NamerError.TheVariants.{Full, KeyFull, Memory}
 use Rattle.naga_scope.specs.ExpressionNames.{HasBegunLabels, HasOtherUses, IsRefusalOfLabels}
 use Rattle.naga_scope.specs.ExpressionNames.{NamesLabels, RefusesLabels, names_following}
 

@@ -41,7 +41,7 @@ use Rattle.naga_ir.specs.declared.types.Type_.{Type_}
 use Rattle.naga_ir.specs.declared.types.TypeInner.{TypeInner}
 use Rattle.naga_ir.specs.declared.types.TypeInner.TheVariants as inner
 use Rattle.naga_ir.specs.declared.types.VectorSize.{VectorSize}
-use Rattle.naga_words.specs.Spelling.{is_struct}
+use Rattle.naga_spelling.specs.Spelling.{is_struct}
 use Rattle.wgsl_words.specs.Words.{scalar_word, space_word}
 use Rattle.naga_scope.proofs.Marking.{just_marked}
 use Rattle.naga_scope.proofs.WrittenConstants.{MarksBelow, globals_in_order}

@@ -14,7 +14,7 @@ use Rattle.naga_ir.specs.StatementTree.{StatementTree}
 use Rattle.naga_ir.specs.declared.expression.Expression.{Expression}
 use Rattle.naga_ir.specs.declared.module.Function.{Function}
 use Rattle.naga_ir.specs.declared.module.Module.{Module}
-use Rattle.naga_names.specs.Naming.{Names}
+use Rattle.naga_naming.specs.Naming.{Names}
 use Rattle.naga_scope.proofs.FaultLines.{fault_breaks}
 use Rattle.naga_scope.proofs.FormedStatements.{found_lacks, none_found, none_unsupported, one_found}
 use Rattle.naga_scope.proofs.LineOrder.{before_then, before_up_to, not_before_itself}

@@ -43,7 +43,7 @@ use Rattle.naga_ir.specs.declared.types.TypeInner.TheVariants as inner
 use Rattle.naga_layout.proofs.Concerned.{concerned_laid, laid_concerned, none_stands}
 use Rattle.naga_layout.proofs.Left.{all_aligned}
 use Rattle.naga_layout.specs.Types.{arrays_are_kept, kept_struct, placed_members}
-use Rattle.naga_names.specs.Reset.{members_of}
+use Rattle.naga_naming.specs.Reset.{members_of}
 use Rattle.naga_scope.specs.declared.declarations.DeclarationPosition.{DeclarationPosition}
 use Rattle.naga_scope.specs.declared.declarations.DeclarationPosition.TheVariants as position
 use Rattle.naga_scope.specs.declared.declarations.UnsupportedDeclaration.{UnsupportedDeclaration}

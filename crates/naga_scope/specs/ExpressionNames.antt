@@ -1,9 +1,9 @@
 -- How the names are taken that front ends gave in a function.
 use Rattle.std.specs.Prelude.{◌≡◌, ⊤, ℕ, ◌+◌, List, [], ◌∷◌, ◌++◌, length}
 use Rattle.module_semantics.specs.ExpressionLabels.{SomeLabelIsFull}
-use Rattle.naga_names.specs.Naming.{HasNamed, Names, name_after}
-use Rattle.naga_names.specs.declared.error.NamerError.{NamerError}
-use Rattle.naga_names.specs.declared.error.NamerError.TheVariants.{Full, KeyFull, Memory}
+use Rattle.naga_naming.specs.Naming.{HasNamed, Names, name_after}
+use Rattle.naga_naming.specs.declared.error.NamerError.{NamerError}
+use Rattle.naga_naming.specs.declared.error.NamerError.TheVariants.{Full, KeyFull, Memory}
 
 -- the names of labels, each after the earlier ones and those in front of it
 abbrev pub names_following : Names → (earlier labels : List (List ℕ)) → List (List ℕ)

@@ -23,7 +23,7 @@ use Rattle.module_semantics.specs.FunctionShapes.{function_shape}
 use Rattle.module_semantics.specs.Premises.{function_shape_at}
 use Rattle.module_semantics.specs.ExpressionLabels.{SomeLabelIsFull, expression_labels}
 use Rattle.module_semantics.specs.Names.{expression_name}
-use Rattle.naga_names.specs.Naming.{HasNamed, Names}
+use Rattle.naga_naming.specs.Naming.{HasNamed, Names}
 use Rattle.naga_scope.specs.ExpressionNames.{IsRefusalOfLabels}
 use Rattle.naga_scope.specs.Availabilities.{TextPoint, handles_of}
 use Rattle.naga_scope.specs.Changes.{block_changes}

@@ -12,7 +12,7 @@ ghost use Rattle.naga_ir.specs.Operands.{expression_operands, own_operands, own_
 ghost use Rattle.naga_ir.specs.StatementTree.{branch, loop, switch};
 ghost use Rattle.naga_ir.specs.StatementViews.{block_of, cases_of, tree_of};
 ghost use Rattle.naga_ir.specs.declared.module.Module.{Module};
-ghost use Rattle.naga_names.specs.Keys.{NameMap};
+ghost use Rattle.naga_naming.specs.Keys.{NameMap};
 ghost use Rattle.shader_runs.specs.Program.{from};
 ghost use Rattle.shader_runs.specs.Scope.{after, after_all, after_emit, after_one, after_result};
 ghost use Rattle.shader_runs.specs.Scope.{at_start, before_local, named_after, named_after_all};

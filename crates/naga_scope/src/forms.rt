@@ -12,8 +12,8 @@ ghost use Rattle.module_semantics.specs.Undeclared.{member_words, part_has_form_
 ghost use Rattle.module_semantics.specs.Undeclared.{whole_known, whole_of};
 ghost use Rattle.naga_info.specs.Resolution.{InRange, inner_of};
 ghost use Rattle.naga_ir.specs.declared.types.Type_.{Type_};
-ghost use Rattle.naga_names.specs.Keys.{names_in};
-ghost use Rattle.naga_names.specs.declared.key.NameKey.TheVariants as key;
+ghost use Rattle.naga_naming.specs.Keys.{names_in};
+ghost use Rattle.naga_naming.specs.declared.key.NameKey.TheVariants as key;
 ghost use Rattle.naga_scope.specs.Forms.{AreKnownIn};
 ghost use Rattle.naga_scope.specs.Tables.{AreTablesOf};
 ghost use Rattle.wgsl_text.specs.Words.{stands_in};
@@ -27,7 +27,7 @@ use naga_ir::{
     CooperativeRole, CooperativeSize, Expression, Handle, Literal, Module, SampleLevel, Scalar,
     ScalarKind, SwizzleComponent, Type_, TypeInner, UniqueArena,
 };
-use naga_names::NameKey;
+use naga_naming::NameKey;
 use std::collections::HashMap;
 use wgsl_words::TryToWgsl;
 

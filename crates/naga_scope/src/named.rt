@@ -12,7 +12,7 @@ ghost use Rattle.shader_runs.specs.Program.{from};
 
 use crate::lets::label_of;
 use naga_ir::{Expression, Function, Handle, ItemIndex, Range, Statement};
-use naga_names::NamerError;
+use naga_naming::NamerError;
 use naga_names::namer::Namer;
 use std::alloc::Global;
 

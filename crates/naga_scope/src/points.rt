@@ -11,7 +11,7 @@ ghost use Rattle.naga_info.specs.declared.info.ExpressionInfo.{ExpressionInfo};
 ghost use Rattle.naga_ir.specs.Operands.{expression_operands};
 ghost use Rattle.naga_info.specs.declared.info.ModuleInfo.{ModuleInfo};
 ghost use Rattle.naga_ir.specs.declared.module.Module.{Module};
-ghost use Rattle.naga_names.specs.Keys.{NameMap};
+ghost use Rattle.naga_naming.specs.Keys.{NameMap};
 ghost use Rattle.shader_runs.specs.Program.{binds, expression_of, operands_of};
 ghost use Rattle.shader_runs.specs.Program.{is_pure};
 ghost use Rattle.shader_runs.specs.Scope.{after_one, after_result, all_constant, at_start};

@@ -22,7 +22,7 @@ ghost use Rattle.naga_scope.specs.Tables.{is_marked_over, is_marked_type, repres
 ghost use Rattle.naga_scope.specs.Tables.{item_has_type_form, representative_over, type_form_over};
 ghost use Rattle.naga_scope.specs.Tables.{type_has_form_by_marks};
 ghost use Rattle.naga_scope.specs.Tables.{undeclared_handles, unnamed_initialiser, unnamed_value};
-ghost use Rattle.naga_words.specs.Spelling.{is_struct};
+ghost use Rattle.naga_spelling.specs.Spelling.{is_struct};
 ghost use Rattle.wgsl_layout.specs.Capped.{IsAlignment, capped};
 ghost use Rattle.wgsl_layout.specs.Faults.{first_fault};
 

@@ -7,7 +7,7 @@ ghost use Rattle.std.specs.Option.{option_to_list};
 ghost use Rattle.naga_ir.specs.Operands.{expression_operands, own_operands};
 ghost use Rattle.naga_ir.specs.StatementViews.{tree_of};
 ghost use Rattle.naga_ir.specs.declared.expression.Expression.{Expression};
-ghost use Rattle.naga_names.specs.Keys.{names_in};
+ghost use Rattle.naga_naming.specs.Keys.{names_in};
 ghost use Rattle.module_semantics.specs.Names.{HasNamesOf};
 ghost use Rattle.module_semantics.specs.Premises.{OperandsStandBefore};
 ghost use Rattle.module_semantics.specs.Sampling.{own_offset_has_form};
@@ -33,7 +33,7 @@ use crate::lines::{Line, is_before};
 use crate::tables::ModuleTables;
 use naga_info::FunctionInfo;
 use naga_ir::{Expression, Function, Handle, ItemIndex, Module, Range, Statement};
-use naga_names::NameKey;
+use naga_naming::NameKey;
 use std::alloc::{AllocError, Global};
 use std::collections::HashMap;
 

@@ -33,7 +33,7 @@ use Rattle.naga_ir.specs.declared.types.VectorSize.{VectorSize}
 use Rattle.naga_ir.specs.declared.module.Module.{Module}
 use Rattle.naga_scope.proofs.WrittenConstants.{global_same, globals_in_order}
 use Rattle.naga_scope.specs.Marks.{GlobalsStandInOrder}
-use Rattle.naga_words.specs.Contexts.{Names as TypeNames}
+use Rattle.naga_spelling.specs.Contexts.{Names as TypeNames}
 use Rattle.naga_words.specs.Output.{joined_texts}
 use Rattle.naga_wgsl_fns.specs.Constants.{called_global_text, constant_text, global_at, global_text}
 use Rattle.naga_wgsl_fns.specs.Constants.{made_global_text, next_part_text, parts_at, parts_left}
@@ -41,7 +41,7 @@ use Rattle.naga_wgsl_fns.specs.Constants.{parts_text}
 use Rattle.naga_form.specs.Types.{type_form}
 use Rattle.module_semantics.specs.Types.{type_names}
 use Rattle.naga_wgsl_fns.specs.ModuleText.{CanWriteOf}
-use Rattle.naga_names.specs.declared.key.NameKey.TheVariants as key
+use Rattle.naga_naming.specs.declared.key.NameKey.TheVariants as key
 use Rattle.naga_wgsl_fns.specs.Literals.{literal_text}
 use Rattle.naga_wgsl_fns.specs.Names.{name_of_constant, name_of_override}
 use Rattle.naga_wgsl_fns.specs.Types.{spelled_text}

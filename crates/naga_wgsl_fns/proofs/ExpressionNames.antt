@@ -3,7 +3,7 @@ use Rattle.std.proofs.Common.{◌≡◌, ◌≤◌, ◌^◌, ◌∙◌, ◌++◌
 use Rattle.std.proofs.Common.{append_assoc, ap, get_or, refl, slice_get, subst, sym, take}
 use Rattle.std.specs.Option.{option_map_or}
 use Rattle.naga_ir.specs.declared.module.Module.{Module}
-use Rattle.naga_names.specs.Naming.{HasNamed, Names, labels_with_stem, name_after}
+use Rattle.naga_naming.specs.Naming.{HasNamed, Names, labels_with_stem, name_after}
 use Rattle.module_semantics.specs.ExpressionLabels.{name_of_label}
 use Rattle.module_semantics.specs.Names.{labels_named_in, wgsl_names}
 use Rattle.naga_scope.proofs.ExpressionNames.{counted_none_full}

@@ -34,7 +34,7 @@ use Rattle.naga_form.proofs.operators.Operators.{constructor_called, operator_ro
 use Rattle.naga_form.proofs.operators.Operators.{typed_notation, unary_row}
 use Rattle.module_semantics.specs.Names.{module_names, numbered_name}
 use Rattle.naga_form.proofs.types.SameValues.{or_nothing}
-use Rattle.naga_names.specs.declared.key.NameKey.TheVariants as key
+use Rattle.naga_naming.specs.declared.key.NameKey.TheVariants as key
 use Rattle.module_semantics.specs.AlikeTypes.{has_type_form}
 use Rattle.naga_info.specs.declared.info.TypeResolution.TheVariants.{Handle}
 use Rattle.naga_form.proofs.types.WrittenTypes.{tree_there}

@@ -26,13 +26,13 @@ use Rattle.wgsl_text.specs.Functions.{more_parameters_pieces, parameters_pieces,
 use Rattle.wgsl_text.specs.Functions.{locals_pieces, group_end}
 use Rattle.naga_form.specs.Functions.{locals_form, parameter_form, parameters_form, result_form}
 use Rattle.wgsl_text.proofs.Text.{text-append}
-use Rattle.naga_names.proofs.Refusal.{element}
+use Rattle.naga_naming.proofs.Refusal.{element}
 use Rattle.naga_form.proofs.statements.AcceptedFunctions.{of_number, ranges_of}
 use Rattle.module_semantics.specs.FunctionNumbers.{IsFunctionOf, all_functions, all_infos}
 use Rattle.module_semantics.specs.FunctionNumbers.{function_number}
 use Rattle.wgsl_text.proofs.Functions.{value_text as value_row_text, locals_text as local_row_text}
 use Rattle.wgsl_text.proofs.Functions.{function_text as function_row_text}
-use Rattle.naga_names.specs.Keys.{names_in}
+use Rattle.naga_naming.specs.Keys.{names_in}
 use Rattle.shader_runs.specs.Scope.{Handles}
 use Rattle.module_semantics.specs.ExpressionLabels.{expression_labels}
 use Rattle.module_semantics.specs.Names.{HasNamesOf, module_names}

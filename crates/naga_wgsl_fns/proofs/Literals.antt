@@ -4,7 +4,7 @@ use Rattle.std.proofs.Common.{ne_eqb, append_assoc, sym, ◌∙◌, Bool, true, 
 use Rattle.std.specs.Fmt.{digits, sign_text, signed_decimal}
 use Rattle.std.proofs.lemmas.List.{append-nil}
 use Rattle.naga_words.specs.Output.{joined_texts}
-use Rattle.float_numerals.specs.declared.decimal.Decimal.{Decimal}
+use Rattle.decimal_numerals.specs.declared.decimal.Decimal.{Decimal}
 use Rattle.float_numerals.specs.Texts as numeral_texts
 use Rattle.float_numerals.specs.Texts.{double_exponent, double_fraction, double_whole}
 use Rattle.float_numerals.specs.Texts.{fraction_digits, whole_digits, fraction_text}

@@ -16,8 +16,8 @@ use Rattle.naga_ir.specs.declared.module.EntryPoint as ir_entry_point
 use Rattle.naga_ir.specs.declared.module.Function as ir_function
 use Rattle.naga_ir.specs.declared.module.Module.{Module}
 use Rattle.naga_ir.specs.declared.types.Type_.{Type_}
-use Rattle.naga_names.specs.Keys.{NameMap}
-use Rattle.naga_words.specs.Spelling.{is_struct}
+use Rattle.naga_naming.specs.Keys.{NameMap}
+use Rattle.naga_spelling.specs.Spelling.{is_struct}
 use Rattle.module_semantics.specs.acceptance.Accepted.{is_accepted}
 use Rattle.module_semantics.specs.LackingScalars.{base_type}
 use Rattle.module_semantics.specs.Names.{AreLabelNames, LabelNames, item_labels, module_names}
@@ -31,7 +31,7 @@ use Rattle.module_semantics.specs.FunctionNumbers.{all_functions, callee_count, 
 use Rattle.module_semantics.proofs.FunctionNumbers.{function_among, info_among}
 use Rattle.naga_form.proofs.statements.AcceptedFunctions.{entry_info_among, entry_points_counted}
 use Rattle.naga_form.proofs.statements.AcceptedFunctions.{functions_counted}
-use Rattle.naga_names.proofs.Refusal.{element}
+use Rattle.naga_naming.proofs.Refusal.{element}
 use Rattle.naga_wgsl_fns.specs.Functions.{known_of}
 use Rattle.naga_form.proofs.names.ExpressionNames.{apart_there, names_after_are}
 use Rattle.naga_form.proofs.declarations.Interface.{has_interface_under}

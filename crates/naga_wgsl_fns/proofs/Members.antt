@@ -11,7 +11,7 @@ use Rattle.naga_ir.specs.declared.module.Module.{Module}
 use Rattle.naga_ir.specs.declared.types.Type_.{Type_}
 use Rattle.naga_ir.specs.declared.types.TypeInner.{TypeInner}
 use Rattle.naga_ir.specs.declared.types.TypeInner.TheVariants as inner
-use Rattle.naga_words.specs.Spelling.{is_struct}
+use Rattle.naga_spelling.specs.Spelling.{is_struct}
 use Rattle.module_semantics.specs.ExpressionOperators.{type_with}
 use Rattle.module_semantics.specs.ExpressionShapes.{ModuleDeclarations, own_selector, selector}
 use Rattle.module_semantics.specs.Undeclared.{whole_of}

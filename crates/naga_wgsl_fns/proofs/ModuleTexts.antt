@@ -1,7 +1,7 @@
 -- What is known of a module from what is known of the text of one of its functions.
 use Rattle.std.proofs.Common.{◌≡◌, subst, sym}
 use Rattle.module_semantics.specs.Names.{HasNamesOf}
-use Rattle.naga_names.specs.Keys.{names_in}
+use Rattle.naga_naming.specs.Keys.{names_in}
 use Rattle.naga_scope.specs.Tables.{AreTablesOf}
 use Rattle.naga_wgsl_fns.specs.FunctionText.{CanWrite}
 use Rattle.naga_wgsl_fns.specs.ModuleText.{CanWriteIn, CanWriteOf}

@@ -7,9 +7,9 @@ use Rattle.module_semantics.specs.FunctionNumbers.{all_functions, function_type}
 use Rattle.module_semantics.specs.Names.{function_name, module_names, name_in}
 use Rattle.naga_back.specs.FunctionContext.{argument_key, function_key, local_key}
 use Rattle.naga_ir.specs.declared.module.Module.{Module}
-use Rattle.naga_names.specs.Keys.{names_in}
-use Rattle.naga_names.specs.declared.key.NameKey.{NameKey}
-use Rattle.naga_names.specs.declared.key.NameKey.TheVariants as key
+use Rattle.naga_naming.specs.Keys.{names_in}
+use Rattle.naga_naming.specs.declared.key.NameKey.{NameKey}
+use Rattle.naga_naming.specs.declared.key.NameKey.TheVariants as key
 use Rattle.naga_wgsl_fns.specs.FunctionText.{CanWrite, callees, number}
 use Rattle.naga_wgsl_fns.specs.Names.{name_of_argument, name_of_function, name_of_local}
 use Rattle.naga_wgsl_fns.specs.declared.functions.FunctionText.{FunctionText}

@@ -25,7 +25,7 @@ use Rattle.naga_wgsl_fns.specs.Expressions.{plain_tree, pointed_text, reference_
 use Rattle.naga_wgsl_fns.specs.Expressions.{own_form}
 use Rattle.module_semantics.specs.Names.{constant_name, global_name, module_names, name_in}
 use Rattle.module_semantics.specs.Names.{numbered_name}
-use Rattle.naga_names.specs.declared.key.NameKey.TheVariants as key
+use Rattle.naga_naming.specs.declared.key.NameKey.TheVariants as key
 use Rattle.std.proofs.lemmas.Option.{same_Some}
 use Rattle.naga_form.proofs.operators.Operators.{query_is_called, IsCalled, cast_called}
 use Rattle.naga_form.proofs.operators.Operators.{constructor_called, load_called}
@@ -50,7 +50,7 @@ use Rattle.naga_form.specs.ConstantForms.{constant_form_over, global_form, globa
 use Rattle.naga_form.specs.ConstantForms.{constant_form_by, no_constant_form, written_constant_form}
 use Rattle.naga_ir.specs.declared.module.Constant as ir_constant
 use Rattle.naga_ir.specs.declared.module.Module.{Module}
-use Rattle.naga_words.specs.Contexts.{Names as TypeNames}
+use Rattle.naga_spelling.specs.Contexts.{Names as TypeNames}
 use Rattle.naga_wgsl_fns.specs.FunctionText.{named_in, type_names_of, CanWrite, IsInText, context}
 use Rattle.naga_wgsl_fns.specs.FunctionText.{expressions, handles_in, naming, source}
 use Rattle.naga_form.specs.TypeTrees.{type_tree}

@@ -52,10 +52,10 @@ use Rattle.naga_info.specs.declared.info.TypeResolution.{TypeResolution}
 use Rattle.naga_info.specs.declared.info.TypeResolution.TheVariants.{Handle}
 use Rattle.naga_ir.specs.declared.types.Scalar.{Scalar}
 use Rattle.naga_ir.specs.declared.types.TypeInner.{TypeInner}
-use Rattle.naga_names.specs.Naming.{HasNamed, Names, label_stem, labels_with_stem}
-use Rattle.naga_names.specs.declared.error.NamerError.{NamerError}
-use Rattle.naga_names.specs.declared.error.NamerError.TheVariants as namer_error
-use Rattle.naga_names.proofs.Refusal.{element}
+use Rattle.naga_naming.specs.Naming.{HasNamed, Names, label_stem, labels_with_stem}
+use Rattle.naga_naming.specs.declared.error.NamerError.{NamerError}
+use Rattle.naga_naming.specs.declared.error.NamerError.TheVariants as namer_error
+use Rattle.naga_naming.proofs.Refusal.{element}
 use Rattle.module_semantics.specs.ExpressionLabels.{SomeLabelIsFull, expression_labels}
 use Rattle.module_semantics.specs.Names.{labels_named_in, wgsl_names}
 use Rattle.naga_scope.specs.ExpressionNames.{HasOtherUses, IsRefusalOfLabels}

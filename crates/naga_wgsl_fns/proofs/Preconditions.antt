@@ -40,7 +40,7 @@ use Rattle.module_semantics.specs.ExpressionForms.{expression_has_own_form, know
 use Rattle.naga_form.proofs.declarations.AcceptedGroups.{fits_in_range, known_fits, known_is_fit}
 use Rattle.naga_form.proofs.types.PartTypes.{known_before}
 use Rattle.naga_info.specs.declared.info.ModuleInfo.{ModuleInfo}
-use Rattle.naga_words.specs.Spelling.{is_struct}
+use Rattle.naga_spelling.specs.Spelling.{is_struct}
 use Rattle.module_semantics.specs.ExpressionOperators.{has_parts, is_composite, type_known}
 use Rattle.module_semantics.specs.ExpressionOperators.{called_word}
 use Rattle.module_semantics.specs.ExpressionShapes.{ModuleDeclarations, component_letters, own_selector}
@@ -58,10 +58,10 @@ use Rattle.naga_ir.specs.declared.types.Type_.{Type_}
 use Rattle.naga_ir.specs.declared.types.TypeInner.{TypeInner}
 use Rattle.naga_ir.specs.declared.types.TypeInner.TheVariants as inner
 use Rattle.naga_info.proofs.Options.{then_some}
-use Rattle.naga_names.proofs.Refusal.{element}
-use Rattle.naga_names.specs.Keys.{names_in}
-use Rattle.naga_names.specs.Reset.{members_of}
-use Rattle.naga_names.specs.declared.key.NameKey.TheVariants as key
+use Rattle.naga_naming.proofs.Refusal.{element}
+use Rattle.naga_naming.specs.Keys.{names_in}
+use Rattle.naga_naming.specs.Reset.{members_of}
+use Rattle.naga_naming.specs.declared.key.NameKey.TheVariants as key
 use Rattle.module_semantics.specs.Undeclared.{is_spellable, member_has_form, names_undeclared}
 use Rattle.module_semantics.specs.Undeclared.{part_has_form_at, whole_known, whole_of}
 use Rattle.shader_runs.specs.Value.{MemberNamed}

@@ -8,7 +8,7 @@ use Rattle.module_semantics.specs.DeclarationForms.{binding_has_form}
 use Rattle.module_semantics.specs.StageBindings.{binding_meant}
 use Rattle.naga_form.proofs.declarations.Attributes.{passing_read}
 use Rattle.naga_form.specs.Attributes.{binding_attributes}
-use Rattle.naga_words.specs.Sink.{IsAfter}
+use Rattle.naga_spelling.specs.Sink.{IsAfter}
 use Rattle.naga_wgsl_fns.specs.Attributes.{binding_text}
 use Rattle.naga_wgsl_fns.specs.Bindings.{BindingWriting}
 use Rattle.naga_wgsl_fns.specs.DeclarationRefusals.{NamesBuiltin}

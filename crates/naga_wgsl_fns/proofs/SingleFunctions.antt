@@ -10,8 +10,8 @@ use Rattle.naga_ir.specs.declared.module.EntryPoint as ir_entry_point
 use Rattle.naga_ir.specs.declared.module.Module.{Module}
 use Rattle.naga_info.specs.declared.info.ExpressionInfo.{ExpressionInfo}
 use Rattle.naga_info.specs.declared.info.ModuleInfo.{ModuleInfo}
-use Rattle.naga_names.specs.Naming.{HasNamed, Names, name_after}
-use Rattle.naga_names.proofs.Refusal.{element}
+use Rattle.naga_naming.specs.Naming.{HasNamed, Names, name_after}
+use Rattle.naga_naming.proofs.Refusal.{element}
 use Rattle.module_semantics.proofs.FunctionNumbers.{entry_point_among, function_among, number_within}
 use Rattle.module_semantics.specs.acceptance.Accepted.{is_accepted}
 use Rattle.module_semantics.specs.ExpressionLabels.{expression_labels, name_of_label}
@@ -33,7 +33,7 @@ use Rattle.naga_back.specs.declared.context.FunctionType.{FunctionType}
 use Rattle.naga_back.specs.declared.context.FunctionType.TheVariants as item
 use Rattle.naga_scope.specs.ExpressionNames.{HasNamedSome, HasOtherUses, NamesLabels}
 use Rattle.naga_scope.specs.Plans.{IsPlanOf, Planned}
-use Rattle.naga_words.specs.Sink.{IsAfter}
+use Rattle.naga_spelling.specs.Sink.{IsAfter}
 use Rattle.wgsl_text.specs.Attributes.{attributes_pieces}
 use Rattle.wgsl_text.specs.Functions.{EntryPoint, Function, IsFunction, function_pieces}
 use Rattle.wgsl_text.specs.Reading.{HasOneReading, ReadsEntryPoint, ReadsFunction}

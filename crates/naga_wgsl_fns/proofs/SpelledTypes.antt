@@ -21,17 +21,17 @@ use Rattle.naga_ir.specs.declared.types.TypeInner.{TypeInner}
 use Rattle.naga_ir.specs.declared.types.TypeInner.TheVariants as inner
 use Rattle.naga_ir.specs.declared.types.Type_.{Type_}
 use Rattle.naga_ir.specs.declared.types.VectorSize.{VectorSize}
-use Rattle.naga_names.specs.Keys.{NameMap}
-use Rattle.naga_words.specs.Contexts.{Names, names_context, names_of, writer_context}
-use Rattle.naga_words.specs.Segments.{HasWritten, IsText, NoSegments, WordThen, ShownThen}
-use Rattle.naga_words.specs.Segments.{known_text, Segment, Word, Shown, Missing}
-use Rattle.naga_words.specs.Spelling.{found_segments_by, inner_segments_by, is_struct}
-use Rattle.naga_words.specs.Spelling.{length_segments, pointer_segments, segments_within}
-use Rattle.naga_words.specs.Spelling.{type_segments}
-use Rattle.naga_words.specs.Values.{access_segments, image_segments, pointer_in, scalar_segments_of}
-use Rattle.naga_words.specs.Values.{template_segments, value_pointer_segments, value_segments}
-use Rattle.naga_words.specs.Words.{cooperative_word, image_word, matrix_word, matrix_role_tail}
-use Rattle.naga_words.specs.Words.{vector_word}
+use Rattle.naga_naming.specs.Keys.{NameMap}
+use Rattle.naga_spelling.specs.Contexts.{Names, names_context, names_of, writer_context}
+use Rattle.naga_spelling.specs.Segments.{HasWritten, IsText, NoSegments, WordThen, ShownThen}
+use Rattle.naga_spelling.specs.Segments.{known_text, Segment, Word, Shown, Missing}
+use Rattle.naga_spelling.specs.Spelling.{found_segments_by, inner_segments_by, is_struct}
+use Rattle.naga_spelling.specs.Spelling.{length_segments, pointer_segments, segments_within}
+use Rattle.naga_spelling.specs.Spelling.{type_segments}
+use Rattle.naga_spelling.specs.Values.{access_segments, image_segments, pointer_in, scalar_segments_of}
+use Rattle.naga_spelling.specs.Values.{template_segments, value_pointer_segments, value_segments}
+use Rattle.naga_spelling.specs.Words.{cooperative_word, image_word, matrix_word, matrix_role_tail}
+use Rattle.naga_spelling.specs.Words.{vector_word}
 use Rattle.wgsl_text.proofs.Text.{text-append}
 use Rattle.wgsl_text.specs.Reading.{printed_type}
 use Rattle.wgsl_words.specs.Words.{scalar_word, space_access_word, space_word}

@@ -10,16 +10,16 @@ use Rattle.naga_ir.specs.declared.types.TypeInner.TheVariants as inner
 use Rattle.wgsl_text.specs.Types.{Named}
 use Rattle.wgsl_text.proofs.Text.{text-append}
 use Rattle.naga_form.proofs.types.TypeTrees.{only_text, lacks_unknown, type_row, inner_tree_row}
-use Rattle.naga_names.specs.Keys.{NameMap, names_in}
+use Rattle.naga_naming.specs.Keys.{NameMap, names_in}
 use Rattle.naga_info.specs.declared.info.TypeResolution.{TypeResolution}
 use Rattle.naga_info.specs.declared.info.TypeResolution.TheVariants as resolution
-use Rattle.naga_words.specs.Segments.{Segment, Word, Shown, Missing, IsText, before_missing}
-use Rattle.naga_words.specs.Segments.{known_text, lacks}
+use Rattle.naga_spelling.specs.Segments.{Segment, Word, Shown, Missing, IsText, before_missing}
+use Rattle.naga_spelling.specs.Segments.{known_text, lacks}
 use Rattle.naga_words.proofs.SegmentWriting.{reason_as}
-use Rattle.naga_words.specs.Contexts.{names_of, names_context}
-use Rattle.naga_words.specs.Spelling.{FitsResolution, IsInOrder, knows_override, type_segments}
-use Rattle.naga_words.specs.Spelling.{resolution_segments, knows_size, length_within}
-use Rattle.naga_words.specs.Sink.{IsAfter}
+use Rattle.naga_spelling.specs.Contexts.{names_of, names_context}
+use Rattle.naga_spelling.specs.Spelling.{FitsResolution, IsInOrder, knows_override, type_segments}
+use Rattle.naga_spelling.specs.Spelling.{resolution_segments, knows_size, length_within}
+use Rattle.naga_spelling.specs.Sink.{IsAfter}
 use Rattle.naga_form.specs.TypeTrees.{resolution_tree}
 use Rattle.naga_words.specs.declared.error.TypeTextError.{TypeTextError}
 use Rattle.wgsl_text.specs.Reading.{printed_type}

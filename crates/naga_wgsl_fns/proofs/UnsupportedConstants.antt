@@ -17,7 +17,7 @@ use Rattle.naga_ir.specs.declared.expression.Expression.{Expression}
 use Rattle.naga_ir.specs.declared.expression.Expression.TheVariants as expression
 use Rattle.naga_ir.specs.declared.module.Constant.{Constant}
 use Rattle.naga_ir.specs.declared.module.Module.{Module}
-use Rattle.naga_names.proofs.Refusal.{element}
+use Rattle.naga_naming.proofs.Refusal.{element}
 use Rattle.naga_scope.proofs.SpelledTypes.{among_there, found_passes, none_passes, there_among}
 use Rattle.naga_scope.proofs.WrittenConstants.{global_same}
 use Rattle.naga_scope.specs.Marks.{GlobalsStandInOrder}

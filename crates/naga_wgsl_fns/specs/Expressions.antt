@@ -18,8 +18,8 @@ use Rattle.naga_ir.specs.declared.types.TypeInner.TheVariants as inner
 use Rattle.naga_wgsl_fns.specs.FunctionText.{context}
 use Rattle.shader_runs.specs.Value.{Selector, MemberNamed, ElementAt}
 use Rattle.std.specs.Option.{option_and_then, option_map_or}
-use Rattle.naga_names.specs.declared.key.NameKey.TheVariants as key
-use Rattle.naga_words.specs.Spelling.{is_struct}
+use Rattle.naga_naming.specs.declared.key.NameKey.TheVariants as key
+use Rattle.naga_spelling.specs.Spelling.{is_struct}
 use Rattle.module_semantics.specs.Names.{global_name, module_names, name_in}
 use Rattle.module_semantics.specs.Undeclared.{whole_known}
 use Rattle.naga_ir.specs.Operands.{expression_operands}

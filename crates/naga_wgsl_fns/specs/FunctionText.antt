@@ -21,7 +21,7 @@ use Rattle.module_semantics.specs.acceptance.Ranges.{block_in_range, cases_in_ra
 use Rattle.module_semantics.specs.acceptance.Ranges.{function_in_range}
 use Rattle.module_semantics.specs.acceptance.Ranges.{statement_in_range}
 use Rattle.naga_ir.specs.StatementTree.{BlockTree, CaseTrees, StatementTree}
-use Rattle.naga_names.specs.Keys.{names_in}
+use Rattle.naga_naming.specs.Keys.{names_in}
 use Rattle.shader_runs.specs.Scope.{Handles, Naming}
 use Rattle.module_semantics.specs.ExpressionLabels.{expression_labels}
 use Rattle.module_semantics.specs.Names.{HasNamesOf, module_names}
@@ -30,7 +30,7 @@ use Rattle.module_semantics.specs.Namings.{function_naming}
 use Rattle.naga_form.specs.Expressions.{Source, function_source}
 use Rattle.naga_form.specs.Types.{annotated_type}
 use Rattle.module_semantics.specs.Types.{type_names}
-use Rattle.naga_words.specs.Contexts.{Names as TypeNames}
+use Rattle.naga_spelling.specs.Contexts.{Names as TypeNames}
 use Rattle.wgsl_text.specs.Types.{TypeSpecifier}
 use Rattle.naga_back.specs.Flags.{annotates_types}
 use Rattle.naga_wgsl_fns.specs.declared.functions.FunctionText.{FunctionText}

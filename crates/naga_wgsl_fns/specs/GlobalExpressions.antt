@@ -13,7 +13,7 @@ use Rattle.naga_form.specs.GlobalValues.{HasValueOf}
 use Rattle.wgsl_text.specs.Expressions.{Expression}
 use Rattle.wgsl_text.specs.Reading.{HasOneReading, ReadsExpression}
 use Rattle.wgsl_text.specs.Text.{tokens}
-use Rattle.naga_words.specs.Sink.{IsAfter}
+use Rattle.naga_spelling.specs.Sink.{IsAfter}
 use Rattle.naga_wgsl_fns.specs.Constants.{global_at, global_text}
 use Rattle.naga_wgsl_fns.specs.Errors.{IsSinkWant}
 use Rattle.naga_wgsl_fns.specs.Refusals.{NamesGlobal, TellsOfModule}

@@ -12,8 +12,8 @@ use Rattle.naga_ir.specs.declared.module.GlobalVariable.{GlobalVariable}
 use Rattle.naga_ir.specs.declared.module.Module.{Module}
 use Rattle.naga_info.specs.declared.info.ModuleInfo.{ModuleInfo}
 use Rattle.naga_info.specs.declared.info.TypeResolution.TheVariants.{Handle}
-use Rattle.naga_names.specs.Keys.{NameMap}
-use Rattle.naga_names.specs.Naming.{HasNamed, Names}
+use Rattle.naga_naming.specs.Keys.{NameMap}
+use Rattle.naga_naming.specs.Naming.{HasNamed, Names}
 use Rattle.module_semantics.specs.FunctionLets.{BindsAt}
 use Rattle.module_semantics.specs.DeclarationForms.{DeclarationsHaveForms, HeadHasForm}
 use Rattle.module_semantics.specs.DeclarationForms.{ItemsHaveForms}
@@ -35,10 +35,10 @@ use Rattle.naga_back.specs.declared.context.FunctionType.{FunctionType}
 use Rattle.naga_back.specs.declared.context.FunctionType.TheVariants as item
 use Rattle.naga_back.specs.declared.flags.WriterFlags.{WriterFlags}
 use Rattle.naga_scope.specs.ExpressionNames.{HasNamedSome}
-use Rattle.naga_words.specs.Contexts.{names_context}
-use Rattle.naga_words.specs.Segments.{HasWritten}
-use Rattle.naga_words.specs.Sink.{IsAfter}
-use Rattle.naga_words.specs.Spelling.{type_segments}
+use Rattle.naga_spelling.specs.Contexts.{names_context}
+use Rattle.naga_spelling.specs.Segments.{HasWritten}
+use Rattle.naga_spelling.specs.Sink.{IsAfter}
+use Rattle.naga_spelling.specs.Spelling.{type_segments}
 use Rattle.naga_wgsl_fns.specs.Errors.{IsSinkWant}
 use Rattle.naga_back.specs.Flags.{annotates_types}
 use Rattle.naga_wgsl_fns.specs.Functions.{text_under}

@@ -1,7 +1,7 @@
 -- The texts of literals.
 use Rattle.std.specs.Prelude.{ℕ, ℤ, List}
 use Rattle.naga_ir.specs.declared.expression.Literal.{Literal}
-use Rattle.float_numerals.specs.declared.decimal.Decimal.{Decimal}
+use Rattle.decimal_numerals.specs.declared.decimal.Decimal.{Decimal}
 use Rattle.naga_form.specs.Literals.{decimal_form, double_form, integer_form, literal_form}
 use Rattle.naga_form.specs.Literals.{long_form, short_form}
 use Rattle.wgsl_text.specs.Literals.{UnsignedShort, literal_pieces}

@@ -4,7 +4,7 @@ use Rattle.naga_ir.specs.declared.module.Module.{Module}
 use Rattle.naga_info.specs.declared.info.ModuleInfo.{ModuleInfo}
 use Rattle.module_semantics.specs.acceptance.Accepted.{is_accepted}
 use Rattle.module_semantics.specs.Names.{HasNamesOf}
-use Rattle.naga_names.specs.Keys.{names_in}
+use Rattle.naga_naming.specs.Keys.{names_in}
 use Rattle.naga_scope.specs.Tables.{AreTablesOf}
 use Rattle.naga_wgsl_fns.specs.declared.module_text.ModuleText.{ModuleText}
 

@@ -42,11 +42,11 @@ use Rattle.module_semantics.specs.Conversions.{conversion_target}
 use Rattle.module_semantics.specs.ExpressionOperators.{pointee_scalar}
 use Rattle.naga_info.specs.declared.info.ExpressionInfo.{ExpressionInfo}
 use Rattle.naga_info.specs.declared.info.ModuleInfo.{ModuleInfo}
-use Rattle.naga_names.specs.declared.error.NamerError.{NamerError}
-use Rattle.naga_names.specs.declared.error.NamerError.TheVariants as namer_error
+use Rattle.naga_naming.specs.declared.error.NamerError.{NamerError}
+use Rattle.naga_naming.specs.declared.error.NamerError.TheVariants as namer_error
 use Rattle.module_semantics.specs.ExpressionLabels.{SomeLabelIsFull}
 use Rattle.module_semantics.specs.Names.{labels_named_in, wgsl_names}
-use Rattle.naga_names.specs.Naming.{HasNamed, Names}
+use Rattle.naga_naming.specs.Naming.{HasNamed, Names}
 use Rattle.naga_scope.specs.ExpressionNames.{HasOtherUses}
 use Rattle.module_semantics.specs.Premises.{ScopeHoldsIn}
 use Rattle.naga_scope.specs.Plans.{HasScopeFaultIn}

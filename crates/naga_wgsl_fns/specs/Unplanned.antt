@@ -3,9 +3,9 @@ use Rattle.std.specs.Prelude.{◌≡◌, ℕ, Bool, true, false, IsFalse}
 use Rattle.naga_ir.specs.declared.module.Module.{Module}
 use Rattle.naga_info.specs.declared.info.ModuleInfo.{ModuleInfo}
 use Rattle.module_semantics.specs.Written.{OfFunctionAt}
-use Rattle.naga_names.specs.Naming.{Names}
-use Rattle.naga_names.specs.declared.error.NamerError.{NamerError}
-use Rattle.naga_names.specs.declared.error.NamerError.TheVariants as namer_error
+use Rattle.naga_naming.specs.Naming.{Names}
+use Rattle.naga_naming.specs.declared.error.NamerError.{NamerError}
+use Rattle.naga_naming.specs.declared.error.NamerError.TheVariants as namer_error
 use Rattle.naga_scope.specs.Plans.{IsFirstToPlanOf, IsRefusalToPlanOf}
 use Rattle.naga_scope.specs.declared.plan.PlanError.{PlanError}
 use Rattle.naga_scope.specs.declared.plan.PlanError.TheVariants as plan_error

@@ -9,7 +9,7 @@ ghost use Rattle.naga_form.specs.Attributes.{interpolation_told, is_center, is_p
 ghost use Rattle.naga_form.specs.Attributes.{passing_attributes};
 ghost use Rattle.naga_ir.specs.declared.binding.Binding.TheVariants as binding;
 ghost use Rattle.naga_words.specs.Output.{Writes};
-ghost use Rattle.naga_words.specs.Sink.{IsAfter};
+ghost use Rattle.naga_spelling.specs.Sink.{IsAfter};
 ghost use Rattle.wgsl_text.specs.Attributes.{BlendSource, Numbered};
 ghost use Rattle.wgsl_words.specs.Words.{builtin_word};
 ghost use Rattle.naga_wgsl_fns.specs.Attributes.{attributes_text, binding_text};

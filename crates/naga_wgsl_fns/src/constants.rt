@@ -14,7 +14,7 @@ use crate::functions::FunctionText;
 use crate::literal::write_literal;
 use crate::module_text::ModuleText;
 use naga_ir::{Constant, Expression, Handle, Type_};
-use naga_words::words::vector_str;
+use naga_spelling::words::vector_str;
 use naga_words::{Output, TextSink};
 use std::alloc::Global;
 

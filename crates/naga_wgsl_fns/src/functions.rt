@@ -8,12 +8,12 @@ ghost use Rattle.naga_info.specs.declared.info.TypeResolution.TheVariants as res
 ghost use Rattle.module_semantics.specs.DeclarationForms.{HeadHasForm, binding_has_form};
 ghost use Rattle.module_semantics.specs.FunctionNumbers.{IsFunctionOf, function_number};
 ghost use Rattle.module_semantics.specs.Names.{HasNamesOf};
-ghost use Rattle.naga_names.specs.Keys.{names_in};
+ghost use Rattle.naga_naming.specs.Keys.{names_in};
 ghost use Rattle.naga_scope.specs.Changes.{block_changes};
 ghost use Rattle.naga_scope.specs.Plans.{IsPlanOf};
 ghost use Rattle.naga_scope.specs.Tables.{AreTablesOf};
 ghost use Rattle.naga_words.specs.Output.{Writes};
-ghost use Rattle.naga_words.specs.Sink.{IsAfter};
+ghost use Rattle.naga_spelling.specs.Sink.{IsAfter};
 ghost use Rattle.naga_wgsl_fns.specs.Errors.{IsWant};
 ghost use Rattle.naga_wgsl_fns.specs.FunctionText.{CanWrite};
 ghost use Rattle.naga_back.specs.Flags.{annotates_types};
@@ -40,7 +40,7 @@ use naga_ir::{
     Expression, Function, FunctionArgument, FunctionResult, Handle, ItemIndex, LocalVariable,
     Module,
 };
-use naga_names::NameKey;
+use naga_naming::NameKey;
 use naga_scope::{ModuleTables, Plan, Scope, function_of};
 use naga_words::{Output, TextSink};
 use std::alloc::Global;

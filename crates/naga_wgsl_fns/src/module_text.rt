@@ -8,7 +8,7 @@ ghost use Rattle.naga_wgsl_fns.specs.ModuleText.{CanWriteIn};
 ghost use Rattle.naga_wgsl_fns.specs.Types.{spelled_text};
 
 use naga_ir::{Handle, Module, Type_};
-use naga_names::NameKey;
+use naga_naming::NameKey;
 use naga_scope::ModuleTables;
 use naga_words::types::write_type_in;
 use naga_words::{Output, TextSink, WriterTypeContext};

@@ -2,8 +2,8 @@
 
 ghost use Rattle.std.specs.Prelude.{◌≡◌, ◌<◌, Some, length};
 ghost use Rattle.module_semantics.specs.Names.{module_names, name_in, numbered_name};
-ghost use Rattle.naga_names.specs.Keys.{names_in};
-ghost use Rattle.naga_names.specs.declared.key.NameKey.TheVariants as key;
+ghost use Rattle.naga_naming.specs.Keys.{names_in};
+ghost use Rattle.naga_naming.specs.declared.key.NameKey.TheVariants as key;
 ghost use Rattle.naga_words.specs.Output.{Writes};
 ghost use Rattle.naga_wgsl_fns.specs.FunctionText.{CanWrite, named_in};
 ghost use Rattle.naga_wgsl_fns.specs.ModuleText.{CanWriteIn};
@@ -17,7 +17,7 @@ use itoa::Buffer;
 use naga_ir::{
     Constant, Expression, Function, GlobalVariable, Handle, LocalVariable, Override, Type_,
 };
-use naga_names::NameKey;
+use naga_naming::NameKey;
 use naga_scope::{BoundName, Scope};
 use naga_words::{Output, TextSink};
 

@@ -17,8 +17,8 @@ ghost use Rattle.naga_wgsl_fns.specs.Expressions.{struct_at, struct_known};
 ghost use Rattle.module_semantics.specs.ExpressionOperators.{type_known};
 ghost use Rattle.module_semantics.specs.Names.{module_names, name_in};
 ghost use Rattle.module_semantics.specs.ExpressionForms.{expression_has_own_form};
-ghost use Rattle.naga_names.specs.Keys.{names_in};
-ghost use Rattle.naga_names.specs.declared.key.NameKey.TheVariants as key;
+ghost use Rattle.naga_naming.specs.Keys.{names_in};
+ghost use Rattle.naga_naming.specs.declared.key.NameKey.TheVariants as key;
 ghost use Rattle.naga_ir.specs.declared.expression.Expression.TheVariants.{AccessIndex};
 ghost use Rattle.naga_wgsl_fns.specs.FunctionText.{CanWrite, IsInText, context, source};
 

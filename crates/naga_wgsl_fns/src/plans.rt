@@ -7,8 +7,8 @@ ghost use Rattle.module_semantics.specs.acceptance.Accepted.{is_accepted};
 ghost use Rattle.module_semantics.specs.FunctionNumbers.{IsFunctionOf, function_number};
 ghost use Rattle.module_semantics.specs.Names.{HasNamesOf, labels_named_in, wgsl_names};
 ghost use Rattle.naga_ir.specs.declared.expression.Expression.{Expression};
-ghost use Rattle.naga_names.specs.Keys.{names_in};
-ghost use Rattle.naga_names.specs.Naming.{HasNamed};
+ghost use Rattle.naga_naming.specs.Keys.{names_in};
+ghost use Rattle.naga_naming.specs.Naming.{HasNamed};
 ghost use Rattle.naga_scope.specs.Forms.{AreKnownIn};
 ghost use Rattle.naga_scope.specs.ExpressionNames.{HasBegunLabels, HasOtherUses, NamesLabels};
 ghost use Rattle.naga_scope.specs.Marks.{GlobalsStandInOrder};
@@ -23,7 +23,7 @@ ghost use Rattle.naga_wgsl_fns.specs.Unplanned.{IsToldOfUnplanned, IsUnplanned, 
 ghost use Rattle.naga_wgsl_fns.specs.Unplanned.{namer_lacks_memory};
 ghost use Rattle.naga_wgsl_fns.specs.Unplanned.{plan_lacks_memory, function_position};
 ghost use Rattle.naga_wgsl_fns.specs.declared.refusals.error.Error.TheVariants.{Memory};
-ghost use Rattle.naga_names.specs.declared.error.NamerError.TheVariants as namer_error;
+ghost use Rattle.naga_naming.specs.declared.error.NamerError.TheVariants as namer_error;
 
 use crate::refusals::construct::Construct;
 use crate::refusals::error::Error;
@@ -32,7 +32,7 @@ use naga_back::{FunctionType, WriterFlags, annotates_types};
 use naga_info::{FunctionInfo, ModuleInfo, TypeResolution};
 use naga_ir::{Expression, Function, Handle, Module, Type_};
 use naga_names::namer::Namer;
-use naga_names::{NameKey, NamerError};
+use naga_naming::{NameKey, NamerError};
 use naga_scope::{Declared, Line, ModuleTables, Plan, PlanError, ScopeFault, function_of};
 use std::alloc::{AllocError, Global};
 use std::collections::HashMap;

@@ -16,7 +16,7 @@ ghost use Rattle.naga_wgsl_fns.specs.Stages.{size_text, stage_text, variable_tex
 use crate::literal::write_number;
 use crate::module_text::ModuleText;
 use naga_ir::{EntryPoint, GlobalVariable, Handle, MeshStageInfo, ShaderStage};
-use naga_names::NameKey;
+use naga_naming::NameKey;
 use naga_words::{Output, TextSink};
 
 impl ModuleText<'_> {

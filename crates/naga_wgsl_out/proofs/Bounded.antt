@@ -3,7 +3,7 @@ use Rattle.std.proofs.Common.{◌≡◌, ◌∙◌, ℕ, ◌<◌, ◌≤◌, Lis
 use Rattle.std.proofs.Common.{arith, inl, inr, length, length-append, refl, string_bytes, subst, sym}
 use Rattle.std.specs.Prelude.{◌⊎◌, IsTrue, OnErr, OnOk, alloc_error}
 use Rattle.std.specs.declared.string.String.{String}
-use Rattle.naga_words.specs.Sink.{IsAfter}
+use Rattle.naga_spelling.specs.Sink.{IsAfter}
 use Rattle.naga_ir.specs.declared.module.Module.{Module}
 use Rattle.naga_info.specs.declared.info.ModuleInfo.{ModuleInfo}
 use Rattle.naga_back.specs.declared.flags.WriterFlags.{WriterFlags}

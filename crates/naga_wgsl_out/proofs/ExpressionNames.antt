@@ -6,10 +6,10 @@ use Rattle.std.specs.Option.{option_map_or}
 use Rattle.std.proofs.lemmas.List.Concat.{flat_map-append}
 use Rattle.std.proofs.lemmas.List.{take_more}
 use Rattle.std.proofs.lemmas.Option.{get_or_from_slice_get, none-some}
-use Rattle.naga_names.proofs.Refusal.{element}
+use Rattle.naga_naming.proofs.Refusal.{element}
 use Rattle.naga_ir.specs.declared.module.Function.{Function}
 use Rattle.naga_ir.specs.declared.module.Module.{Module}
-use Rattle.naga_names.specs.Naming.{HasNamed, Names}
+use Rattle.naga_naming.specs.Naming.{HasNamed, Names}
 use Rattle.module_semantics.specs.ExpressionLabels.{expression_labels, all_expression_labels}
 use Rattle.module_semantics.specs.FunctionNumbers.{all_functions}
 use Rattle.module_semantics.specs.Names.{expression_name, item_labels, labels_before, labels_named_in}

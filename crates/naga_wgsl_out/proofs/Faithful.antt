@@ -14,14 +14,14 @@ use Rattle.naga_form.proofs.names.Resolution.{resolves}
 use Rattle.naga_form.proofs.declarations.Interface.{has_interface}
 use Rattle.naga_form.proofs.Programs.{is_program}
 use Rattle.naga_info.specs.declared.info.ModuleInfo.{ModuleInfo}
-use Rattle.naga_names.specs.Keys.{NameMap}
+use Rattle.naga_naming.specs.Keys.{NameMap}
 use Rattle.wgsl_text.specs.Reading.{Reads, HasOneReading}
 use Rattle.wgsl_text.specs.Text.{tokens}
 use Rattle.wgsl_text.proofs.Reading.{program_has_one_reading}
 use Rattle.module_semantics.specs.Faithful.{HasInterfaceOf, RunsAs}
 use Rattle.naga_form.proofs.statements.WrittenLets.{binds_as}
 use Rattle.naga_form.proofs.Runs.{runs_as}
-use Rattle.naga_words.specs.Sink.{IsAfter}
+use Rattle.naga_spelling.specs.Sink.{IsAfter}
 use Rattle.naga_words.proofs.Writing.{after_then}
 use Rattle.naga_wgsl_fns.proofs.SingleFunctions.{same_following}
 use Rattle.naga_wgsl_fns.proofs.Appending.{stopped_first, stopped_then, wrote_then}

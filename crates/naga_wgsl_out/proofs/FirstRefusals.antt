@@ -32,7 +32,7 @@ use Rattle.naga_ir.specs.declared.module.Override.{Override}
 use Rattle.naga_ir.specs.declared.types.StructMember.{StructMember}
 use Rattle.naga_ir.specs.declared.types.Type_.{Type_}
 use Rattle.naga_layout.specs.Types.{arrays_are_kept}
-use Rattle.naga_names.specs.Reset.{members_of}
+use Rattle.naga_naming.specs.Reset.{members_of}
 use Rattle.naga_scope.proofs.Planned.{shape_found}
 use Rattle.naga_scope.proofs.UnsupportedDeclarations.{entry_point_lacks}
 use Rattle.naga_scope.specs.Declarations.{ConstantHasForm, EntryPointHasForm, HaveFormsBefore}

@@ -31,11 +31,11 @@ use Rattle.naga_form.specs.Attributes.{stage_attributes}
 use Rattle.naga_form.specs.Declarations.{entry_point_form, entry_points_form, written_program}
 use Rattle.naga_form.specs.Functions.{function_form, functions_form}
 use Rattle.wgsl_text.proofs.Text.{text-append}
-use Rattle.naga_names.proofs.Refusal.{element, run_out_unfit}
+use Rattle.naga_naming.proofs.Refusal.{element, run_out_unfit}
 use Rattle.naga_form.proofs.statements.AcceptedFunctions.{entry_points_counted, functions_counted}
 use Rattle.naga_form.proofs.statements.AcceptedFunctions.{entry_info_among}
 use Rattle.wgsl_text.specs.Text.{text}
-use Rattle.naga_names.specs.Naming.{Names}
+use Rattle.naga_naming.specs.Naming.{Names}
 use Rattle.naga_scope.specs.ExpressionNames.{NamesLabels}
 use Rattle.naga_scope.specs.Plans.{IsPlanOf, Planned}
 use Rattle.module_semantics.specs.Enables.{written_enables}
@@ -66,7 +66,7 @@ use Rattle.naga_wgsl_out.proofs.ModuleScopes.{has_plan_holds}
 use Rattle.module_semantics.proofs.FunctionNumbers.{info_among, type_of_entry_point, type_of_function}
 use Rattle.naga_form.proofs.statements.WrittenFunctions.{entry_point_at}
 use Rattle.naga_wgsl_fns.proofs.FunctionRows.{no_entry_point}
-use Rattle.naga_names.proofs.Reset.{enumerate_from-append}
+use Rattle.naga_naming.proofs.Reset.{enumerate_from-append}
 
 -- ---- the lines of functions and of entry points
 module _ (m : Module) (info : ModuleInfo) (flags : WriterFlags)

@@ -7,7 +7,7 @@ use Rattle.std.proofs.Common.{length, map, ne_eqb, refl, suc, sym}
 use Rattle.std.specs.List.{enumerate_from}
 use Rattle.std.specs.Prelude.{Some, None, if◌then◌else◌}
 use Rattle.naga_ir.specs.declared.module.Module.{Module}
-use Rattle.naga_names.specs.declared.key.NameKey.{NameKey}
+use Rattle.naga_naming.specs.declared.key.NameKey.{NameKey}
 use Rattle.module_semantics.specs.Names.{module_names, name_in}
 use Rattle.module_semantics.specs.Types.{type_names}
 use Rattle.naga_form.specs.ConstantForms.{global_form}

@@ -18,7 +18,7 @@ use Rattle.module_semantics.specs.Premises.{EachScopeHolds, ScopesHold, handles_
 use Rattle.module_semantics.specs.FunctionNumbers.{all_functions, all_infos}
 use Rattle.module_semantics.specs.FunctionShapes.{function_shapes}
 use Rattle.naga_form.proofs.statements.AcceptedFunctions.{all_counted}
-use Rattle.naga_names.proofs.Refusal.{element}
+use Rattle.naga_naming.proofs.Refusal.{element}
 use Rattle.module_semantics.specs.Names.{labels_before}
 use Rattle.naga_wgsl_fns.specs.declared.refusals.error.Error.{Error}
 use Rattle.naga_wgsl_fns.specs.declared.refusals.error.Error.TheVariants.{Custom, FmtError, Memory}

@@ -8,23 +8,23 @@ use Rattle.naga_ir.specs.declared.module.Function.{Function}
 use Rattle.naga_ir.specs.declared.module.Module.{Module}
 use Rattle.naga_keywords.specs.Words.{Words}
 use Rattle.naga_keywords.specs.declared.keywords.TheConstants.{RESERVED, BUILTIN_IDENTIFIERS}
-use Rattle.naga_names.specs.Naming.{HasNamed, Names, new_names}
-use Rattle.naga_names.specs.Refusal.{SomeNameIsFull, SomeKeyIsFull, IsResetRefusal}
-use Rattle.naga_names.specs.declared.error.NamerError.{NamerError}
+use Rattle.naga_naming.specs.Naming.{HasNamed, Names, new_names}
+use Rattle.naga_naming.specs.Refusal.{SomeNameIsFull, SomeKeyIsFull, IsResetRefusal}
+use Rattle.naga_naming.specs.declared.error.NamerError.{NamerError}
 use Rattle.wgsl_text.specs.Keywords.{reserved_words, builtin_words}
-use Rattle.naga_names.specs.Keys.{NameMap}
-use Rattle.naga_names.specs.Reset.{HasNamedItems, LabelledItem, key_fits, labelled_items}
-use Rattle.naga_names.specs.Reset.{type_label}
-use Rattle.naga_names.proofs.Members.{member_named, member_put}
-use Rattle.naga_names.specs.declared.key.NameKey.TheVariants as key
-use Rattle.naga_names.proofs.NamedItems.{constant_stands, global_stands, named_there}
-use Rattle.naga_names.proofs.NamedItems.{override_stands, type_stands}
+use Rattle.naga_naming.specs.Keys.{NameMap}
+use Rattle.naga_naming.specs.Reset.{HasNamedItems, LabelledItem, key_fits, labelled_items}
+use Rattle.naga_naming.specs.Reset.{type_label}
+use Rattle.naga_naming.proofs.Members.{member_named, member_put}
+use Rattle.naga_naming.specs.declared.key.NameKey.TheVariants as key
+use Rattle.naga_naming.proofs.NamedItems.{constant_stands, global_stands, named_there}
+use Rattle.naga_naming.proofs.NamedItems.{override_stands, type_stands}
 use Rattle.module_semantics.specs.Names.{reserved_prefixes, wgsl_names, module_names, function_name}
 use Rattle.module_semantics.specs.Names.{HasNamesOf, item_labels}
 use Rattle.naga_form.proofs.names.Names.{name_is, function_item, argument_item, function_there}
 use Rattle.naga_form.proofs.names.Names.{argument_there, local_item, local_there}
 use Rattle.naga_form.proofs.names.MemberNames.{puts}
-use Rattle.naga_names.proofs.Refusal.{element}
+use Rattle.naga_naming.proofs.Refusal.{element}
 use Rattle.module_semantics.proofs.Lists.{list_all_at}
 use Rattle.module_semantics.specs.FunctionNumbers.{all_functions, function_type}
 use Rattle.naga_back.specs.FunctionContext.{argument_key, function_key}

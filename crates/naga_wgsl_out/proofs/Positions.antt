@@ -17,12 +17,12 @@ use Rattle.naga_info.specs.declared.info.ModuleInfo.{ModuleInfo}
 use Rattle.naga_ir.specs.declared.expression.Expression.{Expression}
 use Rattle.naga_ir.specs.declared.module.Function.{Function}
 use Rattle.naga_ir.specs.declared.module.Module.{Module}
-use Rattle.naga_names.proofs.Refusal.{element}
-use Rattle.naga_names.specs.Keys.{NameMap}
-use Rattle.naga_names.specs.Naming.{Names}
-use Rattle.naga_names.specs.Refusal.{IsResetRefusal}
-use Rattle.naga_names.specs.declared.error.NamerError.{NamerError}
-use Rattle.naga_names.specs.declared.error.NamerError.TheVariants as namer_error
+use Rattle.naga_naming.proofs.Refusal.{element}
+use Rattle.naga_naming.specs.Keys.{NameMap}
+use Rattle.naga_naming.specs.Naming.{Names}
+use Rattle.naga_naming.specs.Refusal.{IsResetRefusal}
+use Rattle.naga_naming.specs.declared.error.NamerError.{NamerError}
+use Rattle.naga_naming.specs.declared.error.NamerError.TheVariants as namer_error
 use Rattle.naga_scope.proofs.SpelledTypes.{declared_is_spelled}
 use Rattle.naga_scope.specs.Plans.{IsFirstToPlan, IsRefusalToPlan, LabelsGetNames}
 use Rattle.naga_scope.specs.declared.plan.PlanError.{PlanError}

@@ -13,7 +13,7 @@ use Rattle.module_semantics.specs.Layouts.{layout_in, span_of, written_size}
 use Rattle.naga_ir.specs.declared.module.Module.{Module}
 use Rattle.naga_ir.specs.declared.types.StructMember.{StructMember}
 use Rattle.naga_layout.specs.Types.{StandInOrder, placed_members}
-use Rattle.naga_names.specs.Reset.{members_of}
+use Rattle.naga_naming.specs.Reset.{members_of}
 use Rattle.naga_scope.proofs.FilledTables.{items_in_order}
 use Rattle.wgsl_layout.specs.Capped.{capped, past}
 use Rattle.wgsl_layout.specs.Members.{gap_size}

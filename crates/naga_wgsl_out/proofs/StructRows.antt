@@ -17,10 +17,10 @@ use Rattle.naga_ir.specs.declared.types.StructMember as ir_member
 use Rattle.naga_ir.specs.declared.types.Type_.{Type_}
 use Rattle.naga_ir.specs.declared.types.TypeInner.{TypeInner}
 use Rattle.naga_ir.specs.declared.types.TypeInner.TheVariants as inner
-use Rattle.naga_names.proofs.Refusal.{run_out_unfit}
-use Rattle.naga_names.specs.Refusal.{HasLongStruct}
-use Rattle.naga_names.specs.Reset.{members_of}
-use Rattle.naga_names.specs.declared.key.NameKey.TheVariants as key
+use Rattle.naga_naming.proofs.Refusal.{run_out_unfit}
+use Rattle.naga_naming.specs.Refusal.{HasLongStruct}
+use Rattle.naga_naming.specs.Reset.{members_of}
+use Rattle.naga_naming.specs.declared.key.NameKey.TheVariants as key
 use Rattle.module_semantics.proofs.ExpressionForms.{type_form_of_spellable}
 use Rattle.module_semantics.specs.AlikeTypes.{has_type_form}
 use Rattle.module_semantics.specs.DeclarationForms.{IsDeclaredType, IsMemberBinding}
@@ -31,7 +31,7 @@ use Rattle.module_semantics.specs.Undeclared.{is_declared, is_undeclared}
 use Rattle.naga_form.specs.Attributes.{passing_attributes}
 use Rattle.naga_form.specs.Declarations.{member_form}
 use Rattle.naga_words.specs.Output.{joined_texts}
-use Rattle.naga_words.specs.Spelling.{is_struct}
+use Rattle.naga_spelling.specs.Spelling.{is_struct}
 use Rattle.wgsl_text.proofs.Declarations.{members_text as members_row_text}
 use Rattle.wgsl_text.proofs.Declarations.{structs_text as structs_row_text}
 use Rattle.wgsl_text.proofs.Text.{text-append}

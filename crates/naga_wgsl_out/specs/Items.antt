@@ -4,8 +4,8 @@
 use Rattle.std.specs.Prelude.{◌≡◌, ℕ, ◌++◌, List, Option, Some, codes}
 use Rattle.std.specs.Option.{option_map}
 use Rattle.naga_ir.specs.declared.module.Module.{Module}
-use Rattle.naga_names.specs.Keys.{names_in}
-use Rattle.naga_names.specs.declared.key.NameKey.{NameKey}
+use Rattle.naga_naming.specs.Keys.{names_in}
+use Rattle.naga_naming.specs.declared.key.NameKey.{NameKey}
 use Rattle.module_semantics.specs.DeclarationForms.{DeclarationsHaveForms}
 use Rattle.module_semantics.specs.Names.{module_names, name_in}
 use Rattle.module_semantics.specs.Types.{type_names}

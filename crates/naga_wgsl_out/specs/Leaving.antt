@@ -9,7 +9,7 @@ use Rattle.naga_info.specs.declared.info.ModuleInfo.{ModuleInfo}
 use Rattle.naga_ir.specs.declared.module.Module.{Module}
 use Rattle.naga_wgsl_fns.specs.Refusals.{TellsOfModule}
 use Rattle.naga_wgsl_fns.specs.declared.refusals.error.Error.{Error}
-use Rattle.naga_words.specs.Sink.{IsAfter}
+use Rattle.naga_spelling.specs.Sink.{IsAfter}
 use Rattle.naga_wgsl_out.specs.ModuleRefusals.{ComesBeforeText, TellsOfFunction, TellsOfKeys}
 use Rattle.naga_wgsl_out.specs.Unwritable.{TellsFirst}
 use Rattle.naga_wgsl_out.specs.Writing.{WroteFunctionsBefore, front_text, written_text}

@@ -8,10 +8,10 @@ use Rattle.module_semantics.specs.DeclarationForms.{DeclarationsHaveForms}
 use Rattle.module_semantics.specs.Written.{AllWrittenHaveForms}
 use Rattle.module_semantics.specs.Names.{HasNamesOf, labels_before, wgsl_names}
 use Rattle.module_semantics.specs.Premises.{ScopesHold}
-use Rattle.naga_names.specs.Keys.{NameMap}
-use Rattle.naga_names.specs.Naming.{Names}
-use Rattle.naga_names.specs.Refusal.{SomeNameIsFull, SomeKeyIsFull}
-use Rattle.naga_names.specs.Reset.{labelled_items}
+use Rattle.naga_naming.specs.Keys.{NameMap}
+use Rattle.naga_naming.specs.Naming.{Names}
+use Rattle.naga_naming.specs.Refusal.{SomeNameIsFull, SomeKeyIsFull}
+use Rattle.naga_naming.specs.Reset.{labelled_items}
 use Rattle.naga_scope.specs.Plans.{HasScopeFaultIn}
 use Rattle.naga_wgsl_fns.specs.DeclarationRefusals.{NamesDeclaration}
 use Rattle.naga_wgsl_fns.specs.Errors.{IsSinkWant}

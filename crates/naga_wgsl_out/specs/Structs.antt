@@ -8,8 +8,8 @@ use Rattle.std.specs.Option.{option_map, option_to_list}
 use Rattle.naga_ir.specs.declared.module.Module.{Module}
 use Rattle.naga_ir.specs.declared.types.StructMember as ir_member
 use Rattle.naga_ir.specs.declared.types.Type_.{Type_}
-use Rattle.naga_names.specs.Reset.{members_of}
-use Rattle.naga_names.specs.declared.key.NameKey.TheVariants as key
+use Rattle.naga_naming.specs.Reset.{members_of}
+use Rattle.naga_naming.specs.declared.key.NameKey.TheVariants as key
 use Rattle.module_semantics.specs.Layouts.{span_of}
 use Rattle.module_semantics.specs.Names.{module_names, name_in}
 use Rattle.module_semantics.specs.Types.{type_names}

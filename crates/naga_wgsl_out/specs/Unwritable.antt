@@ -21,7 +21,7 @@ use Rattle.naga_info.specs.declared.info.TypeResolution.{TypeResolution}
 use Rattle.naga_info.specs.declared.info.TypeResolution.TheVariants.{Handle}
 use Rattle.naga_ir.specs.declared.module.Function.{Function}
 use Rattle.naga_ir.specs.declared.module.Module.{Module}
-use Rattle.naga_names.specs.Naming.{Names}
+use Rattle.naga_naming.specs.Naming.{Names}
 use Rattle.naga_scope.specs.Declarations.{HaveFormsBefore, IsUnsupportedIn}
 use Rattle.naga_scope.specs.UnsupportedStatements.{IsUnsupportedAt, unsupported_statement}
 use Rattle.naga_scope.specs.Lines.{IsWrittenAt, declared_type, lets_at}

@@ -8,7 +8,7 @@ use Rattle.naga_ir.specs.declared.binding.ResourceBinding.{ResourceBinding}
 use Rattle.naga_ir.specs.declared.module.GlobalVariable.{GlobalVariable}
 use Rattle.naga_ir.specs.declared.module.Module.{Module}
 use Rattle.naga_ir.specs.declared.types.AddressSpace.{AddressSpace}
-use Rattle.naga_names.specs.declared.key.NameKey.TheVariants as key
+use Rattle.naga_naming.specs.declared.key.NameKey.TheVariants as key
 use Rattle.module_semantics.specs.Names.{module_names}
 use Rattle.module_semantics.specs.Types.{type_names}
 use Rattle.naga_form.specs.Attributes.{resource_attributes}

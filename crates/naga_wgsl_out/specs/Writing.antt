@@ -13,7 +13,7 @@ use Rattle.naga_form.specs.Declarations.{written_program}
 use Rattle.module_semantics.specs.Enables.{written_enables}
 use Rattle.module_semantics.specs.FunctionNumbers.{all_functions, function_type}
 use Rattle.module_semantics.specs.Names.{expression_name, labels_before}
-use Rattle.naga_names.specs.Naming.{Names}
+use Rattle.naga_naming.specs.Naming.{Names}
 use Rattle.wgsl_text.specs.Reading.{printed_program}
 use Rattle.naga_wgsl_fns.specs.Appends.{StoppedWithin, Wrote}
 use Rattle.naga_back.specs.Flags.{annotates_types}

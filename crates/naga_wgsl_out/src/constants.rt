@@ -12,7 +12,7 @@ ghost use Rattle.naga_wgsl_out.specs.Items.{CanDeclare};
 
 use crate::declarations::{write_first_value, write_typed, write_value};
 use naga_ir::{Arena, Constant, Handle, Override};
-use naga_names::NameKey;
+use naga_naming::NameKey;
 use naga_wgsl_fns::attributes::write_numbered;
 use naga_wgsl_fns::functions::write_group_end;
 use naga_wgsl_fns::module_text::ModuleText;

@@ -7,7 +7,7 @@ ghost use Rattle.module_semantics.specs.DeclarationForms.{DeclarationsHaveForms}
 ghost use Rattle.module_semantics.specs.Names.{HasNamesOf};
 ghost use Rattle.module_semantics.specs.ExpressionForms.{global_has_form};
 ghost use Rattle.naga_info.specs.declared.info.TypeResolution.TheVariants as resolution;
-ghost use Rattle.naga_names.specs.Keys.{names_in};
+ghost use Rattle.naga_naming.specs.Keys.{names_in};
 ghost use Rattle.naga_scope.specs.Tables.{AreTablesOf};
 ghost use Rattle.naga_words.specs.Output.{Writes};
 ghost use Rattle.naga_wgsl_fns.specs.Appends.{Appends};
@@ -21,7 +21,7 @@ use crate::constants::{write_constants, write_overrides};
 use crate::structs::write_structs;
 use crate::variables::write_variables;
 use naga_ir::{Expression, Handle, Module, Type_};
-use naga_names::NameKey;
+use naga_naming::NameKey;
 use naga_scope::ModuleTables;
 use naga_wgsl_fns::Error;
 use naga_wgsl_fns::module_text::ModuleText;

@@ -2,7 +2,7 @@
 
 ghost use Rattle.std.specs.Prelude.{◌≡◌, ◌+◌, IfSome, Some, slice_get};
 ghost use Rattle.module_semantics.specs.Layouts.{layout_in, written_size};
-ghost use Rattle.naga_names.specs.declared.key.NameKey.TheVariants as key;
+ghost use Rattle.naga_naming.specs.declared.key.NameKey.TheVariants as key;
 ghost use Rattle.naga_scope.specs.Tables.{AreTablesOf};
 ghost use Rattle.naga_words.specs.Output.{Writes};
 ghost use Rattle.wgsl_layout.specs.Capped.{IsAlignment};
@@ -15,7 +15,7 @@ ghost use Rattle.naga_wgsl_out.specs.Structs.{structs_text};
 
 use crate::declarations::write_typed;
 use naga_ir::{Handle, StructMember, Type_, TypeInner};
-use naga_names::NameKey;
+use naga_naming::NameKey;
 use naga_wgsl_fns::attributes::write_numbered;
 use naga_wgsl_fns::bindings::write_optional_binding;
 use naga_wgsl_fns::module_text::ModuleText;

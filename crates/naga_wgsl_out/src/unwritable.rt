@@ -6,7 +6,7 @@ ghost use Rattle.module_semantics.specs.DeclarationForms.{DeclarationsHaveForms}
 ghost use Rattle.module_semantics.specs.FunctionNumbers.{IsFunctionOf, function_number};
 ghost use Rattle.module_semantics.specs.Names.{HasNamesOf};
 ghost use Rattle.naga_back.specs.Flags.{annotates_types};
-ghost use Rattle.naga_names.specs.Keys.{names_in};
+ghost use Rattle.naga_naming.specs.Keys.{names_in};
 ghost use Rattle.naga_scope.specs.Tables.{AreTablesOf};
 ghost use Rattle.naga_wgsl_out.specs.ModuleRefusals.{HasAllNames, HasNamedBefore, NothingIsRefused};
 ghost use Rattle.naga_wgsl_out.specs.Unwritable.{IsFirst, IsFoundOf, IsRefusalOf, IsWritable};
@@ -16,7 +16,7 @@ use crate::writer::items_named;
 use naga_back::{FunctionType, WriterFlags};
 use naga_info::ModuleInfo;
 use naga_ir::{Function, Handle, ItemIndex, Module};
-use naga_names::NameKey;
+use naga_naming::NameKey;
 use naga_names::namer::Namer;
 use naga_scope::{DeclarationPosition, ModuleTables, unsupported_declaration};
 use naga_wgsl_fns::{

@@ -12,7 +12,7 @@ ghost use Rattle.naga_wgsl_out.specs.Variables.{variables_text};
 use crate::declarations::{write_typed, write_value};
 use bitflags::Flags;
 use naga_ir::{AddressSpace, GlobalVariable, Handle, MemoryDecorations, ResourceBinding};
-use naga_names::NameKey;
+use naga_naming::NameKey;
 use naga_wgsl_fns::attributes::{write_numbered, write_optional_chunk};
 use naga_wgsl_fns::functions::write_group_end;
 use naga_wgsl_fns::module_text::ModuleText;

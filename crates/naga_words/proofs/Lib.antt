@@ -1,6 +1,4 @@
 pub mod Empties
 pub mod FoundWords
-pub mod Levels
-pub mod Orders
 pub mod SegmentWriting
 pub mod Writing

@@ -7,9 +7,9 @@ use Rattle.naga_words.specs.Output.{AppendsUnlessWanting, AppendsText, IsReason,
 use Rattle.naga_words.specs.Output.{AppendsSegmentsUnlessWanting, AppendsSegments}
 use Rattle.naga_words.specs.Output.{HasAppendedSegments, OutputView, SpelledSegments, Wrote}
 use Rattle.naga_words.proofs.Writing.{after_first, after_then}
-use Rattle.naga_words.specs.Segments.{Segment, Word, Shown, Missing, IsRefused, lacks}
-use Rattle.naga_words.specs.Segments.{before_missing, IsText, NoSegments, WordThen, ShownThen}
-use Rattle.naga_words.specs.Segments.{HasWritten, HasBegun}
+use Rattle.naga_spelling.specs.Segments.{Segment, Word, Shown, Missing, IsRefused, lacks}
+use Rattle.naga_spelling.specs.Segments.{before_missing, IsText, NoSegments, WordThen, ShownThen}
+use Rattle.naga_spelling.specs.Segments.{HasWritten, HasBegun}
 use Rattle.naga_words.specs.declared.error.TypeTextError.{TypeTextError}
 use Rattle.naga_words.specs.declared.error.TypeTextError.TheVariants.{Sink, Memory, NoForm}
 use Rattle.naga_words.specs.declared.sink.SinkError.TheVariants.{Failed, Memory as SinkMemory}

@@ -4,7 +4,7 @@ use Rattle.std.proofs.Common.{◌≡◌, ℕ, true, List, [], ◌++◌, append_a
 use Rattle.std.proofs.Common.{refl, sym, ap, ◌∙◌, subst}
 use Rattle.std.specs.Option.{is_some}
 use Rattle.std.proofs.lemmas.List.{append-nil}
-use Rattle.naga_words.specs.Sink.{IsAfter}
+use Rattle.naga_spelling.specs.Sink.{IsAfter}
 use Rattle.naga_words.specs.declared.error.TypeTextError.{TypeTextError}
 use Rattle.naga_words.specs.declared.error.TypeTextError.TheVariants.{NoForm}
 use Rattle.naga_words.specs.Output.{OutputView, IsReason, HasAppended, AppendsUnlessWanting, AppendsText}

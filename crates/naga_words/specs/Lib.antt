@@ -1,12 +1,6 @@
-pub mod Contexts
 pub mod Diagnostics
 pub mod Handing
 pub mod Limited
 pub mod Output
-pub mod Segments
 pub mod Predeclared
 pub mod Rules
-pub mod Sink
-pub mod Spelling
-pub mod Values
-pub mod Words

@@ -1,7 +1,7 @@
 -- What a call that writes to an output does.
 use Rattle.std.specs.Prelude.{◌≡◌, ⊤, ℕ, ◌<◌, Bool, List, ◌++◌, Option, Some, None}
-use Rattle.naga_words.specs.Segments.{Segment, HasBegun, HasWritten, IsRefused}
-use Rattle.naga_words.specs.Sink.{IsAfter}
+use Rattle.naga_spelling.specs.Segments.{Segment, HasBegun, HasWritten, IsRefused}
+use Rattle.naga_spelling.specs.Sink.{IsAfter}
 use Rattle.naga_words.specs.declared.error.TypeTextError.{TypeTextError}
 use Rattle.naga_words.specs.declared.error.TypeTextError.TheVariants.{Sink, Memory, NoForm}
 use Rattle.naga_words.specs.declared.output.Output.{Output}

@@ -6,7 +6,7 @@ use Rattle.naga_ir.specs.declared.types.Scalar.{Scalar}
 use Rattle.naga_ir.specs.declared.types.ScalarKind.{ScalarKind}
 use Rattle.naga_ir.specs.declared.types.ScalarKind.TheVariants as kind
 use Rattle.naga_ir.specs.declared.types.VectorSize.{VectorSize}
-use Rattle.naga_words.specs.Words.{vector_word}
+use Rattle.naga_spelling.specs.Words.{vector_word}
 
 -- the kind of a scalar
 abbrev pub kind_name : ScalarKind → List ℕ

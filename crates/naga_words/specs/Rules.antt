@@ -7,10 +7,10 @@ use Rattle.naga_info.specs.declared.info.TypeResolution.{TypeResolution}
 use Rattle.naga_info.specs.declared.rules.Conclusion.{Conclusion}
 use Rattle.naga_info.specs.declared.rules.Conclusion.TheVariants.{Value, Predeclared}
 use Rattle.naga_info.specs.declared.rules.Rule.{Rule}
-use Rattle.naga_words.specs.Segments.{Segment, Word}
+use Rattle.naga_spelling.specs.Segments.{Segment, Word}
 use Rattle.naga_words.specs.Predeclared.{predeclared_name}
-use Rattle.naga_words.specs.Spelling.{Context, Fits, FitsResolution, inner_segments}
-use Rattle.naga_words.specs.Spelling.{resolution_segments}
+use Rattle.naga_spelling.specs.Spelling.{Context, Fits, FitsResolution, inner_segments}
+use Rattle.naga_spelling.specs.Spelling.{resolution_segments}
 
 -- the types after the first
 abbrev pub more_arguments_segments : Context → List TypeResolution → List Segment

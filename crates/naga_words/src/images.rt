@@ -6,14 +6,14 @@
 ghost use Rattle.std.specs.Prelude.{false};
 ghost use Rattle.naga_ir.specs.declared.image.ImageClass.TheVariants as class;
 ghost use Rattle.naga_words.specs.Output.{Spells};
-ghost use Rattle.naga_words.specs.Values.{storage_image_segments, image_segments};
+ghost use Rattle.naga_spelling.specs.Values.{storage_image_segments, image_segments};
 
 use crate::output::Output;
 use crate::scalars::write_template;
 use crate::sink::TextSink;
 use crate::word_writing::write_word;
-use crate::words::{depth_image_str, sampled_image_str, storage_image_str};
 use naga_ir::{ImageClass, ImageDimension, Scalar, ScalarKind};
+use naga_spelling::words::{depth_image_str, sampled_image_str, storage_image_str};
 use std::alloc::Global;
 use wgsl_words::{ToWgsl, image_access_str};
 

@@ -2,7 +2,7 @@
 
 ghost use Rattle.std.specs.Prelude.{◌≡◌, ◌<◌, ◌++◌, OnOk, OnErr, IsErrOf, [], string_bytes};
 ghost use Rattle.std.specs.Io.KnownBytes.{Appends};
-ghost use Rattle.naga_words.specs.Sink.{IsAfter};
+ghost use Rattle.naga_spelling.specs.Sink.{IsAfter};
 ghost use Rattle.naga_words.specs.Handing.{Handing};
 
 use crate::sink::{SinkError, TextSink};

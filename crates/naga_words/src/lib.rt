@@ -1,6 +1,6 @@
 //! Text sinks, one over a writer of bytes and one with a limit among them, and outputs over sinks;
-//! the spelling of types: words, and whole types in a context that names structs and overrides; the
-//! words of diagnostics. It passes on WGSL's words.
+//! types written as `naga_spelling` spells them, in a context that names structs and overrides; the
+//! words of diagnostics. It passes on the words of types, and WGSL's words.
 #![tactic(auto)]
 
 pub mod diagnostics;
@@ -14,11 +14,11 @@ pub mod scalars;
 pub mod sink;
 pub mod types;
 pub mod word_writing;
-pub mod words;
 
 pub use error::TypeTextError;
 pub use io_sink::IoSink;
 pub use limited::Limited;
+pub use naga_spelling::words;
 pub use output::Output;
 pub use predeclared::PredeclaredName;
 pub use sink::{SinkError, TextSink};

@@ -3,7 +3,7 @@
 ghost use Rattle.std.specs.Prelude.{◌≡◌, ℕ, [], ◌∷◌, false, true, List, None, Some, OnOk, IfErr};
 ghost use Rattle.std.specs.Option.{is_some};
 ghost use Rattle.naga_words.specs.Output.{Spells, Writes};
-ghost use Rattle.naga_words.specs.Segments.{Missing, Segment};
+ghost use Rattle.naga_spelling.specs.Segments.{Missing, Segment};
 
 use crate::error::TypeTextError;
 use crate::sink::TextSink;

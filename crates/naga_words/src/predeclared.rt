@@ -4,8 +4,8 @@ ghost use Rattle.std.specs.Prelude.{◌≡◌, ℕ, List, IfOk, string_bytes};
 ghost use Rattle.naga_words.specs.Predeclared.{kind_name, predeclared_name, result_name};
 ghost use Rattle.naga_words.specs.Predeclared.{exchange_name};
 
-use crate::words::vector_str;
 use naga_ir::{PredeclaredType, Scalar, ScalarKind, VectorSize};
+use naga_spelling::words::vector_str;
 use std::alloc::{AllocError, Global};
 
 /// The name of a struct that WGSL has without a declaration.

@@ -4,18 +4,18 @@
 
 ghost use Rattle.std.specs.Prelude.{codes, false};
 ghost use Rattle.naga_words.specs.Output.{Spells};
-ghost use Rattle.naga_words.specs.Segments.{shown_between};
-ghost use Rattle.naga_words.specs.Values.{access_segments, pointer_in, template_segments};
-ghost use Rattle.naga_words.specs.Values.{value_segments};
-ghost use Rattle.naga_words.specs.Values.{braced_scalar_segments, unsupported_scalar_segments};
-ghost use Rattle.naga_words.specs.Values.{scalar_segments};
+ghost use Rattle.naga_spelling.specs.Segments.{shown_between};
+ghost use Rattle.naga_spelling.specs.Values.{access_segments, pointer_in, template_segments};
+ghost use Rattle.naga_spelling.specs.Values.{value_segments};
+ghost use Rattle.naga_spelling.specs.Values.{braced_scalar_segments, unsupported_scalar_segments};
+ghost use Rattle.naga_spelling.specs.Values.{scalar_segments};
 ghost use Rattle.wgsl_words.specs.Words.{space_access_word};
 
 use crate::output::Output;
 use crate::sink::TextSink;
 use crate::word_writing::{write_shown, write_three, write_word};
-use crate::words::vector_str;
 use naga_ir::{AddressSpace, Scalar, ScalarKind, VectorSize};
+use naga_spelling::words::vector_str;
 use std::alloc::Global;
 use wgsl_words::{TryToWgsl, space_access_str};
 

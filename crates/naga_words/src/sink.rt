@@ -3,7 +3,7 @@
 ghost use Rattle.std.specs.Prelude.{◌≡◌, ℕ, ◌<◌, IsErrOf, List, ◌++◌, OnErr, OnOk, alloc_error};
 ghost use Rattle.std.specs.Prelude.{string_bytes};
 ghost use Rattle.naga_words.specs.declared.sink.SinkError.TheVariants.{Memory};
-ghost use Rattle.naga_words.specs.Sink.{IsAfter};
+ghost use Rattle.naga_spelling.specs.Sink.{IsAfter};
 
 use std::alloc::AllocError;
 use thiserror::Error;

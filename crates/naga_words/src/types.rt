@@ -3,15 +3,15 @@
 ghost use Rattle.std.specs.Prelude.{◌≡◌, ◌<◌, IfOk, IsErrOf, IsTrue, None, OnOk, Some, length};
 ghost use Rattle.std.specs.Prelude.{slice_get, string_bytes};
 ghost use Rattle.naga_words.specs.declared.error.TypeTextError.TheVariants as error;
-ghost use Rattle.naga_words.specs.Segments.{HasBegun, HasWritten, IsRefused, IsText};
+ghost use Rattle.naga_spelling.specs.Segments.{HasBegun, HasWritten, IsRefused, IsText};
 ghost use Rattle.wgsl_words.specs.Words.{scalar_word};
 ghost use Rattle.naga_words.specs.Rules.{conclusion_segments, rule_segments, AllFit};
 ghost use Rattle.naga_words.specs.Rules.{FitsConclusion};
-ghost use Rattle.naga_words.specs.Values.{unsupported_segments, unsupported_scalar_segments};
-ghost use Rattle.naga_words.specs.Values.{scalar_segments};
-ghost use Rattle.naga_words.specs.Spelling.{Context, Fits, FitsResolution, IsInOrder};
-ghost use Rattle.naga_words.specs.Spelling.{inner_segments, is_unsupported_pointer, is_struct};
-ghost use Rattle.naga_words.specs.Spelling.{resolution_segments, type_segments};
+ghost use Rattle.naga_spelling.specs.Values.{unsupported_segments, unsupported_scalar_segments};
+ghost use Rattle.naga_spelling.specs.Values.{scalar_segments};
+ghost use Rattle.naga_spelling.specs.Spelling.{Context, Fits, FitsResolution, IsInOrder};
+ghost use Rattle.naga_spelling.specs.Spelling.{inner_segments, is_unsupported_pointer, is_struct};
+ghost use Rattle.naga_spelling.specs.Spelling.{resolution_segments, type_segments};
 
 pub mod contexts;
 pub mod order;

@@ -3,8 +3,8 @@
 ghost use Rattle.std.specs.Prelude.{[], ◌∷◌, false};
 ghost use Rattle.std.specs.Int.NonZero.{non_zero_u32_get};
 ghost use Rattle.naga_words.specs.Output.{Spells};
-ghost use Rattle.naga_words.specs.Segments.{shown_between, three, Word};
-ghost use Rattle.naga_words.specs.Values.{length_of_number};
+ghost use Rattle.naga_spelling.specs.Segments.{shown_between, three, Word};
+ghost use Rattle.naga_spelling.specs.Values.{length_of_number};
 
 use crate::output::Output;
 use crate::sink::TextSink;

@@ -2,7 +2,7 @@
 
 use crate::rows::end_with;
 use crate::structs::add_struct;
-use float_numerals::Decimal;
+use decimal_numerals::Decimal;
 use naga_builder::{FunctionBuilder, ModuleBuilder};
 use naga_info::TypeResolution;
 use naga_ir::{

@@ -8,8 +8,8 @@ use Rattle.wgsl_text.specs.Token.{Power, NoPower, PowerOf, Precision, Half, Sing
 use Rattle.shader_runs.specs.Value.{Value, Truth as TruthValue, Whole, Opaque}
 use Rattle.std.specs.Float.{binary32, binary64}
 use Rattle.std.specs.Str.Parse.{digits_value}
-use Rattle.float_numerals.specs.Denoted.{decimal_bits}
-use Rattle.float_numerals.specs.Half.{decimal_half}
+use Rattle.decimal_numerals.specs.Denoted.{decimal_bits}
+use Rattle.decimal_numerals.specs.Half.{decimal_half}
 
 -- the integer of a sign and a number
 abbrev pub integer_of_sign : Bool → ℕ → ℤ

@@ -3,7 +3,7 @@
 ghost use Rattle.std.specs.Prelude.{IsTrue};
 ghost use Rattle.module_semantics.specs.acceptance.Accepted.{is_accepted};
 ghost use Rattle.module_semantics.specs.Names.{HasNamesOf};
-ghost use Rattle.naga_names.specs.Keys.{names_in};
+ghost use Rattle.naga_naming.specs.Keys.{names_in};
 ghost use Rattle.naga_wgsl_fns.specs.Items.{HasNamedItemsOf};
 
 use crate::modules::read;

@@ -2,7 +2,7 @@
 ghost use Rattle.std.specs.Prelude.{◌<◌, IsTrue, length};
 ghost use Rattle.module_semantics.specs.acceptance.Accepted.{is_accepted};
 ghost use Rattle.module_semantics.specs.Names.{HasNamesOf};
-ghost use Rattle.naga_names.specs.Keys.{names_in};
+ghost use Rattle.naga_naming.specs.Keys.{names_in};
 
 use crate::modules::read;
 use naga_wgsl_out::info::ModuleInfo;

@@ -3,10 +3,10 @@ use Rattle.std.specs.Prelude.{◌≡◌, ℕ, List, ◌++◌, Some, None, codes,
 use Rattle.std.specs.Prelude.{string_bytes}
 use Rattle.std.specs.declared.string.String.{String}
 use Rattle.naga_ir.specs.declared.types.Type_.{Type_}
-use Rattle.naga_names.specs.declared.key.NameKey.TheVariants as key
-use Rattle.naga_names.specs.Keys.{NameMap}
-use Rattle.naga_words.specs.Contexts.{names_context}
-use Rattle.naga_words.specs.Spelling.{Context}
+use Rattle.naga_naming.specs.declared.key.NameKey.TheVariants as key
+use Rattle.naga_naming.specs.Keys.{NameMap}
+use Rattle.naga_spelling.specs.Contexts.{names_context}
+use Rattle.naga_spelling.specs.Spelling.{Context}
 
 -- the name of the struct at a handle
 abbrev pub type_number : ℕ → List ℕ

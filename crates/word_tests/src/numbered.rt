@@ -2,8 +2,8 @@
 
 ghost use Rattle.std.specs.Prelude.{◌≡◌, [], ◌∷◌, false, IfOk, IsTrue};
 ghost use Rattle.naga_words.specs.Output.{Spells};
-ghost use Rattle.naga_words.specs.Segments.{Word};
-ghost use Rattle.naga_words.specs.Spelling.{IsInOrder};
+ghost use Rattle.naga_spelling.specs.Segments.{Word};
+ghost use Rattle.naga_spelling.specs.Spelling.{IsInOrder};
 ghost use Rattle.word_tests.specs.Numbered.{AreNumbered, numbered_context, override_number};
 
 use naga_ir::{Handle, Override, Type_, TypeInner, UniqueArena};

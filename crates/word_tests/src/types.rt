@@ -1,7 +1,7 @@
 //! Types as each context spells them.
 ghost use Rattle.std.specs.Prelude.{◌<◌, IsTrue, length};
 ghost use Rattle.naga_words.specs.Rules.{AllFit, FitsConclusion};
-ghost use Rattle.naga_words.specs.Spelling.{Context, Fits, IsInOrder, is_unsupported_pointer};
+ghost use Rattle.naga_spelling.specs.Spelling.{Context, Fits, IsInOrder, is_unsupported_pointer};
 
 use naga_info::{Conclusion, GlobalCtx, Rule, TypeResolution};
 use naga_ir::{

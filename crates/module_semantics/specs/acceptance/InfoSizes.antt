@@ -20,7 +20,7 @@ use Rattle.naga_info.specs.declared.info.ExpressionInfo.{ExpressionInfo}
 use Rattle.naga_info.specs.declared.info.ModuleInfo.{ModuleInfo}
 use Rattle.naga_info.specs.declared.info.TypeResolution.{TypeResolution}
 use Rattle.naga_info.specs.declared.info.TypeResolution.TheVariants.{Handle, Value}
-use Rattle.naga_words.specs.Spelling.{is_struct}
+use Rattle.naga_spelling.specs.Spelling.{is_struct}
 
 -- two lists are equally long, and their items pass the test side by side
 abbrev pub all_paired : {X Y : Type 0} → (X → Y → Bool) → List X → List Y → Bool

@@ -37,7 +37,7 @@ use Rattle.naga_ir.specs.declared.types.TypeInner.TheVariants as inner
 use Rattle.naga_info.specs.declared.info.ModuleInfo.{ModuleInfo}
 use Rattle.naga_info.specs.declared.info.TypeResolution.{TypeResolution}
 use Rattle.naga_info.specs.declared.info.TypeResolution.TheVariants.{Handle, Value}
-use Rattle.naga_words.specs.Spelling.{length_within}
+use Rattle.naga_spelling.specs.Spelling.{length_within}
 use Rattle.module_semantics.specs.acceptance.InfoSizes.{all_known, resolution_is_fit, sizes_fit}
 use Rattle.module_semantics.specs.acceptance.InfoSizes.{type_is_fit}
 use Rattle.module_semantics.specs.Literals.{literal_is_within}

@@ -9,7 +9,7 @@ ghost use Rattle.naga_acceptance.specs.Searching.{first_unfit};
 ghost use Rattle.module_semantics.specs.acceptance.InfoSizes.{function_size_fits, is_handle_pointer};
 ghost use Rattle.module_semantics.specs.acceptance.InfoSizes.{is_handle_space, resolution_is_fit};
 ghost use Rattle.module_semantics.specs.acceptance.InfoSizes.{type_is_fit};
-ghost use Rattle.naga_words.specs.Spelling.{is_struct};
+ghost use Rattle.naga_spelling.specs.Spelling.{is_struct};
 
 use crate::faults::{Fault, FaultPosition, FunctionPosition, Unaccepted, at};
 use naga_info::{FunctionInfo, ModuleInfo, TypeResolution};

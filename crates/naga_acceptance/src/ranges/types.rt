@@ -4,7 +4,7 @@ ghost use Rattle.std.specs.Prelude.{◌≡◌, length};
 ghost use Rattle.std.specs.List.{enumerate_from, list_all};
 ghost use Rattle.naga_acceptance.specs.FirstFaults.{types_range_fault};
 ghost use Rattle.naga_acceptance.specs.Searching.{first_unfit};
-ghost use Rattle.naga_words.specs.Spelling.{length_within, size_within};
+ghost use Rattle.naga_spelling.specs.Spelling.{length_within, size_within};
 ghost use Rattle.module_semantics.specs.acceptance.Ranges.{members_before, numbers_in_range};
 ghost use Rattle.module_semantics.specs.acceptance.Ranges.{parts_before};
 ghost use Rattle.module_semantics.specs.acceptance.Ranges.{resolution_in_range, type_in_range};

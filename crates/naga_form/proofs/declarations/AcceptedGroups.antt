@@ -30,7 +30,7 @@ use Rattle.naga_info.specs.declared.info.ExpressionInfo.{ExpressionInfo}
 use Rattle.naga_info.specs.declared.info.ModuleInfo.{ModuleInfo}
 use Rattle.naga_info.specs.declared.info.TypeResolution.{TypeResolution}
 use Rattle.naga_info.specs.declared.info.TypeResolution.TheVariants.{Handle, Value}
-use Rattle.naga_words.specs.Spelling.{length_within}
+use Rattle.naga_spelling.specs.Spelling.{length_within}
 use Rattle.module_semantics.specs.acceptance.Accepted.{is_accepted}
 use Rattle.module_semantics.specs.acceptance.AgreeingOperators.{Group, function_group}
 use Rattle.module_semantics.specs.acceptance.AgreeingOperators.{function_groups, further_groups_of}
@@ -56,7 +56,7 @@ use Rattle.module_semantics.specs.acceptance.Ranges.{override_in_range, global_i
 use Rattle.module_semantics.specs.acceptance.Soundness.{module_is_sound, function_is_sound}
 use Rattle.module_semantics.specs.acceptance.Soundness.{entry_point_is_sound, declarations_are_sound}
 use Rattle.module_semantics.proofs.Lists.{list_all_at, numbered_at}
-use Rattle.naga_names.proofs.Refusal.{element}
+use Rattle.naga_naming.proofs.Refusal.{element}
 use Rattle.naga_form.proofs.operators.AgreeingUses.{AreKnown, AllFit, IsIn, in_right}
 use Rattle.module_semantics.proofs.FunctionNumbers.{in_append, in_left}
 use Rattle.module_semantics.specs.FunctionNumbers.{all_infos}

@@ -25,12 +25,12 @@ use Rattle.naga_ir.specs.declared.types.TypeInner.{TypeInner}
 use Rattle.naga_ir.specs.declared.types.TypeInner.TheVariants as inner
 use Rattle.naga_info.specs.declared.info.ModuleInfo.{ModuleInfo}
 use Rattle.naga_info.specs.declared.info.TypeResolution.TheVariants.{Handle}
-use Rattle.naga_names.proofs.NamedItems.{constant_stands, global_stands, override_stands}
-use Rattle.naga_names.proofs.NamedItems.{type_stands}
-use Rattle.naga_names.specs.Keys.{NameMap}
-use Rattle.naga_names.specs.Reset.{members_of}
-use Rattle.naga_names.specs.declared.key.NameKey.TheVariants as key
-use Rattle.naga_words.specs.Contexts.{Names as TypeNames}
+use Rattle.naga_naming.proofs.NamedItems.{constant_stands, global_stands, override_stands}
+use Rattle.naga_naming.proofs.NamedItems.{type_stands}
+use Rattle.naga_naming.specs.Keys.{NameMap}
+use Rattle.naga_naming.specs.Reset.{members_of}
+use Rattle.naga_naming.specs.declared.key.NameKey.TheVariants as key
+use Rattle.naga_spelling.specs.Contexts.{Names as TypeNames}
 use Rattle.module_semantics.specs.acceptance.Accepted.{is_accepted}
 use Rattle.module_semantics.specs.AlikeTypes.{has_type_form}
 use Rattle.module_semantics.specs.DeclarationForms.{stage_has_form, DeclarationsHaveForms}

@@ -14,9 +14,9 @@ use Rattle.naga_info.specs.declared.info.ModuleInfo.{ModuleInfo}
 use Rattle.naga_ir.specs.declared.module.Module.{Module}
 use Rattle.naga_ir.specs.declared.types.StructMember.{StructMember}
 use Rattle.naga_ir.specs.declared.types.Type_.{Type_}
-use Rattle.naga_names.specs.Reset.{members_of}
-use Rattle.naga_names.specs.declared.key.NameKey.TheVariants as key
-use Rattle.naga_words.specs.Spelling.{is_struct}
+use Rattle.naga_naming.specs.Reset.{members_of}
+use Rattle.naga_naming.specs.declared.key.NameKey.TheVariants as key
+use Rattle.naga_spelling.specs.Spelling.{is_struct}
 use Rattle.module_semantics.specs.DeclaredItems.{struct_number}
 use Rattle.module_semantics.specs.Names.{LabelNames, module_names, name_in, override_name}
 use Rattle.module_semantics.specs.Resolution.{MembersResolve, OwnMembersResolve, words_of_members}

@@ -25,11 +25,11 @@ use Rattle.naga_ir.specs.declared.types.StructMember.{StructMember}
 use Rattle.naga_ir.specs.declared.types.Type_.{Type_}
 use Rattle.naga_info.specs.declared.info.ExpressionInfo.{ExpressionInfo}
 use Rattle.naga_info.specs.declared.info.ModuleInfo.{ModuleInfo}
-use Rattle.naga_names.specs.Keys.{NameMap}
-use Rattle.naga_names.specs.Reset.{members_of}
-use Rattle.naga_names.specs.declared.key.NameKey.TheVariants as key
+use Rattle.naga_naming.specs.Keys.{NameMap}
+use Rattle.naga_naming.specs.Reset.{members_of}
+use Rattle.naga_naming.specs.declared.key.NameKey.TheVariants as key
 use Rattle.naga_back.specs.FunctionContext.{function_key}
-use Rattle.naga_words.specs.Contexts.{names_of, Names as TypeNames}
+use Rattle.naga_spelling.specs.Contexts.{names_of, Names as TypeNames}
 use Rattle.wgsl_words.specs.Words.{space_access_word, space_word}
 use Rattle.wgsl_text.specs.Expressions.{Expression}
 use Rattle.wgsl_text.specs.Reading.{printed_type}

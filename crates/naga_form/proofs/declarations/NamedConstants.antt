@@ -16,9 +16,9 @@ use Rattle.naga_ir.specs.declared.module.Module.{Module}
 use Rattle.naga_ir.specs.declared.module.Override.{Override}
 use Rattle.naga_info.specs.declared.info.ModuleInfo.{ModuleInfo}
 use Rattle.naga_info.specs.declared.info.TypeResolution.TheVariants.{Handle}
-use Rattle.naga_names.proofs.Refusal.{element}
-use Rattle.naga_names.specs.Keys.{NameMap}
-use Rattle.naga_names.specs.declared.key.NameKey.TheVariants as key
+use Rattle.naga_naming.proofs.Refusal.{element}
+use Rattle.naga_naming.specs.Keys.{NameMap}
+use Rattle.naga_naming.specs.declared.key.NameKey.TheVariants as key
 use Rattle.module_semantics.specs.ModuleShapes.{initialiser, module_shape, named_constants}
 use Rattle.module_semantics.specs.Names.{constant_name, name_in, override_name}
 use Rattle.module_semantics.specs.Namings.{named_handles, numbered_key, outer_names}

@@ -18,9 +18,9 @@ use Rattle.naga_ir.specs.declared.types.AddressSpace.TheVariants as space
 use Rattle.naga_ir.specs.declared.types.TypeInner.TheVariants as inner
 use Rattle.naga_info.specs.declared.info.ModuleInfo.{ModuleInfo}
 use Rattle.naga_info.specs.declared.info.TypeResolution.TheVariants.{Handle, Value}
-use Rattle.naga_names.specs.Keys.{NameMap}
-use Rattle.naga_names.specs.declared.key.NameKey.TheVariants as key
-use Rattle.naga_words.specs.Contexts.{Names as TypeNames}
+use Rattle.naga_naming.specs.Keys.{NameMap}
+use Rattle.naga_naming.specs.declared.key.NameKey.TheVariants as key
+use Rattle.naga_spelling.specs.Contexts.{Names as TypeNames}
 use Rattle.wgsl_text.specs.Declarations as tree
 use Rattle.wgsl_text.specs.Reading.{printed_type}
 use Rattle.wgsl_text.specs.Types.{TypeSpecifier, pointer_tree}

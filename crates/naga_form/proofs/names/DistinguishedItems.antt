@@ -1,8 +1,8 @@
 -- Structs, overrides and members are told apart by their names.
 use Rattle.std.proofs.Common.{◌≡◌, ℕ}
 use Rattle.naga_ir.specs.declared.module.Module.{Module}
-use Rattle.naga_names.specs.declared.key.NameKey.TheVariants as key
-use Rattle.naga_names.proofs.Refusal.{element}
+use Rattle.naga_naming.specs.declared.key.NameKey.TheVariants as key
+use Rattle.naga_naming.proofs.Refusal.{element}
 use Rattle.module_semantics.specs.Names.{ItemsAreDistinguished, TypesAreDistinguished}
 use Rattle.naga_form.proofs.names.ItemKeys.{keys_tell, override_has, type_has}
 use Rattle.naga_form.proofs.names.MemberNames.{member_names_tell}

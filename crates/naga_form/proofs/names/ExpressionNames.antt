@@ -12,12 +12,12 @@ use Rattle.std.proofs.lemmas.Option.{none-some, same_Some}
 use Rattle.naga_ir.specs.declared.module.Function as ir_function
 use Rattle.naga_ir.specs.declared.module.Module.{Module}
 use Rattle.naga_keywords.specs.Plain.{is_word}
-use Rattle.naga_names.specs.Naming.{name_after}
-use Rattle.naga_names.specs.Reset.{LabelledItem, labelled_items, labels_of}
-use Rattle.naga_names.proofs.NameShapes.{name_after_is_word, name_after_not_numbered, names_differ}
-use Rattle.naga_names.proofs.NamedItems.{Stands}
-use Rattle.naga_names.proofs.Refusal.{element}
-use Rattle.naga_names.proofs.Reset.{labels_of-around}
+use Rattle.naga_naming.specs.Naming.{name_after}
+use Rattle.naga_naming.specs.Reset.{LabelledItem, labelled_items, labels_of}
+use Rattle.naga_naming.proofs.NameShapes.{name_after_is_word, name_after_not_numbered, names_differ}
+use Rattle.naga_naming.proofs.NamedItems.{Stands}
+use Rattle.naga_naming.proofs.Refusal.{element}
+use Rattle.naga_naming.proofs.Reset.{labels_of-around}
 use Rattle.module_semantics.specs.ExpressionLabels.{all_expression_labels, expression_labels}
 use Rattle.module_semantics.specs.ExpressionLabels.{name_of_label}
 use Rattle.module_semantics.specs.FunctionNumbers.{all_functions}

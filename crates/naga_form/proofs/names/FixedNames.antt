@@ -13,9 +13,9 @@ use Rattle.naga_info.specs.declared.info.ExpressionInfo.{ExpressionInfo}
 use Rattle.naga_info.specs.declared.info.ModuleInfo.{ModuleInfo}
 use Rattle.naga_ir.specs.declared.module.Function as ir_function
 use Rattle.naga_ir.specs.declared.module.Module.{Module}
-use Rattle.naga_names.specs.declared.key.NameKey.{NameKey}
-use Rattle.naga_names.specs.declared.key.NameKey.TheVariants as key
-use Rattle.naga_names.proofs.Refusal.{element}
+use Rattle.naga_naming.specs.declared.key.NameKey.{NameKey}
+use Rattle.naga_naming.specs.declared.key.NameKey.TheVariants as key
+use Rattle.naga_naming.proofs.Refusal.{element}
 use Rattle.module_semantics.specs.ExpressionContexts.{constant_number, override_number}
 use Rattle.module_semantics.specs.FunctionNumbers.{all_functions, function_type}
 use Rattle.module_semantics.specs.FunctionShapes.{function_shape}

@@ -20,11 +20,11 @@ use Rattle.naga_info.specs.declared.info.ExpressionInfo.{ExpressionInfo}
 use Rattle.naga_info.specs.declared.info.ModuleInfo.{ModuleInfo}
 use Rattle.naga_ir.specs.declared.module.Function as ir_function
 use Rattle.naga_ir.specs.declared.module.Module.{Module}
-use Rattle.naga_names.proofs.NamedItems.{override_stands, Stands, type_stands}
-use Rattle.naga_names.proofs.Refusal.{element}
-use Rattle.naga_names.specs.Reset.{labelled_items, LabelledItem}
-use Rattle.naga_names.specs.declared.key.NameKey.{NameKey}
-use Rattle.naga_names.specs.declared.key.NameKey.TheVariants as key
+use Rattle.naga_naming.proofs.NamedItems.{override_stands, Stands, type_stands}
+use Rattle.naga_naming.proofs.Refusal.{element}
+use Rattle.naga_naming.specs.Reset.{labelled_items, LabelledItem}
+use Rattle.naga_naming.specs.declared.key.NameKey.{NameKey}
+use Rattle.naga_naming.specs.declared.key.NameKey.TheVariants as key
 use Rattle.module_semantics.specs.ExpressionLabels.{expression_labels}
 use Rattle.module_semantics.specs.FunctionNumbers.{all_functions, function_type}
 use Rattle.module_semantics.specs.FunctionShapes.{function_shapes}

@@ -12,12 +12,12 @@ use Rattle.naga_ir.specs.declared.module.Module.{Module}
 use Rattle.naga_ir.specs.declared.module.Override.{Override}
 use Rattle.naga_ir.specs.declared.types.Type_.{Type_}
 use Rattle.naga_keywords.specs.Plain.{is_word}
-use Rattle.naga_names.specs.Reset.{labelled_items}
-use Rattle.naga_names.specs.declared.key.NameKey.{NameKey}
-use Rattle.naga_names.specs.declared.key.NameKey.TheVariants as key
-use Rattle.naga_names.proofs.NamedItems.{Stands, constant_stands, global_stands, override_stands}
-use Rattle.naga_names.proofs.NamedItems.{type_stands}
-use Rattle.naga_names.proofs.Refusal.{element}
+use Rattle.naga_naming.specs.Reset.{labelled_items}
+use Rattle.naga_naming.specs.declared.key.NameKey.{NameKey}
+use Rattle.naga_naming.specs.declared.key.NameKey.TheVariants as key
+use Rattle.naga_naming.proofs.NamedItems.{Stands, constant_stands, global_stands, override_stands}
+use Rattle.naga_naming.proofs.NamedItems.{type_stands}
+use Rattle.naga_naming.proofs.Refusal.{element}
 use Rattle.module_semantics.specs.ExpressionContexts.{named_count}
 use Rattle.module_semantics.specs.FunctionNumbers.{all_functions, function_type}
 use Rattle.module_semantics.specs.Names.{function_name, global_name, module_names, name_in}

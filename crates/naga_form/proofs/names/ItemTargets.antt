@@ -9,7 +9,7 @@ use Rattle.std.specs.Option.{option_map_or}
 use Rattle.std.specs.Prelude.{IsTrue}
 use Rattle.naga_info.specs.declared.info.ModuleInfo.{ModuleInfo}
 use Rattle.naga_ir.specs.declared.module.Module.{Module}
-use Rattle.naga_names.proofs.Refusal.{element}
+use Rattle.naga_naming.proofs.Refusal.{element}
 use Rattle.module_semantics.specs.acceptance.Accepted.{is_accepted}
 use Rattle.module_semantics.specs.ExpressionContexts.{expression_context, global_tree}
 use Rattle.module_semantics.specs.ExpressionContexts.{override_number}

@@ -4,10 +4,10 @@ use Rattle.std.proofs.Common.{map, subst, take}
 use Rattle.naga_ir.specs.declared.module.Module.{Module}
 use Rattle.naga_ir.specs.declared.types.StructMember.{StructMember}
 use Rattle.naga_ir.specs.declared.types.Type_.{Type_}
-use Rattle.naga_names.specs.Reset.{PutsInto, labelled_items, named_items, members_of}
-use Rattle.naga_names.specs.Reset.{member_label, member_names}
-use Rattle.naga_names.specs.declared.key.NameKey.TheVariants as key
-use Rattle.naga_names.proofs.Members.{member_put, put_members_distinguished}
+use Rattle.naga_naming.specs.Reset.{PutsInto, labelled_items, named_items, members_of}
+use Rattle.naga_naming.specs.Reset.{member_label, member_names}
+use Rattle.naga_naming.specs.declared.key.NameKey.TheVariants as key
+use Rattle.naga_naming.proofs.Members.{member_put, put_members_distinguished}
 use Rattle.module_semantics.specs.Names.{module_names, wgsl_names, name_in}
 use Rattle.wgsl_text.specs.Words.{IsWord}
 use Rattle.naga_form.proofs.names.Names.{is_word_after}

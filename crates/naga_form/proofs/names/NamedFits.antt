@@ -59,7 +59,7 @@ use Rattle.module_semantics.specs.Namings.{outer_names, function_naming}
 use Rattle.naga_ir.specs.declared.expression.Expression.TheVariants as expression
 use Rattle.naga_ir.specs.declared.module.Module.{Module}
 use Rattle.naga_keywords.specs.Plain.{is_word}
-use Rattle.naga_names.specs.declared.key.NameKey.TheVariants as key
+use Rattle.naga_naming.specs.declared.key.NameKey.TheVariants as key
 use Rattle.wgsl_text.specs.Requests.{is_request}
 use Rattle.wgsl_text.specs.Words.{is_builtin, stands_in}
 use Rattle.naga_form.proofs.Fits.{named_by_all_is}
@@ -80,7 +80,7 @@ use Rattle.naga_ir.specs.declared.expression.ImageQuery.TheVariants as query
 use Rattle.naga_ir.specs.declared.expression.SwizzleComponent.{SwizzleComponent}
 use Rattle.naga_ir.specs.declared.expression.SampleLevel.{SampleLevel}
 use Rattle.shader_runs.specs.Value.{Selector}
-use Rattle.naga_names.specs.declared.key.NameKey.{NameKey}
+use Rattle.naga_naming.specs.declared.key.NameKey.{NameKey}
 use Rattle.naga_form.proofs.names.FixedNames.{fixed_has, fixed_key, fixed_named, fixed_no_item}
 use Rattle.naga_form.proofs.names.FixedNames.{fixed_of, fixed_tell, function_is_none}
 use Rattle.naga_form.proofs.names.ItemKeys.{CountsItems, function_has, HasItem, item_is_no_word}

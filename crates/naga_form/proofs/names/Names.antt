@@ -14,19 +14,19 @@ use Rattle.std.proofs.lemmas.Slice.Eq.{bytes_eq-Decides}
 use Rattle.naga_ir.specs.declared.module.Function as ir_function
 use Rattle.naga_ir.specs.declared.module.FunctionArgument.{FunctionArgument}
 use Rattle.naga_ir.specs.declared.module.Module.{Module}
-use Rattle.naga_names.specs.Naming.{Names as NamerNames, label_or, name_after}
+use Rattle.naga_naming.specs.Naming.{Names as NamerNames, label_or, name_after}
 use Rattle.naga_keywords.specs.Plain.{HasPlainEnds, is_identifier_char, is_word}
-use Rattle.naga_names.specs.Reset.{LabelledItem, labelled_items, labels_of, named_items, PutsInto}
+use Rattle.naga_naming.specs.Reset.{LabelledItem, labelled_items, labels_of, named_items, PutsInto}
 use Rattle.naga_keywords.specs.declared.keywords.TheConstants.{RESERVED, BUILTIN_IDENTIFIERS}
-use Rattle.naga_names.specs.declared.key.NameKey.TheVariants as key
+use Rattle.naga_naming.specs.declared.key.NameKey.TheVariants as key
 use Rattle.naga_keywords.proofs.Plains.{words_are}
 use Rattle.naga_keywords.proofs.SetLemmas.{texts_of, contains-texts_of}
-use Rattle.naga_names.proofs.NameShapes.{name_after_is_word, name_after_no_keyword}
-use Rattle.naga_names.proofs.NameShapes.{name_after_no_builtin, plain_ends, name_after_not_numbered}
-use Rattle.naga_names.proofs.Keys.{items_apart}
-use Rattle.naga_names.proofs.NamedItems.{Stands, put_at, item_names_tell, function_stands}
-use Rattle.naga_names.proofs.NamedItems.{argument_stands, entry_argument_stands}
-use Rattle.naga_names.proofs.NamedItems.{entry_local_stands, entry_point_stands, local_stands}
+use Rattle.naga_naming.proofs.NameShapes.{name_after_is_word, name_after_no_keyword}
+use Rattle.naga_naming.proofs.NameShapes.{name_after_no_builtin, plain_ends, name_after_not_numbered}
+use Rattle.naga_naming.proofs.Keys.{items_apart}
+use Rattle.naga_naming.proofs.NamedItems.{Stands, put_at, item_names_tell, function_stands}
+use Rattle.naga_naming.proofs.NamedItems.{argument_stands, entry_argument_stands}
+use Rattle.naga_naming.proofs.NamedItems.{entry_local_stands, entry_point_stands, local_stands}
 use Rattle.wgsl_text.specs.Keywords.{builtin_words, reserved_words}
 use Rattle.wgsl_text.specs.Words.{stands_in, is_builtin, IsIdentifier, IsWord, is_letter, is_word_byte}
 use Rattle.wgsl_text.specs.Words.{all_word_bytes, is_word_text, is_reserved}

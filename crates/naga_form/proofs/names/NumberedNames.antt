@@ -8,7 +8,7 @@ use Rattle.std.specs.Str.{bytes_eq}
 use Rattle.std.proofs.lemmas.Bool.{and_from, or_right, lt-ltb}
 use Rattle.std.proofs.lemmas.Slice.Eq.{bytes_eq-Decides}
 use Rattle.module_semantics.specs.Names.{numbered_name, numbered_text}
-use Rattle.naga_names.proofs.Label.{all_digits-decimal}
+use Rattle.naga_naming.proofs.Label.{all_digits-decimal}
 use Rattle.shader_runs.proofs.Update.{and_left, and_right}
 use Rattle.wgsl_text.specs.Keywords.{builtin_words, reserved_words}
 use Rattle.wgsl_text.specs.Words.{stands_in, is_builtin, IsIdentifier, is_letter, is_word_byte}

@@ -8,7 +8,7 @@ use Rattle.naga_ir.specs.declared.module.Module.{Module}
 use Rattle.naga_ir.specs.declared.types.Type_.{Type_}
 use Rattle.naga_ir.specs.declared.expression.Expression.{Expression}
 use Rattle.naga_info.specs.declared.info.TypeResolution.{TypeResolution}
-use Rattle.naga_names.specs.declared.key.NameKey.TheVariants as key
+use Rattle.naga_naming.specs.declared.key.NameKey.TheVariants as key
 use Rattle.module_semantics.specs.ExpressionContexts.{expression_context, global_tree}
 use Rattle.module_semantics.specs.ExpressionOperators.{applied_operator}
 use Rattle.module_semantics.specs.ModuleShapes.{initialiser}

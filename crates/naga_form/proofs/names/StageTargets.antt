@@ -16,7 +16,7 @@ use Rattle.naga_ir.specs.declared.module.MeshStageInfo.{MeshStageInfo}
 use Rattle.naga_ir.specs.declared.module.Module.{Module}
 use Rattle.naga_ir.specs.declared.module.ShaderStage.{ShaderStage}
 use Rattle.naga_ir.specs.declared.module.ShaderStage.TheVariants as stage
-use Rattle.naga_names.specs.Keys.{NameMap}
+use Rattle.naga_naming.specs.Keys.{NameMap}
 use Rattle.module_semantics.specs.DeclaredItems.{stage_variables}
 use Rattle.module_semantics.specs.Names.{global_name, LabelNames}
 use Rattle.module_semantics.specs.acceptance.Ranges.{is_below}

@@ -23,8 +23,8 @@ use Rattle.naga_info.specs.Resolution.{inner_of, handle_of}
 use Rattle.naga_info.specs.declared.info.ModuleInfo.{ModuleInfo}
 use Rattle.naga_info.specs.declared.info.TypeResolution.{TypeResolution}
 use Rattle.naga_info.specs.declared.info.TypeResolution.TheVariants.{Handle, Value}
-use Rattle.naga_names.specs.Reset.{members_of}
-use Rattle.naga_names.specs.declared.key.NameKey.TheVariants as key
+use Rattle.naga_naming.specs.Reset.{members_of}
+use Rattle.naga_naming.specs.declared.key.NameKey.TheVariants as key
 use Rattle.shader_runs.specs.Value.{Selector, MemberNamed, ElementAt}
 use Rattle.wgsl_words.specs.Words.{scalar_word}
 use Rattle.module_semantics.specs.acceptance.AgreeingOperators.{Group, word_key, swizzle_key}
@@ -39,7 +39,7 @@ use Rattle.module_semantics.specs.TypeIdentity.{level, component_count, kind_num
 use Rattle.module_semantics.specs.TypeIdentity.{word_of_unspelled_type}
 use Rattle.module_semantics.specs.TypeParts.{is_part_number, value_part_count}
 use Rattle.naga_form.proofs.operators.Signatures.{declared_for}
-use Rattle.naga_names.proofs.Refusal.{element}
+use Rattle.naga_naming.proofs.Refusal.{element}
 
 -- ---- the struct of which a type's numbers tell, by itself or through a pointer
 abbrev pub struct_told : List ℕ → Option ℕ

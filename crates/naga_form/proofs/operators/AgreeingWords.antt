@@ -44,7 +44,7 @@ use Rattle.module_semantics.specs.TypeIdentity.{identity, identity_at, identity_
 use Rattle.module_semantics.specs.TypeIdentity.{StructAt, word_of_unspelled_type, component_count}
 use Rattle.module_semantics.specs.Undeclared.{is_undeclared, is_undeclared_struct}
 use Rattle.module_semantics.proofs.ExpressionForms.{called_spelled}
-use Rattle.naga_words.specs.Spelling.{is_struct}
+use Rattle.naga_spelling.specs.Spelling.{is_struct}
 use Rattle.naga_form.proofs.declarations.AcceptedGroups.{agree}
 use Rattle.naga_form.proofs.operators.AgreeingExpressions.{are, own_type, operands_are, own_is}
 use Rattle.naga_form.proofs.operators.AgreeingExpressions.{use_of, by_identity, same_values}

@@ -14,7 +14,7 @@ use Rattle.naga_ir.specs.declared.module.Module.{Module}
 use Rattle.naga_ir.specs.declared.types.ScalarKind.{ScalarKind}
 use Rattle.naga_ir.specs.declared.types.TypeInner.{TypeInner}
 use Rattle.naga_ir.specs.declared.types.Type_.{Type_}
-use Rattle.naga_names.specs.declared.key.NameKey.TheVariants as key
+use Rattle.naga_naming.specs.declared.key.NameKey.TheVariants as key
 use Rattle.module_semantics.specs.Conversions.{conversion_target, keeps_bits}
 use Rattle.module_semantics.specs.ExpressionContexts.{expression_context}
 use Rattle.module_semantics.specs.ExpressionOperators.{ExpressionContext, applied_operator, cast_to}

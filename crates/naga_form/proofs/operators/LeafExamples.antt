@@ -25,7 +25,7 @@ use Rattle.module_semantics.specs.Names.{constant_name, module_names}
 use Rattle.module_semantics.specs.Types.{type_names}
 use Rattle.naga_form.specs.ConstantForms.{written_constant_form}
 use Rattle.naga_form.specs.Expressions.{Source, as_reference, as_value, plain_form}
-use Rattle.naga_words.specs.Contexts.{Names as TypeNames}
+use Rattle.naga_spelling.specs.Contexts.{Names as TypeNames}
 use Rattle.shader_runs.specs.Program.{Function, NamedConstant}
 use Rattle.shader_runs.specs.Scope.{Handles, Inline, Naming}
 use Rattle.shader_runs.specs.Value.{OtherType}

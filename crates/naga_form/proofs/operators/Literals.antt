@@ -8,8 +8,8 @@ use Rattle.std.specs.Fmt.{decimal}
 use Rattle.std.specs.Str.Parse.{AllDigits}
 use Rattle.std.proofs.lemmas.Bool.{false≢true, eqb-true, ltb-true, eqb-false, and_parts}
 use Rattle.std.proofs.lemmas.Fmt.{decimal_is_IsNumeral}
-use Rattle.float_numerals.specs.declared.decimal.Decimal.{Decimal}
-use Rattle.float_numerals.specs.Denoted.{decimal_float, has_near_power, has_plain_zero, is_in_range}
+use Rattle.decimal_numerals.specs.declared.decimal.Decimal.{Decimal}
+use Rattle.decimal_numerals.specs.Denoted.{decimal_float, has_near_power, has_plain_zero, is_in_range}
 use Rattle.float_numerals.specs.Texts.{double_exponent, double_fraction, double_whole}
 use Rattle.float_numerals.specs.Texts.{fraction_digits, whole_digits}
 use Rattle.float_numerals.proofs.Doubles.{decimal_double_is, double_in_range}

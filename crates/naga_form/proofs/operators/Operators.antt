@@ -19,7 +19,7 @@ use Rattle.module_semantics.specs.ExpressionOperators.{constructor, load_operato
 use Rattle.module_semantics.specs.ExpressionOperators.{own_operator, query_operator}
 use Rattle.naga_info.specs.declared.info.TypeResolution.{TypeResolution}
 use Rattle.naga_info.specs.declared.info.TypeResolution.TheVariants.{Handle, Value}
-use Rattle.naga_words.specs.Contexts.{Names as TypeNames}
+use Rattle.naga_spelling.specs.Contexts.{Names as TypeNames}
 use Rattle.naga_form.specs.Expressions.{cast_tree, conversion_tree, load_tree, matrix_tree}
 use Rattle.naga_form.specs.Expressions.{operator_type, scalar_pointed, PlainForm, as_value}
 use Rattle.naga_form.specs.Expressions.{value_forms}

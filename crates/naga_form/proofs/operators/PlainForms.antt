@@ -33,7 +33,7 @@ use Rattle.wgsl_text.specs.Expressions as tree_expressions
 use Rattle.wgsl_text.specs.Functions.{Each}
 use Rattle.wgsl_text.specs.Statements.{is_reference}
 use Rattle.wgsl_text.specs.Types.{TypeSpecifier}
-use Rattle.naga_names.proofs.Refusal.{element}
+use Rattle.naga_naming.proofs.Refusal.{element}
 use Rattle.module_semantics.specs.Names.{global_name, module_names}
 use Rattle.module_semantics.specs.Types.{type_names}
 use Rattle.naga_form.proofs.types.SameValues.{IsFit, TypesAreFit, global_identifier}

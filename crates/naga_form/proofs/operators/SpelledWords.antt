@@ -9,14 +9,14 @@ use Rattle.naga_info.specs.declared.info.TypeResolution.{TypeResolution}
 use Rattle.naga_info.specs.declared.info.TypeResolution.TheVariants.{Handle}
 use Rattle.naga_ir.specs.declared.module.Module.{Module}
 use Rattle.naga_ir.specs.declared.types.Type_.{Type_}
-use Rattle.naga_names.specs.declared.key.NameKey.TheVariants as key
+use Rattle.naga_naming.specs.declared.key.NameKey.TheVariants as key
 use Rattle.module_semantics.specs.ExpressionContexts.{expression_context}
 use Rattle.module_semantics.specs.ExpressionOperators.{constructor, ExpressionContext}
 use Rattle.module_semantics.specs.Names.{module_names, name_in}
 use Rattle.module_semantics.specs.OperatorTable.{MakeSpelled, Operator, run_word, ValueOf, WithoutForm}
 use Rattle.module_semantics.specs.Types.{spelled_resolution, type_names}
 use Rattle.module_semantics.specs.Undeclared.{is_declared, is_undeclared, is_undeclared_struct}
-use Rattle.naga_words.specs.Spelling.{is_struct}
+use Rattle.naga_spelling.specs.Spelling.{is_struct}
 use Rattle.wgsl_text.proofs.Text.{text-append}
 use Rattle.wgsl_text.proofs.Types.{named_text}
 use Rattle.wgsl_text.specs.Reading.{printed_type}

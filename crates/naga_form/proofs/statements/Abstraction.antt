@@ -6,7 +6,7 @@ use Rattle.std.proofs.Common.{add-one, add-zero, zero-add, subst, ◌<◌}
 use Rattle.std.specs.Prelude.{codes, slice_get, unwrap_or, if◌then◌else◌}
 use Rattle.std.specs.Option.{option_map, is_some, option_to_list}
 use Rattle.std.proofs.lemmas.Option.{slice_get_within}
-use Rattle.naga_names.proofs.Refusal.{element}
+use Rattle.naga_naming.proofs.Refusal.{element}
 use Rattle.naga_info.specs.declared.info.TypeResolution.TheVariants.{Handle, Value}
 use Rattle.naga_form.proofs.operators.Operators.{spelled_as_trees, SpellsTypes, operands_read}
 use Rattle.naga_form.proofs.operators.Operators.{word_called}
@@ -46,7 +46,7 @@ use Rattle.naga_form.proofs.statements.WrittenHandles.{AreClosed, all_front, all
 use Rattle.naga_form.proofs.statements.WrittenHandles.{written_are_closed, all_rest}
 use Rattle.module_semantics.specs.ExpressionForms.{expression_has_form, constant_has_form}
 use Rattle.module_semantics.specs.ExpressionContexts.{types_known, written_constant}
-use Rattle.naga_names.specs.Keys.{NameMap}
+use Rattle.naga_naming.specs.Keys.{NameMap}
 use Rattle.wgsl_text.specs.Reading.{printed_type}
 use Rattle.wgsl_text.specs.Types.{TypeSpecifier, Named, pointer_tree}
 use Rattle.wgsl_text.proofs.Text.{text-append}

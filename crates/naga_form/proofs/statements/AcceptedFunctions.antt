@@ -38,7 +38,7 @@ use Rattle.module_semantics.specs.acceptance.Soundness.{expressions_are_sound, m
 use Rattle.module_semantics.specs.acceptance.Soundness.{function_is_sound, entry_point_is_sound}
 use Rattle.module_semantics.specs.acceptance.StatementsFit.{body_is_sound}
 use Rattle.module_semantics.proofs.Lists.{list_all_at, numbered_at}
-use Rattle.naga_names.proofs.Refusal.{element}
+use Rattle.naga_naming.proofs.Refusal.{element}
 use Rattle.naga_form.proofs.declarations.AcceptedGroups.{IsSoundGroup, functions_are}
 use Rattle.naga_form.proofs.declarations.AcceptedGroups.{entry_points_are}
 

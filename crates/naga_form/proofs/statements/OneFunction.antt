@@ -11,7 +11,7 @@ use Rattle.naga_ir.specs.declared.module.Function as ir_function
 use Rattle.naga_ir.specs.declared.module.Module.{Module}
 use Rattle.naga_info.specs.declared.info.ExpressionInfo.{ExpressionInfo}
 use Rattle.naga_info.specs.declared.info.ModuleInfo.{ModuleInfo}
-use Rattle.naga_names.specs.Keys.{NameMap}
+use Rattle.naga_naming.specs.Keys.{NameMap}
 use Rattle.naga_info.proofs.Options.{map_some}
 use Rattle.naga_back.specs.declared.context.FunctionType.TheVariants as item
 use Rattle.shader_runs.specs.Program as shapes

@@ -13,7 +13,7 @@ use Rattle.naga_ir.specs.declared.module.Function as ir_function
 use Rattle.naga_ir.specs.declared.module.Module.{Module}
 use Rattle.naga_info.specs.declared.info.ExpressionInfo.{ExpressionInfo}
 use Rattle.naga_info.specs.declared.info.ModuleInfo.{ModuleInfo}
-use Rattle.naga_names.specs.Keys.{NameMap}
+use Rattle.naga_naming.specs.Keys.{NameMap}
 use Rattle.wgsl_text.specs.Functions.{EntryPoint, Function}
 use Rattle.text_semantics.specs.Abstraction.{functions_of}
 use Rattle.module_semantics.specs.DeclarationForms.{entry_point_numbered}

@@ -12,7 +12,7 @@ use Rattle.naga_info.specs.declared.info.TypeResolution.TheVariants.{Handle, Val
 use Rattle.naga_info.specs.Resolution.{inner_of}
 use Rattle.naga_ir.specs.declared.types.Type_.{Type_}
 use Rattle.naga_ir.specs.declared.types.TypeInner.{TypeInner}
-use Rattle.naga_words.specs.Spelling.{is_struct}
+use Rattle.naga_spelling.specs.Spelling.{is_struct}
 use Rattle.module_semantics.specs.AlikeTypes.{are_alike, type_key, type_identity, handle_key}
 use Rattle.module_semantics.specs.AlikeTypes.{found_key_by, key_within, inner_key_by}
 use Rattle.module_semantics.specs.acceptance.InfoSizes.{type_is_fit, resolution_is_fit}

@@ -40,9 +40,9 @@ use Rattle.wgsl_text.specs.Types.{pointer_tree}
 use Rattle.wgsl_words.specs.Words.{scalar_word, scalar_word_of, space_word, space_access_word}
 use Rattle.wgsl_words.specs.Words.{image_access_word, format_word, matrix_role_word, has, atomic_bit}
 use Rattle.wgsl_words.specs.Words.{store_bit, load_bit}
-use Rattle.naga_words.specs.Words.{vector_word, matrix_word, cooperative_word, image_word}
-use Rattle.naga_words.specs.Words.{sampler_word}
-use Rattle.naga_words.specs.Spelling.{is_struct}
+use Rattle.naga_spelling.specs.Words.{vector_word, matrix_word, cooperative_word, image_word}
+use Rattle.naga_spelling.specs.Words.{sampler_word}
+use Rattle.naga_spelling.specs.Spelling.{is_struct}
 use Rattle.module_semantics.specs.acceptance.InfoSizes.{is_handle_pointer, is_handle_space}
 use Rattle.module_semantics.specs.acceptance.InfoSizes.{resolution_is_fit}
 use Rattle.module_semantics.specs.TypeIdentity.{level, kind_number, component_count}
@@ -56,7 +56,7 @@ use Rattle.naga_form.specs.TypeTrees.{scalar_tree, value_tree, pointer_tree_in, 
 use Rattle.naga_form.specs.TypeTrees.{value_pointer_tree_in, image_tree, ray_tree, inner_tree_by}
 use Rattle.naga_form.specs.TypeTrees.{found_tree_by, tree_within, type_tree, resolution_tree}
 use Rattle.naga_form.specs.Readable.{handle_names}
-use Rattle.naga_words.specs.Contexts.{Names}
+use Rattle.naga_spelling.specs.Contexts.{Names}
 use Rattle.std.specs.List.{list_all}
 use Rattle.std.proofs.lemmas.Slice.Eq.{bytes_eq-Decides}
 use Rattle.wgsl_text.specs.Words.{IsIdentifier, is_builtin, is_reserved}

@@ -40,7 +40,7 @@ use Rattle.module_semantics.specs.AlikeTypes.{over_scalar, value_key, pointer_ke
 use Rattle.module_semantics.specs.AlikeTypes.{array_key, image_key, access_number}
 use Rattle.module_semantics.specs.acceptance.InfoSizes.{is_handle_space, is_handle_pointer}
 use Rattle.module_semantics.specs.acceptance.InfoSizes.{resolution_is_fit}
-use Rattle.naga_words.specs.Spelling.{is_struct}
+use Rattle.naga_spelling.specs.Spelling.{is_struct}
 use Rattle.module_semantics.specs.acceptance.Ranges.{parts_before, parts_stand_before}
 use Rattle.module_semantics.proofs.Lists.{numbered_at}
 use Rattle.module_semantics.specs.TypeIdentity.{identity, identity_code, word_of_unspelled_type}

@@ -24,9 +24,9 @@ use Rattle.wgsl_text.specs.Types.{TypeSpecifier, Named, Template, NoTemplateArgu
 use Rattle.wgsl_text.specs.Types.{SizeArgument, of_one, of_two, pointer_tree}
 use Rattle.wgsl_words.specs.Words.{scalar_word, scalar_word_of, space_word, space_access_word}
 use Rattle.wgsl_words.specs.Words.{format_word, matrix_role_word, has, atomic_bit, store_bit, load_bit}
-use Rattle.naga_words.specs.Words.{vector_word, matrix_word, cooperative_word, image_word}
-use Rattle.naga_words.specs.Words.{sampler_word}
-use Rattle.naga_words.specs.Spelling.{is_struct}
+use Rattle.naga_spelling.specs.Words.{vector_word, matrix_word, cooperative_word, image_word}
+use Rattle.naga_spelling.specs.Words.{sampler_word}
+use Rattle.naga_spelling.specs.Spelling.{is_struct}
 use Rattle.module_semantics.specs.TypeIdentity.{level, kind_number, space_number}
 use Rattle.module_semantics.proofs.TypeIdentity.{truth_of, truth_distinguished, kind_of}
 use Rattle.module_semantics.proofs.TypeIdentity.{kind_distinguished, vector_of, vector_distinguished}
@@ -40,7 +40,7 @@ use Rattle.module_semantics.specs.AlikeTypes.{found_key_by, key_within, handle_k
 use Rattle.naga_form.specs.TypeTrees.{value_tree, pointer_tree_in, array_tree}
 use Rattle.naga_form.specs.TypeTrees.{value_pointer_tree_in, image_tree, ray_tree, inner_tree_by}
 use Rattle.naga_form.specs.TypeTrees.{found_tree_by, tree_within, type_tree, resolution_tree}
-use Rattle.naga_words.specs.Contexts.{Names}
+use Rattle.naga_spelling.specs.Contexts.{Names}
 
 -- ---- from numbers to trees
 scalar_read : (kind width : ℕ) → TypeSpecifier

@@ -28,10 +28,10 @@ use Rattle.naga_layout.specs.Types.{StandInOrder, component_number, has_atomic_s
 use Rattle.naga_layout.specs.Types.{is_number, is_wide, kept_members, kept_struct, layout_at}
 use Rattle.naga_layout.specs.Types.{layout_within, named_layout_by, parts_before, placed_member}
 use Rattle.naga_layout.specs.Types.{placed_members, told_length}
-use Rattle.naga_names.specs.Keys.{NameMap}
-use Rattle.naga_names.specs.Reset.{members_of}
-use Rattle.naga_words.specs.Contexts.{Names as TypeNames}
-use Rattle.naga_words.specs.Words.{matrix_word, vector_word}
+use Rattle.naga_naming.specs.Keys.{NameMap}
+use Rattle.naga_naming.specs.Reset.{members_of}
+use Rattle.naga_spelling.specs.Contexts.{Names as TypeNames}
+use Rattle.naga_spelling.specs.Words.{matrix_word, vector_word}
 use Rattle.module_semantics.specs.Layouts.{concerned_members, concerned_of, concerned_only, layout_in}
 use Rattle.module_semantics.specs.Layouts.{module_rule, size_among, span_at, span_of, written_size}
 use Rattle.module_semantics.specs.Names.{module_names}

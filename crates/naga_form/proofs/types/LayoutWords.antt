@@ -18,7 +18,7 @@ use Rattle.naga_ir.specs.declared.types.VectorSize.TheVariants as vector
 use Rattle.naga_layout.proofs.Widths.{atomic_width_is, width_is}
 use Rattle.naga_layout.specs.Capped.{IsWidth, Two, Four, Eight}
 use Rattle.naga_layout.specs.Types.{component_number, has_atomic_size, has_size, is_number, is_wide}
-use Rattle.naga_words.specs.Words.{matrix_word, vector_word}
+use Rattle.naga_spelling.specs.Words.{matrix_word, vector_word}
 use Rattle.text_semantics.specs.Layout.{among, scalar_size, type_layout_by, vector_or_other}
 use Rattle.text_semantics.specs.Layout.{vector_size}
 use Rattle.wgsl_layout.specs.Rules.{matrix_layout, scalar_layout, vector_layout}

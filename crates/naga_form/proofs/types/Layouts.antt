@@ -25,8 +25,8 @@ use Rattle.naga_layout.proofs.Levels.{layout_is}
 use Rattle.naga_layout.proofs.Told.{told_alike}
 use Rattle.naga_layout.specs.Types.{StandInOrder, kept_members, kept_struct, layout_at}
 use Rattle.naga_layout.specs.Types.{named_layout_by, placed_members, user_rule}
-use Rattle.naga_names.specs.Reset.{members_of}
-use Rattle.naga_names.specs.declared.key.NameKey.TheVariants as key
+use Rattle.naga_naming.specs.Reset.{members_of}
+use Rattle.naga_naming.specs.declared.key.NameKey.TheVariants as key
 use Rattle.module_semantics.proofs.Layouts.{stand_in_order}
 use Rattle.module_semantics.specs.acceptance.Accepted.{is_accepted}
 use Rattle.module_semantics.specs.DeclarationForms.{DeclarationsHaveForms}

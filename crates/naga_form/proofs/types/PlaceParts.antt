@@ -39,7 +39,7 @@ use Rattle.module_semantics.specs.PlaceParts.{pointee_parts, place_parts}
 use Rattle.module_semantics.specs.TypeIdentity.{identity, word_of_unspelled_type}
 use Rattle.module_semantics.specs.TypeParts.{inner_at, part_type}
 use Rattle.module_semantics.specs.Types.{type_of_values, word_of_values}
-use Rattle.naga_names.specs.Reset.{members_of}
+use Rattle.naga_naming.specs.Reset.{members_of}
 use Rattle.module_semantics.proofs.FunctionNumbers.{in_left}
 use Rattle.module_semantics.proofs.Lists.{list_all_at, in_joined}
 use Rattle.naga_form.proofs.declarations.AcceptedGroups.{IsSoundGroup, types_are_counted}

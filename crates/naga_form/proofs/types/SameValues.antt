@@ -27,13 +27,13 @@ use Rattle.naga_ir.specs.declared.types.Scalar.{Scalar}
 use Rattle.naga_info.specs.declared.info.TypeResolution.{TypeResolution}
 use Rattle.naga_info.specs.declared.info.TypeResolution.TheVariants.{Handle, Value}
 use Rattle.naga_info.specs.Resolution.{inner_of}
-use Rattle.naga_names.specs.declared.key.NameKey.{NameKey}
-use Rattle.naga_names.specs.declared.key.NameKey.TheVariants as key
-use Rattle.naga_names.specs.Reset.{labelled_items}
-use Rattle.naga_names.proofs.NamedItems.{Stands, constant_stands, global_stands, override_stands}
-use Rattle.naga_names.proofs.NamedItems.{type_stands}
-use Rattle.naga_words.specs.Contexts.{Names, name_or_nothing}
-use Rattle.naga_words.specs.Spelling.{is_struct, size_within, length_within}
+use Rattle.naga_naming.specs.declared.key.NameKey.{NameKey}
+use Rattle.naga_naming.specs.declared.key.NameKey.TheVariants as key
+use Rattle.naga_naming.specs.Reset.{labelled_items}
+use Rattle.naga_naming.proofs.NamedItems.{Stands, constant_stands, global_stands, override_stands}
+use Rattle.naga_naming.proofs.NamedItems.{type_stands}
+use Rattle.naga_spelling.specs.Contexts.{Names, name_or_nothing}
+use Rattle.naga_spelling.specs.Spelling.{is_struct, size_within, length_within}
 use Rattle.wgsl_text.specs.Reading.{printed_type, ReadsType}
 use Rattle.wgsl_text.specs.Text.{tokens}
 use Rattle.wgsl_text.specs.Types.{TypeSpecifier, IsType}

@@ -24,9 +24,9 @@ use Rattle.naga_ir.specs.declared.types.Type_.{Type_}
 use Rattle.naga_ir.specs.declared.types.TypeInner.{TypeInner}
 use Rattle.naga_ir.specs.declared.types.TypeInner.TheVariants as inner
 use Rattle.naga_ir.specs.declared.types.VectorSize.{VectorSize}
-use Rattle.naga_words.specs.Contexts.{Names}
-use Rattle.naga_words.specs.Spelling.{is_struct, length_within, size_within}
-use Rattle.naga_words.specs.Words.{cooperative_word, image_word, sampler_word}
+use Rattle.naga_spelling.specs.Contexts.{Names}
+use Rattle.naga_spelling.specs.Spelling.{is_struct, length_within, size_within}
+use Rattle.naga_spelling.specs.Words.{cooperative_word, image_word, sampler_word}
 use Rattle.wgsl_words.specs.Words.{format_word, image_access_word, matrix_role_word, scalar_word}
 use Rattle.wgsl_words.specs.Words.{space_word, space_access_word}
 use Rattle.std.specs.Int.NonZero.{non_zero_u32_get}

@@ -32,22 +32,22 @@ use Rattle.naga_ir.specs.declared.image.ImageDimension.TheVariants.{D1, D2, D3, 
 use Rattle.wgsl_words.specs.Words.{scalar_word, space_word, space_access_word, image_access_word}
 use Rattle.wgsl_words.specs.Words.{matrix_role_word, format_word, scalar_word_of, has, atomic_bit}
 use Rattle.wgsl_words.specs.Words.{store_bit}
-use Rattle.naga_words.specs.Segments.{Segment, Word, Shown, Missing, IsText, NoSegments, WordThen}
-use Rattle.naga_words.specs.Segments.{lacks, known_text}
-use Rattle.naga_words.specs.Words.{vector_word, matrix_word, cooperative_word, image_word}
-use Rattle.naga_words.specs.Words.{matrix_role_tail, acceleration_structure_text, ray_query_text}
-use Rattle.naga_words.specs.Words.{sampler_word}
-use Rattle.naga_words.specs.Values.{scalar_segments_of, template_segments, value_segments}
-use Rattle.naga_words.specs.Values.{pointer_in, value_pointer_segments, access_segments}
-use Rattle.naga_words.specs.Values.{storage_image_segments, image_segments}
-use Rattle.naga_words.specs.Spelling.{length_segments, inner_segments, pointer_segments}
-use Rattle.naga_words.specs.Spelling.{array_segments, is_struct, inner_segments_by}
-use Rattle.naga_words.specs.Spelling.{found_segments_by, segments_within, resolution_segments}
-use Rattle.naga_words.specs.Spelling.{type_segments}
+use Rattle.naga_spelling.specs.Segments.{Segment, Word, Shown, Missing, IsText, NoSegments, WordThen}
+use Rattle.naga_spelling.specs.Segments.{lacks, known_text}
+use Rattle.naga_spelling.specs.Words.{vector_word, matrix_word, cooperative_word, image_word}
+use Rattle.naga_spelling.specs.Words.{matrix_role_tail, acceleration_structure_text, ray_query_text}
+use Rattle.naga_spelling.specs.Words.{sampler_word}
+use Rattle.naga_spelling.specs.Values.{scalar_segments_of, template_segments, value_segments}
+use Rattle.naga_spelling.specs.Values.{pointer_in, value_pointer_segments, access_segments}
+use Rattle.naga_spelling.specs.Values.{storage_image_segments, image_segments}
+use Rattle.naga_spelling.specs.Spelling.{length_segments, inner_segments, pointer_segments}
+use Rattle.naga_spelling.specs.Spelling.{array_segments, is_struct, inner_segments_by}
+use Rattle.naga_spelling.specs.Spelling.{found_segments_by, segments_within, resolution_segments}
+use Rattle.naga_spelling.specs.Spelling.{type_segments}
 use Rattle.naga_form.specs.TypeTrees.{type_tree, value_tree, pointer_tree_in, value_pointer_tree_in}
 use Rattle.naga_form.specs.TypeTrees.{array_tree, image_tree, ray_tree, inner_tree, inner_tree_by}
 use Rattle.naga_form.specs.TypeTrees.{found_tree_by, tree_within, scalar_tree, resolution_tree}
-use Rattle.naga_words.specs.Contexts.{Names, writer_context}
+use Rattle.naga_spelling.specs.Contexts.{Names, writer_context}
 use Rattle.std.specs.Str.{bytes_eq}
 use Rattle.std.proofs.lemmas.Slice.Eq.{bytes_eq-Decides}
 use Rattle.std.proofs.lemmas.Bool.{and_from}

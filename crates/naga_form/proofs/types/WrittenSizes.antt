@@ -16,7 +16,7 @@ use Rattle.naga_ir.specs.declared.types.Type_.{Type_}
 use Rattle.naga_ir.specs.declared.types.TypeInner.{TypeInner}
 use Rattle.naga_ir.specs.declared.types.TypeInner.TheVariants as inner
 use Rattle.naga_layout.specs.Types.{placed_members}
-use Rattle.naga_names.specs.Reset.{members_of}
+use Rattle.naga_naming.specs.Reset.{members_of}
 use Rattle.wgsl_layout.specs.Members.{gap_size, is_concerned, sized_members}
 use Rattle.wgsl_layout.specs.declared.layouts.Layout.{Layout}
 use Rattle.wgsl_layout.specs.declared.layouts.Placed.{Placed}

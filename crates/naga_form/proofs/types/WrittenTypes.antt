@@ -25,10 +25,10 @@ use Rattle.naga_ir.specs.declared.types.Scalar.{Scalar}
 use Rattle.naga_ir.specs.declared.types.Type_.{Type_}
 use Rattle.naga_ir.specs.declared.types.TypeInner.{TypeInner}
 use Rattle.naga_ir.specs.declared.types.TypeInner.TheVariants as inner
-use Rattle.naga_names.specs.Keys.{NameMap}
-use Rattle.naga_words.specs.Contexts.{Names, names_of}
-use Rattle.naga_words.specs.Spelling.{is_struct, length_within, size_within}
-use Rattle.naga_words.specs.Words.{sampler_word}
+use Rattle.naga_naming.specs.Keys.{NameMap}
+use Rattle.naga_spelling.specs.Contexts.{Names, names_of}
+use Rattle.naga_spelling.specs.Spelling.{is_struct, length_within, size_within}
+use Rattle.naga_spelling.specs.Words.{sampler_word}
 use Rattle.module_semantics.specs.AlikeTypes.{has_type_form, type_key as form_numbers}
 use Rattle.module_semantics.specs.acceptance.InfoSizes.{is_handle_pointer, is_handle_space}
 use Rattle.module_semantics.specs.acceptance.InfoSizes.{resolution_is_fit}

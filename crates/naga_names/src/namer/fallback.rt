@@ -1,10 +1,10 @@
 //! What an item without a label is labelled.
 ghost use Rattle.std.specs.Prelude.{◌≡◌, ℕ, ◌++◌, length, IfOk, string_bytes};
 ghost use Rattle.std.specs.Option.{option_map};
-ghost use Rattle.naga_names.specs.Naming.{label_or};
-ghost use Rattle.naga_names.specs.Keys.{names_in};
-ghost use Rattle.naga_names.specs.Reset.{output_word, output_label, is_struct, type_names_in};
-ghost use Rattle.naga_names.specs.Outputs.{words_in, unnamed_label_by, type_label_by};
+ghost use Rattle.naga_naming.specs.Naming.{label_or};
+ghost use Rattle.naga_naming.specs.Keys.{names_in};
+ghost use Rattle.naga_naming.specs.Reset.{output_word, output_label, is_struct, type_names_in};
+ghost use Rattle.naga_naming.specs.Outputs.{words_in, unnamed_label_by, type_label_by};
 
 use crate::namer::NameKey;
 use naga_ir::{EntryPoint, Handle, ShaderStage, Type_, TypeInner, UniqueArena};

@@ -3,15 +3,15 @@ ghost use Rattle.std.specs.Prelude.{◌≡◌, ℕ, true, false, ◌∷◌, [], 
 ghost use Rattle.std.specs.Prelude.{None, Some};
 ghost use Rattle.std.specs.List.{flat_map, enumerate_from};
 ghost use Rattle.std.specs.Option.{option_or};
-ghost use Rattle.naga_names.specs.declared.key.NameKey.TheVariants as keys;
-ghost use Rattle.naga_names.specs.declared.key.ExternalTextureNameKey.{ExternalTextureNameKey};
-ghost use Rattle.naga_names.specs.Keys.{same_key, names_in};
-ghost use Rattle.naga_names.specs.Naming.{label_or};
-ghost use Rattle.naga_names.specs.Reset.{is_external_inner, is_external, is_member, key_fits};
-ghost use Rattle.naga_names.specs.Reset.{labelled_types, labelled_entry_points, labelled_functions};
-ghost use Rattle.naga_names.specs.Reset.{labelled_globals, labelled_constants, labelled_overrides};
-ghost use Rattle.naga_names.specs.Reset.{labelled_members, members_of, type_names_in, value_label};
-ghost use Rattle.naga_names.specs.Reset.{with_parts};
+ghost use Rattle.naga_naming.specs.declared.key.NameKey.TheVariants as keys;
+ghost use Rattle.naga_naming.specs.declared.key.ExternalTextureNameKey.{ExternalTextureNameKey};
+ghost use Rattle.naga_naming.specs.Keys.{same_key, names_in};
+ghost use Rattle.naga_naming.specs.Naming.{label_or};
+ghost use Rattle.naga_naming.specs.Reset.{is_external_inner, is_external, is_member, key_fits};
+ghost use Rattle.naga_naming.specs.Reset.{labelled_types, labelled_entry_points, labelled_functions};
+ghost use Rattle.naga_naming.specs.Reset.{labelled_globals, labelled_constants, labelled_overrides};
+ghost use Rattle.naga_naming.specs.Reset.{labelled_members, members_of, type_names_in, value_label};
+ghost use Rattle.naga_naming.specs.Reset.{with_parts};
 ghost use Rattle.naga_names.specs.Progress.{progress, Gives, GivesModule, argument_key, local_key};
 ghost use Rattle.naga_names.specs.Progress.{part_key, has_parts, argument_items, local_item};
 

@@ -6,18 +6,18 @@ ghost use Rattle.std.specs.List.{list_any, starts_with};
 ghost use Rattle.std.specs.Bool.{nat_eq};
 ghost use Rattle.std.specs.Char.{is_ascii_alphanumeric};
 ghost use Rattle.std.specs.Str.{chars};
-ghost use Rattle.naga_names.specs.Label.{is_numeric, is_mark, is_foreign, by_number};
-ghost use Rattle.naga_names.specs.Label.{after_numerics, ascii_of, with_separator};
-ghost use Rattle.naga_names.specs.Label.{without_last_separators, or_unnamed, stem_of};
-ghost use Rattle.naga_names.specs.Label.{ends_separated, IsPlain, StaysSame};
-ghost use Rattle.naga_names.specs.Naming.{ends_in_digit};
+ghost use Rattle.naga_naming.specs.Label.{is_numeric, is_mark, is_foreign, by_number};
+ghost use Rattle.naga_naming.specs.Label.{after_numerics, ascii_of, with_separator};
+ghost use Rattle.naga_naming.specs.Label.{without_last_separators, or_unnamed, stem_of};
+ghost use Rattle.naga_naming.specs.Label.{ends_separated, IsPlain, StaysSame};
+ghost use Rattle.naga_naming.specs.Naming.{ends_in_digit};
 
 use std::alloc::{AllocError, Global};
 use std::fmt::Write;
 use ucd_category::{GeneralCategory, GeneralCategoryGroup};
 
 /// The stem of the label, where identifiers keep off the prefixes.
-#[tactic(auto, unfolding(crate::specs::Label::stem_of))]
+#[tactic(auto, unfolding(naga_naming::specs::Label::stem_of))]
 pub fn stem(alloc: Global, prefixes: &[&'static str], label: &str) -> Result<String, AllocError>
     ensures { IfOk result (λ stem. string_bytes stem
         ≡ stem_of (map (λ p. p.now) prefixes.now) (chars label.now)) }
@@ -135,7 +135,7 @@ fn spell(alloc: Global, label: &str) -> Result<String, AllocError>
 }
 
 /// Whether the general category is Nd, Nl or No.
-#[tactic(auto, unfolding(crate::specs::Label::is_numeric))]
+#[tactic(auto, unfolding(naga_naming::specs::Label::is_numeric))]
 fn is_numeric(c: &char) -> bool
     ensures { result ≡ is_numeric c.now }
 {

@@ -6,8 +6,8 @@ ghost use Rattle.std.specs.Cmp.Lexicographic.{slice_cmp};
 ghost use Rattle.std.specs.Coded.{coded_ℕ, coded_list};
 ghost use Rattle.std.specs.FinMap as finite;
 ghost use Rattle.std.specs.Ordering.{nat_cmp};
-ghost use Rattle.naga_names.specs.Naming.{GivesLaterName, later_name, uses_of};
-ghost use Rattle.naga_names.specs.Refusal.{IsRefusalOfStem};
+ghost use Rattle.naga_naming.specs.Naming.{GivesLaterName, later_name, uses_of};
+ghost use Rattle.naga_naming.specs.Refusal.{IsRefusalOfStem};
 
 use crate::namer::NamerError;
 use itoa::Buffer;

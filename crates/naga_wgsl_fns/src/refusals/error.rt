@@ -8,7 +8,7 @@ ghost use Rattle.naga_wgsl_fns.specs.Refusals.{IsErrorOfNames};
 ghost use Rattle.naga_words.specs.declared.error.TypeTextError.TheVariants as type_error;
 
 use naga_ir::RelationalFunction;
-use naga_names::NamerError;
+use naga_naming::NamerError;
 use naga_words::{SinkError, TypeTextError};
 use std::alloc::{AllocError, Global};
 use thiserror::Error as DisplayedError;

@@ -1,18 +1,18 @@
 //! Contexts: types alone, the arenas of a module, and a module with the names of its items.
 
 ghost use Rattle.std.specs.Prelude.{◌≡◌, ◌<◌, false, None, Some, slice_get, string_bytes, codes};
-ghost use Rattle.naga_names.specs.Keys.{names_in};
-ghost use Rattle.naga_words.specs.Contexts.{arena_context, global_context, names_context};
-ghost use Rattle.naga_words.specs.Contexts.{name_or_nothing};
+ghost use Rattle.naga_naming.specs.Keys.{names_in};
+ghost use Rattle.naga_spelling.specs.Contexts.{arena_context, global_context, names_context};
+ghost use Rattle.naga_spelling.specs.Contexts.{name_or_nothing};
 ghost use Rattle.naga_words.specs.Output.{Spells};
-ghost use Rattle.naga_words.specs.Segments.{shown_between};
+ghost use Rattle.naga_spelling.specs.Segments.{shown_between};
 
 use crate::types::TypeContext;
 use crate::word_writing::{write_shown, write_word};
 use crate::{Output, TextSink, TypeTextError};
 use naga_info::GlobalCtx;
 use naga_ir::{Handle, Module, Override, Type_, TypeInner, UniqueArena};
-use naga_names::NameKey;
+use naga_naming::NameKey;
 use std::alloc::Global;
 use std::collections::HashMap;
 

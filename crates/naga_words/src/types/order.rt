@@ -2,9 +2,9 @@
 
 ghost use Rattle.std.specs.Prelude.{◌≡◌, ℕ, List, length, IsTrue};
 ghost use Rattle.naga_ir.specs.declared.module.Override.{Override};
-ghost use Rattle.naga_names.specs.Keys.{NameMap};
-ghost use Rattle.naga_words.specs.Contexts.{arena_context, global_context, names_context};
-ghost use Rattle.naga_words.specs.Spelling.{IsInOrder, StandsAfter, size_within};
+ghost use Rattle.naga_naming.specs.Keys.{NameMap};
+ghost use Rattle.naga_spelling.specs.Contexts.{arena_context, global_context, names_context};
+ghost use Rattle.naga_spelling.specs.Spelling.{IsInOrder, StandsAfter, size_within};
 
 use naga_ir::{ArraySize, Handle, ItemIndex, Type_, TypeInner, UniqueArena};
 

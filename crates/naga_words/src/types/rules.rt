@@ -2,12 +2,12 @@
 
 ghost use Rattle.std.specs.Prelude.{[], ◌∷◌, false};
 ghost use Rattle.naga_words.specs.Output.{Spells};
-ghost use Rattle.naga_words.specs.Segments.{Word};
+ghost use Rattle.naga_spelling.specs.Segments.{Word};
 ghost use Rattle.naga_words.specs.Predeclared.{predeclared_name};
 ghost use Rattle.naga_words.specs.Rules.{AllFit, FitsConclusion, conclusion_segments};
 ghost use Rattle.naga_words.specs.Rules.{rule_segments};
 ghost use Rattle.naga_words.specs.Rules.{arguments_segments, more_arguments_segments};
-ghost use Rattle.naga_words.specs.Spelling.{IsInOrder, FitsResolution, resolution_segments};
+ghost use Rattle.naga_spelling.specs.Spelling.{IsInOrder, FitsResolution, resolution_segments};
 
 use crate::types::TypeContext;
 use crate::types::spelling::{write_inner_in, write_type_in};

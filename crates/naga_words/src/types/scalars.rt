@@ -1,7 +1,7 @@
 //! Scalars and images in a context, which says what becomes of those without a form.
 
 ghost use Rattle.naga_words.specs.Output.{Spells};
-ghost use Rattle.naga_words.specs.Values.{scalar_segments, template_segments, image_segments};
+ghost use Rattle.naga_spelling.specs.Values.{scalar_segments, template_segments, image_segments};
 
 use crate::images::write_image;
 use crate::scalars::{write_scalar, write_template};

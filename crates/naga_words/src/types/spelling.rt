@@ -2,27 +2,27 @@
 
 ghost use Rattle.std.specs.Prelude.{◌≡◌, ◌<◌, ◌≤◌, codes, false, length, IsTrue};
 ghost use Rattle.naga_words.specs.Output.{Spells};
-ghost use Rattle.naga_words.specs.Segments.{shown_between};
-ghost use Rattle.naga_words.specs.Spelling.{IsInOrder, end_of_base, is_struct, knows_override};
-ghost use Rattle.naga_words.specs.Spelling.{array_segments, inner_segments, knows_size};
-ghost use Rattle.naga_words.specs.Spelling.{length_segments};
-ghost use Rattle.naga_words.specs.Spelling.{length_of_override, named_segments_by};
-ghost use Rattle.naga_words.specs.Spelling.{pointer_segments};
-ghost use Rattle.naga_words.specs.Spelling.{type_segments};
-ghost use Rattle.naga_words.specs.Values.{unsupported_segments, pointer_in, value_segments};
-ghost use Rattle.naga_words.specs.Values.{value_pointer_segments};
+ghost use Rattle.naga_spelling.specs.Segments.{shown_between};
+ghost use Rattle.naga_spelling.specs.Spelling.{IsInOrder, end_of_base, is_struct, knows_override};
+ghost use Rattle.naga_spelling.specs.Spelling.{array_segments, inner_segments, knows_size};
+ghost use Rattle.naga_spelling.specs.Spelling.{length_segments};
+ghost use Rattle.naga_spelling.specs.Spelling.{length_of_override, named_segments_by};
+ghost use Rattle.naga_spelling.specs.Spelling.{pointer_segments};
+ghost use Rattle.naga_spelling.specs.Spelling.{type_segments};
+ghost use Rattle.naga_spelling.specs.Values.{unsupported_segments, pointer_in, value_segments};
+ghost use Rattle.naga_spelling.specs.Values.{value_pointer_segments};
 ghost use Rattle.wgsl_words.specs.Words.{space_word, space_access_word};
 
 use crate::scalars::{write_access, write_value_pointer_in};
 use crate::types::TypeContext;
 use crate::types::scalars::{write_image_in, write_scalar_in, write_template_in};
 use crate::word_writing::{write_number_length, write_shown, write_word};
-use crate::words::{
+use crate::{Output, TextSink};
+use naga_ir::{AddressSpace, ArraySize, Handle, Override, Scalar, Type_, TypeInner, VectorSize};
+use naga_spelling::words::{
     acceleration_structure_str, cooperative_str, matrix_str, ray_query_str, role_tail_str,
     sampler_str, vector_str,
 };
-use crate::{Output, TextSink};
-use naga_ir::{AddressSpace, ArraySize, Handle, Override, Scalar, Type_, TypeInner, VectorSize};
 use std::alloc::Global;
 use wgsl_words::space_str;
 
@@ -332,7 +332,7 @@ fn write_named<C: TypeContext, W: TextSink>(
 
 /// Writes the type at a handle.
 #[cycle(spelling)]
-#[tactic(auto, using(crate::proofs::Levels::type_segments_is))]
+#[tactic(auto, using(naga_spelling::proofs::Levels::type_segments_is))]
 pub fn write_type_in<C: TypeContext, W: TextSink>(
     context: &C,
     alloc: Global,

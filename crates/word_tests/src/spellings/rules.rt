@@ -1,6 +1,6 @@
 //! Rules, and sinks that refuse a write.
 ghost use Rattle.naga_words.specs.Rules.{AllFit, FitsConclusion};
-ghost use Rattle.naga_words.specs.Spelling.{IsInOrder};
+ghost use Rattle.naga_spelling.specs.Spelling.{IsInOrder};
 ghost use Rattle.word_tests.specs.Rules.{FitsAmong};
 
 use super::*;

@@ -1,9 +1,9 @@
 use Rattle.std.proofs.Common.{rules, arith, refl, sym, ◌∙◌, ◌≡◌, false, Some, slice_get, length}
 use Rattle.std.proofs.Common.{true≢false, subst}
 use Rattle.std.proofs.lemmas.Option.{slice_get_within}
-use Rattle.naga_words.specs.Contexts.{global_context}
-use Rattle.naga_words.specs.Spelling.{StandsAfter}
-use Rattle.naga_words.proofs.Orders.{one_more, so_many_known}
+use Rattle.naga_spelling.specs.Contexts.{global_context}
+use Rattle.naga_spelling.specs.Spelling.{StandsAfter}
+use Rattle.naga_spelling.proofs.Orders.{one_more, so_many_known}
 use Rattle.fault_details.proofs.Fitting.{after_in_order}
 use Rattle.fault_details.proofs.order.is_in_order.Goals as goal
 

@@ -1,6 +1,6 @@
 use Rattle.std.proofs.Common.{arith}
 use Rattle.module_answers.proofs.OperandRoles.{found_at, found_later, found_nowhere, six_of_expression}
-use Rattle.naga_ir.specs.Fields.{expression_fields}
+use Rattle.naga_fields.specs.Fields.{expression_fields}
 use Rattle.module_answers.proofs.roles.role_in_expression.Goals as goal
 
 pub returns-in-Some : goal.returns-in-Some

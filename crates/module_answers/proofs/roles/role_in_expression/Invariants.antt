@@ -1,6 +1,6 @@
 use Rattle.std.proofs.Common.{◌≡◌, drop}
 use Rattle.module_answers.specs.Roles.{first_role}
-use Rattle.naga_ir.specs.Fields.{expression_fields}
+use Rattle.naga_fields.specs.Fields.{expression_fields}
 use Rattle.module_answers.proofs.roles.role_in_expression.Given as goal
 
 abbrev pub invariant-loop-number : goal.invariant-loop-number

@@ -1,6 +1,6 @@
 use Rattle.std.proofs.Common.{arith}
 use Rattle.module_answers.proofs.OperandRoles.{found_at, found_later, found_nowhere, six_of_statement}
-use Rattle.naga_ir.specs.Fields.{statement_fields}
+use Rattle.naga_fields.specs.Fields.{statement_fields}
 use Rattle.naga_ir.specs.StatementViews.{tree_of}
 use Rattle.module_answers.proofs.roles.role_in_statement.Goals as goal
 

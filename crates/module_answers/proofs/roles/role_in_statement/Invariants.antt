@@ -1,6 +1,6 @@
 use Rattle.std.proofs.Common.{◌≡◌, drop}
 use Rattle.module_answers.specs.Roles.{first_role}
-use Rattle.naga_ir.specs.Fields.{statement_fields}
+use Rattle.naga_fields.specs.Fields.{statement_fields}
 use Rattle.naga_ir.specs.StatementViews.{tree_of}
 use Rattle.module_answers.proofs.roles.role_in_statement.Given as goal
 

@@ -2,7 +2,7 @@ use Rattle.std.proofs.Common.{◌∙◌, ◌++◌, [], ◌∷◌, ap, append-nil
 use Rattle.std.proofs.lemmas.Iterator.{YieldsList-from_chars}
 use Rattle.std.proofs.lemmas.Iterator.Consumers.{YieldsList-at, YieldsList-end}
 use Rattle.std.proofs.lemmas.List.Concat.{flat_map-append}
-use Rattle.naga_names.proofs.Label.{same_items}
+use Rattle.naga_naming.proofs.Label.{same_items}
 use Rattle.naga_listing.specs.OneLine.{shown_char}
 use Rattle.naga_listing.proofs.one_line.on_one_line.Goals as goal
 

@@ -1,6 +1,6 @@
 use Rattle.std.proofs.Common.{◌≡◌, ◌<◌, Some, arith, length, slice_get, subst, sym}
-use Rattle.naga_names.proofs.Refusal.{element}
-use Rattle.naga_names.specs.Reset.{members_of}
+use Rattle.naga_naming.proofs.Refusal.{element}
+use Rattle.naga_naming.specs.Reset.{members_of}
 use Rattle.naga_scope.proofs.forms.part_has_form_at.Goals as goal
 
 pub has_member_word-requires : goal.has_member_word-requires

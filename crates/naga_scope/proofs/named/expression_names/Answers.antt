@@ -1,6 +1,6 @@
 use Rattle.std.proofs.Common.{ap}
 use Rattle.std.specs.List.{flat_map}
-use Rattle.naga_names.proofs.Reset.{if_err}
+use Rattle.naga_naming.proofs.Reset.{if_err}
 use Rattle.naga_scope.specs.ExpressionNames.{RefusesLabels}
 use Rattle.naga_scope.specs.InOrder.{own_labels}
 use Rattle.naga_scope.proofs.ExpressionNames.{so_far_more, so_far_refused}

@@ -2,7 +2,7 @@ use Rattle.std.proofs.Common.{◌+◌, ◌-◌, ◌++◌, ◌≡◌, ap, ◌∙�
 use Rattle.std.specs.Option.{option_to_list}
 use Rattle.module_semantics.specs.ExpressionLabels.{label_of, labels_of_each}
 use Rattle.shader_runs.specs.Program.{from}
-use Rattle.naga_names.proofs.Reset.{if_err}
+use Rattle.naga_naming.proofs.Reset.{if_err}
 use Rattle.naga_scope.specs.ExpressionNames.{RefusesLabels}
 use Rattle.naga_scope.proofs.Emitting.{range_more, range_none}
 use Rattle.naga_scope.proofs.ExpressionNames.{so_far_all, so_far_more, so_far_none, so_far_refused}

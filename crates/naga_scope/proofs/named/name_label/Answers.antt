@@ -1,6 +1,6 @@
 use Rattle.std.proofs.Common.{[], ◌∷◌, ap, map, string_bytes, sym, subst, ◌∙◌}
 use Rattle.std.proofs.lemmas.List.{map-append}
-use Rattle.naga_names.proofs.Reset.{if_err}
+use Rattle.naga_naming.proofs.Reset.{if_err}
 use Rattle.naga_scope.specs.ExpressionNames.{NamesLabels, RefusesLabels}
 use Rattle.naga_scope.proofs.ExpressionNames.{names_one, refused_one, refused_room}
 use Rattle.naga_scope.proofs.named.name_label.Goals as goal

@@ -1,7 +1,7 @@
 use Rattle.std.proofs.Common.{◌≡◌, ◌<◌, ap, arith, length, sym, subst, ◌∙◌}
 use Rattle.std.specs.Prelude.{slice_get, if◌then◌else◌}
 use Rattle.module_semantics.specs.Undeclared.{handle_names_undeclared}
-use Rattle.naga_words.specs.Spelling.{is_struct}
+use Rattle.naga_spelling.specs.Spelling.{is_struct}
 use Rattle.naga_scope.proofs.FilledTables.{naming_by, no_type_beyond}
 use Rattle.naga_scope.proofs.WrittenConstants.{MarksBelow, all_below, none_below, one_below}
 use Rattle.naga_scope.specs.Marks.{is_marked}

@@ -1,7 +1,7 @@
 use Rattle.module_semantics.proofs.FunctionNumbers.{number_within}
 use Rattle.module_semantics.specs.FunctionNumbers.{all_functions, function_number}
 use Rattle.naga_back.specs.Flags.{annotates_types}
-use Rattle.naga_names.proofs.Refusal.{element}
+use Rattle.naga_naming.proofs.Refusal.{element}
 use Rattle.naga_wgsl_fns.proofs.PlanRefusals.{unplanned_told}
 use Rattle.naga_wgsl_fns.proofs.plans.plan_of.Goals as goal
 

@@ -2,7 +2,7 @@ use Rattle.std.proofs.Common.{refl}
 use Rattle.module_semantics.proofs.FunctionNumbers.{number_within}
 use Rattle.module_semantics.specs.FunctionNumbers.{all_functions, function_number}
 use Rattle.naga_back.specs.Flags.{annotates_types}
-use Rattle.naga_names.proofs.Refusal.{element}
+use Rattle.naga_naming.proofs.Refusal.{element}
 use Rattle.naga_wgsl_out.proofs.ExpressionNames.{named_plan, none_full}
 use Rattle.naga_wgsl_out.proofs.Positions.{found_in, known_at}
 use Rattle.naga_wgsl_out.proofs.unwritable.refused_in.Goals as goal

@@ -3,7 +3,7 @@ use Rattle.module_semantics.proofs.FunctionNumbers.{number_within}
 use Rattle.module_semantics.specs.FunctionNumbers.{all_functions, function_number}
 use Rattle.naga_back.specs.Flags.{annotates_types}
 use Rattle.naga_wgsl_out.proofs.ExpressionNames.{named_plan}
-use Rattle.naga_names.proofs.Refusal.{element}
+use Rattle.naga_naming.proofs.Refusal.{element}
 use Rattle.naga_wgsl_out.proofs.Positions.{appended_told, as_told, known_at, told_of}
 use Rattle.naga_wgsl_out.specs.Unwritable.{TellsRefusalOf}
 use Rattle.naga_wgsl_out.proofs.Functions.{next_err, next_written, no_plan}

@@ -5,7 +5,7 @@ use Rattle.naga_back.specs.declared.flags.WriterFlags.{WriterFlags}
 use Rattle.naga_info.specs.declared.info.ModuleInfo.{ModuleInfo}
 use Rattle.naga_ir.specs.declared.module.Module.{Module}
 use Rattle.naga_scope.specs.Plans.{AreExpressionNames, Planned}
-use Rattle.naga_words.specs.Sink.{IsAfter}
+use Rattle.naga_spelling.specs.Sink.{IsAfter}
 use Rattle.naga_wgsl_fns.specs.Functions.{names_of, text_of_function, text_under}
 use Rattle.naga_wgsl_fns.proofs.Appending.{appends_stopped, appends_then, stopped_first}
 use Rattle.naga_wgsl_fns.specs.Appends.{Appends}

@@ -1,9 +1,9 @@
 use Rattle.std.proofs.Common.{◌≡◌, IfOk, OnOk, map, string_bytes, ap, subst, ◌∙◌}
 use Rattle.std.specs.Str.{chars}
-use Rattle.naga_names.specs.Label.{stem_of}
-use Rattle.naga_names.specs.Naming.{label_stem}
-use Rattle.naga_names.proofs.Label.{on_ok_both}
-use Rattle.naga_names.proofs.Naming.{name_of-after, name_of-by_stem, with_use-by_stem, push-by_stem}
+use Rattle.naga_naming.specs.Label.{stem_of}
+use Rattle.naga_naming.specs.Naming.{label_stem}
+use Rattle.naga_naming.proofs.Label.{on_ok_both}
+use Rattle.naga_naming.proofs.Naming.{name_of-after, name_of-by_stem, with_use-by_stem, push-by_stem}
 use Rattle.naga_names.proofs.namer.Namer.call.Goals as goal
 
 -- the stem that stands in the label

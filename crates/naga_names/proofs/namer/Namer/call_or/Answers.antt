@@ -1,5 +1,5 @@
 use Rattle.std.proofs.Common.{◌≡◌, string_bytes, IfOk, subst}
-use Rattle.naga_names.specs.Naming.{name_after}
+use Rattle.naga_naming.specs.Naming.{name_after}
 use Rattle.naga_names.proofs.namer.Namer.call_or.Goals as goal
 
 pub returns-clause-history : goal.returns-clause-history

@@ -1,9 +1,9 @@
 use Rattle.std.proofs.Common.{ap, ◌∙◌}
-use Rattle.naga_names.specs.Naming.{Names}
-use Rattle.naga_names.specs.Keys.{names_in}
-use Rattle.naga_names.specs.Members.{RefusesMembers}
-use Rattle.naga_names.proofs.Reset.{if_err}
-use Rattle.naga_names.proofs.Members.{member_more_at, member_refused, member_key_refused}
+use Rattle.naga_naming.specs.Naming.{Names}
+use Rattle.naga_naming.specs.Keys.{names_in}
+use Rattle.naga_naming.specs.Members.{RefusesMembers}
+use Rattle.naga_naming.proofs.Reset.{if_err}
+use Rattle.naga_naming.proofs.Members.{member_more_at, member_refused, member_key_refused}
 use Rattle.naga_names.proofs.namer.Namer.name_each_member.Goals as goal
 
 pub returns-in_default-clause-err : goal.returns-in_default-clause-err

@@ -1,6 +1,6 @@
 use Rattle.std.proofs.Common.{◌≡◌, take}
-use Rattle.naga_names.specs.Keys.{names_in}
-use Rattle.naga_names.specs.Members.{HasNamedMembers}
+use Rattle.naga_naming.specs.Keys.{names_in}
+use Rattle.naga_naming.specs.Members.{HasNamedMembers}
 use Rattle.naga_names.proofs.namer.Namer.name_each_member.Given as goal
 
 abbrev pub invariant-loop-index : goal.invariant-loop-index

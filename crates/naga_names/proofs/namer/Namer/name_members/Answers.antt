@@ -1,12 +1,12 @@
 use Rattle.std.proofs.Common.{sym, subst, ◌∙◌}
-use Rattle.naga_names.specs.Keys.{names_in}
-use Rattle.naga_names.specs.Reset.{labelled_members, NamesItems}
-use Rattle.naga_names.specs.Refusal.{RefusesItems}
-use Rattle.naga_names.specs.Members.{HasNamedMembers, RefusesMembers}
-use Rattle.naga_names.proofs.Label.{on_ok_then}
-use Rattle.naga_names.proofs.Naming.{has_named_nothing}
-use Rattle.naga_names.proofs.Reset.{if_err_more}
-use Rattle.naga_names.proofs.Members.{members_named, members_refused, within, outside_again}
+use Rattle.naga_naming.specs.Keys.{names_in}
+use Rattle.naga_naming.specs.Reset.{labelled_members, NamesItems}
+use Rattle.naga_naming.specs.Refusal.{RefusesItems}
+use Rattle.naga_naming.specs.Members.{HasNamedMembers, RefusesMembers}
+use Rattle.naga_naming.proofs.Label.{on_ok_then}
+use Rattle.naga_naming.proofs.Naming.{has_named_nothing}
+use Rattle.naga_naming.proofs.Reset.{if_err_more}
+use Rattle.naga_naming.proofs.Members.{members_named, members_refused, within, outside_again}
 use Rattle.naga_names.proofs.namer.Namer.name_members.Goals as goal
 
 pub name_each_member-named-requires : goal.name_each_member-named-requires

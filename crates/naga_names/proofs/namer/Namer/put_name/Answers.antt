@@ -1,6 +1,6 @@
 use Rattle.std.proofs.Common.{ap, ◌∙◌, cond, Some}
-use Rattle.naga_names.specs.Keys.{same_key, names_in}
-use Rattle.naga_names.proofs.Reset.{used_words, names_in-insert}
+use Rattle.naga_naming.specs.Keys.{same_key, names_in}
+use Rattle.naga_naming.proofs.Reset.{used_words, names_in-insert}
 use Rattle.naga_names.proofs.namer.Namer.put_name.Goals as goal
 
 pub returns-in_err-insert-clause-words : goal.returns-in_err-insert-clause-words

@@ -1,14 +1,14 @@
 use Rattle.std.proofs.Common.{◌≡◌, Err, [], Ok, refl, sym, subst, ◌∙◌}
 use Rattle.std.proofs.lemmas.Bool.{true≢false}
 use Rattle.naga_ir.specs.declared.module.Module.{Module}
-use Rattle.naga_names.specs.Keys.{NameMap}
-use Rattle.naga_names.specs.Naming.{Names, no_names}
-use Rattle.naga_names.specs.Refusal.{IsReset, IsResetRefusal}
-use Rattle.naga_names.specs.Reset.{HasNamedItems, PutsBeginning, labelled_items}
-use Rattle.naga_names.specs.declared.error.NamerError.{NamerError}
-use Rattle.naga_names.specs.declared.error.NamerError.TheVariants.{Memory}
-use Rattle.naga_names.proofs.Reset.{starts, none_full}
-use Rattle.naga_names.proofs.Refusal.{run_out_unfit, unfit_run_out}
+use Rattle.naga_naming.specs.Keys.{NameMap}
+use Rattle.naga_naming.specs.Naming.{Names, no_names}
+use Rattle.naga_naming.specs.Refusal.{IsReset, IsResetRefusal}
+use Rattle.naga_naming.specs.Reset.{HasNamedItems, PutsBeginning, labelled_items}
+use Rattle.naga_naming.specs.declared.error.NamerError.{NamerError}
+use Rattle.naga_naming.specs.declared.error.NamerError.TheVariants.{Memory}
+use Rattle.naga_naming.proofs.Reset.{starts, none_full}
+use Rattle.naga_naming.proofs.Refusal.{run_out_unfit, unfit_run_out}
 use Rattle.naga_names.proofs.Progress.{all_named, some_named}
 use Rattle.naga_names.proofs.namer.Namer.reset.Goals as goal
 

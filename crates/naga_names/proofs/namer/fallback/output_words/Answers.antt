@@ -1,8 +1,8 @@
 use Rattle.std.proofs.Common.{sym, ap, subst, ◌∙◌, Some, nat_eq}
 use Rattle.std.specs.Option.{option_map}
 use Rattle.std.specs.HashMap as hash
-use Rattle.naga_names.specs.Outputs.{words_in}
-use Rattle.naga_names.proofs.Outputs.{returns_nothing, has_no_word, has_word}
+use Rattle.naga_naming.specs.Outputs.{words_in}
+use Rattle.naga_naming.proofs.Outputs.{returns_nothing, has_no_word, has_word}
 use Rattle.naga_names.proofs.namer.fallback.output_words.Goals.{in-Some-output_word+in_ok-insert}
 use Rattle.naga_names.proofs.namer.fallback.output_words.Goals.{in_default-output_word}
 use Rattle.naga_names.proofs.namer.fallback.output_words.Goals as goal

@@ -1,6 +1,6 @@
 use Rattle.std.proofs.Common.{◌≡◌, ℕ, take}
-use Rattle.naga_names.specs.Reset.{output_label}
-use Rattle.naga_names.specs.Outputs.{words_in}
+use Rattle.naga_naming.specs.Reset.{output_label}
+use Rattle.naga_naming.specs.Outputs.{words_in}
 use Rattle.naga_names.proofs.namer.fallback.output_words.Given as goal
 
 abbrev pub invariant-loop-entry_point : goal.invariant-loop-entry_point

@@ -2,7 +2,7 @@ use Rattle.std.proofs.Common.{◌||◌, [], sym, ap, ◌∙◌, ◌+◌, map, dr
 use Rattle.std.specs.Bool.{nat_eq}
 use Rattle.std.specs.List.{list_any, starts_with}
 use Rattle.std.proofs.lemmas.Str.Pattern.{starts_text}
-use Rattle.naga_names.proofs.Label.{any_from}
+use Rattle.naga_naming.proofs.Label.{any_from}
 use Rattle.naga_names.proofs.namer.label.begins_reserved.Goals as goal
 
 pub returns-then-starts_with : goal.returns-then-starts_with

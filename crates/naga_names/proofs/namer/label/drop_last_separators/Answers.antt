@@ -1,7 +1,7 @@
 use Rattle.std.proofs.Common.{sym, ap, ◌∙◌, string_bytes, string_len, lit<}
 use Rattle.std.proofs.lemmas.Str.Pattern.{ends_char}
-use Rattle.naga_names.specs.Label.{ends_separated}
-use Rattle.naga_names.proofs.Label.{ends_separated-last, without_last-done, without_last-pop}
+use Rattle.naga_naming.specs.Label.{ends_separated}
+use Rattle.naga_naming.proofs.Label.{ends_separated-last, without_last-done, without_last-pop}
 use Rattle.naga_names.proofs.namer.label.drop_last_separators.Goals as goal
 
 pub loop-text-preserved : goal.loop-text-preserved

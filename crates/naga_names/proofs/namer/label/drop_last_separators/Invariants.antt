@@ -1,5 +1,5 @@
 use Rattle.std.proofs.Common.{◌≡◌, string_bytes, string_len}
-use Rattle.naga_names.specs.Label.{without_last_separators}
+use Rattle.naga_naming.specs.Label.{without_last_separators}
 use Rattle.naga_names.proofs.namer.label.drop_last_separators.Given as goal
 
 abbrev pub invariant-loop-text : goal.invariant-loop-text

@@ -1,5 +1,5 @@
 use Rattle.std.proofs.Common.{sym, ◌∙◌}
-use Rattle.naga_names.proofs.Label.{lowercase_is_alphanumeric}
+use Rattle.naga_naming.proofs.Label.{lowercase_is_alphanumeric}
 use Rattle.naga_names.proofs.namer.label.is_letter_or_digit.Goals as goal
 
 pub returns-then-is_ascii_lowercase : goal.returns-then-is_ascii_lowercase

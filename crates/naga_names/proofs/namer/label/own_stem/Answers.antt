@@ -1,5 +1,5 @@
 use Rattle.std.proofs.Common.{sym, ◌∙◌, map}
-use Rattle.naga_names.proofs.Label.{stem_of-plain}
+use Rattle.naga_naming.proofs.Label.{stem_of-plain}
 use Rattle.naga_names.proofs.namer.label.own_stem.Goals as goal
 
 pub returns-then-not-begins_reserved : goal.returns-then-not-begins_reserved

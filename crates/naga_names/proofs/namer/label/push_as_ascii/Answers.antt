@@ -1,8 +1,8 @@
 use Rattle.std.proofs.Common.{[], ◌∷◌, ◌++◌, sym, ap, ◌∙◌, string_bytes}
 use Rattle.std.specs.Char.{encode_utf8}
-use Rattle.naga_names.specs.Label.{with_separator}
-use Rattle.naga_names.proofs.Label.{ascii_of-separating, ascii_of-alphanumeric}
-use Rattle.naga_names.proofs.Label.{alphanumeric_is_ascii, on_ok, on_ok_then, pushed_char}
+use Rattle.naga_naming.specs.Label.{with_separator}
+use Rattle.naga_naming.proofs.Label.{ascii_of-separating, ascii_of-alphanumeric}
+use Rattle.naga_naming.proofs.Label.{alphanumeric_is_ascii, on_ok, on_ok_then, pushed_char}
 use Rattle.naga_names.proofs.namer.label.push_as_ascii.Goals as goal
 
 pub returns-then-is_separating : goal.returns-then-is_separating

@@ -1,8 +1,8 @@
 use Rattle.std.proofs.Common.{◌≡◌, ◌++◌, sym, ap, ◌∙◌, length, string_bytes}
 use borrow.Author.Tests.{eqb-true, eqb-false}
-use Rattle.naga_names.specs.Label.{with_separator, by_number}
-use Rattle.naga_names.proofs.Label.{ascii_of-first_foreign, ascii_of-later_foreign, on_ok_then}
-use Rattle.naga_names.proofs.Label.{nothing_there}
+use Rattle.naga_naming.specs.Label.{with_separator, by_number}
+use Rattle.naga_naming.proofs.Label.{ascii_of-first_foreign, ascii_of-later_foreign, on_ok_then}
+use Rattle.naga_naming.proofs.Label.{nothing_there}
 use Rattle.naga_names.proofs.namer.label.push_foreign.Goals as goal
 
 pub returns-then-is_empty : goal.returns-then-is_empty

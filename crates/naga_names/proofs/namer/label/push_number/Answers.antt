@@ -1,5 +1,5 @@
 use Rattle.std.proofs.Common.{string_bytes}
-use Rattle.naga_names.proofs.Label.{number_written}
+use Rattle.naga_naming.proofs.Label.{number_written}
 use Rattle.naga_names.proofs.namer.label.push_number.Goals as goal
 
 pub returns : goal.returns

@@ -1,8 +1,8 @@
 use Rattle.std.proofs.Common.{sym, ap, ◌∙◌, ◌++◌, codes, string_bytes, lit<}
 use Rattle.std.specs.Char.{encode_utf8}
-use Rattle.naga_names.specs.Label.{with_separator}
-use Rattle.naga_names.proofs.Label.{ends_separated-last, with_separator-yes, with_separator-not}
-use Rattle.naga_names.proofs.Label.{on_ok, pushed_char}
+use Rattle.naga_naming.specs.Label.{with_separator}
+use Rattle.naga_naming.proofs.Label.{ends_separated-last, with_separator-yes, with_separator-not}
+use Rattle.naga_naming.proofs.Label.{on_ok, pushed_char}
 use Rattle.naga_names.proofs.namer.label.push_separator.Goals as goal
 
 pub returns-then-ends_with : goal.returns-then-ends_with

@@ -3,8 +3,8 @@ use Rattle.std.specs.Str.{chars}
 use Rattle.std.proofs.lemmas.Iterator.{YieldsList-from_chars}
 use Rattle.std.proofs.lemmas.Iterator.Adapters.{YieldsList-from_skip_while}
 use Rattle.std.proofs.lemmas.Iterator.Consumers.{YieldsList-at, YieldsList-end}
-use Rattle.naga_names.specs.Label.{ascii_of, is_numeric}
-use Rattle.naga_names.proofs.Label.{after_numerics-drop, ascii_of-nil, same_items}
+use Rattle.naga_naming.specs.Label.{ascii_of, is_numeric}
+use Rattle.naga_naming.proofs.Label.{after_numerics-drop, ascii_of-nil, same_items}
 use Rattle.naga_names.proofs.namer.label.spell.Goals as goal
 
 pub loop-c-init : goal.loop-c-init

@@ -1,8 +1,8 @@
 use Rattle.std.proofs.Common.{refl, sym, ap, subst, ◌∙◌, ◌≡◌, List, ℕ, false, take_all}
 use Rattle.std.proofs.lemmas.Bool.{not-true}
 use Rattle.std.proofs.lemmas.List.{take_more}
-use Rattle.naga_names.specs.Label.{ends_separated, StaysSame}
-use Rattle.naga_names.proofs.Label.{stays-nothing, stays-letter, stays-separator}
+use Rattle.naga_naming.specs.Label.{ends_separated, StaysSame}
+use Rattle.naga_naming.proofs.Label.{stays-nothing, stays-letter, stays-separator}
 use Rattle.naga_names.proofs.namer.label.stays_same.Goals.{then-is_letter_or_digit}
 use Rattle.naga_names.proofs.namer.label.stays_same.Goals.{else-is_letter_or_digit+then-byte-eq95+then-not-is_separated}
 use Rattle.naga_names.proofs.namer.label.stays_same.Goals as goal

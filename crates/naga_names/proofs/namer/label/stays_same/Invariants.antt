@@ -1,5 +1,5 @@
 use Rattle.std.proofs.Common.{◌≡◌, take}
-use Rattle.naga_names.specs.Label.{ends_separated, StaysSame}
+use Rattle.naga_naming.specs.Label.{ends_separated, StaysSame}
 use Rattle.naga_names.proofs.namer.label.stays_same.Given as goal
 
 abbrev pub invariant-loop-byte : goal.invariant-loop-byte

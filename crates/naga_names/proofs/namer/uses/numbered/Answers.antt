@@ -1,5 +1,5 @@
 use Rattle.std.proofs.Common.{rules, ◌≡◌, ◌++◌, ◌∙◌, ap, sym, arith, codes, decimal, string_bytes}
-use Rattle.naga_names.proofs.Numerals.{numeral_is_decimal}
+use Rattle.naga_naming.proofs.Numerals.{numeral_is_decimal}
 use Rattle.naga_names.proofs.namer.uses.numbered.Goals as goal
 
 pub returns : goal.returns

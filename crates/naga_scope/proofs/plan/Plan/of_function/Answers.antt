@@ -10,9 +10,9 @@ use Rattle.naga_form.proofs.Fits.{mapped_length}
 use Rattle.naga_ir.specs.StatementTree.{StatementTree}
 use Rattle.naga_ir.specs.StatementViews.{tree_of}
 use Rattle.naga_ir.specs.declared.statement.Statement.{Statement}
-use Rattle.naga_names.proofs.Reset.{if_err}
-use Rattle.naga_names.specs.Naming.{Names}
-use Rattle.naga_names.specs.declared.error.NamerError.{NamerError}
+use Rattle.naga_naming.proofs.Reset.{if_err}
+use Rattle.naga_naming.specs.Naming.{Names}
+use Rattle.naga_naming.specs.declared.error.NamerError.{NamerError}
 use Rattle.naga_scope.specs.Availabilities.{KeepsStart, handles_of}
 use Rattle.naga_scope.specs.Changes.{block_changes}
 use Rattle.naga_scope.specs.ExpressionNames.{HasBegunLabels, NamesLabels, RefusesLabels}

@@ -1,6 +1,6 @@
 use Rattle.std.proofs.Common.{Some, ap, sym, ◌∙◌}
 use Rattle.module_semantics.specs.Names.{module_names, name_in}
-use Rattle.naga_names.specs.Keys.{names_in}
+use Rattle.naga_naming.specs.Keys.{names_in}
 use Rattle.naga_words.proofs.Writing.{writes_as}
 use Rattle.naga_wgsl_fns.proofs.functions.FunctionText.write_name.Goals as goal
 

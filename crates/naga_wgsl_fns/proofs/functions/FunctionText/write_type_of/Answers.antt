@@ -1,6 +1,6 @@
-use Rattle.naga_names.specs.Keys.{names_in}
-use Rattle.naga_words.specs.Contexts.{names_context}
-use Rattle.naga_words.specs.Spelling.{resolution_segments}
+use Rattle.naga_naming.specs.Keys.{names_in}
+use Rattle.naga_spelling.specs.Contexts.{names_context}
+use Rattle.naga_spelling.specs.Spelling.{resolution_segments}
 use Rattle.naga_wgsl_fns.specs.Types.{resolution_text}
 use Rattle.naga_wgsl_fns.proofs.ModuleTexts.{can_of}
 use Rattle.naga_wgsl_fns.proofs.TypeRows.{in_order, known_wrote, resolution_known}

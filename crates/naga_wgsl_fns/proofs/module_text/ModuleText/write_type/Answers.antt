@@ -1,6 +1,6 @@
-use Rattle.naga_names.specs.Keys.{names_in}
-use Rattle.naga_words.specs.Contexts.{names_context}
-use Rattle.naga_words.specs.Spelling.{type_segments}
+use Rattle.naga_naming.specs.Keys.{names_in}
+use Rattle.naga_spelling.specs.Contexts.{names_context}
+use Rattle.naga_spelling.specs.Spelling.{type_segments}
 use Rattle.naga_wgsl_fns.specs.Types.{spelled_text}
 use Rattle.naga_wgsl_fns.proofs.TypeRows.{formed_within, in_order, known_wrote, type_known}
 use Rattle.naga_wgsl_fns.proofs.module_text.ModuleText.write_type.Goals as goal

@@ -1,7 +1,7 @@
 use Rattle.std.proofs.Common.{rules, arith, refl}
 use Rattle.std.proofs.lemmas.Option.{slice_get_within}
-use Rattle.naga_words.specs.Contexts.{arena_context, global_context, names_context}
-use Rattle.naga_words.proofs.Orders.{one_more, all_known, so_many_known}
+use Rattle.naga_spelling.specs.Contexts.{arena_context, global_context, names_context}
+use Rattle.naga_spelling.proofs.Orders.{one_more, all_known, so_many_known}
 use Rattle.naga_words.proofs.types.order.types_in_order.Goals as goal
 
 pub loop-index-preserved : goal.loop-index-preserved

@@ -1,5 +1,5 @@
 use Rattle.std.proofs.Common.{◌+◌, ◌*◌}
-use Rattle.naga_words.specs.Spelling.{end_of_base}
+use Rattle.naga_spelling.specs.Spelling.{end_of_base}
 use Rattle.naga_words.proofs.types.spelling.+spelling.Given as goal
 
 abbrev pub decreases-write_type_in : goal.decreases-write_type_in

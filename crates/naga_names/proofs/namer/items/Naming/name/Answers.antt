@@ -1,5 +1,5 @@
 use Rattle.std.proofs.Common.{refl, sym, ◌∙◌}
-use Rattle.naga_names.proofs.Reset.{names_one, refuses_one}
+use Rattle.naga_naming.proofs.Reset.{names_one, refuses_one}
 use Rattle.naga_names.proofs.Progress.{gives_after, no_refusal, gives_named, gives_refused}
 use Rattle.naga_names.proofs.namer.items.Naming.name.Goals as goal
 

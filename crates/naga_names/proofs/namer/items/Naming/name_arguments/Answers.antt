@@ -1,6 +1,6 @@
 use Rattle.std.proofs.Common.{ap, sym, ◌∙◌, refl}
 use Rattle.std.specs.List.{flat_map}
-use Rattle.naga_names.specs.Reset.{with_parts}
+use Rattle.naga_naming.specs.Reset.{with_parts}
 use Rattle.naga_names.specs.Progress.{argument_items, argument_key, part_key}
 use Rattle.naga_names.proofs.Progress.{gives_same, gives_up_key, argument_unfit, leaves_turn}
 use Rattle.naga_names.proofs.Progress.{at_index}

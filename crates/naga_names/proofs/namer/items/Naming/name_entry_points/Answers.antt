@@ -1,10 +1,10 @@
 use Rattle.std.proofs.Common.{ap, sym, ◌∙◌, ◌∷◌, ◌++◌, ◌^◌, refl, codes, string_bytes}
 use Rattle.std.specs.List.{flat_map, enumerate_from}
-use Rattle.naga_names.specs.declared.key.NameKey.TheVariants as key
-use Rattle.naga_names.specs.Naming.{label_or}
-use Rattle.naga_names.specs.Reset.{labelled_entry_point, labelled_entry_arguments}
-use Rattle.naga_names.specs.Reset.{labelled_entry_locals}
-use Rattle.naga_names.proofs.Reset.{not_below}
+use Rattle.naga_naming.specs.declared.key.NameKey.TheVariants as key
+use Rattle.naga_naming.specs.Naming.{label_or}
+use Rattle.naga_naming.specs.Reset.{labelled_entry_point, labelled_entry_arguments}
+use Rattle.naga_naming.specs.Reset.{labelled_entry_locals}
+use Rattle.naga_naming.proofs.Reset.{not_below}
 use Rattle.naga_names.proofs.Progress.{gives_same, gives_then, gives_up_key, leaves_turn, at_index}
 use Rattle.naga_names.proofs.Progress.{one_each}
 use Rattle.naga_names.proofs.namer.items.Naming.name_entry_points.Goals as goal

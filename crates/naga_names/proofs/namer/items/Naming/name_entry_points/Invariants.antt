@@ -1,6 +1,6 @@
 use Rattle.std.proofs.Common.{drop}
 use Rattle.std.specs.List.{flat_map, enumerate_from}
-use Rattle.naga_names.specs.Reset.{labelled_entry_point, labelled_entry_points}
+use Rattle.naga_naming.specs.Reset.{labelled_entry_point, labelled_entry_points}
 use Rattle.naga_names.specs.Progress.{progress, Leaves}
 use Rattle.naga_names.proofs.namer.items.Naming.name_entry_points.Given as goal
 

@@ -1,5 +1,5 @@
 use Rattle.std.specs.List.{flat_map}
-use Rattle.naga_names.specs.Reset.{labelled_function, labelled_functions}
+use Rattle.naga_naming.specs.Reset.{labelled_function, labelled_functions}
 use Rattle.naga_names.specs.Progress.{progress, Leaves}
 use Rattle.naga_names.proofs.namer.items.Naming.name_functions.Given as goal
 

@@ -1,7 +1,7 @@
 use Rattle.std.proofs.Common.{ap, sym, ◌∙◌}
 use Rattle.std.specs.List.{flat_map}
-use Rattle.naga_names.specs.declared.key.NameKey.TheVariants as key
-use Rattle.naga_names.specs.Reset.{labelled_global, with_parts}
+use Rattle.naga_naming.specs.declared.key.NameKey.TheVariants as key
+use Rattle.naga_naming.specs.Reset.{labelled_global, with_parts}
 use Rattle.naga_names.proofs.Progress.{gives_same, leaves_all, leaves_turn}
 use Rattle.naga_names.proofs.namer.items.Naming.name_globals.Goals as goal
 

@@ -1,5 +1,5 @@
 use Rattle.std.specs.List.{flat_map}
-use Rattle.naga_names.specs.Reset.{labelled_global, labelled_globals}
+use Rattle.naga_naming.specs.Reset.{labelled_global, labelled_globals}
 use Rattle.naga_names.specs.Progress.{progress, Leaves}
 use Rattle.naga_names.proofs.namer.items.Naming.name_globals.Given as goal
 

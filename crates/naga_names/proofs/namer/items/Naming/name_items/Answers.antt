@@ -1,8 +1,8 @@
 use Rattle.std.proofs.Common.{ℕ, List, length, sym, ap, ◌∙◌, ◌++◌}
-use Rattle.naga_names.specs.Keys.{names_in}
-use Rattle.naga_names.specs.Reset.{labelled_types, labelled_entry_points, labelled_functions}
-use Rattle.naga_names.specs.Reset.{labelled_globals, labelled_overrides}
-use Rattle.naga_names.proofs.Reset.{same_type_names}
+use Rattle.naga_naming.specs.Keys.{names_in}
+use Rattle.naga_naming.specs.Reset.{labelled_types, labelled_entry_points, labelled_functions}
+use Rattle.naga_naming.specs.Reset.{labelled_globals, labelled_overrides}
+use Rattle.naga_naming.proofs.Reset.{same_type_names}
 use Rattle.naga_names.proofs.Progress.{gives_alike, gives_same, gives_then, no_refusal}
 use Rattle.naga_names.proofs.Progress.{module_refused, module_named}
 use Rattle.naga_names.proofs.namer.items.Naming.name_items.Goals as goal

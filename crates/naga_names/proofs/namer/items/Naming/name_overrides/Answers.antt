@@ -1,8 +1,8 @@
 use Rattle.std.proofs.Common.{ℕ, List, [], ◌∷◌, map, length, codes, refl, ap, sym, ◌∙◌}
-use Rattle.naga_names.specs.Keys.{names_in}
-use Rattle.naga_names.specs.declared.key.NameKey.TheVariants as key
-use Rattle.naga_names.specs.Reset.{type_names_in, value_label}
-use Rattle.naga_names.proofs.Reset.{same_type_names}
+use Rattle.naga_naming.specs.Keys.{names_in}
+use Rattle.naga_naming.specs.declared.key.NameKey.TheVariants as key
+use Rattle.naga_naming.specs.Reset.{type_names_in, value_label}
+use Rattle.naga_naming.proofs.Reset.{same_type_names}
 use Rattle.naga_names.proofs.Progress.{gives_same, leaves_all, leaves_turn_one}
 use Rattle.naga_names.proofs.namer.items.Naming.name_overrides.Goals as goal
 

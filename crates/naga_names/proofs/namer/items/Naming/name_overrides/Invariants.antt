@@ -1,7 +1,7 @@
 use Rattle.std.proofs.Common.{◌≡◌, ℕ, map, length, codes}
-use Rattle.naga_names.specs.Keys.{names_in}
-use Rattle.naga_names.specs.declared.key.NameKey.TheVariants as key
-use Rattle.naga_names.specs.Reset.{labelled_overrides, type_names_in, value_label}
+use Rattle.naga_naming.specs.Keys.{names_in}
+use Rattle.naga_naming.specs.declared.key.NameKey.TheVariants as key
+use Rattle.naga_naming.specs.Reset.{labelled_overrides, type_names_in, value_label}
 use Rattle.naga_names.specs.Progress.{progress, Leaves}
 use Rattle.naga_names.proofs.namer.items.Naming.name_overrides.Given as goal
 

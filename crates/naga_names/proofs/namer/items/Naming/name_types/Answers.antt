@@ -1,8 +1,8 @@
 use Rattle.std.proofs.Common.{◌∷◌}
 use Rattle.std.specs.List.{flat_map, enumerate_from}
-use Rattle.naga_names.specs.declared.key.NameKey.TheVariants as key
-use Rattle.naga_names.specs.Reset.{labelled_members}
-use Rattle.naga_names.specs.Outputs.{words_in, labelled_type_by}
+use Rattle.naga_naming.specs.declared.key.NameKey.TheVariants as key
+use Rattle.naga_naming.specs.Reset.{labelled_members}
+use Rattle.naga_naming.specs.Outputs.{words_in, labelled_type_by}
 use Rattle.naga_names.proofs.Progress.{gives_same, gives_then, leaves_turn, leaves_none}
 use Rattle.naga_names.proofs.namer.items.Naming.name_types.Goals as goal
 

@@ -1,5 +1,5 @@
 use Rattle.std.specs.List.{flat_map, enumerate_from}
-use Rattle.naga_names.specs.Outputs.{words_in, labelled_type_by}
+use Rattle.naga_naming.specs.Outputs.{words_in, labelled_type_by}
 use Rattle.naga_names.specs.Progress.{progress, Leaves}
 use Rattle.naga_names.proofs.namer.items.Naming.name_types.Given as goal
 

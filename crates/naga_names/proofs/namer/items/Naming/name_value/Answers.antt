@@ -1,5 +1,5 @@
 use Rattle.std.proofs.Common.{refl}
-use Rattle.naga_names.specs.declared.key.NameKey.TheVariants as key
+use Rattle.naga_naming.specs.declared.key.NameKey.TheVariants as key
 use Rattle.naga_names.proofs.Progress.{gives_up_memory}
 use Rattle.naga_names.proofs.namer.items.Naming.name_value.Goals as goal
 

@@ -1,5 +1,5 @@
 use Rattle.std.proofs.Common.{sym, ap}
-use Rattle.naga_names.specs.Reset.{with_parts}
+use Rattle.naga_naming.specs.Reset.{with_parts}
 use Rattle.naga_names.specs.Progress.{part_key}
 use Rattle.naga_names.proofs.Progress.{gives_same, gives_then}
 use Rattle.naga_names.proofs.namer.items.Naming.name_with_parts.Goals as goal

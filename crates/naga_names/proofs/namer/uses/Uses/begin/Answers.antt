@@ -1,6 +1,6 @@
 use Rattle.std.proofs.Common.{ap, ◌∙◌, string_bytes}
 use Rattle.std.specs.FinMap as finite
-use Rattle.naga_names.proofs.Naming.{uses_in-insert}
+use Rattle.naga_naming.proofs.Naming.{uses_in-insert}
 use Rattle.naga_names.proofs.namer.uses.Uses.begin.Goals as goal
 
 pub returns-clause-ok : goal.returns-clause-ok

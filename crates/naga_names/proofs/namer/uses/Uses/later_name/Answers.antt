@@ -2,9 +2,9 @@ use Rattle.std.proofs.Common.{rules, ◌≡◌, ◌+◌, ◌<◌, ◌^◌, arith
 use Rattle.std.specs.FinMap as finite
 use Rattle.std.specs.Str.{bytes_eq}
 use Rattle.std.proofs.lemmas.Map.Steps.{set_value_same}
-use Rattle.naga_names.specs.Naming.{later_name}
-use Rattle.naga_names.proofs.Label.{on_err}
-use Rattle.naga_names.proofs.Naming.{uses_in, uses_in-insert, uses_of-absent, uses_of-present}
+use Rattle.naga_naming.specs.Naming.{later_name}
+use Rattle.naga_naming.proofs.Label.{on_err}
+use Rattle.naga_naming.proofs.Naming.{uses_in, uses_in-insert, uses_of-absent, uses_of-present}
 use Rattle.naga_names.proofs.namer.uses.Uses.later_name.Goals as goal
 
 pub returns-in_default-clause-ok : goal.returns-in_default-clause-ok

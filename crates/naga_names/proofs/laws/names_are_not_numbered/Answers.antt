@@ -1,5 +1,0 @@
-use Rattle.naga_names.proofs.NameShapes.{name_after_not_numbered}
-use Rattle.naga_names.proofs.laws.names_are_not_numbered.Goals as goal
-
-pub returns : goal.returns
-returns c = name_after_not_numbered

@@ -1,0 +1,9 @@
+pub mod Keys
+pub mod Label
+pub mod Laws
+pub mod Members
+pub mod Naming
+pub mod Outputs
+pub mod Refusal
+pub mod Reset
+pub mod Starts
