@@ -20,7 +20,7 @@ pub const DOUBLE_INFINITY: u64 = 0x7ff0_0000_0000_0000;
 /// ```text
 /// Decimal { negative: true, digits: 25, exponent: -1 } // -2.5
 /// ```
-#[derive(Clone, Copy, Debug, PartialEq)]
+#[derive(Clone, Copy, Debug, PartialEq, Eq)]
 pub struct Decimal {
     /// Whether it stands after a `-`. So zero has a sign, as it has as a float.
     pub negative: bool,

@@ -158,7 +158,7 @@ pub enum Binding {
 }
 
 /// Where a global resource is bound: `@group(0) @binding(1)`.
-#[derive(Debug, Clone, Copy, PartialEq)]
+#[derive(Debug, Clone, Copy, PartialEq, Eq)]
 pub struct ResourceBinding {
     /// The number of its bind group.
     pub group: u32,

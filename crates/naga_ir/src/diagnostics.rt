@@ -1,7 +1,7 @@
 //! How diagnostics are filtered: their severities, and the rules that trigger them.
 
 /// How bad a diagnostic is.
-#[derive(Debug, Clone, Copy, PartialEq)]
+#[derive(Debug, Clone, Copy, PartialEq, Eq)]
 pub enum Severity {
     /// It is not told: `off`.
     Off,
@@ -14,14 +14,14 @@ pub enum Severity {
 }
 
 /// A rule of the WGSL standard whose diagnostics can be filtered.
-#[derive(Debug, Clone, Copy, PartialEq)]
+#[derive(Debug, Clone, Copy, PartialEq, Eq)]
 pub enum StandardFilterableTriggeringRule {
     /// Derivatives must be taken in uniform control flow: `derivative_uniformity`.
     DerivativeUniformity,
 }
 
 /// A rule whose diagnostics can be filtered.
-#[derive(Debug, Drop, PartialEq)]
+#[derive(Debug, Drop, PartialEq, Eq)]
 pub enum FilterableTriggeringRule {
     /// One of the WGSL standard.
     Standard(StandardFilterableTriggeringRule),

@@ -13,7 +13,7 @@ use decimal_numerals::Decimal;
 
 /// A number or a truth value that is written out. Floating-point numbers are held as their bits, or
 /// as the decimal numerals by which a text has them.
-#[derive(Debug, Clone, Copy, PartialEq)]
+#[derive(Debug, Clone, Copy, PartialEq, Eq)]
 pub enum Literal {
     /// The bits of an `f64`.
     F64(u64),
@@ -76,7 +76,7 @@ impl Literal {
 }
 
 /// A component of a vector.
-#[derive(Debug, Clone, Copy, PartialEq)]
+#[derive(Debug, Clone, Copy, PartialEq, Eq)]
 pub enum SwizzleComponent {
     /// The first.
     X,
@@ -96,7 +96,7 @@ impl Item for Expression {
 }
 
 /// At which level of detail an image is sampled.
-#[derive(Debug, Clone, Copy, PartialEq)]
+#[derive(Debug, Clone, Copy, PartialEq, Eq)]
 pub enum SampleLevel {
     /// As the derivatives of the coordinate ask: `textureSample`.
     Auto,
@@ -116,7 +116,7 @@ pub enum SampleLevel {
 }
 
 /// What is asked of an image.
-#[derive(Debug, Clone, Copy, PartialEq)]
+#[derive(Debug, Clone, Copy, PartialEq, Eq)]
 pub enum ImageQuery {
     /// Its size in texels: `textureDimensions`.
     Size {
@@ -132,7 +132,7 @@ pub enum ImageQuery {
 }
 
 /// Where the components of a cooperative matrix are loaded from or stored to.
-#[derive(Debug, Clone, Copy, PartialEq)]
+#[derive(Debug, Clone, Copy, PartialEq, Eq)]
 pub struct CooperativeData {
     /// The first of them.
     pub pointer: Handle<Expression>,

@@ -42,7 +42,7 @@ impl Flags for StorageAccess {
 }
 
 /// How the accesses to a global variable are ordered and seen by other invocations.
-#[derive(Debug, Clone, Copy, PartialEq)]
+#[derive(Debug, Clone, Copy, PartialEq, Eq)]
 pub struct MemoryDecorations(u32);
 
 bitflag_items! {
@@ -77,7 +77,7 @@ impl Flags for MemoryDecorations {
 }
 
 /// Which accesses a barrier keeps apart.
-#[derive(Debug, Clone, Copy, PartialEq)]
+#[derive(Debug, Clone, Copy, PartialEq, Eq)]
 pub struct Barrier(u32);
 
 bitflag_items! {

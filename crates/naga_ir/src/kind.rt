@@ -7,7 +7,7 @@ use crate::expression::Expression;
 use crate::statement::Statement;
 
 /// When an expression has its value, and what evaluating it does.
-#[derive(Debug, Clone, Copy, PartialEq)]
+#[derive(Debug, Clone, Copy, PartialEq, Eq)]
 pub enum ExpressionKind {
     /// A value of the module, which every point of a function has: a literal, a constant, an
     /// override or a zero value.

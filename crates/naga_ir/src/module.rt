@@ -11,7 +11,7 @@ use indexmap::IndexMap;
 use std::alloc::Global;
 
 /// The stage of a pipeline that an entry point is for.
-#[derive(Debug, Clone, Copy, PartialEq)]
+#[derive(Debug, Clone, Copy, PartialEq, Eq)]
 pub enum ShaderStage {
     /// Positions vertices: `@vertex`.
     Vertex,
@@ -133,7 +133,7 @@ pub struct FunctionArgument {
 }
 
 /// What a function returns.
-#[derive(Debug, Clone, Copy, PartialEq)]
+#[derive(Debug, Clone, Copy, PartialEq, Eq)]
 pub struct FunctionResult {
     /// Its type.
     pub ty: Handle<Type_>,
@@ -182,7 +182,7 @@ impl Function {
 }
 
 /// What a mesh stage has beside other entry points.
-#[derive(Debug, Clone, Copy, PartialEq)]
+#[derive(Debug, Clone, Copy, PartialEq, Eq)]
 pub struct MeshStageInfo {
     /// The global variable that it puts its vertices and primitives in: `@mesh(N)`.
     pub output_variable: Handle<GlobalVariable>,

@@ -4,7 +4,7 @@ use crate::arena::Handle;
 use crate::expression::Expression;
 
 /// An operator of one operand.
-#[derive(Debug, Clone, Copy, PartialEq)]
+#[derive(Debug, Clone, Copy, PartialEq, Eq)]
 pub enum UnaryOperator {
     /// `-`
     Negate,
@@ -15,7 +15,7 @@ pub enum UnaryOperator {
 }
 
 /// An operator between two operands.
-#[derive(Debug, Clone, Copy, PartialEq)]
+#[derive(Debug, Clone, Copy, PartialEq, Eq)]
 pub enum BinaryOperator {
     /// `+`
     Add,
@@ -56,7 +56,7 @@ pub enum BinaryOperator {
 }
 
 /// Along which screen axis a derivative is taken.
-#[derive(Debug, Clone, Copy, PartialEq)]
+#[derive(Debug, Clone, Copy, PartialEq, Eq)]
 pub enum DerivativeAxis {
     /// Along x: `dpdx`.
     X,
@@ -67,7 +67,7 @@ pub enum DerivativeAxis {
 }
 
 /// How exactly a derivative is taken.
-#[derive(Debug, Clone, Copy, PartialEq)]
+#[derive(Debug, Clone, Copy, PartialEq, Eq)]
 pub enum DerivativeControl {
     /// Once for a block of fragments: `dpdxCoarse`.
     Coarse,
@@ -78,7 +78,7 @@ pub enum DerivativeControl {
 }
 
 /// A test of a truth value or of a number.
-#[derive(Debug, Clone, Copy, PartialEq)]
+#[derive(Debug, Clone, Copy, PartialEq, Eq)]
 pub enum RelationalFunction {
     /// Whether all components are true: `all`.
     All,
@@ -92,7 +92,7 @@ pub enum RelationalFunction {
 
 /// A built-in function of numbers, vectors or matrices. WGSL's word is the name with a small first
 /// letter, where the comment says nothing else.
-#[derive(Debug, Clone, Copy, PartialEq)]
+#[derive(Debug, Clone, Copy, PartialEq, Eq)]
 pub enum MathFunction {
     /// `abs`
     Abs,
@@ -255,7 +255,7 @@ pub enum MathFunction {
 }
 
 /// Which neighbour in a quad.
-#[derive(Debug, Clone, Copy, PartialEq)]
+#[derive(Debug, Clone, Copy, PartialEq, Eq)]
 pub enum Direction {
     /// The one beside: `quadSwapX`.
     X,
@@ -266,7 +266,7 @@ pub enum Direction {
 }
 
 /// How far an operation over a subgroup reaches.
-#[derive(Debug, Clone, Copy, PartialEq)]
+#[derive(Debug, Clone, Copy, PartialEq, Eq)]
 pub enum CollectiveOperation {
     /// Over all active invocations: `subgroupAdd`.
     Reduce,
@@ -277,7 +277,7 @@ pub enum CollectiveOperation {
 }
 
 /// What an operation over a subgroup computes.
-#[derive(Debug, Clone, Copy, PartialEq)]
+#[derive(Debug, Clone, Copy, PartialEq, Eq)]
 pub enum SubgroupOperation {
     /// Whether all are true: `subgroupAll`.
     All,
@@ -300,7 +300,7 @@ pub enum SubgroupOperation {
 }
 
 /// What an atomic operation does with the old and the new value.
-#[derive(Debug, Clone, Copy, PartialEq)]
+#[derive(Debug, Clone, Copy, PartialEq, Eq)]
 pub enum AtomicFunction {
     /// `atomicAdd`
     Add,
@@ -324,7 +324,7 @@ pub enum AtomicFunction {
 }
 
 /// From which invocation of its subgroup each invocation takes a value.
-#[derive(Debug, Clone, Copy, PartialEq)]
+#[derive(Debug, Clone, Copy, PartialEq, Eq)]
 pub enum GatherMode {
     /// From the first that is active: `subgroupBroadcastFirst`.
     BroadcastFirst,

@@ -16,7 +16,7 @@ use std::marker::Model;
 use std::slice::Iter;
 
 /// The handles of expressions from `first` to before `end`.
-#[derive(Debug, Clone, Copy, PartialEq)]
+#[derive(Debug, Clone, Copy, PartialEq, Eq)]
 pub struct Range {
     /// The index of the first.
     pub first: usize,
@@ -40,7 +40,7 @@ impl Range {
 }
 
 /// The value that a case of a switch is for.
-#[derive(Debug, Clone, Copy, PartialEq)]
+#[derive(Debug, Clone, Copy, PartialEq, Eq)]
 pub enum SwitchValue {
     /// This one, of a signed selector: `case 1`.
     I32(i32),
@@ -51,7 +51,7 @@ pub enum SwitchValue {
 }
 
 /// Sends a ray from an entry point of a ray pipeline.
-#[derive(Debug, Clone, Copy, PartialEq)]
+#[derive(Debug, Clone, Copy, PartialEq, Eq)]
 pub enum RayPipelineFunction {
     /// `traceRay(structure, descriptor, payload)`
     TraceRay {
