@@ -20,13 +20,16 @@ fn value_of_half(bits: u16) -> f32 {
     if bits >> 15 == 1 { -size } else { size }
 }
 
-/// The literal that naga writes, and the bits that Rust reads in it.
+/// The literal that naga writes, but of the greatest `f32` one that is not above it, and the bits that Rust reads in it.
 fn wanted(kind: &str, bits: u64) -> Option<(String, u64)> {
     match kind {
         "s" => {
             let value = f32::from_bits(bits as u32);
             let read = format!("{value}").parse::<f32>().unwrap().to_bits();
-            value.is_finite().then(|| (format!("{value}f"), read as u64))
+            let sign = if value < 0.0 { "-" } else { "" };
+            let greatest = format!("{sign}340282346638528850000000000000000000000f");
+            let text = if value.abs() == f32::MAX { greatest } else { format!("{value}f") };
+            value.is_finite().then_some((text, read as u64))
         }
         "d" => {
             let value = f64::from_bits(bits);

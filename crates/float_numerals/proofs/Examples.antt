@@ -1,5 +1,6 @@
 -- Numerals, the bits that they denote and the texts that are written of them, by computing.
 use Rattle.std.proofs.Common.{◌≡◌, ℕ, List, refl, true, false, ℤ, pos, negsuc, codes}
+use Rattle.std.specs.Prelude.{◌*◌, ◌-◌, ◌^◌, nat_lt}
 use Rattle.std.specs.Float.{binary32, binary64}
 use Rattle.std.specs.Fmt.{digits}
 use lib.Ieee.{round, size, to_bits}
@@ -76,6 +77,15 @@ single_normal = (refl, refl)
 single_greatest : IsSingle (plus 34028235 (pos 31)) 0x7f7f_ffff (codes "340282350000000000000000000000000000000f")
 unfolding round to_bits digits
 single_greatest = (refl, refl)
+
+-- not above it, as the fewest digits are
+single_not_above : IsSingle (plus 34028234663852885 (pos 22)) 0x7f7f_ffff
+    (codes "340282346638528850000000000000000000000f")
+unfolding round to_bits digits
+single_not_above = (refl, refl)
+
+greatest_is_below : nat_lt (34028234663852885 * 10 ^ 22) (2 ^ 128 - 2 ^ 104) ≡ true
+greatest_is_below = refl
 
 -- `2097152.25` is as near to `2097152.2` as to `2097152.3`, and Rust writes the second
 single_tie : IsSingle (plus 20971523 (negsuc 0)) 0x4a00_0001 (codes "2097152.3f")

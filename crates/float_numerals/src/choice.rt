@@ -1,6 +1,6 @@
 //! Which numeral a float is written by.
 
-ghost use Rattle.std.specs.Prelude.{◌≡◌, ◌<◌, ◌%◌, ◌^◌, IfSome, IfOk, IsTrue};
+ghost use Rattle.std.specs.Prelude.{◌≡◌, ◌<◌, ◌%◌, ◌^◌, IfSome, IfOk, IsTrue, pos};
 ghost use Rattle.std.specs.Float.{binary32, binary64};
 ghost use Rattle.decimal_numerals.specs.Denoted.{denoted_bits, is_finite_double, is_finite_single};
 ghost use Rattle.decimal_numerals.specs.Half.{denoted_half, is_finite_half};
@@ -10,9 +10,13 @@ use fast_float::Numeral;
 use std::alloc::{AllocError, Global};
 use std::num::{f32_from_bits_with_nan, f64_from_bits_with_nan};
 
+/// The bits of the greatest `f32`, without its sign.
+const GREATEST_SINGLE: u32 = 0x7f7f_ffff;
+
 /// The numeral by which the `f32` with these bits is written. Its digits are those that Rust's
-/// formatting chooses, the fewest that denote it. There is none for an infinity or a NaN, nor where
-/// these digits denote another number.
+/// formatting chooses, the fewest that denote it. But the fewest of the greatest `f32` say a little
+/// more than it is: it has 17 that don't. There is none for an infinity or a NaN, nor where these
+/// digits denote another number.
 ///
 /// ```text
 /// // Some(Decimal { negative: false, digits: 5, exponent: -1 })
@@ -22,11 +26,19 @@ pub fn single_decimal(alloc: Global, bits: u32) -> Result<Option<Decimal>, Alloc
     ensures same { IfOk result (λ found. IfSome found (λ d. denoted_bits binary32 d ≡ bits)) }
     ensures finite { IfOk result (λ found. IfSome found (λ _. bits % 2 ^ 31 < 0x7f80_0000)) }
     ensures within { IfOk result (λ found. IfSome found (λ d. IsTrue (is_finite_single d))) }
+
+    // Compilers may refuse a literal above the greatest `f32`, though this one is the nearest.
+    ensures greatest { bits % 2 ^ 31 ≡ 0x7f7f_ffff → IfOk result (λ found. IfSome found
+        (λ d. (d.digits ≡ 34028234663852885) × (d.exponent ≡ pos 22))) }
 {
     if bits % 0x8000_0000 >= SINGLE_INFINITY {
         return Ok(None);
     }
-    let found = single_candidate(alloc, f32_from_bits_with_nan(bits))?;
+    let found = if bits % 0x8000_0000 == GREATEST_SINGLE {
+        Some(greatest_single(bits >= 0x8000_0000))
+    } else {
+        single_candidate(alloc, f32_from_bits_with_nan(bits))?
+    };
     Ok(match found {
         Some(decimal) if decimal.is_finite_single() && decimal.single_bits() == bits => found,
         _ => None,
@@ -96,6 +108,18 @@ fn single_of(bits: u16) -> f32 {
     }
     let small = f32::from(digits) * f32_from_bits_with_nan((127 - 24) * 0x80_0000);
     if sign == 0 { small } else { -small }
+}
+
+/// The numeral of the greatest `f32`, or of the least.
+fn greatest_single(negative: bool) -> Decimal
+    ensures digits { result.digits ≡ 34028234663852885 }
+    ensures exponent { result.exponent ≡ pos 22 }
+{
+    Decimal {
+        negative,
+        digits: 34_028_234_663_852_885,
+        exponent: 22,
+    }
 }
 
 /// What Rust's formatting makes of an `f32`.

@@ -1,5 +1,6 @@
 //! Tests of which digits are chosen, of which it is proved alone that they denote the float: floats
-//! by their bits, each with the literal that Rust's formatting gives, and none of an infinity and a NaN.
+//! by their bits, each with the literal that Rust's formatting gives, or that of the greatest `f32`,
+//! and none of an infinity and a NaN.
 
 use crate::{double_decimal, half_decimal, push_double, push_half, push_single, single_decimal};
 
@@ -7,7 +8,9 @@ const SINGLES: &[(u32, &str)] = &[
     (0x3f00_0000, "0.5f"),
     (0, "0f"),
     (0x8000_0000, "-0f"),
-    (0x7f7f_ffff, "340282350000000000000000000000000000000f"),
+    (0x7f7f_ffff, "340282346638528850000000000000000000000f"),
+    (0xff7f_ffff, "-340282346638528850000000000000000000000f"),
+    (0x7f7f_fffe, "340282330000000000000000000000000000000f"),
     (
         0x0000_0001,
         "0.000000000000000000000000000000000000000000001f",
