@@ -161,7 +161,7 @@ class Trying:
                 status, said = self.check(texts, paths, kept, 1)
         finally:
             shutil.rmtree(kept, ignore_errors=True)
-        word, told = verdicts.judged(status, said, self.crate.name)
+        word, told = verdicts.judged(status, said, paths)
         if word != "refused":
             return False, {"proved": "NOT REFUSED: it is proved", "bad": f"BAD EDIT: {told}"}.get(word, f"NO VERDICT: {told}")
         is_well = edit.refused_by is None or edit.refused_by in told
