@@ -139,8 +139,12 @@ class Trying:
     def prepare(self, jobs):
         """Checks what the edits change as it stands, over what a check in the clone kept, and gives why it isn't proved."""
         started = Path(self.crate.folder, "out/incremental")
-        if started.is_dir():
-            linked(started, self.seed)
+        try:
+            if started.is_dir():
+                linked(started, self.seed)
+        except (OSError, shutil.Error):
+            # Another check may write there meanwhile, so this one begins with nothing.
+            shutil.rmtree(self.seed, ignore_errors=True)
         self.seed.mkdir(exist_ok=True)
         paths = self.functions()
         if paths == []:
@@ -220,7 +224,8 @@ def try_all(tryings, number):
 
     def tell(text, since):
         with printing:
-            print(f"{text} ({time.monotonic() - since:.0f} s)", flush=True)
+            if not STOPPED.is_set():
+                print(f"{text} ({time.monotonic() - since:.0f} s)", flush=True)
 
     def prepare(trying):
         since = time.monotonic()
@@ -289,7 +294,7 @@ def main():
 
 if __name__ == "__main__":
     # The checks end with this run, however it ends, and what it made is removed.
-    for each in (signal.SIGTERM, signal.SIGHUP):
-        signal.signal(each, lambda *_: sys.exit(143))
+    for each in (signal.SIGINT, signal.SIGTERM, signal.SIGHUP):
+        signal.signal(each, lambda number, _: sys.exit(128 + number))
     GUARD = kit().guarded()
     sys.exit(main())
