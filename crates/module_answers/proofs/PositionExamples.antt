@@ -8,8 +8,8 @@ use Rattle.naga_acceptance.specs.declared.faults.FaultPosition.TheVariants as it
 use Rattle.naga_scope.specs.declared.declarations.DeclarationPosition.TheVariants as declaration
 use Rattle.naga_scope.specs.declared.lines.Line.TheVariants as line
 use Rattle.naga_scope.specs.declared.scope_faults.ScopeFault.TheVariants as scope
-use Rattle.naga_wgsl_fns.specs.declared.plans.FunctionRefusalPosition.TheVariants as part
-use Rattle.naga_wgsl_out.specs.declared.unwritable.RefusalPosition.TheVariants as refused
+use Rattle.naga_scope.specs.declared.positions.FunctionRefusalPosition.TheVariants as part
+use Rattle.naga_scope.specs.declared.positions.RefusalPosition.TheVariants as refused
 
 an_expression : json_position holder.Member (item.Function 3 (position.Expression 41))
     ≡ codes "module.functions[3].expressions[41]"

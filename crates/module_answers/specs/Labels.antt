@@ -10,8 +10,8 @@ use Rattle.naga_acceptance.specs.declared.faults.FaultPosition.{FaultPosition}
 use Rattle.naga_acceptance.specs.declared.faults.FaultPosition.TheVariants as item
 use Rattle.naga_scope.specs.declared.declarations.DeclarationPosition.{DeclarationPosition}
 use Rattle.naga_scope.specs.declared.declarations.DeclarationPosition.TheVariants as declaration
-use Rattle.naga_wgsl_out.specs.declared.unwritable.RefusalPosition.{RefusalPosition}
-use Rattle.naga_wgsl_out.specs.declared.unwritable.RefusalPosition.TheVariants as refused
+use Rattle.naga_scope.specs.declared.positions.RefusalPosition.{RefusalPosition}
+use Rattle.naga_scope.specs.declared.positions.RefusalPosition.TheVariants as refused
 
 -- the label of a function, if it is there and has one, and of an entry point, if it is there
 abbrev pub function_label : Module → (h : ℕ) → Option (List ℕ)

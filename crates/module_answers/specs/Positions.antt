@@ -25,10 +25,10 @@ use Rattle.naga_scope.specs.declared.lines.Line.{Line}
 use Rattle.naga_scope.specs.declared.lines.Line.TheVariants as line
 use Rattle.naga_scope.specs.declared.scope_faults.ScopeFault.{ScopeFault}
 use Rattle.naga_scope.specs.declared.scope_faults.ScopeFault.TheVariants as scope
-use Rattle.naga_wgsl_fns.specs.declared.plans.FunctionRefusalPosition.{FunctionRefusalPosition}
-use Rattle.naga_wgsl_fns.specs.declared.plans.FunctionRefusalPosition.TheVariants as part
-use Rattle.naga_wgsl_out.specs.declared.unwritable.RefusalPosition.{RefusalPosition}
-use Rattle.naga_wgsl_out.specs.declared.unwritable.RefusalPosition.TheVariants as refused
+use Rattle.naga_scope.specs.declared.positions.FunctionRefusalPosition.{FunctionRefusalPosition}
+use Rattle.naga_scope.specs.declared.positions.FunctionRefusalPosition.TheVariants as part
+use Rattle.naga_scope.specs.declared.positions.RefusalPosition.{RefusalPosition}
+use Rattle.naga_scope.specs.declared.positions.RefusalPosition.TheVariants as refused
 
 -- an item of a list: the list's name, and its number in brackets
 abbrev pub listed : (name : List ℕ) → (h : ℕ) → List ℕ

@@ -21,10 +21,10 @@ use Rattle.naga_ir.specs.declared.module.Module.{Module}
 use Rattle.naga_listing.specs.Givers.{giver}
 use Rattle.naga_scope.specs.declared.scope_faults.ScopeFault.{ScopeFault}
 use Rattle.naga_scope.specs.declared.scope_faults.ScopeFault.TheVariants as fault
-use Rattle.naga_wgsl_fns.specs.declared.plans.FunctionRefusalPosition.{FunctionRefusalPosition}
-use Rattle.naga_wgsl_fns.specs.declared.plans.FunctionRefusalPosition.TheVariants.{Scope}
-use Rattle.naga_wgsl_out.specs.declared.unwritable.RefusalPosition.{RefusalPosition}
-use Rattle.naga_wgsl_out.specs.declared.unwritable.RefusalPosition.TheVariants as refused
+use Rattle.naga_scope.specs.declared.positions.FunctionRefusalPosition.{FunctionRefusalPosition}
+use Rattle.naga_scope.specs.declared.positions.FunctionRefusalPosition.TheVariants.{Scope}
+use Rattle.naga_scope.specs.declared.positions.RefusalPosition.{RefusalPosition}
+use Rattle.naga_scope.specs.declared.positions.RefusalPosition.TheVariants as refused
 
 -- what a fault asks for: by which statement, where in it, and the operand
 abbrev pub asked_by : ScopeFault → Option Asked
