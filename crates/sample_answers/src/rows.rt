@@ -1,4 +1,4 @@
-//! The program: its words, its answers and its statuses.
+//! Rows: the words that name them, the answers and the statuses.
 
 use bitflags::Flags;
 use naga_wgsl_out::builder::ModuleBuilder;
@@ -61,7 +61,7 @@ fn asked_row(words: &[String]) -> Option<(SampleModule, WriterFlags)> {
 }
 
 /// Prints the module's text, or why there is none.
-pub fn answer<O: Write, E: Write>(
+fn answer<O: Write, E: Write>(
     alloc: Global,
     shader: &mut ModuleBuilder,
     flags: WriterFlags,
