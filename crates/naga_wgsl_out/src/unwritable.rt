@@ -16,8 +16,8 @@ use crate::writer::items_named;
 use naga_back::{FunctionType, WriterFlags};
 use naga_info::ModuleInfo;
 use naga_ir::{Function, Handle, ItemIndex, Module};
-use naga_naming::NameKey;
 use naga_names::namer::Namer;
+use naga_naming::NameKey;
 use naga_scope::{FunctionRefusalPosition, ModuleTables, RefusalPosition, unsupported_declaration};
 use naga_wgsl_fns::{
     Construct, Unplanned, construct_of_names, plan_or_refusal, unsupported_construct,
