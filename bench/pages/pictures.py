@@ -63,7 +63,11 @@ LAYERS = [
         ("naga_scope", "scope, plans"),
         ("naga_wgsl_fns", "texts of functions"),
         ("naga_wgsl_out", "texts of modules"),
-        ("module_answers", "answers"),
+    ]),
+    ("answers", CODE, [
+        ("module_positions", "where it is"),
+        ("layout_texts", "layouts as text"),
+        ("module_answers", "texts, refusals"),
     ]),
     ("tests", CODE, [
         ("sample_modules", "modules by name"),
@@ -72,6 +76,12 @@ LAYERS = [
         ("word_tests", "of names and words"),
         ("module_tests", "of modules"),
         ("wgsl_tests", "of texts"),
+    ]),
+    ("of programs", CODE, [
+        ("yorwethul_progress", "how far a run is"),
+        ("yorwethul_input", "words, files"),
+        ("yorwethul_answers", "all but main"),
+        ("sample_answers", "all but main"),
     ]),
     ("programs", CODE, [
         ("yorwethul", "reads JSON"),

@@ -206,7 +206,7 @@ def versions_differ(number):
         BINDINGS / "c/yorwethul.pc": r"(?m)^Version: (.*)",
         BINDINGS / "c/yorwethul-config-version.cmake": r"PACKAGE_VERSION (\d.*)\)",
         BINDINGS / "c/yorwethul.h": r"/\* (\d\S*); yorwethul_version",
-        TOP / "crates/yorwethul/src/words.rt": r'\.version\("(.*)"\)',
+        TOP / "crates/yorwethul_input/src/words.rt": r'\.version\("(.*)"\)',
     }
     asked_for = {
         BINDINGS / "rust-naga/Cargo.toml": r'(?m)^yorwethul = \{ version = "(.*?)"',

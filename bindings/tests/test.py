@@ -31,6 +31,7 @@ from modules import KINDS, doubled, levels, nested  # noqa: E402
 
 CRATES = TOP / "crates"
 EXAMPLES = sorted((TOP / "examples").glob("*.json"))
+MODULES = CRATES / "yorwethul/runs"
 WARNINGS = ["-Wall", "-Wextra", "-pedantic"]
 # as yorwethul.h numbers them; bindings/c/agree.py compares the two
 DONE, REFUSED, NOT_ACCEPTED, NO_MODULE, UNKNOWN_FLAG, OUT_OF_MEMORY, TOO_DEEP, TOO_LONG = range(8)
@@ -47,6 +48,39 @@ FLAGS_BY_WORDS = {
     ("floats",): DECIMAL_FLOATS,
     ("portable", "floats", "explicit"): ALL_FLAGS,
 }
+
+# A barrier of subgroups, and a struct of one member.
+BARRIER = b'{"module":{"functions":[{"name":"meet","body":[{"ControlBarrier":"SUB_GROUP"}]}]},"info":{"functions":[[]]}}'
+STRUCT = (b'{"module":{"types":[{"inner":{"Scalar":{"kind":"Uint","width":4}}},'
+          b'{"name":"One","inner":{"Struct":{"span":4,"members":[{"name":"a","ty":0,"offset":0}]}}}]},"info":{}}')
+STRUCT_LAYOUT = "struct One: align 4, size 4\n    a: u32, offset 0, align 4, size 4\n"
+DOUBLE_TEXT = "fn double(x: i32) -> i32 {\n    return (x + x);\n}\n\n"
+OWN_OPERAND = 'module.functions[0].expressions[1], in "double": '
+FLOAT_LITERAL = "float literal: module.functions[0].expressions[0], in statement 0, in "
+HALF = FLOAT_LITERAL + '"half"'
+
+# Calls: what is called with which flags, a module of the runs of `yorwethul` or bytes, the status, and the text or how it begins.
+CALLS = [
+    ("write", [0], "double", DONE, DOUBLE_TEXT),
+    ("write", [EXPLICIT_TYPES], "double", DONE, DOUBLE_TEXT),
+    ("write", [ALL_FLAGS], "double", DONE, DOUBLE_TEXT),
+    ("write", [ALL_FLAGS + 1], "double", UNKNOWN_FLAG, "a bit is set that no flag has"),
+    ("write", [0], "float_literal", REFUSED, HALF),
+    ("write", [EXPLICIT_TYPES | PORTABLE], "float_literal", REFUSED, HALF),
+    ("write", [DECIMAL_FLOATS], "float_literal", DONE, "fn half() -> f32 {\n    return 0.5f;\n}\n"),
+    ("write", [DECIMAL_FLOATS], "past_ascii", REFUSED, FLOAT_LITERAL + '"größe"'),
+    ("write", [EXPLICIT_TYPES | DECIMAL_FLOATS], BARRIER, DONE, "fn meet() {\n"),
+    ("write", [PORTABLE], BARRIER, DONE, "enable subgroups;\n\nfn meet() {\n"),
+    ("write", [0], "its_own_operand", NOT_ACCEPTED, OWN_OPERAND),
+    ("write", [0], b"{}", NO_MODULE, "module: missing"),
+    ("write", [0], b"[", NO_MODULE, "no JSON at line 1"),
+    # too many lists in one another, of which the first stand in a string
+    ("write", [0], b'["[[\\"", ' + b"[" * 128, TOO_DEEP, "lists and objects nest more than 127 deep"),
+    ("check", [], "double", DONE, ""),
+    ("check", [], "its_own_operand", NOT_ACCEPTED, OWN_OPERAND),
+    ("layout", [], STRUCT, DONE, STRUCT_LAYOUT),
+    ("layout", [], b"{}", NO_MODULE, "module: missing"),
+]
 
 # What `hammer` is told: so many calls, on so many threads, so many lengths and changes of each file.
 SHORT = {"calls": 20_000, "threads": 1_000, "cut": 300, "flip": 400}
@@ -205,6 +239,8 @@ class Library:
 
     def __init__(self, path):
         self.calls = ctypes.CDLL(str(path))
+        # how many bytes the text of the last call has
+        self.needed = None
 
     def call(self, name, data, *flags, room=None):
         """The status and the text of a call."""
@@ -213,6 +249,7 @@ class Library:
         needed = ctypes.c_size_t(77)
         words = [ctypes.c_char_p(data), ctypes.c_size_t(len(data)), *map(ctypes.c_uint32, flags), out, ctypes.c_size_t(size), ctypes.byref(needed)]
         status = getattr(self.calls, f"yorwethul_{name}")(*words)
+        self.needed = needed.value
         held = out.raw[:size]
         front = needed.value if needed.value <= size else 0
         must(set(held[front:]) <= {0xA5}, f"{name}: a byte is written that is not of the text")
@@ -256,6 +293,22 @@ def printed_examples(is_plain):
     answers = lines_of((CRATES / "yorwethul/stdout").read_text())[:2 * len(EXAMPLES)][1 if is_plain else 0::2]
     for example, answer in zip(EXAMPLES, map(json.loads, answers), strict=True):
         yield (example, 1, "") if "refused" in answer else (example, 0, answer["text"])
+
+
+def test_calls(folder, _):
+    """Each call once, by its status and its text; a text that has a byte too little room; and the version."""
+    library = Library(folder / "libyorwethul.so")
+    for name, flags, asked, wanted, begin in CALLS:
+        data = asked if isinstance(asked, bytes) else (MODULES / f"{asked}.json").read_bytes()
+        status, text = library.call(name, data, *flags)
+        is_told = text is not None and text.startswith(begin) and bool(text) == bool(begin)
+        must(status == wanted and is_told, f"{name}: {status} {text!r} of {data[:200]}, wanted {wanted} {begin!r}")
+    double = (MODULES / "double.json").read_bytes()
+    for room, text in ((len(DOUBLE_TEXT) - 1, None), (len(DOUBLE_TEXT), DOUBLE_TEXT)):
+        told = library.call("write", double, 0, room=room)
+        must(told == (DONE, text) and library.needed == len(DOUBLE_TEXT), f"{told} with room for {room} bytes")
+    version = library.calls.yorwethul_version()
+    must(version == 1_000, f"version {version}")
 
 
 def test_lines(folder, _):
@@ -476,6 +529,7 @@ def tests(folder, is_whole):
 def library_tests(is_whole):
     yield "names in the archive", test_names, []
     yield "programs in C, C++ and Python", test_programs, ["cc"]
+    yield "each call", test_calls, []
     yield "the program's lines", test_lines, []
     yield "the cases of wgsl_cases", test_cases, []
     yield "the caller's memory", test_memory, []

@@ -1,5 +1,2 @@
 pub mod Bounded
 mod Wants
-mod OperandRoles
-mod PositionExamples
-pub mod Walking

@@ -1,11 +1,4 @@
 pub mod Wants
 pub mod WriteOutcomes
-pub mod Faults
-pub mod Roles
-pub mod Positions
 pub mod Refusals
-pub mod Labels
 pub mod Within
-pub mod Roots
-pub mod ScopeRoots
-pub mod JsonNesting

@@ -6,11 +6,11 @@ use Rattle.std.specs.Prelude.{◌≡◌, ℕ, List, ◌++◌, codes}
 use Rattle.naga_ir.specs.declared.module.Module.{Module}
 use Rattle.naga_wgsl_fns.specs.Constructs.{construct_text}
 use Rattle.naga_wgsl_out.specs.declared.unwritable.Refusal.{Refusal}
-use Rattle.module_answers.specs.Labels.{label_at}
-use Rattle.module_answers.specs.Positions.{IsKnownText, IsLabelled, json_refusal_position}
-use Rattle.module_answers.specs.Roles.{role_in}
-use Rattle.module_answers.specs.ScopeRoots.{root_after, root_in}
-use Rattle.module_answers.specs.declared.positions.JsonHolder.{JsonHolder}
+use Rattle.module_positions.specs.Labels.{label_at}
+use Rattle.module_positions.specs.Positions.{IsKnownText, IsLabelled, json_refusal_position}
+use Rattle.module_positions.specs.Roles.{role_in}
+use Rattle.module_positions.specs.ScopeRoots.{root_after, root_in}
+use Rattle.module_positions.specs.declared.positions.JsonHolder.{JsonHolder}
 
 -- The construct, and after a colon its position and the label there:
 -- `float literal: module.functions[0].expressions[3], in statement 1, in "half"`. Of a construct of

@@ -16,7 +16,7 @@ use Rattle.naga_wgsl_out.specs.Leaving.{Leaves}
 use Rattle.naga_wgsl_out.specs.Unwritable.{IsFirst, StandsAt, StandsIn}
 use Rattle.naga_wgsl_out.specs.Writing.{AppendsItsText}
 use Rattle.naga_wgsl_out.specs.declared.unwritable.Refusal.{Refusal}
-use Rattle.naga_wgsl_out.specs.declared.unwritable.RefusalPosition.{RefusalPosition}
+use Rattle.naga_scope.specs.declared.positions.RefusalPosition.{RefusalPosition}
 
 -- the error names a construct that stands at this position
 abbrev pub NamesAt : (explicit : Bool) → Module → ModuleInfo → RefusalPosition → Error → Type 0

@@ -1,15 +1,16 @@
 //! What a module is refused for, and where.
 
 ghost use Rattle.std.specs.Prelude.{IfOk, string_bytes};
-ghost use Rattle.module_answers.specs.Positions.{IsKnownText};
+ghost use Rattle.module_positions.specs.Positions.{IsKnownText};
 ghost use Rattle.module_answers.specs.Refusals.{TellsConstructAt, TellsRefusalAt};
 ghost use Rattle.naga_wgsl_fns.specs.Constructs.{construct_text};
 
-use crate::faults::label_text;
-use crate::positions::{JsonHolder, JsonRefusalPosition, label_at};
-use crate::root_texts::{root_after, root_at};
-use naga_wgsl_out::ir::Module;
-use naga_wgsl_out::wgsl::{Construct, Refusal};
+use module_positions::{
+    JsonHolder, JsonRefusalPosition, label_at, label_text, root_after, root_at,
+};
+use naga_ir::Module;
+use naga_wgsl_fns::Construct;
+use naga_wgsl_out::wgsl::Refusal;
 use std::alloc::{AllocError, Global};
 
 /// A refusal of the module as one line: its construct, its position in the JSON with the label of the

@@ -12,11 +12,12 @@ ghost use Rattle.naga_wgsl_out.specs.Within.{unfailed};
 ghost use Rattle.decimal_floats.specs.Decimals.{IsDecimalModule};
 
 use crate::writing::{WriteOutcome, write, write_decimal};
+use module_limits::{BoundedText, Limits, Nested, nested_past};
+use naga_acceptance::Unaccepted;
+use naga_back::WriterFlags;
 use naga_info::ModuleInfo;
-use naga_wgsl_out::info::Unaccepted;
-use naga_wgsl_out::ir::Module;
-use naga_wgsl_out::sinks::{BoundedText, unfailed};
-use naga_wgsl_out::wgsl::{Limits, Nested, WriterFlags, nested_past};
+use naga_ir::Module;
+use naga_wgsl_out::sinks::unfailed;
 use std::alloc::{AllocError, Global};
 use thiserror::Error as DisplayedError;
 

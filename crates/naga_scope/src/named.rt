@@ -12,8 +12,8 @@ ghost use Rattle.shader_runs.specs.Program.{from};
 
 use crate::lets::label_of;
 use naga_ir::{Expression, Function, Handle, ItemIndex, Range, Statement};
-use naga_naming::NamerError;
 use naga_names::namer::Namer;
+use naga_naming::NamerError;
 use std::alloc::Global;
 
 /// The names that front ends gave to what these statements of the function emit, in their order:

@@ -41,7 +41,7 @@ pub use global_expressions::write_global_expression;
 pub use implemented::to_wgsl_if_implemented;
 pub use items::write_function;
 pub use literal::write_literal;
-pub use plans::{FunctionRefusalPosition, Unplanned, construct_of_names, plan_of, plan_or_refusal};
+pub use plans::{Unplanned, construct_of_names, plan_of, plan_or_refusal};
 pub use refusals::construct::Construct;
 pub use refusals::declarations::{
     declaration_without_form, head_without_form, unsupported_construct,

@@ -30,31 +30,12 @@ use crate::refusals::error::Error;
 use crate::refusals::forms::{statement_without_form, type_without_form, without_form};
 use naga_back::{FunctionType, WriterFlags, annotates_types};
 use naga_info::{FunctionInfo, ModuleInfo, TypeResolution};
-use naga_ir::{Expression, Function, Handle, Module, Type_};
+use naga_ir::{Function, Module};
 use naga_names::namer::Namer;
 use naga_naming::{NameKey, NamerError};
-use naga_scope::{Declared, Line, ModuleTables, Plan, PlanError, ScopeFault, function_of};
+use naga_scope::{FunctionRefusalPosition, ModuleTables, Plan, PlanError, function_of};
 use std::alloc::{AllocError, Global};
 use std::collections::HashMap;
-
-/// A part of a function, or of an entry point, for which it is refused. A statement is told by its
-/// number in the order of the text: those in blocks are counted too, each after the one that holds
-/// the block, from 0.
-#[derive(Clone, Copy, Debug, PartialEq, Eq)]
-pub enum FunctionRefusalPosition {
-    /// The labels that front ends gave in it.
-    Labels,
-    /// Where it breaks a rule of scope.
-    Scope(ScopeFault),
-    /// The statement with this number.
-    Statement(usize),
-    /// An expression that this line writes.
-    Expression(Line, Handle<Expression>),
-    /// The type of what is declared here: an argument, the result or a local.
-    Type_(Declared, Handle<Type_>),
-    /// The type that the `let` of this expression states in the statement with this number.
-    Let(usize, Handle<Expression>),
-}
 
 /// Why there is no plan of a function.
 #[derive(Debug, Drop)]

@@ -38,8 +38,8 @@ use Rattle.naga_wgsl_fns.specs.Carried.{CarriesOfExpression}
 use Rattle.naga_wgsl_fns.specs.Constructs.{Tells}
 use Rattle.naga_wgsl_fns.specs.Refusals.{NamesExpression}
 use Rattle.naga_wgsl_fns.specs.Unplanned.{function_position}
-use Rattle.naga_wgsl_fns.specs.declared.plans.FunctionRefusalPosition.{FunctionRefusalPosition}
-use Rattle.naga_wgsl_fns.specs.declared.plans.FunctionRefusalPosition.TheVariants as part
+use Rattle.naga_scope.specs.declared.positions.FunctionRefusalPosition.{FunctionRefusalPosition}
+use Rattle.naga_scope.specs.declared.positions.FunctionRefusalPosition.TheVariants as part
 use Rattle.naga_wgsl_fns.specs.declared.refusals.construct.Construct.{Construct}
 use Rattle.naga_wgsl_out.specs.Unwritable.{IsUnspellable, LabelsGetNamesIn, StandsAtPart}
 use Rattle.shader_runs.proofs.ScopeFaults.{fault_is_no_rule}

@@ -48,7 +48,7 @@ use Rattle.naga_scope.specs.declared.declarations.UnsupportedDeclaration.{Unsupp
 use Rattle.naga_scope.specs.declared.declarations.UnsupportedDeclaration.TheVariants as declaration
 use Rattle.naga_scope.specs.declared.declarations.UnsupportedHead.{UnsupportedHead}
 use Rattle.naga_scope.specs.declared.declarations.UnsupportedHead.TheVariants as head
-use Rattle.naga_wgsl_fns.specs.declared.plans.FunctionRefusalPosition.{FunctionRefusalPosition}
+use Rattle.naga_scope.specs.declared.positions.FunctionRefusalPosition.{FunctionRefusalPosition}
 use Rattle.naga_wgsl_fns.specs.declared.refusals.construct.Construct.{Construct}
 use Rattle.naga_wgsl_out.proofs.FirstParts.{lowest, one_part, part_refuses}
 use Rattle.naga_wgsl_out.proofs.ModuleScopes.{each_writable}
@@ -57,8 +57,8 @@ use Rattle.naga_wgsl_out.specs.Unwritable.{AreWritableBefore, IsFirst, LabelsGet
 use Rattle.naga_wgsl_out.specs.Unwritable.{StandsAtPart, StandsInFunction, StandsInLabels}
 use Rattle.naga_wgsl_out.specs.Writing.{HasPlan}
 use Rattle.wgsl_layout.specs.declared.layouts.Placed.{Placed}
-use Rattle.naga_wgsl_out.specs.declared.unwritable.RefusalPosition.{RefusalPosition}
-use Rattle.naga_wgsl_out.specs.declared.unwritable.RefusalPosition.TheVariants as position
+use Rattle.naga_scope.specs.declared.positions.RefusalPosition.{RefusalPosition}
+use Rattle.naga_scope.specs.declared.positions.RefusalPosition.TheVariants as position
 use Rattle.shader_runs.specs.ScopeRules.{ScopeHolds}
 
 -- ---- functions

@@ -41,7 +41,7 @@ use Rattle.naga_wgsl_fns.specs.declared.plans.Unplanned.{Unplanned}
 use Rattle.naga_wgsl_fns.specs.declared.plans.Unplanned.TheVariants as unplanned
 use Rattle.naga_wgsl_fns.specs.declared.refusals.construct.Construct.{Construct}
 use Rattle.naga_wgsl_fns.specs.declared.refusals.construct.Construct.TheVariants as construct
-use Rattle.naga_wgsl_fns.specs.declared.plans.FunctionRefusalPosition.{FunctionRefusalPosition}
+use Rattle.naga_scope.specs.declared.positions.FunctionRefusalPosition.{FunctionRefusalPosition}
 use Rattle.naga_wgsl_out.proofs.ExpressionNames.{none_past}
 use Rattle.naga_wgsl_out.proofs.ModuleScopes.{all_planned_formed, all_planned_hold}
 use Rattle.naga_back.specs.Flags.{annotates_types}
@@ -55,7 +55,7 @@ use Rattle.naga_wgsl_out.specs.Unwritable.{IsUnspellable, IsWritable, LabelsGetN
 use Rattle.naga_wgsl_out.specs.Unwritable.{StandsAtPart, StandsIn, StandsInFunction, StandsInLabels}
 use Rattle.naga_wgsl_out.specs.Unwritable.{TellsFirst, TellsRefusalOf, position_at}
 use Rattle.naga_wgsl_out.specs.declared.unwritable.Refusal.{Refusal}
-use Rattle.naga_wgsl_out.specs.declared.unwritable.RefusalPosition.TheVariants as position
+use Rattle.naga_scope.specs.declared.positions.RefusalPosition.TheVariants as position
 use Rattle.naga_back.specs.declared.context.FunctionType.{FunctionType}
 use Rattle.naga_back.specs.declared.context.FunctionType.TheVariants as item
 use Rattle.naga_wgsl_out.specs.Writing.{HasPlan}

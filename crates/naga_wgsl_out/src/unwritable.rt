@@ -16,28 +16,14 @@ use crate::writer::items_named;
 use naga_back::{FunctionType, WriterFlags};
 use naga_info::ModuleInfo;
 use naga_ir::{Function, Handle, ItemIndex, Module};
-use naga_naming::NameKey;
 use naga_names::namer::Namer;
-use naga_scope::{DeclarationPosition, ModuleTables, unsupported_declaration};
+use naga_naming::NameKey;
+use naga_scope::{FunctionRefusalPosition, ModuleTables, RefusalPosition, unsupported_declaration};
 use naga_wgsl_fns::{
-    Construct, FunctionRefusalPosition, Unplanned, construct_of_names, plan_or_refusal,
-    unsupported_construct,
+    Construct, Unplanned, construct_of_names, plan_or_refusal, unsupported_construct,
 };
 use std::alloc::{AllocError, Global};
 use std::collections::HashMap;
-
-/// Where a construct stands for which a module is refused.
-#[derive(Clone, Copy, Debug, PartialEq, Eq)]
-pub enum RefusalPosition {
-    /// Among the labels of the module's items.
-    Labels,
-    /// In a declaration.
-    Declaration(DeclarationPosition),
-    /// In the function with this handle.
-    Function(Handle<Function>, FunctionRefusalPosition),
-    /// In the entry point with this index.
-    EntryPoint(usize, FunctionRefusalPosition),
-}
 
 /// A construct for which a module is refused, and where it stands.
 #[derive(Clone, Copy, Debug, PartialEq, Eq)]

@@ -2,13 +2,12 @@
 
 pub use crate::checked::{CheckedError, write_checked};
 pub use crate::flags::no_flags;
-pub use crate::unwritable::{Refusal, RefusalPosition, unwritable};
+pub use crate::unwritable::{Refusal, unwritable};
 pub use crate::within::{LimitedError, write_checked_within};
 pub use crate::writer::{Writer, names_of, write_string};
 pub use module_limits::{Limits, Nested, nested_past};
 pub use naga_back::WriterFlags;
-pub use naga_scope::{DeclarationPosition, Declared, Line, ScopeFault};
-pub use naga_wgsl_fns::{
-    Construct, Error, FunctionRefusalPosition, write_binding, write_function,
-    write_global_expression,
+pub use naga_scope::{
+    DeclarationPosition, Declared, FunctionRefusalPosition, Line, RefusalPosition, ScopeFault,
 };
+pub use naga_wgsl_fns::{Construct, Error, write_binding, write_function, write_global_expression};

@@ -5,7 +5,7 @@ ghost use Rattle.module_semantics.specs.acceptance.Accepted.{is_accepted};
 
 use bitflags::Flags;
 use json::{Scratch, Value};
-use module_answers::{JsonHolder, JsonRefusalPosition, labelled_position, role_at, root_at};
+use module_positions::{JsonHolder, JsonRefusalPosition, labelled_position, role_at, root_at};
 use naga_json::{Known, known_of, parse};
 use naga_wgsl_out::info::{Unaccepted, count, explain, unaccepted};
 use naga_wgsl_out::wgsl::{Writer, WriterFlags, unwritable};

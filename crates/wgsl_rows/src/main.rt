@@ -5,19 +5,16 @@
 //! `SampleModule::from_name` takes (`crates/sample_modules/src/rows.rt`).
 #![tactic(auto)]
 
-mod program;
-mod words;
-
-pub use program::run;
+use sample_answers::{refuse, run, words_after_name};
 use std::process::ExitCode;
 
 /// Runs the program on the words after its name, and ends with its status.
 fn main(rt: HostRuntime) -> ExitCode {
     let mut out = rt.stdout();
     let mut err = rt.stderr();
-    let status = match words::words_after_name(&rt) {
+    let status = match words_after_name(&rt) {
         Ok(words) => run(rt.alloc(), &words, &mut out, &mut err),
-        Err(_) => program::refuse("out of memory", &mut err),
+        Err(_) => refuse("out of memory", &mut err),
     };
     ExitCode::from(status)
 }

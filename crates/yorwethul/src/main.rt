@@ -6,18 +6,10 @@
 //! no text, and `yorwethul --lines` answers many, one a line.
 #![tactic(auto)]
 
-mod explanation;
-mod failure;
-mod inputs;
-mod lines;
-mod program;
-mod progress;
-mod texts;
-mod words;
-
 use std::io;
 use std::io::{BufWriter, IsTerminal, Write};
 use std::process::ExitCode;
+use yorwethul_answers::{FAILED, run};
 
 /// Runs the program on its words, and ends with its status.
 fn main(rt: HostRuntime) -> ExitCode {
@@ -25,7 +17,7 @@ fn main(rt: HostRuntime) -> ExitCode {
         Ok(status) => ExitCode::from(status),
         Err(error) => {
             let _ = writeln!(rt.stderr(), "{error}");
-            ExitCode::from(program::FAILED)
+            ExitCode::from(FAILED)
         }
     }
 }
@@ -36,5 +28,5 @@ fn answer(rt: &HostRuntime) -> io::Result<u8> {
     let is_watched = rt.stderr().is_terminal() && !rt.stdout().is_terminal();
     let mut out = BufWriter::new(alloc, rt.stdout())?;
     let mut err = rt.stderr();
-    Ok(program::run(rt, &words, &mut out, &mut err, is_watched))
+    Ok(run(rt, &words, &mut out, &mut err, is_watched))
 }

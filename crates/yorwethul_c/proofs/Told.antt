@@ -20,9 +20,9 @@ use Rattle.naga_wgsl_out.specs.Writing.{AppendsItsText}
 use Rattle.naga_acceptance.specs.FirstFaults.{IsFirstFault}
 use Rattle.naga_acceptance.specs.declared.faults.Unaccepted.{Unaccepted}
 use Rattle.naga_wgsl_out.specs.declared.unwritable.Refusal.{Refusal}
-use Rattle.module_answers.specs.Faults.{TellsFaultAt}
+use Rattle.module_positions.specs.Faults.{TellsFaultAt}
 use Rattle.module_answers.specs.WriteOutcomes.{TellsBeside}
-use Rattle.module_answers.specs.declared.positions.JsonHolder.TheVariants as holder
+use Rattle.module_positions.specs.declared.positions.JsonHolder.TheVariants as holder
 use Rattle.module_answers.specs.Within.{IsUnwritten, TellsDepth}
 use Rattle.module_answers.specs.declared.within.NoOutcome.{NoOutcome}
 use Rattle.module_answers.specs.declared.within.NoOutcome.TheVariants as unwritten

@@ -13,10 +13,10 @@ use Rattle.naga_back.specs.declared.flags.WriterFlags.{WriterFlags}
 use Rattle.naga_acceptance.specs.FirstFaults.{IsFirstFault}
 use Rattle.naga_acceptance.specs.declared.faults.Unaccepted.{Unaccepted}
 use Rattle.module_semantics.specs.acceptance.Accepted.{is_accepted}
-use Rattle.module_answers.specs.Faults.{TellsFaultAt}
+use Rattle.module_positions.specs.Faults.{TellsFaultAt}
 use Rattle.module_answers.specs.Refusals.{TellsRefusalAt}
 use Rattle.module_answers.specs.WriteOutcomes.{TellsRefusal}
-use Rattle.module_answers.specs.declared.positions.JsonHolder.TheVariants as holder
+use Rattle.module_positions.specs.declared.positions.JsonHolder.TheVariants as holder
 use Rattle.module_answers.specs.declared.within.NoOutcome.{NoOutcome}
 use Rattle.module_answers.specs.declared.within.NoOutcome.TheVariants as unwritten
 use Rattle.module_limits.specs.Nesting.{nested_past}
@@ -29,7 +29,7 @@ use Rattle.naga_wgsl_out.specs.Checked.{IsCounted}
 use Rattle.naga_wgsl_out.specs.Headline.{FaithfulWriting}
 use Rattle.naga_wgsl_out.specs.declared.unwritable.Refusal.{Refusal}
 use Rattle.decimal_floats.specs.Decimals.{IsDecimalModule}
-use Rattle.module_answers.specs.JsonNesting.{nest_too_deep}
+use Rattle.module_positions.specs.JsonNesting.{nest_too_deep}
 use Rattle.yorwethul_c.specs.declared.status.Status.{Status}
 use Rattle.yorwethul_c.specs.declared.status.Status.TheVariants as status
 

@@ -2,7 +2,7 @@
 
 ghost use Rattle.std.specs.Prelude.{◌≡◌, ◌<◌, ◌≤◌, ◌%◌, ℕ, IfErr, IfOk, List, string_bytes};
 ghost use Rattle.naga_back.specs.Flags.{bits_of};
-ghost use Rattle.module_answers.specs.Faults.{TellsFaultAt};
+ghost use Rattle.module_positions.specs.Faults.{TellsFaultAt};
 ghost use Rattle.yorwethul_c.specs.Answers.{LacksMemory, Says, SaysOfError, SaysOfWritten};
 ghost use Rattle.yorwethul_c.specs.Answers.{SaysOfUnwritten, SaysThat, TellsAnyRefusal};
 ghost use Rattle.yorwethul_c.specs.Answers.{TellsOfChecking, TellsOfLayouts, TellsOfReading};
@@ -11,13 +11,17 @@ ghost use Rattle.yorwethul_c.specs.Answers.{TellsOfWriting};
 use crate::status::{Status, status_of};
 use bitflags::Flags;
 use module_answers::{
-    JsonHolder, NESTS_TOO_DEEP, NoOutcome, WriteOutcome, check_nesting, fault_line, layout_table,
-    nests_too_deep, refusal_line, write_decimal_within, write_within,
+    NoOutcome, WriteOutcome, check_nesting, layout_table, refusal_line, write_decimal_within,
+    write_within,
 };
+use module_limits::Limits;
+use module_positions::{JsonHolder, NESTS_TOO_DEEP, fault_line, nests_too_deep};
+use naga_acceptance::{Unaccepted, unaccepted};
+use naga_back::WriterFlags;
+use naga_ir::Module;
 use naga_json::{Known, ReadError, read_known};
-use naga_wgsl_out::info::{Unaccepted, unaccepted};
-use naga_wgsl_out::ir::Module;
-use naga_wgsl_out::wgsl::{Error, Limits, Refusal, WriterFlags};
+use naga_wgsl_fns::Error;
+use naga_wgsl_out::wgsl::Refusal;
 use std::alloc::{AllocError, Global};
 use std::fmt::Display;
 

@@ -1,6 +1,6 @@
 use Rattle.std.proofs.Common.{string_bytes}
-use Rattle.module_answers.specs.Faults.{TellsFaultAt}
-use Rattle.module_answers.specs.declared.positions.JsonHolder.TheVariants as holder
+use Rattle.module_positions.specs.Faults.{TellsFaultAt}
+use Rattle.module_positions.specs.declared.positions.JsonHolder.TheVariants as holder
 use Rattle.yorwethul_c.specs.declared.status.Status.TheVariants as status
 use Rattle.yorwethul_c.proofs.Told.{settled_that}
 use Rattle.yorwethul_c.proofs.answers.not_accepted.Goals as goal

@@ -1,6 +1,6 @@
 use Rattle.std.proofs.Common.{string_bytes, subst, sym}
 use Rattle.module_answers.specs.Refusals.{TellsRefusalAt}
-use Rattle.module_answers.specs.declared.positions.JsonHolder.TheVariants as holder
+use Rattle.module_positions.specs.declared.positions.JsonHolder.TheVariants as holder
 use Rattle.yorwethul_c.specs.Answers.{SaysThat, TellsAnyRefusal}
 use Rattle.yorwethul_c.proofs.Told.{said_of_none, settled_that}
 use Rattle.yorwethul_c.proofs.answers.told_refusal.Goals as goal

@@ -5,7 +5,7 @@ use Rattle.naga_wgsl_out.proofs.Faithful.{leaves_untouched, refused}
 use Rattle.naga_wgsl_out.proofs.ModuleScopes.{declaration_refuses, declaration_tells_of_none}
 use Rattle.naga_wgsl_out.proofs.Positions.{labels_told}
 use Rattle.naga_wgsl_out.proofs.ReportedNames.{tells_of_none}
-use Rattle.naga_wgsl_out.specs.declared.unwritable.RefusalPosition.TheVariants as position
+use Rattle.naga_scope.specs.declared.positions.RefusalPosition.TheVariants as position
 use Rattle.naga_wgsl_out.proofs.writer.Writer.write.Goals as goal
 
 pub returns : goal.returns

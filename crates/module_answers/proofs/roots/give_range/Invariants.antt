@@ -1,8 +1,0 @@
-use Rattle.std.proofs.Common.{◌≡◌, ◌-◌}
-use Rattle.module_answers.specs.Roots.{given_range}
-use Rattle.module_answers.proofs.roots.give_range.Given as goal
-
-abbrev pub invariant-loop-index : goal.invariant-loop-index
-invariant-loop-index l =
-    given_range l.function.expressions l.number l.index (l.end - l.index) l.values.items
-    ≡ given_range l.function.expressions l.number l.first (l.end - l.first) l.initial.values.items

@@ -1,0 +1,3 @@
+mod OperandRoles
+mod PositionExamples
+pub mod Walking

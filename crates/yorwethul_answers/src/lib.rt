@@ -1,0 +1,9 @@
+//! What the program `yorwethul` answers to its words, generic over its files, its streams and its clock.
+#![tactic(auto)]
+
+mod explanation;
+mod lines;
+mod program;
+mod texts;
+
+pub use program::{FAILED, REFUSED, run};

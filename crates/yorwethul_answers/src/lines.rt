@@ -1,0 +1,324 @@
+//! Many modules: each line of the input is answered by a line of the output.
+
+use crate::texts::write_in;
+use fault_details::explain;
+use json::Scratch;
+use module_answers::{NoOutcome, WriteOutcome};
+use module_limits::Limits;
+use module_positions::{
+    JsonHolder, JsonPosition, JsonRefusalPosition, NESTS_TOO_DEEP, label_at, label_of,
+    mismatch_text, nests_too_deep, root_at,
+};
+use naga_acceptance::Unaccepted;
+use naga_ir::Module;
+use naga_json::{Known, ReadError, known_of, parse_bytes};
+use naga_wgsl_fns::Error;
+use naga_wgsl_out::wgsl::Refusal;
+use serde_json::{Map, Value};
+use std::alloc::{AllocError, Global};
+use std::fmt::Display;
+use std::io;
+use std::io::{BufRead, Write};
+use std::rt::Clock;
+use yorwethul_input::{Failure, Style};
+use yorwethul_progress::{Outcome, Progress};
+
+/// Answers each line of the input, of the file of this name, by a line of the output: an answer has
+/// left the output before the next line is read, so that one who waits for it gets it. A line that
+/// holds no module is answered too.
+pub fn answer_lines<'a, B: BufRead + Drop, W: Write, R: Clock, E: Write>(
+    alloc: Global,
+    name: &'a str,
+    input: B,
+    style: Style,
+    out: &mut W,
+    progress: &mut Progress<'_, R, E>,
+) -> Result<(), Failure<'a>> {
+    for line in input.split(alloc, b'\n') {
+        match line {
+            Ok(line) => progress.add(answer_line(alloc, line.as_slice(), style, out)?),
+            Err(error) => return Err(Failure::Input(name, error)),
+        }
+    }
+    Ok(())
+}
+
+fn answer_line<'a, W: Write>(
+    alloc: Global,
+    line: &[u8],
+    style: Style,
+    out: &mut W,
+) -> Result<Outcome, Failure<'a>> {
+    let Ok((text, outcome)) = line_answer(alloc, line, style) else {
+        return Err(Failure::Memory);
+    };
+    match write_line(text.as_str(), out) {
+        Ok(()) => Ok(outcome),
+        Err(error) => Err(Failure::Output(error)),
+    }
+}
+
+fn write_line<W: Write>(text: &str, out: &mut W) -> io::Result<()> {
+    out.write_all(text.as_bytes())?;
+    out.write_all(b"\n")?;
+    out.flush()
+}
+
+/// The members of an answer, in the order of their names.
+type Members = Map<String, Value>;
+
+/// The answer to a line, and what became of its module.
+fn line_answer(alloc: Global, line: &[u8], style: Style) -> Result<(String, Outcome), AllocError> {
+    let mut members = Map::new(alloc);
+    let mut scratch = Scratch::new(alloc);
+    match parse_bytes(alloc, line, &mut scratch) {
+        Ok(query) => answer_query(alloc, &query, style, line, &mut members)?,
+        Err(error) => tell_unread(alloc, line, error, &mut members)?,
+    }
+    let outcome = outcome_in(&members);
+    let text = Value::Object(members).to_string(alloc)?;
+    Ok((text, outcome))
+}
+
+/// What an answer tells of its module.
+fn outcome_in(members: &Members) -> Outcome {
+    if members.contains_key("error") {
+        Outcome::Unread
+    } else if members.contains_key("not_accepted") {
+        Outcome::NotAccepted
+    } else if members.contains_key("refused") {
+        Outcome::Refused
+    } else {
+        Outcome::Written
+    }
+}
+
+/// Tells what becomes of the module that is asked for, under the id that came with it.
+fn answer_query(
+    alloc: Global,
+    query: &json::Value<'_>,
+    style: Style,
+    line: &[u8],
+    members: &mut Members,
+) -> Result<(), AllocError> {
+    match style_in(query, style) {
+        Ok(style) => answer_module(alloc, query, style, members)?,
+        Err(error) => tell(alloc, "error", error, members)?,
+    }
+    if let Some(id) = query.get("id") {
+        put(alloc, "id", owned_id(alloc, id, line)?, members)?;
+    }
+    Ok(())
+}
+
+/// The id that came in this line, as a value that can stand in an answer.
+fn owned_id(alloc: Global, id: &json::Value<'_>, line: &[u8]) -> Result<Value, AllocError> {
+    match id {
+        json::Value::Null => Ok(Value::Null),
+        json::Value::Bool(truth) => Ok(Value::Bool(*truth)),
+        json::Value::String(text) => Value::try_from_str(alloc, text),
+        json::Value::Number(numeral) => reread(Value::from_str(alloc, numeral)),
+        json::Value::Array(_) | json::Value::Object(_) => id_in(alloc, line),
+    }
+}
+
+/// The id that comes in this line.
+fn id_in(alloc: Global, line: &[u8]) -> Result<Value, AllocError> {
+    let mut query = reread(Value::from_slice(alloc, line))?;
+    match query.get_mut("id") {
+        Some(id) => Ok(id.take()),
+        None => Ok(Value::Null),
+    }
+}
+
+/// What is read of a text that was read before, so that only memory may be wanting.
+fn reread(read: Result<Value, serde_json::Error>) -> Result<Value, AllocError> {
+    match read {
+        Ok(value) => Ok(value),
+        Err(_) => Err(AllocError),
+    }
+}
+
+/// The style that is asked for: what the query doesn't tell is as in this one. It is an error
+/// where what tells it is no truth value, or of the limits no number of 32 bits.
+fn style_in(query: &json::Value<'_>, style: Style) -> Result<Style, &'static str> {
+    let Some(explicit_types) = truth_in(query, "explicit_types", style.explicit_types) else {
+        return Err("explicit_types: no truth value");
+    };
+    let Some(plain) = truth_in(query, "plain", style.plain) else {
+        return Err("plain: no truth value");
+    };
+    let limits = limits_in(query, style.limits)?;
+    Ok(Style {
+        explicit_types,
+        plain,
+        limits,
+    })
+}
+
+/// The limits that are asked for.
+fn limits_in(query: &json::Value<'_>, limits: Limits) -> Result<Limits, &'static str> {
+    let Some(nesting) = number_in(query, "nesting", limits.nesting) else {
+        return Err("nesting: no number of 32 bits");
+    };
+    let Some(text) = number_in(query, "text", limits.text) else {
+        return Err("text: no number of 32 bits");
+    };
+    Ok(Limits { nesting, text })
+}
+
+/// The number that a member has, or this one where there is no such member.
+fn number_in(query: &json::Value<'_>, name: &str, absent: usize) -> Option<usize> {
+    match query.get(name) {
+        Some(told) => match u32::try_from(told.as_u64()?) {
+            Ok(number) => Some(number as usize),
+            Err(_) => None,
+        },
+        None => Some(absent),
+    }
+}
+
+/// The truth value that a member has, or this one where there is no such member.
+fn truth_in(query: &json::Value<'_>, name: &str, absent: bool) -> Option<bool> {
+    match query.get(name) {
+        Some(told) => told.as_bool(),
+        None => Some(absent),
+    }
+}
+
+fn answer_module(
+    alloc: Global,
+    query: &json::Value<'_>,
+    style: Style,
+    members: &mut Members,
+) -> Result<(), AllocError> {
+    match known_of(alloc, query) {
+        Ok(mut known) => tell_known(alloc, &mut known, style, members),
+        Err(error) => tell(alloc, "error", error, members),
+    }
+}
+
+fn tell_known(
+    alloc: Global,
+    known: &mut Known,
+    style: Style,
+    members: &mut Members,
+) -> Result<(), AllocError> {
+    match write_in(alloc, style, known) {
+        Ok(written) => tell_written(alloc, written, &known.module, members),
+        Err(NoOutcome::NotAccepted(unaccepted)) => {
+            tell_unaccepted(alloc, known, unaccepted, members)
+        }
+        Err(NoOutcome::Memory(error)) => Err(error),
+        Err(NoOutcome::TooDeep(nested)) => tell_limited(alloc, known, nested, members),
+        Err(NoOutcome::TooLong) => tell_limited(alloc, known, NoOutcome::TooLong, members),
+    }
+}
+
+/// Tells that the module is past a limit: at no position, and with no text in front of it.
+fn tell_limited(
+    alloc: Global,
+    known: &Known,
+    reason: impl Display + Drop,
+    members: &mut Members,
+) -> Result<(), AllocError> {
+    let text = String::new(alloc);
+    tell_refused(alloc, reason, None, &known.module, text, members)
+}
+
+fn tell_written(
+    alloc: Global,
+    written: WriteOutcome<String>,
+    module: &Module,
+    members: &mut Members,
+) -> Result<(), AllocError> {
+    let WriteOutcome {
+        answer,
+        refusal,
+        sink,
+    } = written;
+    match answer {
+        Ok(()) => put(alloc, "text", Value::String(sink), members),
+        Err(Error::Memory(error)) => Err(error),
+        Err(reason) => tell_refused(alloc, reason, refusal, module, sink, members),
+    }
+}
+
+/// Tells what the module is refused for, where that stands, why an operand there has no value, and
+/// the text in front of it.
+fn tell_refused(
+    alloc: Global,
+    reason: impl Display + Drop,
+    refusal: Option<Refusal>,
+    module: &Module,
+    text: String,
+    members: &mut Members,
+) -> Result<(), AllocError> {
+    tell(alloc, "refused", reason, members)?;
+    if let Some(refusal) = refusal {
+        let position = JsonRefusalPosition::of(JsonHolder::Member, module, refusal.position);
+        tell(alloc, "position", position, members)?;
+        if let Some(label) = label_at(module, refusal.position) {
+            tell(alloc, "function", label, members)?;
+        }
+        if let Some(root) = root_at(alloc, module, &refusal.position)? {
+            tell(alloc, "root", root, members)?;
+        }
+    }
+    put(alloc, "text", Value::String(text), members)
+}
+
+fn tell_unaccepted(
+    alloc: Global,
+    known: &Known,
+    unaccepted: Unaccepted,
+    members: &mut Members,
+) -> Result<(), AllocError> {
+    let mut told = Map::new(alloc);
+    tell(
+        alloc,
+        "position",
+        JsonPosition(JsonHolder::Member, unaccepted.item),
+        &mut told,
+    )?;
+    tell(alloc, "fault", unaccepted.fault, &mut told)?;
+    if let Some(label) = label_of(&known.module, &unaccepted.item) {
+        tell(alloc, "function", label, &mut told)?;
+    }
+    if let Some(reason) = explain(alloc, &known.module, &known.info, unaccepted)? {
+        let reason = mismatch_text(alloc, &known.module, reason, JsonHolder::Member)?;
+        put(alloc, "reason", Value::String(reason), &mut told)?;
+    }
+    put(alloc, "not_accepted", Value::Object(told), members)
+}
+
+/// Tells why the line holds no query.
+fn tell_unread(
+    alloc: Global,
+    line: &[u8],
+    error: ReadError,
+    members: &mut Members,
+) -> Result<(), AllocError> {
+    match error {
+        ReadError::NoJson { .. } if nests_too_deep(line) => {
+            tell(alloc, "error", NESTS_TOO_DEEP, members)
+        }
+        error => tell(alloc, "error", error, members),
+    }
+}
+
+/// Adds a member whose value is a text.
+fn tell(
+    alloc: Global,
+    name: &str,
+    text: impl Display + Drop,
+    members: &mut Members,
+) -> Result<(), AllocError> {
+    let text = format!(in alloc; "{text}")?;
+    put(alloc, name, Value::String(text), members)
+}
+
+fn put(alloc: Global, name: &str, value: Value, members: &mut Members) -> Result<(), AllocError> {
+    members.insert(String::from_str(alloc, name)?, value)?;
+    Ok(())
+}

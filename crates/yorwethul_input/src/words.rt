@@ -1,0 +1,224 @@
+//! The words that the program is called with.
+
+use clap::{Arg, ArgAction, ArgMatches, Command, Error, value_parser};
+use module_limits::Limits;
+use module_positions::JsonHolder;
+use std::alloc::{AllocError, Global};
+
+/// What is done with the modules that are read.
+#[derive(Clone, Copy, Debug, PartialEq, Eq)]
+pub enum Task {
+    /// The text of one module is printed.
+    Write,
+    /// One module is only asked whether it is accepted.
+    Check,
+    /// It is told where the members of one module's structs stand.
+    Layout,
+    /// It is shown why one module has no text.
+    Explain,
+    /// Many modules are answered, one a line.
+    Lines,
+}
+
+/// How texts are written, and within which limits.
+#[derive(Clone, Copy, Debug, PartialEq, Eq)]
+pub struct Style {
+    /// Whether each `let` tells its type.
+    pub explicit_types: bool,
+    /// Whether floats are kept as the module has them, so that one that is held as its bits is
+    /// refused, and the text has nothing that only standard compilers ask for.
+    pub plain: bool,
+    /// How deep a module may be nested, and how long its text may be.
+    pub limits: Limits,
+}
+
+/// What the words ask for.
+#[derive(Clone, Copy, Debug, PartialEq, Eq)]
+pub struct Invocation<'a> {
+    /// What is done.
+    pub task: Task,
+    /// How texts are written.
+    pub style: Style,
+    /// The file with the module, or `-` for the standard input.
+    pub module: &'a str,
+    /// The file with what is known of the module, where it does not stand beside the module.
+    pub info: Option<&'a str>,
+}
+
+impl Invocation<'_> {
+    /// What the file with the module holds, by which positions are told.
+    pub fn holder(self) -> JsonHolder {
+        match self.info {
+            Some(_) => JsonHolder::Module,
+            None => JsonHolder::Member,
+        }
+    }
+}
+
+/// What the words after the program's name ask for. The error is also what tells the help and the
+/// version.
+pub fn invocation_of(alloc: Global, words: &[String]) -> Result<Invocation<'_>, Error> {
+    let matches = command(alloc)?.try_get_matches_from(words)?;
+    Ok(invocation_in(&matches))
+}
+
+fn invocation_in<'a>(matches: &ArgMatches<'a>) -> Invocation<'a> {
+    Invocation {
+        task: task_in(matches),
+        style: Style {
+            explicit_types: matches.get_flag("explicit-types"),
+            plain: matches.get_flag("plain"),
+            limits: limits_in(matches),
+        },
+        module: matches.get_str("module").unwrap_or("-"),
+        info: matches.get_str("info"),
+    }
+}
+
+/// How deep a module may be nested where no option says: half of what 8 MB of stack hold
+/// (`docs/SPEED.md`). It is `DEEPEST_NESTING` of `yorwethul_c/src/answers.rt`.
+const NESTING: usize = 4_000;
+
+/// How many bytes a text may have where no option says: `LONGEST_TEXT` of
+/// `yorwethul_c/src/answers.rt`.
+const LONGEST_TEXT: usize = 67_108_864;
+
+fn limits_in(matches: &ArgMatches<'_>) -> Limits {
+    Limits {
+        nesting: matches.get_one::<usize>("nesting").unwrap_or(NESTING),
+        text: matches.get_one::<usize>("text").unwrap_or(LONGEST_TEXT),
+    }
+}
+
+fn task_in(matches: &ArgMatches<'_>) -> Task {
+    if matches.get_flag("lines") {
+        Task::Lines
+    } else if matches.get_flag("layout") {
+        Task::Layout
+    } else if matches.get_flag("check") {
+        Task::Check
+    } else if matches.get_flag("explain") {
+        Task::Explain
+    } else {
+        Task::Write
+    }
+}
+
+const ABOUT: &str =
+    "Reads a module of naga's intermediate representation from JSON, and prints its WGSL text.";
+
+const AFTER_HELP: &str = "\
+The file holds an object with the members module and info, as serde writes naga's Module and
+ModuleInfo. With --lines each line is such an object, which may have the members explicit_types,
+plain, nesting, text and id beside; the first two, true or false, and the next two, numbers, hold
+in place of the options of these names. It is answered before the next line is read, by one line,
+an object with the same id and with one of the members text, refused, not_accepted and error.
+
+Literals of floats are written by the digits that Rust's formatting gives, and the text has what
+standard compilers ask for, as enable subgroups. With --plain neither is so, as by the library
+without flags: a literal of a float that the module holds as its bits is then refused.
+
+With --layout each struct that the text declares has a line, and so has each of its members, with
+its offset and what WGSL gives to its type, in bytes, or why the member can't stay where it is.
+
+With --explain the standard output has the reason why there is no text, and a numbered listing of
+the function's expressions and statements, or of the declarations, around the position of the fault.
+
+A module is refused where operands, types or blocks stand in one another on more levels than
+--nesting allows, since each takes some of the stack, or where its text has more bytes than --text.
+
+The status is 0; 1 where the module is refused or not accepted; 2 where an option is wrong, the
+input is no module, something cannot be read or written, or memory is refused. With --lines it is
+0 or 2, since each line of the output tells what becomes of its module. Where the error output is a
+terminal and the standard output is not, a line there tells how far the run has come.";
+
+fn command<'a>(alloc: Global) -> Result<Command<'a>, AllocError> {
+    Command::new(alloc, "yorwethul")
+        .version("0.1.0")
+        .about(ABOUT)
+        .after_help(AFTER_HELP)
+        .arg(flag(alloc, "explicit-types", "Has each let state its type"))?
+        .arg(plain(alloc))?
+        .arg(check(alloc)?)?
+        .arg(layout(alloc)?)?
+        .arg(explain(alloc)?)?
+        .arg(lines(alloc)?)?
+        .arg(info(alloc))?
+        .arg(nesting(alloc))?
+        .arg(text(alloc))?
+        .arg(module(alloc))
+}
+
+fn flag<'a>(alloc: Global, name: &'a str, help: &'a str) -> Arg<'a> {
+    Arg::new(alloc, name)
+        .long(name)
+        .action(ArgAction::SetTrue)
+        .help(help)
+}
+
+fn plain<'a>(alloc: Global) -> Arg<'a> {
+    let help = "Refuses floats held as bits, and has nothing that only standard compilers ask for";
+    flag(alloc, "plain", help)
+}
+
+fn check<'a>(alloc: Global) -> Result<Arg<'a>, AllocError> {
+    let help = "Only says whether the module is accepted, and else where it is not and why";
+    flag(alloc, "check", help)
+        .conflicts_with("explicit-types")?
+        .conflicts_with("plain")?
+        .conflicts_with("text")
+}
+
+fn layout<'a>(alloc: Global) -> Result<Arg<'a>, AllocError> {
+    let help = "Prints where the members of the module's structs stand, or why they can't";
+    flag(alloc, "layout", help)
+        .conflicts_with("check")?
+        .conflicts_with("explicit-types")?
+        .conflicts_with("plain")?
+        .conflicts_with("text")
+}
+
+fn explain<'a>(alloc: Global) -> Result<Arg<'a>, AllocError> {
+    let help = "Shows why there is no text: what the fault is, with the lines around it";
+    flag(alloc, "explain", help)
+        .conflicts_with("check")?
+        .conflicts_with("layout")
+}
+
+fn lines<'a>(alloc: Global) -> Result<Arg<'a>, AllocError> {
+    flag(alloc, "lines", "Answers many modules, one a line")
+        .conflicts_with("check")?
+        .conflicts_with("layout")?
+        .conflicts_with("explain")?
+        .conflicts_with("info")
+}
+
+fn info<'a>(alloc: Global) -> Arg<'a> {
+    Arg::new(alloc, "info").long("info").value_name("FILE").help(
+        "What is known of the module, where the first file holds the module alone",
+    )
+}
+
+fn nesting<'a>(alloc: Global) -> Arg<'a> {
+    let help = "How deep operands, types and blocks may stand in one another: 4000";
+    number(alloc, "nesting", "LEVELS", help)
+}
+
+fn text<'a>(alloc: Global) -> Arg<'a> {
+    let help = "How many bytes a text may have: 67108864";
+    number(alloc, "text", "BYTES", help)
+}
+
+fn number<'a>(alloc: Global, name: &'a str, value: &'a str, help: &'a str) -> Arg<'a> {
+    Arg::new(alloc, name)
+        .long(name)
+        .value_name(value)
+        .value_parser(value_parser!(usize))
+        .help(help)
+}
+
+fn module<'a>(alloc: Global) -> Arg<'a> {
+    Arg::new(alloc, "module").value_name("MODULE.json").help(
+        "The module with what is known of it; the standard input where it is - or absent",
+    )
+}
