@@ -125,6 +125,8 @@ class Trying:
     def __init__(self, rtlib, crate, edits, room):
         self.rtlib, self.crate, self.edits = rtlib, crate, edits
         self.seed, self.room, self.made = room / f"{crate.name}-kept", room, {}
+        # Whether each check is of the whole crate, since a check knows a function by another name.
+        self.is_whole = False
         for edit in edits:
             try:
                 self.made[edit.name] = places.made(edit.file, Path(crate.folder))
@@ -134,7 +136,7 @@ class Trying:
     def functions(self):
         """The functions that the edits change, or None where one changes something else too."""
         found = [it[1] for it in self.made.values() if not isinstance(it, str)]
-        return None if None in found else sorted({path for paths in found for path in paths})
+        return None if self.is_whole or None in found else sorted({path for paths in found for path in paths})
 
     def prepare(self, jobs):
         """Checks what the edits change as it stands, over what a check in the clone kept, and gives why it isn't proved."""
@@ -146,10 +148,12 @@ class Trying:
             # Another check may write there meanwhile, so this one begins with nothing.
             shutil.rmtree(self.seed, ignore_errors=True)
         self.seed.mkdir(exist_ok=True)
-        paths = self.functions()
-        if paths == []:
+        if self.functions() == []:
             return None
-        status, said = self.check({}, paths, self.seed, jobs)
+        status, said = self.check({}, self.functions(), self.seed, jobs)
+        if status == 2 and self.functions() is not None:
+            self.is_whole = True
+            status, said = self.check({}, None, self.seed, jobs)
         return None if status == 0 else f"it is not proved as it stands: {failure(said)}"
 
     def try_edit(self, edit):
@@ -160,9 +164,10 @@ class Trying:
         kept = self.room / f"{self.crate.name}-{edit.name}"
         linked(self.seed, kept)
         try:
-            status, said = self.check(texts, paths, kept, 1)
+            asked = None if self.is_whole else paths
+            status, said = self.check(texts, asked, kept, 1)
             if status == -signal.SIGKILL and not STOPPED.is_set():
-                status, said = self.check(texts, paths, kept, 1)
+                status, said = self.check(texts, asked, kept, 1)
         finally:
             shutil.rmtree(kept, ignore_errors=True)
         word, told = verdicts.judged(status, said, paths)

@@ -4,7 +4,7 @@ their crates' folders.
 
 An edit names files of its crate, and after each pairs of an old and a new text. Each old one must stand there exactly
 once, as the pairs before it left the file. Where all stand it says nothing, and its status is 0. It tries no edit:
-`rt must-fail`, `bench/edits/try.sh` and `bench/edits/try_tested.py` do. Run it from anywhere.
+`rt must-fail`, `.ci/edits`, `bench/edits/try.sh` and `bench/edits/try_tested.py` do. Run it from anywhere.
 """
 
 import sys
