@@ -6,8 +6,8 @@ ghost use Rattle.module_semantics.specs.acceptance.Accepted.{is_accepted};
 use layout_texts::layouts_under;
 use naga_info::ModuleInfo;
 use naga_ir::Module;
-use naga_wgsl_fns::Error;
 use naga_wgsl_out::wgsl::names_of;
+use naga_wgsl_shared::Error;
 use std::alloc::Global;
 
 /// The structs that a text declares, each with a line for each member, and the variables whose arrays

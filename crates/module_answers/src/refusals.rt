@@ -3,14 +3,14 @@
 ghost use Rattle.std.specs.Prelude.{IfOk, string_bytes};
 ghost use Rattle.module_positions.specs.Positions.{IsKnownText};
 ghost use Rattle.module_answers.specs.Refusals.{TellsConstructAt, TellsRefusalAt};
-ghost use Rattle.naga_wgsl_fns.specs.Constructs.{construct_text};
+ghost use Rattle.naga_wgsl_shared.specs.Constructs.{construct_text};
 
 use module_positions::{
     JsonHolder, JsonRefusalPosition, label_at, label_text, root_after, root_at,
 };
 use naga_ir::Module;
-use naga_wgsl_fns::Construct;
 use naga_wgsl_out::wgsl::Refusal;
+use naga_wgsl_shared::Construct;
 use std::alloc::{AllocError, Global};
 
 /// A refusal of the module as one line: its construct, its position in the JSON with the label of the

@@ -5,7 +5,7 @@ use Rattle.module_positions.specs.Positions.{json_position, json_refusal_positio
 use Rattle.module_positions.specs.declared.positions.JsonHolder.TheVariants as holder
 use Rattle.naga_acceptance.specs.declared.faults.FunctionPosition.TheVariants as position
 use Rattle.naga_acceptance.specs.declared.faults.FaultPosition.TheVariants as item
-use Rattle.naga_scope.specs.declared.declarations.DeclarationPosition.TheVariants as declaration
+use Rattle.naga_tables.specs.declared.declarations.DeclarationPosition.TheVariants as declaration
 use Rattle.naga_scope.specs.declared.lines.Line.TheVariants as line
 use Rattle.naga_scope.specs.declared.scope_faults.ScopeFault.TheVariants as scope
 use Rattle.naga_scope.specs.declared.positions.FunctionRefusalPosition.TheVariants as part

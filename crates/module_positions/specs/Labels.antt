@@ -8,8 +8,8 @@ use Rattle.std.specs.Option.{option_and_then, option_map}
 use Rattle.naga_ir.specs.declared.module.Module.{Module}
 use Rattle.naga_acceptance.specs.declared.faults.FaultPosition.{FaultPosition}
 use Rattle.naga_acceptance.specs.declared.faults.FaultPosition.TheVariants as item
-use Rattle.naga_scope.specs.declared.declarations.DeclarationPosition.{DeclarationPosition}
-use Rattle.naga_scope.specs.declared.declarations.DeclarationPosition.TheVariants as declaration
+use Rattle.naga_tables.specs.declared.declarations.DeclarationPosition.{DeclarationPosition}
+use Rattle.naga_tables.specs.declared.declarations.DeclarationPosition.TheVariants as declaration
 use Rattle.naga_scope.specs.declared.positions.RefusalPosition.{RefusalPosition}
 use Rattle.naga_scope.specs.declared.positions.RefusalPosition.TheVariants as refused
 

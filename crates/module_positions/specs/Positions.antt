@@ -17,8 +17,8 @@ use Rattle.naga_acceptance.specs.declared.faults.FunctionPosition.{FunctionPosit
 use Rattle.naga_acceptance.specs.declared.faults.FunctionPosition.TheVariants as position
 use Rattle.naga_acceptance.specs.declared.faults.FaultPosition.{FaultPosition}
 use Rattle.naga_acceptance.specs.declared.faults.FaultPosition.TheVariants as item
-use Rattle.naga_scope.specs.declared.declarations.DeclarationPosition.{DeclarationPosition}
-use Rattle.naga_scope.specs.declared.declarations.DeclarationPosition.TheVariants as declaration
+use Rattle.naga_tables.specs.declared.declarations.DeclarationPosition.{DeclarationPosition}
+use Rattle.naga_tables.specs.declared.declarations.DeclarationPosition.TheVariants as declaration
 use Rattle.naga_scope.specs.declared.lines.Declared.{Declared}
 use Rattle.naga_scope.specs.declared.lines.Declared.TheVariants as declared
 use Rattle.naga_scope.specs.declared.lines.Line.{Line}

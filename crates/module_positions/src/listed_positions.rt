@@ -2,9 +2,8 @@
 
 use naga_acceptance::{FaultPosition, FunctionPosition};
 use naga_listing::{Listed, ListingPosition, Spot};
-use naga_scope::{
-    DeclarationPosition, Declared, FunctionRefusalPosition, Line, RefusalPosition, ScopeFault,
-};
+use naga_scope::{Declared, FunctionRefusalPosition, Line, RefusalPosition, ScopeFault};
+use naga_tables::DeclarationPosition;
 
 /// The position of an item in a listing of what it is in.
 pub fn listed_position(item: FaultPosition) -> ListingPosition {

@@ -16,9 +16,8 @@ ghost use Rattle.module_positions.specs.Roles.{role_in, seen};
 use crate::roles::{Role, role_at};
 use naga_acceptance::{FaultPosition, FunctionPosition};
 use naga_ir::{Expression, Function, Handle, Module};
-use naga_scope::{
-    DeclarationPosition, Declared, FunctionRefusalPosition, Line, RefusalPosition, ScopeFault,
-};
+use naga_scope::{Declared, FunctionRefusalPosition, Line, RefusalPosition, ScopeFault};
+use naga_tables::DeclarationPosition;
 use std::fmt;
 
 /// What the JSON holds by which a position is told.

@@ -14,7 +14,7 @@ use Rattle.naga_scope.proofs.LineWrites.{In, in_either, in_left, in_right, of_li
 use Rattle.naga_scope.specs.FirstLines.{block_breaks, case_breaks, statement_breaks, writes_at}
 use Rattle.naga_ir.specs.InOrder.{case_trees, trees_in, trees_inside}
 use Rattle.naga_scope.specs.InOrder.{break_handle}
-use Rattle.naga_scope.specs.Marks.{is_one_of}
+use Rattle.naga_tables.specs.Marks.{is_one_of}
 use Rattle.naga_scope.specs.declared.lines.Line.{Line}
 use Rattle.naga_scope.specs.declared.lines.Line.TheVariants.{BreakIf}
 

@@ -15,7 +15,7 @@ use Rattle.naga_scope.proofs.Sweeping.{Swept, all_marked, begun, below_one, from
 use Rattle.naga_scope.specs.FirstLines.{ComesNoEarlier, FindsEarliest, WritesAlso, WritesJust}
 use Rattle.naga_scope.specs.FirstLines.{found_with, handles_to, has_line_to, marks_to, writes_at}
 use Rattle.naga_scope.specs.Lines.{is_before, is_up_to}
-use Rattle.naga_scope.specs.Marks.{is_marked, is_one_of, marked_with}
+use Rattle.naga_tables.specs.Marks.{is_marked, is_one_of, marked_with}
 use Rattle.naga_scope.specs.declared.lines.Line.{Line}
 use Rattle.shader_runs.specs.Premises.{AllBelow}
 

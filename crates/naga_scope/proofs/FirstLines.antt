@@ -14,12 +14,12 @@ use Rattle.std.specs.Prelude.{get_or, if◌then◌else◌, slice_set}
 use Rattle.naga_ir.specs.StatementTree.{StatementTree}
 use Rattle.naga_ir.specs.declared.module.LocalVariable.{LocalVariable}
 use Rattle.naga_scope.proofs.LineOrder.{first_up_to}
-use Rattle.naga_scope.proofs.Marking.{just_marked, marks_none, marks_then}
+use Rattle.naga_tables.proofs.Marking.{just_marked, marks_none, marks_then}
 use Rattle.naga_scope.specs.FirstLines.{WritesAlso, WritesJust, first_line, handles_to, has_line_to}
 use Rattle.naga_scope.specs.FirstLines.{marks_to, writes_at}
 use Rattle.naga_scope.specs.InOrder.{line_own_handles}
 use Rattle.naga_scope.specs.Lines.{is_up_to}
-use Rattle.naga_scope.specs.Marks.{MarksAlso, is_marked, is_one_of, marked_with}
+use Rattle.naga_tables.specs.Marks.{MarksAlso, is_marked, is_one_of, marked_with}
 use Rattle.naga_scope.specs.declared.lines.Line.{Line}
 use Rattle.naga_scope.specs.declared.lines.Line.TheVariants.{Signature, Local, Statement}
 

@@ -25,7 +25,7 @@ use Rattle.naga_ir.specs.declared.statement.SwitchValue.{SwitchValue}
 use Rattle.naga_scope.specs.Changes.{block_changes, cases_changes, statement_changes}
 use Rattle.naga_ir.specs.InOrder.{case_trees, trees_in, trees_inside, trees_of}
 use Rattle.naga_scope.specs.InOrder.{own_changes, own_labels, own_lets, own_handles, handles_with}
-use Rattle.naga_scope.specs.Marks.{is_one_of}
+use Rattle.naga_tables.specs.Marks.{is_one_of}
 
 -- ---- for all that is told alike
 pub record Monoid (A : Type 0) : Type 0 where

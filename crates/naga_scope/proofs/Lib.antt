@@ -10,10 +10,7 @@ pub mod FormedStatements
 pub mod Holding
 pub mod InOrder
 pub mod Logs
-pub mod Marking
 pub mod Offsets
-pub mod FilledTables
-pub mod FirstMisplaced
 pub mod FirstValues
 pub mod StandingCounts
 pub mod Planned
@@ -22,9 +19,6 @@ pub mod Results
 pub mod SpelledTypes
 pub mod Sweeping
 pub mod Turns
-pub mod WrittenConstants
-pub mod UnsupportedDeclarations
-pub mod Searching
 pub mod FirstLines
 pub mod LineOrder
 pub mod EarliestFound

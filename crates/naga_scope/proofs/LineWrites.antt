@@ -4,7 +4,7 @@ use Rattle.std.proofs.Common.{Some, sym, ap, arith, eqb-true, refl, nat_eq, slic
 use Rattle.std.proofs.lemmas.Bool.{eq-eqb, or_cases, or_left, or_right}
 use Rattle.std.specs.List.{enumerate_from, flat_map}
 use Rattle.naga_scope.specs.FirstLines.{writes_at}
-use Rattle.naga_scope.specs.Marks.{is_one_of}
+use Rattle.naga_tables.specs.Marks.{is_one_of}
 use Rattle.naga_scope.specs.declared.lines.Line.{Line}
 
 -- ---- what is in a list

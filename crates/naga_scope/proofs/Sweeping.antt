@@ -9,7 +9,7 @@ use Rattle.std.proofs.lemmas.Option.{same_Some, slice_get_within}
 use Rattle.module_semantics.specs.Written.{IsWritten, OperandOf, Start}
 use Rattle.naga_ir.specs.Operands.{expression_operands}
 use Rattle.naga_ir.specs.declared.expression.Expression.{Expression}
-use Rattle.naga_scope.specs.Marks.{MarksJust, is_marked, is_one_of, marked_with}
+use Rattle.naga_tables.specs.Marks.{MarksJust, is_marked, is_one_of, marked_with}
 use Rattle.shader_runs.specs.Premises.{AllBelow}
 
 -- ---- one of a list

@@ -22,7 +22,7 @@ use Rattle.naga_scope.specs.FirstLines.{statement_writes, writes_at}
 use Rattle.naga_ir.specs.InOrder.{trees_in, trees_inside}
 use Rattle.naga_scope.specs.InOrder.{break_handle, line_own_handles, own_handles, handles_with}
 use Rattle.naga_scope.specs.Lines.{break_at, is_up_to, line_handles_at}
-use Rattle.naga_scope.specs.Marks.{is_one_of}
+use Rattle.naga_tables.specs.Marks.{is_one_of}
 use Rattle.naga_scope.specs.declared.lines.Line.{Line}
 use Rattle.naga_scope.specs.declared.lines.Line.TheVariants.{Signature, Local, Statement, BreakIf}
 

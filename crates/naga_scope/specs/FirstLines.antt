@@ -16,7 +16,7 @@ use Rattle.naga_ir.specs.declared.module.Function.{Function}
 use Rattle.naga_ir.specs.InOrder.{trees_in, trees_inside}
 use Rattle.naga_scope.specs.InOrder.{line_own_handles}
 use Rattle.naga_scope.specs.Lines.{is_before, is_up_to}
-use Rattle.naga_scope.specs.Marks.{MarksAlso, MarksJust}
+use Rattle.naga_tables.specs.Marks.{MarksAlso, MarksJust}
 use Rattle.naga_scope.specs.declared.lines.Line.{Line}
 use Rattle.naga_scope.specs.declared.lines.Line.TheVariants.{Local, Statement, BreakIf}
 

@@ -19,7 +19,7 @@ use Rattle.naga_ir.specs.declared.module.FunctionArgument.{FunctionArgument}
 use Rattle.naga_ir.specs.declared.module.FunctionResult.{FunctionResult}
 use Rattle.naga_ir.specs.declared.module.LocalVariable.{LocalVariable}
 use Rattle.naga_ir.specs.declared.module.Module.{Module}
-use Rattle.naga_scope.specs.Declarations.{FindsFirst}
+use Rattle.naga_tables.specs.Declarations.{FindsFirst}
 use Rattle.naga_scope.specs.InOrder.{own_lets}
 use Rattle.naga_scope.specs.declared.lines.Declared.{Declared}
 use Rattle.naga_scope.specs.declared.lines.Declared.TheVariants.{Argument, Result, Local}

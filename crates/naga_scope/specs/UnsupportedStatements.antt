@@ -11,7 +11,7 @@ use Rattle.naga_ir.specs.StatementTree.{SimpleStatement, image_atomic, ray_query
 use Rattle.naga_ir.specs.StatementTree.{subgroup_collective_operation}
 use Rattle.naga_ir.specs.StatementTree.{StatementTree, simple, switch, BlockTree}
 use Rattle.naga_ir.specs.StatementTree.{CaseTrees, no_cases, case, has_no_statements}
-use Rattle.naga_scope.specs.Declarations.{EachBefore, FindsFirst}
+use Rattle.naga_tables.specs.Declarations.{EachBefore, FindsFirst}
 use Rattle.naga_ir.specs.InOrder.{trees_in}
 use Rattle.naga_scope.specs.declared.statements.UnsupportedStatement.{UnsupportedStatement}
 use Rattle.naga_scope.specs.declared.statements.UnsupportedStatement.TheVariants.{RayQuery}

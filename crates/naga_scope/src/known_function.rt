@@ -4,9 +4,9 @@ ghost use Rattle.std.specs.Prelude.{◌≡◌};
 ghost use Rattle.naga_scope.specs.KnownFunctions.{bound_in};
 
 use crate::lets::binds;
-use crate::tables::ModuleTables;
 use naga_info::{FunctionInfo, ModuleInfo};
 use naga_ir::{Expression, Function, Handle, Module};
+use naga_tables::ModuleTables;
 
 /// A function of a module, and what is known of both.
 #[derive(Clone, Copy)]

@@ -1,9 +1,9 @@
 //! Where what has no text stands in a module.
 
-use crate::declarations::DeclarationPosition;
 use crate::lines::{Declared, Line};
 use crate::scope_faults::ScopeFault;
 use naga_ir::{Expression, Function, Handle, Type_};
+use naga_tables::DeclarationPosition;
 
 /// A part of a function, or of an entry point, for which it is refused. A statement is told by its
 /// number in the order of the text: those in blocks are counted too, each after the one that holds

@@ -11,17 +11,17 @@ ghost use Rattle.naga_scope.specs.KnownFunctions.{bound_in};
 ghost use Rattle.naga_scope.specs.SpelledTypes.{FindsAnnotated, argument_types};
 ghost use Rattle.naga_scope.specs.SpelledTypes.{declared_unsupported, first_unspellable};
 ghost use Rattle.naga_scope.specs.SpelledTypes.{is_unsupported_let, local_types, result_types};
-ghost use Rattle.naga_scope.specs.Tables.{AreTablesOf};
+ghost use Rattle.naga_tables.specs.Tables.{AreTablesOf};
 ghost use Rattle.shader_runs.specs.Program.{from};
 
 use crate::known_function::KnownFunction;
 use crate::lines::Declared;
-use crate::tables::ModuleTables;
 use naga_info::FunctionInfo;
 use naga_ir::{
     Expression, Function, FunctionArgument, FunctionResult, Handle, ItemIndex, Module, Range,
     Statement, Type_,
 };
+use naga_tables::ModuleTables;
 
 fn argument_without_form(
     module: &Module,

@@ -2,8 +2,7 @@
 
 ghost use Rattle.std.specs.Prelude.{IfOk, None, false, get_or, replicate};
 ghost use Rattle.std.specs.Prelude.{[], ◌∷◌, ◌≡◌, ◌-◌, ◌<◌, ◌^◌, ℕ, List, if◌then◌else◌, length};
-ghost use Rattle.std.specs.List.{filter, list_all};
-ghost use Rattle.std.specs.Option.{option_to_list};
+ghost use Rattle.std.specs.List.{filter};
 ghost use Rattle.naga_ir.specs.Operands.{expression_operands, own_operands};
 ghost use Rattle.naga_ir.specs.StatementViews.{tree_of};
 ghost use Rattle.naga_ir.specs.declared.expression.Expression.{Expression};
@@ -13,71 +12,30 @@ ghost use Rattle.module_semantics.specs.Premises.{OperandsStandBefore};
 ghost use Rattle.module_semantics.specs.Sampling.{own_offset_has_form};
 ghost use Rattle.module_semantics.specs.WrittenOut.{written_out_over};
 ghost use Rattle.module_semantics.specs.ExpressionForms.{expression_has_form};
-ghost use Rattle.naga_scope.specs.Forms.{AreKnownIn};
+ghost use Rattle.naga_tables.specs.Forms.{AreKnownIn};
 ghost use Rattle.naga_scope.specs.FirstLines.{FindsEarliest, WritesAlso, WritesJust};
 ghost use Rattle.naga_scope.specs.FirstLines.{first_line, found_with, function_writes};
 ghost use Rattle.naga_scope.specs.FirstLines.{local_writes, statement_writes, writes_at};
 ghost use Rattle.naga_ir.specs.InOrder.{trees_in, trees_of};
 ghost use Rattle.naga_scope.specs.InOrder.{line_own_handles};
 ghost use Rattle.naga_scope.specs.KnownFunctions.{bound_in, expressions_of, has_form_in};
-ghost use Rattle.naga_scope.specs.Marks.{MarksAlso, MarksConstants};
-ghost use Rattle.naga_scope.specs.Marks.{is_marked};
-ghost use Rattle.naga_scope.specs.Tables.{AreTablesOf};
+ghost use Rattle.naga_tables.specs.Marks.{MarksConstants};
+ghost use Rattle.naga_tables.specs.Marks.{is_marked};
+ghost use Rattle.naga_tables.specs.Tables.{AreTablesOf};
 ghost use Rattle.naga_scope.specs.declared.lines.Line.{Line};
 ghost use Rattle.shader_runs.specs.Program.{from};
 
 use crate::breaks::note_breaks;
-use crate::forms::has_own_form;
 use crate::known_function::KnownFunction;
 use crate::lines::{Line, is_before};
-use crate::tables::ModuleTables;
 use naga_info::FunctionInfo;
 use naga_ir::{Expression, Function, Handle, ItemIndex, Module, Range, Statement};
 use naga_naming::NameKey;
+use naga_tables::ModuleTables;
+use naga_tables::forms::has_own_form;
+use naga_tables::marks::{are_marked, is_marked, no_marks};
 use std::alloc::{AllocError, Global};
 use std::collections::HashMap;
-
-/// Marks the item with this handle, if there is one.
-pub(crate) fn mark<M>(marks: &mut [bool], handle: ItemIndex<M>)
-    ensures { MarksAlso marks.old (handle ∷ []) marks.new }
-{
-    let index = handle.index();
-    if index < marks.len() {
-        marks[index] = true;
-    }
-}
-
-/// Marks the item with this handle, if there is one.
-#[tactic(auto, using(crate::proofs::Marking::marks_none))]
-pub(crate) fn mark_present<M>(marks: &mut [bool], handle: Option<ItemIndex<M>>)
-    ensures { MarksAlso marks.old (option_to_list handle) marks.new }
-{
-    if let Some(handle) = handle {
-        mark(marks, handle);
-    }
-}
-
-/// Whether the item with this handle has a mark.
-pub(crate) fn is_marked<M>(marks: &[bool], handle: ItemIndex<M>) -> bool
-    ensures { result ≡ is_marked marks.now handle }
-{
-    match marks.get(handle.index()) {
-        Some(is_marked) => *is_marked,
-        None => false,
-    }
-}
-
-/// Whether all of these have marks.
-pub(crate) fn are_marked(marks: &[bool], handles: &[Handle<Expression>]) -> bool
-    ensures { result ≡ list_all (is_marked marks.now) handles.now }
-{
-    for handle in handles {
-        if !is_marked(marks, *handle) {
-            return false;
-        }
-    }
-    true
-}
 
 /// Whether an expression may be written out as a constant, by marks of its operands that may.
 fn is_constant(marks: &[bool], expression: &Expression) -> bool
@@ -278,13 +236,6 @@ fn note_operands(lines: &mut [Option<Line>], expression: &Expression, line: &Lin
     for operand in expression.operands() {
         note(lines, operand, line);
     }
-}
-
-/// A table of so many cells without marks.
-pub(crate) fn no_marks(alloc: Global, count: usize) -> Result<Vec<bool>, AllocError>
-    ensures { IfOk result (λ marks. marks.items ≡ replicate count false) }
-{
-    vec![in alloc; false; count]
 }
 
 /// A table of so many cells without lines.

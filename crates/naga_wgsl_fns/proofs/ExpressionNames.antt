@@ -8,7 +8,7 @@ use Rattle.module_semantics.specs.ExpressionLabels.{name_of_label}
 use Rattle.module_semantics.specs.Names.{labels_named_in, wgsl_names}
 use Rattle.naga_scope.proofs.ExpressionNames.{counted_none_full}
 use Rattle.naga_scope.specs.ExpressionNames.{HasOtherUses, names_following}
-use Rattle.naga_wgsl_fns.specs.Refusals.{ExpressionNamesAreFullIn}
+use Rattle.naga_wgsl_fns.specs.PlanRefusals.{ExpressionNamesAreFullIn}
 
 -- ---- names in a list
 -- the name with a number

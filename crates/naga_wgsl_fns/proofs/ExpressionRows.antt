@@ -66,14 +66,15 @@ use Rattle.wgsl_text.proofs.Expressions.{argument_text as argument_row_text}
 use Rattle.wgsl_text.proofs.Expressions.{next_argument_text as next_argument_row_text}
 use Rattle.wgsl_text.proofs.Expressions.{address_text as address_row_text, dereference_text}
 use Rattle.naga_scope.specs.Availabilities.{availability_of}
-use Rattle.naga_wgsl_fns.specs.Names.{bound_text, name_of_global, name_of_override}
+use Rattle.naga_wgsl_fns.specs.Names.{bound_text, name_of_global}
+use Rattle.naga_wgsl_shared.specs.Names.{name_of_override}
 use Rattle.naga_wgsl_fns.specs.Names.{name_of_argument, name_of_local}
 use Rattle.naga_scope.specs.declared.points.Availability.{Availability}
 use Rattle.naga_scope.specs.declared.points.Availability.TheVariants.{Absent, Barred, Everywhere}
 use Rattle.naga_scope.specs.declared.points.Availability.TheVariants.{Inline, Bound}
 use Rattle.naga_words.specs.Output.{joined_texts}
-use Rattle.naga_wgsl_fns.specs.Constants.{constant_text}
-use Rattle.naga_wgsl_fns.specs.Literals.{literal_text}
+use Rattle.naga_wgsl_shared.specs.Constants.{constant_text}
+use Rattle.naga_wgsl_shared.specs.Literals.{literal_text}
 use Rattle.wgsl_text.specs.Reading.{printed_expression}
 use Rattle.naga_wgsl_fns.specs.declared.functions.FunctionText.{FunctionText}
 use Rattle.naga_wgsl_fns.proofs.PartForms.{part_form, referred_part, valued_part}

@@ -37,15 +37,10 @@ use Rattle.shader_runs.specs.Scope.{Handles}
 use Rattle.module_semantics.specs.ExpressionLabels.{expression_labels}
 use Rattle.module_semantics.specs.Names.{HasNamesOf, module_names}
 use Rattle.module_semantics.specs.Written.{WrittenHaveForms}
-use Rattle.naga_scope.specs.Tables.{AreTablesOf}
+use Rattle.naga_tables.specs.Tables.{AreTablesOf}
 use Rattle.naga_scope.specs.Availabilities.{TextPoint}
 use Rattle.naga_scope.specs.declared.points.Availability.{Availability}
-use Rattle.naga_words.specs.declared.error.TypeTextError.{TypeTextError}
-use Rattle.naga_words.specs.declared.error.TypeTextError.TheVariants.{Sink, Memory, NoForm}
-use Rattle.naga_words.specs.declared.sink.SinkError.TheVariants.{Failed, Memory as SinkMemory}
-use Rattle.naga_words.specs.Output.{IsReason, joined_texts}
-use Rattle.naga_wgsl_fns.specs.Errors.{IsErrorOf, IsWant}
-use Rattle.naga_wgsl_fns.specs.declared.refusals.error.Error.{Error}
+use Rattle.naga_words.specs.Output.{joined_texts}
 use Rattle.wgsl_text.specs.Reading.{printed_expression, printed_type}
 use Rattle.wgsl_text.specs.Text.{text}
 use Rattle.naga_wgsl_fns.specs.declared.functions.FunctionText.{FunctionText}
@@ -63,8 +58,8 @@ use Rattle.naga_wgsl_fns.specs.Functions.{form_of, function_text, group_end_text
 use Rattle.naga_wgsl_fns.specs.Functions.{known_of, local_form, local_text, local_text_of}
 use Rattle.naga_wgsl_fns.specs.Functions.{locals_text, next_argument_text, result_text, separator}
 use Rattle.naga_wgsl_fns.specs.Functions.{item_text, stage_before, text_of, text_under}
-use Rattle.naga_wgsl_fns.specs.Attributes.{attributes_text}
-use Rattle.naga_wgsl_fns.specs.Stages.{stage_text}
+use Rattle.naga_wgsl_shared.specs.Attributes.{attributes_text}
+use Rattle.naga_wgsl_shared.specs.Stages.{stage_text}
 use Rattle.naga_form.specs.Attributes.{passing_attributes}
 use Rattle.naga_form.proofs.statements.WrittenFunctions.{entry_point_at}
 use Rattle.naga_back.specs.declared.context.FunctionType.TheVariants as item
@@ -387,14 +382,3 @@ pub stage_row : (f : FunctionText) → CanWrite f → (j : ℕ) → f.ty ≡ ite
     stage_before f.shader.now (number f) ≡ stage_text f.shader.now p
 stage_row f can j is p at =
     ap (λ o. option_map_or (stage_text f.shader.now) o []) (entry_point_there f can j is p at)
-
--- why a function was not written
-pub reason_reported : (failed failures : ℕ) (want : TypeTextError) (error : Error)
-    → IsReason ⊥ failed failures want → IsErrorOf want error → IsWant failed failures error
-reason_reported failed failures (Sink Failed) error reason is =
-    subst (IsWant failed failures) (sym is) reason
-reason_reported failed failures (Sink (SinkMemory a)) error reason is =
-    subst (IsWant failed failures) (sym is) tt
-reason_reported failed failures (Memory a) error reason is =
-    subst (IsWant failed failures) (sym is) tt
-reason_reported failed failures NoForm error reason is = absurd reason

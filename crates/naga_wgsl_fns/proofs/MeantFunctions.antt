@@ -44,7 +44,7 @@ use Rattle.naga_back.specs.Flags.{annotates_types}
 use Rattle.naga_wgsl_fns.specs.Items.{AnswersShowAllOfItems, AnswersShowFunctions, AnswersShowItems}
 use Rattle.naga_wgsl_fns.specs.Items.{HasNoSpecialTypes, IsMeant, IsMeantUnder, StandsIn}
 use Rattle.naga_wgsl_fns.specs.Items.{named_following, names_following}
-use Rattle.naga_wgsl_fns.specs.Refusals.{IsWritableAt}
+use Rattle.naga_wgsl_fns.specs.PlanRefusals.{IsWritableAt}
 use Rattle.naga_wgsl_fns.proofs.SpelledTypes.{written_is_spellable}
 
 module _ (named : LabelNames) (flags : WriterFlags) (names : NameMap) (m : Module) (info : ModuleInfo) where

@@ -2,11 +2,11 @@
 use Rattle.std.proofs.Common.{◌≡◌, subst, sym}
 use Rattle.module_semantics.specs.Names.{HasNamesOf}
 use Rattle.naga_naming.specs.Keys.{names_in}
-use Rattle.naga_scope.specs.Tables.{AreTablesOf}
+use Rattle.naga_tables.specs.Tables.{AreTablesOf}
 use Rattle.naga_wgsl_fns.specs.FunctionText.{CanWrite}
-use Rattle.naga_wgsl_fns.specs.ModuleText.{CanWriteIn, CanWriteOf}
+use Rattle.naga_wgsl_shared.specs.ModuleText.{CanWriteIn, CanWriteOf}
 use Rattle.naga_wgsl_fns.specs.declared.functions.FunctionText.{FunctionText}
-use Rattle.naga_wgsl_fns.specs.declared.module_text.ModuleText.{ModuleText}
+use Rattle.naga_wgsl_shared.specs.declared.module_text.ModuleText.{ModuleText}
 
 pub can_of : (f : FunctionText) → CanWrite f → CanWriteOf f.shader.now
 can_of f can = record {

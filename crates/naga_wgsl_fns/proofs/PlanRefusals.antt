@@ -3,14 +3,17 @@ use Rattle.naga_scope.specs.declared.plan.PlanError.TheVariants.{StatementWithou
 use Rattle.naga_scope.specs.declared.plan.PlanError.TheVariants.{LetWithoutForm, OutOfScope}
 use Rattle.naga_scope.specs.declared.plan.PlanError.TheVariants.{TypeWithoutForm, Unnamed}
 use Rattle.naga_scope.specs.declared.plan.PlanError.TheVariants.{WithoutForm}
-use Rattle.naga_wgsl_fns.specs.Refusals.{NamesStatement, ExpressionNamesAreFullIn, IsErrorOfNames}
-use Rattle.naga_wgsl_fns.specs.Refusals.{IsReasonForNoPlan, IsWritableAt, IsOfPlan, IsPlanRefusal}
-use Rattle.naga_wgsl_fns.specs.Refusals.{HasUnsupportedIn, NamesConversion, NamesExpression}
-use Rattle.naga_wgsl_fns.specs.Refusals.{NamesUnsupportedType, NamesPart, NamesType, NamesUnspelled}
-use Rattle.naga_wgsl_fns.specs.Refusals.{NamesUnsupported, NamesLiteral, NamesMatrix, converted}
-use Rattle.naga_wgsl_fns.specs.Refusals.{NamesItemsOf, NamesGlobal, OfConstant, OfLiteral}
-use Rattle.naga_wgsl_fns.specs.Refusals.{OfOperand, OfOperation, OfType, pointed_scalar}
-use Rattle.naga_wgsl_fns.specs.Refusals.{TellsPlanError}
+use Rattle.naga_wgsl_fns.specs.PlanRefusals.{NamesStatement, ExpressionNamesAreFullIn}
+use Rattle.naga_wgsl_shared.specs.Refusals.{IsErrorOfNames}
+use Rattle.naga_wgsl_fns.specs.PlanRefusals.{IsReasonForNoPlan, IsWritableAt, IsOfPlan}
+use Rattle.naga_wgsl_fns.specs.PlanRefusals.{IsPlanRefusal}
+use Rattle.naga_wgsl_fns.specs.PlanRefusals.{HasUnsupportedIn}
+use Rattle.naga_wgsl_shared.specs.Refusals.{NamesExpression}
+use Rattle.naga_wgsl_fns.specs.PlanRefusals.{NamesUnsupportedType}
+use Rattle.naga_wgsl_shared.specs.Refusals.{NamesType}
+use Rattle.naga_wgsl_fns.specs.PlanRefusals.{NamesUnsupported}
+use Rattle.naga_wgsl_shared.specs.Refusals.{NamesItemsOf}
+use Rattle.naga_wgsl_fns.specs.PlanRefusals.{TellsPlanError}
 use Rattle.naga_scope.specs.declared.statements.UnsupportedStatement.TheVariants as unsupported_statement
 use Rattle.naga_scope.specs.declared.statements.UnsupportedStatement.{UnsupportedStatement}
 use Rattle.naga_scope.proofs.FormedStatements.{some_unsupported}
@@ -18,21 +21,15 @@ use Rattle.naga_form.proofs.statements.AcceptedFunctions.{accepted_at, function_
 use Rattle.naga_form.proofs.statements.AcceptedFunctions.{names_are_in_range, all_counted}
 use Rattle.module_semantics.specs.acceptance.Ranges.{names_in_range}
 use Rattle.std.proofs.lemmas.Bool.{ltb-true}
-use Rattle.std.proofs.Common.{◌≡◌, ◌<◌, ◌∙◌, ℕ, Bool, false, true, zero, suc, List, [], ◌∷◌, None}
+use Rattle.std.proofs.Common.{◌≡◌, ◌<◌, ◌∙◌, ℕ, Bool, true, zero, suc, List, [], ◌∷◌, None}
 use Rattle.std.proofs.Common.{Option, Some, ap, arith, inl, inr, length, refl, subst, codes, sym}
 use Rattle.std.proofs.Common.{◌++◌}
 use Rattle.std.specs.Prelude.{IfSome, IsFalse, IsSomeAnd, IsTrue, slice_get}
 use Rattle.std.specs.Option.{option_map_or}
 use Rattle.std.proofs.lemmas.Option.{slice_get_within}
 use Rattle.naga_ir.specs.declared.expression.Expression.{Expression}
-use Rattle.naga_ir.specs.declared.expression.Expression.TheVariants.{AccessIndex, As, Compose}
-use Rattle.naga_ir.specs.declared.expression.Expression.TheVariants.{Literal, Math, ImageSample}
-use Rattle.naga_ir.specs.declared.expression.Expression.TheVariants.{ImageLoad, Relational}
-use Rattle.naga_ir.specs.declared.expression.Expression.TheVariants.{ZeroValue, Constant}
+use Rattle.naga_ir.specs.declared.expression.Expression.TheVariants.{Constant}
 use Rattle.naga_ir.specs.declared.expression.Expression.TheVariants.{GlobalVariable}
-use Rattle.naga_ir.specs.declared.expression.Expression.TheVariants.{CooperativeLoad}
-use Rattle.naga_ir.specs.declared.expression.Literal.{Literal as LiteralValue}
-use Rattle.naga_ir.specs.declared.expression.Literal.TheVariants as literal
 use Rattle.naga_ir.specs.declared.module.Function as ir_function
 use Rattle.naga_ir.specs.declared.module.Module.{Module}
 use Rattle.naga_info.specs.declared.info.ExpressionInfo.{ExpressionInfo}
@@ -42,16 +39,13 @@ use Rattle.shader_runs.specs.ScopeFaults.{HasScopeFault}
 use Rattle.shader_runs.specs.ScopeRules.{ScopeHolds}
 use Rattle.shader_runs.proofs.ScopeFaults.{fault_is_no_rule}
 use Rattle.module_semantics.specs.acceptance.Accepted.{is_accepted}
-use Rattle.module_semantics.specs.ExpressionForms.{expression_has_form, known_passes}
-use Rattle.module_semantics.specs.LackingScalars.{lacking_scalar}
+use Rattle.module_semantics.specs.ExpressionForms.{expression_has_form}
 use Rattle.module_semantics.specs.Written.{IsSpelledIn}
 use Rattle.module_semantics.specs.FunctionNumbers.{all_functions, all_infos}
 use Rattle.module_semantics.specs.FunctionShapes.{function_shape, function_shapes}
-use Rattle.module_semantics.specs.Undeclared.{is_spellable, names_undeclared}
+use Rattle.module_semantics.specs.Undeclared.{is_spellable}
 use Rattle.naga_info.specs.declared.info.TypeResolution.{TypeResolution}
 use Rattle.naga_info.specs.declared.info.TypeResolution.TheVariants.{Handle}
-use Rattle.naga_ir.specs.declared.types.Scalar.{Scalar}
-use Rattle.naga_ir.specs.declared.types.TypeInner.{TypeInner}
 use Rattle.naga_naming.specs.Naming.{HasNamed, Names, label_stem, labels_with_stem}
 use Rattle.naga_naming.specs.declared.error.NamerError.{NamerError}
 use Rattle.naga_naming.specs.declared.error.NamerError.TheVariants as namer_error
@@ -68,23 +62,17 @@ use Rattle.naga_scope.specs.declared.plan.PlanError.TheVariants as plan_error
 use Rattle.naga_scope.proofs.Planned.{shape_found}
 use Rattle.naga_scope.proofs.SpelledTypes.{declared_is_spelled}
 use Rattle.naga_scope.proofs.WrittenLines.{in_the_function}
-use Rattle.naga_wgsl_fns.specs.declared.refusals.error.Error.{Error}
-use Rattle.naga_wgsl_fns.specs.declared.refusals.error.Error.TheVariants.{Custom, FmtError, Memory}
+use Rattle.naga_wgsl_shared.specs.declared.refusals.error.Error.{Error}
+use Rattle.naga_wgsl_shared.specs.declared.refusals.error.Error.TheVariants.{Custom, FmtError}
+use Rattle.naga_wgsl_shared.specs.declared.refusals.error.Error.TheVariants.{Memory}
 use Rattle.naga_words.specs.declared.sink.SinkError.{SinkError}
-use Rattle.naga_wgsl_fns.specs.DeclarationRefusals.{NamesDeclaration, NamesHead}
-use Rattle.naga_wgsl_fns.specs.DeclarationRefusals.NamesDeclaration.{OfHead, OfInitialiser}
-use Rattle.naga_wgsl_fns.specs.DeclarationRefusals.NamesDeclaration.{OfMember, OfOffsets, OfStride}
-use Rattle.naga_wgsl_fns.specs.DeclarationRefusals.NamesDeclaration.{OfType as OfDeclaredType}
-use Rattle.naga_wgsl_fns.specs.DeclarationRefusals.NamesHead.{OfBinding, OfStage}
-use Rattle.naga_wgsl_fns.specs.Errors.{IsCustom}
-use Rattle.module_semantics.specs.ExpressionOperators.{has_parts}
-use Rattle.wgsl_layout.specs.declared.members.Misplaced.TheVariants.{OffAlignment, Overlapping}
-use Rattle.naga_ir.specs.declared.module.Constant as constant
-use Rattle.naga_wgsl_fns.specs.Constructs.{IsToldAs}
+use Rattle.naga_wgsl_shared.specs.Errors.{IsCustom}
+use Rattle.naga_wgsl_shared.proofs.Wants.{no_type_sink, names_no_sink}
+use Rattle.naga_wgsl_shared.specs.Constructs.{IsToldAs}
 use Rattle.naga_wgsl_fns.specs.Unplanned.{IsRefusedFor, IsUnplanned, TellsUnplanned}
 use Rattle.naga_wgsl_fns.specs.declared.plans.Unplanned.{Unplanned}
 use Rattle.naga_wgsl_fns.specs.declared.plans.Unplanned.TheVariants as unplanned
-use Rattle.naga_wgsl_fns.specs.declared.refusals.construct.Construct.{Construct}
+use Rattle.naga_wgsl_shared.specs.declared.refusals.construct.Construct.{Construct}
 use Rattle.naga_scope.specs.declared.positions.FunctionRefusalPosition.{FunctionRefusalPosition}
 
 -- ---- functions with a plan
@@ -166,105 +154,13 @@ reason_fails explicit m info earlier i error (inr (inl unsupported)) w =
 reason_fails explicit m info earlier i error (inr (inr full)) w = w.nameable full.1
 
 -- ---- what is told of a plan's error
--- no refusal that names a type is the sink's
-no_type_sink : (m : Module) (r : TypeResolution) (reason : SinkError) →
-    NamesType m r (FmtError reason) → ⊥
-no_type_sink m r reason is = by (names_undeclared m r) (lacking_scalar m.types r) is
-  where
-    by : (b : Bool) (o : Option Scalar) → NamesUnspelled b o (FmtError reason) → ⊥
-    by true o is = is
-    by false (Some s) is = is
-    by false None is = is
-
--- nor one that names a statement
+-- no refusal that names a statement is the sink's
 no_statement_sink : (statement : UnsupportedStatement) (reason : SinkError) →
     NamesStatement statement (FmtError reason) → ⊥
 no_statement_sink unsupported_statement.RayQuery reason is = is
 no_statement_sink unsupported_statement.SubgroupOperation reason is = is
 no_statement_sink unsupported_statement.FallThrough reason is = is
 no_statement_sink unsupported_statement.ImageCompareExchange reason is = is
-
--- nor one that names a literal, or one of the module's own expressions
-no_literal_sink : (value : LiteralValue) (reason : SinkError) → NamesLiteral value (FmtError reason) → ⊥
-no_literal_sink (literal.F64 bits) reason named = named
-no_literal_sink (literal.F32 bits) reason named = named
-no_literal_sink (literal.F16 bits) reason named = named
-no_literal_sink (literal.DecimalF64 numeral) reason named = named
-no_literal_sink (literal.DecimalF32 numeral) reason named = named
-no_literal_sink (literal.DecimalF16 numeral) reason named = named
-no_literal_sink (literal.AbstractInt value) reason named = named
-no_literal_sink (literal.AbstractFloat bits) reason named = named
-no_literal_sink _ reason named = named
-
-pub no_global_sink : (m : Module) (reason : SinkError) (h : ℕ) → NamesGlobal m (FmtError reason) h → ⊥
-no_global_sink m reason h (OfLiteral _ value at unsupported named) = no_literal_sink value reason named
-no_global_sink m reason h (OfType _ ty e at is all unsupported named) =
-    no_type_sink m (Handle ty) reason named
-no_global_sink m reason h (OfOperation _ e at is named) = named
-no_global_sink m reason h (OfOperand _ x e at made first inside) = no_global_sink m reason x inside
-no_global_sink m reason h (OfConstant _ c k at there unnamed inside) = no_global_sink m reason k.init inside
-
--- nor is one of those of what a function takes and gives, and of its stage,
-pub head_is_no_sink : (m : Module) (number : ℕ) (reason : SinkError) →
-    NamesHead m number (FmtError reason) → ⊥
-head_is_no_sink m number reason (OfBinding f b at is unsupported named) = named
-head_is_no_sink m number reason (OfStage p at unsupported named) = named
-
--- and of those of a declaration
-pub declaration_is_no_sink : (m : Module) (reason : SinkError) → NamesDeclaration m (FmtError reason) → ⊥
-declaration_is_no_sink m reason (OfDeclaredType ty is unsupported named) =
-    no_type_sink m (Handle ty) reason named
-declaration_is_no_sink m reason (OfInitialiser h is unsupported named) = no_global_sink m reason h named
-declaration_is_no_sink m reason (OfMember b is unsupported named) = named
-declaration_is_no_sink m reason (OfHead number named) = head_is_no_sink m number reason named
-declaration_is_no_sink m reason (OfOffsets h OffAlignment is named) = named
-declaration_is_no_sink m reason (OfOffsets h Overlapping is named) = named
-declaration_is_no_sink m reason (OfStride h ty is named) = named
-
--- nor is one that names an expression
-names_no_sink : (m : Module) (known : List ExpressionInfo) (es : List Expression)
-    (e : Expression) (reason : SinkError) → NamesExpression m known es e (FmtError reason) → ⊥
-names_no_sink m known es (Literal value) reason named = no_literal_sink value reason named
-names_no_sink m known es (Constant handle) reason named = by (slice_get m.constants handle) named
-  where
-    by : (o : Option constant.Constant) →
-        IsSomeAnd o (λ k. NamesGlobal m (FmtError reason) k.init) → ⊥
-    by None named = named
-    by (Some k) named = no_global_sink m reason k.init named
-names_no_sink m known es (CooperativeLoad columns rows role place) reason named =
-    by (pointed_scalar m.types known place.pointer) named
-  where
-    by : (o : Option Scalar) → NamesMatrix o (FmtError reason) → ⊥
-    by None named = named
-    by (Some s) named = named
-names_no_sink m known es (Math fun arg arg1 arg2 arg3) reason named = named
-names_no_sink m known es (Relational fun argument) reason named = absurd cc
-names_no_sink m known es (As operand kind convert) reason named =
-    by (converted m.types known operand kind convert) named
-  where
-    by : (o : Option TypeInner) → NamesConversion o (FmtError reason) → ⊥
-    by None named = named
-    by (Some new) named = named
-names_no_sink m known es
-    (ImageSample image sampler gather coordinate array_index offset level depth_ref clamp) reason
-    (inl named) =
-    named.1
-names_no_sink m known es
-    (ImageSample image sampler gather coordinate array_index offset level depth_ref clamp) reason
-    (inr named) =
-    named.2
-names_no_sink m known es (ImageLoad image coordinate array_index sample level) reason named =
-    named
-names_no_sink m known es (ZeroValue ty) reason named = no_type_sink m (Handle ty) reason named
-names_no_sink m known es (Compose ty components) reason named =
-    no_type_sink m (Handle ty) reason named
-names_no_sink m known es (AccessIndex base index) reason named =
-    by (known_passes m.types known (has_parts m.types) base) named
-  where
-    by : (b : Bool) → NamesPart b (FmtError reason) → ⊥
-    by true named = named
-    by false named = named
-names_no_sink m known es _ reason named = named
 
 module _ (explicit : Bool) (m : Module) (info : ModuleInfo) (accepted : IsTrue (is_accepted m info))
     (i : ℕ) (f : ir_function.Function)

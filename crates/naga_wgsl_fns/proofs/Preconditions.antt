@@ -35,7 +35,7 @@ use Rattle.module_semantics.specs.AlikeTypes.{has_type_form}
 use Rattle.module_semantics.specs.DeclarationForms.{binding_has_form}
 use Rattle.module_semantics.specs.DeclarationForms.IsIoBinding.{OfArgument as IoArgument}
 use Rattle.module_semantics.specs.DeclarationForms.IsIoBinding.{OfResult as IoResult}
-use Rattle.naga_wgsl_fns.specs.Bindings.{passing_has_form}
+use Rattle.naga_wgsl_shared.specs.Bindings.{passing_has_form}
 use Rattle.module_semantics.specs.ExpressionForms.{expression_has_own_form, known_passes}
 use Rattle.naga_form.proofs.declarations.AcceptedGroups.{fits_in_range, known_fits, known_is_fit}
 use Rattle.naga_form.proofs.types.PartTypes.{known_before}

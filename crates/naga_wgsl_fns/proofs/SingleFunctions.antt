@@ -43,28 +43,23 @@ use Rattle.wgsl_text.specs.Token.{LineEnd}
 use Rattle.wgsl_text.specs.Words.{IsIdentifier}
 use Rattle.wgsl_text.proofs.Reading.{entry_point_has_one_reading, function_has_one_reading}
 use Rattle.wgsl_text.proofs.Text.{text-append}
-use Rattle.naga_wgsl_fns.specs.Attributes.{attributes_text}
-use Rattle.naga_wgsl_fns.specs.DeclarationRefusals.{NamesHead}
-use Rattle.naga_wgsl_fns.specs.Errors.{IsWant}
+use Rattle.naga_wgsl_shared.specs.Attributes.{attributes_text}
+use Rattle.naga_wgsl_shared.specs.DeclarationRefusals.{NamesHead}
+use Rattle.naga_wgsl_shared.specs.Errors.{IsWant}
 use Rattle.naga_back.specs.Flags.{annotates_types}
 use Rattle.naga_wgsl_fns.specs.Functions.{known_of, names_of, stage_before, text_of, text_under}
 use Rattle.naga_wgsl_fns.specs.Items.{AppendsOne, FunctionWriting, IsFunctionRefusal}
 use Rattle.naga_wgsl_fns.specs.Items.{HasNamedItemsOf, StandsIn, named_following, text_after}
-use Rattle.naga_wgsl_fns.specs.Refusals.{IsPlanRefusal, IsWritableAt, TellsOfModule}
-use Rattle.naga_wgsl_fns.specs.Stages.{stage_text}
-use Rattle.naga_wgsl_fns.specs.declared.refusals.error.Error.{Error}
-use Rattle.naga_wgsl_fns.specs.declared.refusals.error.Error.TheVariants.{FmtError, Memory}
+use Rattle.naga_wgsl_fns.specs.PlanRefusals.{IsPlanRefusal, IsWritableAt}
+use Rattle.naga_wgsl_shared.specs.Stages.{stage_text}
+use Rattle.naga_wgsl_shared.specs.declared.refusals.error.Error.{Error}
+use Rattle.naga_wgsl_shared.specs.declared.refusals.error.Error.TheVariants.{FmtError, Memory}
 use Rattle.naga_wgsl_fns.proofs.ExpressionNames.{named_are, none_full}
 use Rattle.naga_wgsl_fns.proofs.FunctionRows.{no_entry_point, entry_point_within}
 use Rattle.naga_wgsl_fns.proofs.MeantFunctions.{is_meant, own_function, own_entry_point}
-use Rattle.naga_wgsl_fns.proofs.PlanRefusals.{head_is_no_sink, planned_holds}
-
--- what comes from the sink or from memory tells of no module
-pub want_tells_nothing : (before after : ℕ) (error : Error) → IsWant before after error →
-    TellsOfModule error → ⊥
-want_tells_nothing before after (FmtError e) is tells = tells
-want_tells_nothing before after (Memory e) is tells = tells
-want_tells_nothing before after _ is tells = is
+use Rattle.naga_wgsl_shared.proofs.Wants.{want_tells_nothing}
+use Rattle.naga_wgsl_shared.proofs.Wants.{head_is_no_sink}
+use Rattle.naga_wgsl_fns.proofs.PlanRefusals.{planned_holds}
 
 -- a namer that has named some first labels of a function has named the items in front of them
 pub items_named : (m : Module) (handle : ℕ) (old new : Names) → HasNamedItemsOf m old →

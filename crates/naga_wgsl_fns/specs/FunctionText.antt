@@ -13,7 +13,7 @@ use Rattle.std.specs.Prelude.{length, [], ◌^◌, string_bytes}
 use Rattle.std.specs.Option.{option_map_or}
 use Rattle.naga_scope.specs.declared.points.Availability.{Availability}
 use Rattle.naga_scope.specs.Availabilities.{handles_of}
-use Rattle.naga_scope.specs.Tables.{AreTablesOf}
+use Rattle.naga_tables.specs.Tables.{AreTablesOf}
 use Rattle.naga_ir.specs.declared.expression.Expression.{Expression}
 use Rattle.module_semantics.specs.acceptance.Accepted.{is_accepted}
 use Rattle.module_semantics.specs.DeclarationForms.{HeadHasForm}

@@ -31,9 +31,9 @@ use Rattle.naga_wgsl_fns.specs.FunctionText.{named_in, handles_in, source, namin
 use Rattle.naga_wgsl_fns.specs.FunctionText.{number, type_names_of}
 use Rattle.naga_wgsl_fns.specs.BodyStates.{HasScope}
 use Rattle.module_semantics.specs.FunctionNumbers.{all_functions, all_infos}
-use Rattle.naga_wgsl_fns.specs.Attributes.{attributes_text}
+use Rattle.naga_wgsl_shared.specs.Attributes.{attributes_text}
 use Rattle.naga_wgsl_fns.specs.Names.{name_of_function}
-use Rattle.naga_wgsl_fns.specs.Stages.{stage_text}
+use Rattle.naga_wgsl_shared.specs.Stages.{stage_text}
 use Rattle.naga_wgsl_fns.specs.Statements.{lines_text}
 use Rattle.naga_wgsl_fns.specs.Types.{type_text}
 

@@ -1,8 +1,7 @@
--- The names that the text of a function and those of a module's own expressions use.
+-- The names that the text of a function uses.
 use Rattle.std.specs.Prelude.{ℕ, List}
-use Rattle.module_semantics.specs.Names.{argument_name, constant_name, function_name, global_name}
-use Rattle.module_semantics.specs.Names.{local_name, module_names, numbered_name, override_name}
-use Rattle.naga_ir.specs.declared.module.Module.{Module}
+use Rattle.module_semantics.specs.Names.{argument_name, function_name, global_name}
+use Rattle.module_semantics.specs.Names.{local_name, module_names, numbered_name}
 use Rattle.naga_scope.specs.Availabilities.{name_of_bound}
 use Rattle.naga_scope.specs.declared.points.BoundName.{BoundName}
 use Rattle.shader_runs.specs.Scope.{bound_name}
@@ -30,12 +29,6 @@ next_name_text f given handle = bound_name (naming f) given handle
 unfoldable pub name_of_local : FunctionText → (local : ℕ) → List ℕ
 name_of_local f local = local_name f.shader.now (module_names f.shader.now) (number f) local
 
--- a variable, a constant and an override of the module
+-- a variable of the module
 unfoldable pub name_of_global : FunctionText → (variable : ℕ) → List ℕ
 name_of_global f variable = global_name (module_names f.shader.now) variable
-
-unfoldable pub name_of_constant : Module → (constant : ℕ) → List ℕ
-name_of_constant m c = constant_name (module_names m) c
-
-unfoldable pub name_of_override : Module → (override : ℕ) → List ℕ
-name_of_override m o = override_name (module_names m) o

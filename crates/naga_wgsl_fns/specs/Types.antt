@@ -1,20 +1,14 @@
--- The texts of types.
+-- The texts of types in functions.
 use Rattle.std.specs.Prelude.{ℕ, List, [], ◌++◌, Option, Some, None, codes, unwrap_or}
 use Rattle.naga_info.specs.declared.info.TypeResolution.{TypeResolution}
 use Rattle.naga_form.specs.Types.{type_form}
 use Rattle.naga_form.specs.TypeTrees.{resolution_tree}
 use Rattle.wgsl_text.specs.Types.{TypeSpecifier, Named}
 use Rattle.wgsl_text.specs.Reading.{printed_type}
-use Rattle.naga_ir.specs.declared.module.Module.{Module}
-use Rattle.module_semantics.specs.Types.{type_names}
 use Rattle.naga_wgsl_fns.specs.declared.functions.FunctionText.{FunctionText}
 use Rattle.naga_wgsl_fns.specs.FunctionText.{let_annotation, type_names_of}
 
--- the type of a module with this handle
-unfoldable pub spelled_text : Module → (ty : ℕ) → List ℕ
-spelled_text m ty = printed_type (type_form (type_names m) ty)
-
--- the same of a function's module
+-- the type of a function's module with this handle
 unfoldable pub type_text : FunctionText → (ty : ℕ) → List ℕ
 type_text f ty = printed_type (type_form (type_names_of f) ty)
 

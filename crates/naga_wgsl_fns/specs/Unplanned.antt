@@ -9,12 +9,12 @@ use Rattle.naga_naming.specs.declared.error.NamerError.TheVariants as namer_erro
 use Rattle.naga_scope.specs.Plans.{IsFirstToPlanOf, IsRefusalToPlanOf}
 use Rattle.naga_scope.specs.declared.plan.PlanError.{PlanError}
 use Rattle.naga_scope.specs.declared.plan.PlanError.TheVariants as plan_error
-use Rattle.naga_wgsl_fns.specs.Carried.{CarriesOfPlan}
-use Rattle.naga_wgsl_fns.specs.Constructs.{IsToldAs, Tells}
-use Rattle.naga_wgsl_fns.specs.Refusals.{TellsPlanError}
-use Rattle.naga_wgsl_fns.specs.declared.refusals.construct.Construct.{Construct}
-use Rattle.naga_wgsl_fns.specs.declared.refusals.error.Error.{Error}
-use Rattle.naga_wgsl_fns.specs.declared.refusals.error.Error.TheVariants.{Memory}
+use Rattle.naga_wgsl_fns.specs.PlanRefusals.{CarriesOfPlan}
+use Rattle.naga_wgsl_shared.specs.Constructs.{IsToldAs, Tells}
+use Rattle.naga_wgsl_fns.specs.PlanRefusals.{TellsPlanError}
+use Rattle.naga_wgsl_shared.specs.declared.refusals.construct.Construct.{Construct}
+use Rattle.naga_wgsl_shared.specs.declared.refusals.error.Error.{Error}
+use Rattle.naga_wgsl_shared.specs.declared.refusals.error.Error.TheVariants.{Memory}
 use Rattle.naga_scope.specs.declared.positions.FunctionRefusalPosition.{FunctionRefusalPosition}
 use Rattle.naga_scope.specs.declared.positions.FunctionRefusalPosition.TheVariants as part
 use Rattle.naga_wgsl_fns.specs.declared.plans.Unplanned.{Unplanned}

@@ -15,10 +15,10 @@ ghost use Rattle.naga_wgsl_fns.specs.Expressions.{value_text};
 ghost use Rattle.wgsl_words.specs.Words.{unary_text};
 
 use crate::functions::FunctionText;
-use crate::literal::write_literal;
 use module_semantics::called_str;
 use naga_ir::{BinaryOperator, Expression, Handle, LocalVariable, Type_, UnaryOperator};
 use naga_scope::{Availability, Scope};
+use naga_wgsl_shared::write_literal;
 use naga_words::{Output, TextSink};
 
 impl FunctionText<'_> {

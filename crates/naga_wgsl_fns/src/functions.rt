@@ -11,10 +11,10 @@ ghost use Rattle.module_semantics.specs.Names.{HasNamesOf};
 ghost use Rattle.naga_naming.specs.Keys.{names_in};
 ghost use Rattle.naga_scope.specs.Changes.{block_changes};
 ghost use Rattle.naga_scope.specs.Plans.{IsPlanOf};
-ghost use Rattle.naga_scope.specs.Tables.{AreTablesOf};
+ghost use Rattle.naga_tables.specs.Tables.{AreTablesOf};
 ghost use Rattle.naga_words.specs.Output.{Writes};
 ghost use Rattle.naga_spelling.specs.Sink.{IsAfter};
-ghost use Rattle.naga_wgsl_fns.specs.Errors.{IsWant};
+ghost use Rattle.naga_wgsl_shared.specs.Errors.{IsWant};
 ghost use Rattle.naga_wgsl_fns.specs.FunctionText.{CanWrite};
 ghost use Rattle.naga_back.specs.Flags.{annotates_types};
 ghost use Rattle.naga_wgsl_fns.specs.FunctionText.{AreInText, IsInText};
@@ -29,11 +29,8 @@ ghost use Rattle.naga_wgsl_fns.specs.Functions.{head_text, item_text, local_text
 ghost use Rattle.naga_wgsl_fns.specs.Functions.{next_argument_text, result_text, stage_before};
 ghost use Rattle.naga_wgsl_fns.specs.Functions.{names_of, text_under};
 
-use crate::Error;
-use crate::bindings::write_optional_binding;
 use crate::indent::Indent;
 use crate::lines::BodyState;
-use crate::refusals::error::error_of_want;
 use naga_back::{FunctionType, WriterFlags};
 use naga_info::{FunctionInfo, ModuleInfo};
 use naga_ir::{
@@ -41,7 +38,11 @@ use naga_ir::{
     Module,
 };
 use naga_naming::NameKey;
-use naga_scope::{ModuleTables, Plan, Scope, function_of};
+use naga_scope::{Plan, Scope, function_of};
+use naga_tables::ModuleTables;
+use naga_wgsl_shared::Error;
+use naga_wgsl_shared::bindings::write_optional_binding;
+use naga_wgsl_shared::refusals::error::error_of_want;
 use naga_words::{Output, TextSink};
 use std::alloc::Global;
 use std::collections::HashMap;

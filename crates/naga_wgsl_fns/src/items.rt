@@ -13,14 +13,14 @@ ghost use Rattle.naga_wgsl_fns.specs.Items.{AnswersShowItems, FunctionWriting, H
 
 use crate::functions::write_planned;
 use crate::plans::plan_of;
-use crate::refusals::declarations::head_without_form;
-use crate::refusals::error::Error;
 use naga_back::{FunctionType, WriterFlags};
 use naga_info::ModuleInfo;
 use naga_ir::Module;
 use naga_names::namer::Namer;
 use naga_naming::NameKey;
-use naga_scope::{ModuleTables, unsupported_head};
+use naga_tables::{ModuleTables, unsupported_head};
+use naga_wgsl_shared::Error;
+use naga_wgsl_shared::refusals::declarations::head_without_form;
 use naga_words::TextSink;
 use std::alloc::Global;
 use std::collections::HashMap;

@@ -18,7 +18,8 @@ use naga_info::TypeResolution;
 use naga_ir::{
     CooperativeData, CooperativeRole, CooperativeSize, Expression, Handle, Scalar, Type_, TypeInner,
 };
-use naga_scope::{Scope, pointee_scalar};
+use naga_scope::Scope;
+use naga_tables::pointee_scalar;
 use naga_words::{Output, TextSink};
 
 impl FunctionText<'_> {

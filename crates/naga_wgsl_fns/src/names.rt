@@ -6,17 +6,13 @@ ghost use Rattle.naga_naming.specs.Keys.{names_in};
 ghost use Rattle.naga_naming.specs.declared.key.NameKey.TheVariants as key;
 ghost use Rattle.naga_words.specs.Output.{Writes};
 ghost use Rattle.naga_wgsl_fns.specs.FunctionText.{CanWrite, named_in};
-ghost use Rattle.naga_wgsl_fns.specs.ModuleText.{CanWriteIn};
-ghost use Rattle.naga_wgsl_fns.specs.Names.{bound_text, name_of_argument, name_of_constant};
+ghost use Rattle.naga_wgsl_fns.specs.Names.{bound_text, name_of_argument};
 ghost use Rattle.naga_wgsl_fns.specs.Names.{name_of_function, name_of_global, name_of_local};
-ghost use Rattle.naga_wgsl_fns.specs.Names.{name_of_override, next_name_text};
+ghost use Rattle.naga_wgsl_fns.specs.Names.{next_name_text};
 
 use crate::functions::FunctionText;
-use crate::module_text::ModuleText;
 use itoa::Buffer;
-use naga_ir::{
-    Constant, Expression, Function, GlobalVariable, Handle, LocalVariable, Override, Type_,
-};
+use naga_ir::{Expression, Function, GlobalVariable, Handle, LocalVariable, Type_};
 use naga_naming::NameKey;
 use naga_scope::{BoundName, Scope};
 use naga_words::{Output, TextSink};
@@ -154,53 +150,6 @@ impl FunctionText<'_> {
             (name_in (module_names self.now.shader.now) key.now) }
     {
         self.of_module().write_name(key, out);
-    }
-}
-
-impl ModuleText<'_> {
-    #[inline(never)]
-    #[tactic(auto, unfolding(crate::specs::Names::name_of_constant))]
-    pub(crate) fn write_constant_name<W: TextSink>(
-        &self,
-        constant: Handle<Constant>,
-        out: &mut Output<'_, W>,
-    )
-        requires can { CanWriteIn self.now }
-        requires constant { constant < length self.now.shader.now.constants }
-        ensures { Writes W.text W.failures out.old out.new
-            (name_of_constant self.now.shader.now constant) }
-    {
-        self.write_name(&NameKey::Constant(constant), out);
-    }
-
-    #[inline(never)]
-    #[tactic(auto, unfolding(crate::specs::Names::name_of_override))]
-    pub(crate) fn write_override_name<W: TextSink>(
-        &self,
-        handle: Handle<Override>,
-        out: &mut Output<'_, W>,
-    )
-        requires can { CanWriteIn self.now }
-        requires there { handle < length self.now.shader.now.overrides }
-        ensures { Writes W.text W.failures out.old out.new
-            (name_of_override self.now.shader.now handle) }
-    {
-        self.write_name(&NameKey::Override(handle), out);
-    }
-
-    /// The name of the item with this key.
-    // In each caller the kind of the key is known, so that hashing it takes no choice there.
-    #[inline(always)]
-    pub fn write_name<W: TextSink>(&self, key: &NameKey, out: &mut Output<'_, W>)
-        requires named { names_in self.now.names.now key.now
-            ≡ Some (name_in (module_names self.now.shader.now) key.now) }
-        ensures { Writes W.text W.failures out.old out.new
-            (name_in (module_names self.now.shader.now) key.now) }
-    {
-        match self.names.get(key) {
-            Some(name) => out.put(name),
-            None => unreachable!(),
-        }
     }
 }
 

@@ -25,7 +25,8 @@ ghost use Rattle.naga_wgsl_fns.specs.FunctionText.{CanWrite, IsInText, context, 
 use crate::functions::FunctionText;
 use itoa::Buffer;
 use naga_ir::{Expression, Handle, SwizzleComponent, Type_, TypeInner, UniqueArena, VectorSize};
-use naga_scope::{Availability, Scope, whole_known};
+use naga_scope::{Availability, Scope};
+use naga_tables::whole_known;
 use naga_words::{Output, TextSink};
 
 impl FunctionText<'_> {

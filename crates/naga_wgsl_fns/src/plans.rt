@@ -9,31 +9,34 @@ ghost use Rattle.module_semantics.specs.Names.{HasNamesOf, labels_named_in, wgsl
 ghost use Rattle.naga_ir.specs.declared.expression.Expression.{Expression};
 ghost use Rattle.naga_naming.specs.Keys.{names_in};
 ghost use Rattle.naga_naming.specs.Naming.{HasNamed};
-ghost use Rattle.naga_scope.specs.Forms.{AreKnownIn};
+ghost use Rattle.naga_tables.specs.Forms.{AreKnownIn};
 ghost use Rattle.naga_scope.specs.ExpressionNames.{HasBegunLabels, HasOtherUses, NamesLabels};
-ghost use Rattle.naga_scope.specs.Marks.{GlobalsStandInOrder};
+ghost use Rattle.naga_tables.specs.Marks.{GlobalsStandInOrder};
 ghost use Rattle.naga_scope.specs.Plans.{IsPlanOf};
-ghost use Rattle.naga_scope.specs.Tables.{AreTablesOf};
+ghost use Rattle.naga_tables.specs.Tables.{AreTablesOf};
 ghost use Rattle.naga_back.specs.Flags.{annotates_types};
-ghost use Rattle.naga_wgsl_fns.specs.Refusals.{IsOfPlan, IsPlanRefusal, NamesItemsOf};
-ghost use Rattle.naga_wgsl_fns.specs.Carried.{CarriesOfPlan};
-ghost use Rattle.naga_wgsl_fns.specs.Constructs.{Tells};
-ghost use Rattle.naga_wgsl_fns.specs.Refusals.{IsErrorOfNames, TellsPlanError};
+ghost use Rattle.naga_wgsl_fns.specs.PlanRefusals.{NamesStatement};
+ghost use Rattle.naga_wgsl_fns.specs.PlanRefusals.{IsOfPlan, IsPlanRefusal};
+ghost use Rattle.naga_wgsl_shared.specs.Refusals.{NamesItemsOf};
+ghost use Rattle.naga_wgsl_fns.specs.PlanRefusals.{CarriesOfPlan};
+ghost use Rattle.naga_wgsl_shared.specs.Constructs.{Tells};
+ghost use Rattle.naga_wgsl_shared.specs.Refusals.{IsErrorOfNames};
+ghost use Rattle.naga_wgsl_fns.specs.PlanRefusals.{TellsPlanError};
 ghost use Rattle.naga_wgsl_fns.specs.Unplanned.{IsToldOfUnplanned, IsUnplanned, TellsUnplanned};
 ghost use Rattle.naga_wgsl_fns.specs.Unplanned.{namer_lacks_memory};
 ghost use Rattle.naga_wgsl_fns.specs.Unplanned.{plan_lacks_memory, function_position};
-ghost use Rattle.naga_wgsl_fns.specs.declared.refusals.error.Error.TheVariants.{Memory};
+ghost use Rattle.naga_wgsl_shared.specs.declared.refusals.error.Error.TheVariants.{Memory};
 ghost use Rattle.naga_naming.specs.declared.error.NamerError.TheVariants as namer_error;
 
-use crate::refusals::construct::Construct;
-use crate::refusals::error::Error;
-use crate::refusals::forms::{statement_without_form, type_without_form, without_form};
 use naga_back::{FunctionType, WriterFlags, annotates_types};
 use naga_info::{FunctionInfo, ModuleInfo, TypeResolution};
 use naga_ir::{Function, Module};
 use naga_names::namer::Namer;
 use naga_naming::{NameKey, NamerError};
-use naga_scope::{FunctionRefusalPosition, ModuleTables, Plan, PlanError, function_of};
+use naga_scope::{FunctionRefusalPosition, Plan, PlanError, function_of};
+use naga_tables::ModuleTables;
+use naga_wgsl_shared::refusals::forms::{type_without_form, without_form};
+use naga_wgsl_shared::{Construct, Error};
 use std::alloc::{AllocError, Global};
 use std::collections::HashMap;
 
@@ -213,5 +216,17 @@ pub fn construct_of_names(error: NamerError) -> Result<Construct, AllocError>
         NamerError::Full => Ok(Construct::FullNamer),
         NamerError::KeyFull => Ok(Construct::NameKey),
         NamerError::Memory(error) => Err(error),
+    }
+}
+
+/// What a statement that has no form is.
+fn statement_without_form(statement: UnsupportedStatement) -> Construct
+    ensures { Tells result (NamesStatement statement) }
+{
+    match statement {
+        UnsupportedStatement::RayQuery => Construct::RayQuery,
+        UnsupportedStatement::SubgroupOperation => Construct::SubgroupOperation,
+        UnsupportedStatement::FallThrough => Construct::FallThrough,
+        UnsupportedStatement::ImageCompareExchange => Construct::ImageCompareExchange,
     }
 }

@@ -17,8 +17,8 @@ ghost use Rattle.naga_wgsl_fns.specs.Statements.{statement_text, waiting_text};
 
 use crate::functions::FunctionText;
 use crate::lines::BodyState;
-use crate::literal::write_number;
 use naga_ir::{Block, Expression, Handle, SwitchCase, SwitchValue};
+use naga_wgsl_shared::literal::write_number;
 use naga_words::{Output, TextSink};
 
 impl FunctionText<'_> {

@@ -30,12 +30,12 @@ use Rattle.wgsl_text.specs.Declarations.{NamedConstant, Override, constants_piec
 use Rattle.wgsl_text.specs.Declarations.{overrides_pieces}
 use Rattle.wgsl_text.specs.Functions.{group_end}
 use Rattle.wgsl_text.specs.Text.{text}
-use Rattle.naga_wgsl_fns.proofs.AttributeRows.{no_attributes, numbered_alone}
-use Rattle.naga_wgsl_fns.specs.Attributes.{attributes_text, numbered_text}
-use Rattle.naga_wgsl_fns.specs.Constants.{global_text}
+use Rattle.naga_wgsl_shared.proofs.AttributeRows.{no_attributes, numbered_alone}
+use Rattle.naga_wgsl_shared.specs.Attributes.{attributes_text, numbered_text}
+use Rattle.naga_wgsl_shared.specs.Constants.{global_text}
 use Rattle.naga_wgsl_fns.specs.Functions.{group_end_text}
-use Rattle.naga_wgsl_fns.specs.Types.{spelled_text}
-use Rattle.naga_wgsl_fns.specs.declared.module_text.ModuleText.{ModuleText}
+use Rattle.naga_wgsl_shared.specs.Types.{spelled_text}
+use Rattle.naga_wgsl_shared.specs.declared.module_text.ModuleText.{ModuleText}
 use Rattle.naga_wgsl_out.proofs.ArenaLoops.{texts_of}
 use Rattle.naga_wgsl_out.proofs.ItemRows.{first_value_row, group_end_row, typed_then}
 use Rattle.naga_wgsl_out.specs.Constants.{constant_at, constant_text, constants_of, constants_text}

@@ -16,7 +16,7 @@ use Rattle.module_semantics.specs.Names.{expression_name, item_labels, labels_be
 use Rattle.naga_scope.specs.ExpressionNames.{NamesLabels}
 use Rattle.naga_scope.specs.Plans.{AreExpressionNames, IsPlanOf, Planned}
 use Rattle.naga_info.specs.declared.info.ModuleInfo.{ModuleInfo}
-use Rattle.naga_wgsl_fns.specs.Refusals.{ExpressionNamesAreFullIn}
+use Rattle.naga_wgsl_fns.specs.PlanRefusals.{ExpressionNamesAreFullIn}
 use Rattle.naga_wgsl_fns.proofs.ExpressionNames.{named_are, none_full as none_full_after}
 use Rattle.naga_wgsl_out.specs.ModuleRefusals.{HasNamedBefore}
 use Rattle.naga_wgsl_out.specs.Writing.{IsNamedPlan}

@@ -24,11 +24,12 @@ use Rattle.naga_form.proofs.Runs.{runs_as}
 use Rattle.naga_spelling.specs.Sink.{IsAfter}
 use Rattle.naga_words.proofs.Writing.{after_then}
 use Rattle.naga_wgsl_fns.proofs.SingleFunctions.{same_following}
-use Rattle.naga_wgsl_fns.proofs.Appending.{stopped_first, stopped_then, wrote_then}
-use Rattle.naga_wgsl_fns.specs.Appends.{StoppedWithin, Wrote}
-use Rattle.naga_wgsl_fns.specs.Errors.{IsWant}
-use Rattle.naga_wgsl_fns.specs.declared.refusals.error.Error.{Error}
-use Rattle.naga_wgsl_fns.specs.declared.refusals.error.Error.TheVariants.{FmtError, Custom, Memory}
+use Rattle.naga_wgsl_shared.proofs.Appending.{stopped_first, stopped_then, wrote_then}
+use Rattle.naga_wgsl_shared.specs.Appends.{StoppedWithin, Wrote}
+use Rattle.naga_wgsl_shared.specs.Errors.{IsWant}
+use Rattle.naga_wgsl_shared.specs.declared.refusals.error.Error.{Error}
+use Rattle.naga_wgsl_shared.specs.declared.refusals.error.Error.TheVariants.{FmtError, Custom}
+use Rattle.naga_wgsl_shared.specs.declared.refusals.error.Error.TheVariants.{Memory}
 use Rattle.naga_back.specs.declared.flags.WriterFlags.{WriterFlags}
 use Rattle.naga_back.specs.Flags.{annotates_types}
 use Rattle.naga_wgsl_out.specs.Writing.{HasPlan, MetNoPlan, WritesFunctions, WroteFunctions}
@@ -37,7 +38,8 @@ use Rattle.naga_wgsl_out.specs.Writing.{spaced_module, AppendsItsText, written_t
 use Rattle.naga_wgsl_out.proofs.Functions.{lines_after, lines_split, written_lines}
 use Rattle.naga_wgsl_out.proofs.ModuleScopes.{all_planned_counted, all_planned_formed}
 use Rattle.naga_wgsl_out.proofs.ModuleScopes.{all_planned_hold, reason_refuses, reason_reported}
-use Rattle.naga_wgsl_fns.specs.Refusals.{TellsOfForm, TellsOfFullNamer, TellsOfModule, TellsOfScope}
+use Rattle.naga_wgsl_fns.specs.PlanRefusals.{TellsOfForm, TellsOfFullNamer, TellsOfScope}
+use Rattle.naga_wgsl_shared.specs.Refusals.{TellsOfModule}
 use Rattle.naga_wgsl_out.specs.ModuleRefusals.{ComesBeforeText, HasAllNames, IsNamesRefusal}
 use Rattle.naga_wgsl_out.specs.ModuleRefusals.{ItemsAreFull, IsRefusal, NamerIsFull}
 use Rattle.naga_wgsl_out.specs.ModuleRefusals.{TellsOfFunction}

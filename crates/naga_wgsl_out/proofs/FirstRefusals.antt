@@ -34,22 +34,23 @@ use Rattle.naga_ir.specs.declared.types.Type_.{Type_}
 use Rattle.naga_layout.specs.Types.{arrays_are_kept}
 use Rattle.naga_naming.specs.Reset.{members_of}
 use Rattle.naga_scope.proofs.Planned.{shape_found}
-use Rattle.naga_scope.proofs.UnsupportedDeclarations.{entry_point_lacks}
-use Rattle.naga_scope.specs.Declarations.{ConstantHasForm, EntryPointHasForm, HaveFormsBefore}
-use Rattle.naga_scope.specs.Declarations.{IsUnsupportedConstant, IsUnsupportedHead}
-use Rattle.naga_scope.specs.Declarations.{IsUnsupportedFunction, IsUnsupportedHeadOf}
-use Rattle.naga_scope.specs.Declarations.{IsUnsupportedIn, IsUnsupportedIo, IsUnsupportedStruct}
-use Rattle.naga_scope.specs.Declarations.{IsUnsupportedType, IsUnsupportedValue, IoHasForm}
-use Rattle.naga_scope.specs.Declarations.{StructHasForm, TypeHasForm, ValueHasForm, concerned_among}
+use Rattle.naga_tables.proofs.UnsupportedDeclarations.{entry_point_lacks}
+use Rattle.naga_tables.specs.Declarations.{ConstantHasForm, EntryPointHasForm, HaveFormsBefore}
+use Rattle.naga_tables.specs.Declarations.{IsUnsupportedConstant, IsUnsupportedHead}
+use Rattle.naga_tables.specs.Declarations.{IsUnsupportedFunction, IsUnsupportedHeadOf}
+use Rattle.naga_tables.specs.Declarations.{IsUnsupportedIn, IsUnsupportedIo, IsUnsupportedStruct}
+use Rattle.naga_tables.specs.Declarations.{IsUnsupportedType, IsUnsupportedValue, IoHasForm}
+use Rattle.naga_tables.specs.Declarations.{StructHasForm, TypeHasForm, ValueHasForm}
+use Rattle.naga_tables.specs.Declarations.{concerned_among}
 use Rattle.naga_scope.specs.Plans.{IsFirstToPlan}
-use Rattle.naga_scope.specs.declared.declarations.DeclarationPosition.{DeclarationPosition}
-use Rattle.naga_scope.specs.declared.declarations.DeclarationPosition.TheVariants as declared
-use Rattle.naga_scope.specs.declared.declarations.UnsupportedDeclaration.{UnsupportedDeclaration}
-use Rattle.naga_scope.specs.declared.declarations.UnsupportedDeclaration.TheVariants as declaration
-use Rattle.naga_scope.specs.declared.declarations.UnsupportedHead.{UnsupportedHead}
-use Rattle.naga_scope.specs.declared.declarations.UnsupportedHead.TheVariants as head
+use Rattle.naga_tables.specs.declared.declarations.DeclarationPosition.{DeclarationPosition}
+use Rattle.naga_tables.specs.declared.declarations.DeclarationPosition.TheVariants as declared
+use Rattle.naga_tables.specs.declared.declarations.UnsupportedDeclaration.{UnsupportedDeclaration}
+use Rattle.naga_tables.specs.declared.declarations.UnsupportedDeclaration.TheVariants as declaration
+use Rattle.naga_tables.specs.declared.declarations.UnsupportedHead.{UnsupportedHead}
+use Rattle.naga_tables.specs.declared.declarations.UnsupportedHead.TheVariants as head
 use Rattle.naga_scope.specs.declared.positions.FunctionRefusalPosition.{FunctionRefusalPosition}
-use Rattle.naga_wgsl_fns.specs.declared.refusals.construct.Construct.{Construct}
+use Rattle.naga_wgsl_shared.specs.declared.refusals.construct.Construct.{Construct}
 use Rattle.naga_wgsl_out.proofs.FirstParts.{lowest, one_part, part_refuses}
 use Rattle.naga_wgsl_out.proofs.ModuleScopes.{each_writable}
 use Rattle.naga_wgsl_out.specs.ModuleRefusals.{ItemsAreFull, KeyIsOutOfRange, NothingIsRefused}

@@ -41,16 +41,17 @@ use Rattle.naga_scope.specs.Plans.{IsPlanOf, Planned}
 use Rattle.module_semantics.specs.Enables.{written_enables}
 use Rattle.module_semantics.specs.Names.{expression_name, labels_before, labels_named_in}
 use Rattle.module_semantics.specs.Names.{module_names, wgsl_names}
-use Rattle.naga_wgsl_fns.specs.Appends.{Appends, StoppedWithin, Wrote}
-use Rattle.naga_wgsl_fns.specs.Attributes.{attributes_text}
+use Rattle.naga_wgsl_shared.specs.Appends.{Appends, StoppedWithin, Wrote}
+use Rattle.naga_wgsl_shared.specs.Attributes.{attributes_text}
 use Rattle.naga_back.specs.Flags.{annotates_types}
 use Rattle.naga_wgsl_fns.specs.Functions.{known_of, text_of}
-use Rattle.naga_wgsl_fns.specs.Stages.{stage_text}
-use Rattle.naga_wgsl_fns.specs.declared.refusals.error.Error.{Error}
-use Rattle.naga_wgsl_fns.specs.declared.refusals.error.Error.TheVariants.{Memory}
-use Rattle.naga_wgsl_fns.proofs.Appending.{stopped_first, stopped_then, wrote_nothing, wrote_then}
+use Rattle.naga_wgsl_shared.specs.Stages.{stage_text}
+use Rattle.naga_wgsl_shared.specs.declared.refusals.error.Error.{Error}
+use Rattle.naga_wgsl_shared.specs.declared.refusals.error.Error.TheVariants.{Memory}
+use Rattle.naga_wgsl_shared.proofs.Appending.{stopped_first, stopped_then, wrote_nothing}
+use Rattle.naga_wgsl_shared.proofs.Appending.{wrote_then}
 use Rattle.naga_back.specs.declared.flags.WriterFlags.{WriterFlags}
-use Rattle.naga_wgsl_fns.specs.Refusals.{IsPlanRefusal}
+use Rattle.naga_wgsl_fns.specs.PlanRefusals.{IsPlanRefusal}
 use Rattle.naga_wgsl_out.specs.Declarations.{declarations_of, declarations_text}
 use Rattle.naga_wgsl_out.specs.Enables.{enables_text}
 use Rattle.naga_wgsl_out.proofs.DeclarationRows.{program_row}

@@ -15,9 +15,9 @@ use Rattle.naga_words.specs.Output.{joined_texts}
 use Rattle.wgsl_text.proofs.Functions.{value_text as value_row_text}
 use Rattle.wgsl_text.specs.Functions.{group_end}
 use Rattle.wgsl_text.specs.Text.{text}
-use Rattle.naga_wgsl_fns.specs.Constants.{global_text}
+use Rattle.naga_wgsl_shared.specs.Constants.{global_text}
 use Rattle.naga_wgsl_fns.specs.Functions.{group_end_text}
-use Rattle.naga_wgsl_fns.specs.Types.{spelled_text}
+use Rattle.naga_wgsl_shared.specs.Types.{spelled_text}
 use Rattle.naga_wgsl_out.specs.Items.{first_value_text, typed_text, value_text}
 
 pub typed_row : (m : Module) (key : NameKey) (ty : ℕ) →

@@ -20,20 +20,25 @@ use Rattle.module_semantics.specs.FunctionShapes.{function_shapes}
 use Rattle.naga_form.proofs.statements.AcceptedFunctions.{all_counted}
 use Rattle.naga_naming.proofs.Refusal.{element}
 use Rattle.module_semantics.specs.Names.{labels_before}
-use Rattle.naga_wgsl_fns.specs.declared.refusals.error.Error.{Error}
-use Rattle.naga_wgsl_fns.specs.declared.refusals.error.Error.TheVariants.{Custom, FmtError, Memory}
-use Rattle.naga_wgsl_fns.specs.declared.refusals.error.Error.TheVariants.{Unimplemented}
-use Rattle.naga_wgsl_fns.specs.declared.refusals.error.Error.TheVariants.{Unsupported}
-use Rattle.naga_wgsl_fns.specs.declared.refusals.error.Error.TheVariants.{UnsupportedRelationalFunction}
-use Rattle.naga_wgsl_fns.specs.Refusals.{IsReasonForNoPlan, IsWritableAt, HasUnsupportedIn, NamesUnsupported}
-use Rattle.naga_wgsl_fns.specs.Refusals.{TellsOfModule, TellsOfScope}
-use Rattle.naga_wgsl_fns.specs.DeclarationRefusals.{NamesDeclaration}
-use Rattle.naga_wgsl_fns.specs.DeclarationRefusals.NamesDeclaration.{OfHead, OfInitialiser}
-use Rattle.naga_wgsl_fns.specs.DeclarationRefusals.NamesDeclaration.{OfMember, OfOffsets, OfStride}
-use Rattle.naga_wgsl_fns.specs.DeclarationRefusals.NamesDeclaration.{OfType as OfDeclaredType}
-use Rattle.naga_wgsl_fns.specs.DeclarationRefusals.NamesHead.{OfBinding, OfStage}
+use Rattle.naga_wgsl_shared.specs.declared.refusals.error.Error.{Error}
+use Rattle.naga_wgsl_shared.specs.declared.refusals.error.Error.TheVariants.{Custom, FmtError}
+use Rattle.naga_wgsl_shared.specs.declared.refusals.error.Error.TheVariants.{Memory}
+use Rattle.naga_wgsl_shared.specs.declared.refusals.error.Error.TheVariants.{Unimplemented}
+use Rattle.naga_wgsl_shared.specs.declared.refusals.error.Error.TheVariants.{Unsupported}
+use Rattle.naga_wgsl_shared.specs.declared.refusals.error.Error.TheVariants.{UnsupportedRelationalFunction}
+use Rattle.naga_wgsl_fns.specs.PlanRefusals.{IsReasonForNoPlan, IsWritableAt, HasUnsupportedIn}
+use Rattle.naga_wgsl_fns.specs.PlanRefusals.{NamesUnsupported}
+use Rattle.naga_wgsl_shared.specs.Refusals.{TellsOfModule}
+use Rattle.naga_wgsl_fns.specs.PlanRefusals.{TellsOfScope}
+use Rattle.naga_wgsl_shared.specs.DeclarationRefusals.{NamesDeclaration}
+use Rattle.naga_wgsl_shared.specs.DeclarationRefusals.NamesDeclaration.{OfHead, OfInitialiser}
+use Rattle.naga_wgsl_shared.specs.DeclarationRefusals.NamesDeclaration.{OfMember, OfOffsets}
+use Rattle.naga_wgsl_shared.specs.DeclarationRefusals.NamesDeclaration.{OfStride}
+use Rattle.naga_wgsl_shared.specs.DeclarationRefusals.NamesDeclaration.{OfType as OfDeclaredType}
+use Rattle.naga_wgsl_shared.specs.DeclarationRefusals.NamesHead.{OfBinding, OfStage}
 use Rattle.naga_scope.specs.Plans.{HasScopeFaultIn}
-use Rattle.naga_wgsl_fns.proofs.PlanRefusals.{declaration_is_no_sink, reason_fails, named}
+use Rattle.naga_wgsl_shared.proofs.Wants.{declaration_is_no_sink}
+use Rattle.naga_wgsl_fns.proofs.PlanRefusals.{reason_fails, named}
 use Rattle.naga_wgsl_fns.proofs.PlanRefusals.{planned_holds, unsupported_fails}
 use Rattle.naga_wgsl_out.proofs.UnsupportedTexts.{of_expression, of_statement, of_type}
 use Rattle.naga_wgsl_out.specs.ModuleRefusals.{HasUnsupported, IsRefusal, ItemsAreFull}

@@ -5,11 +5,12 @@ use Rattle.std.proofs.lemmas.Bool.{and_parts, false≢true}
 use Rattle.std.specs.List.{list_all}
 use Rattle.std.specs.Prelude.{◌⊎◌, get_or, string_bytes}
 use Rattle.naga_ir.specs.declared.module.Module.{Module}
-use Rattle.naga_wgsl_fns.specs.Refusals.{TellsOfForm, TellsOfFullNamer, TellsOfScope, custom_texts}
-use Rattle.naga_wgsl_fns.specs.Refusals.{unimplemented_texts}
-use Rattle.naga_wgsl_fns.specs.declared.refusals.error.Error.{Error}
-use Rattle.naga_wgsl_fns.specs.declared.refusals.error.Error.TheVariants.{Custom, Memory}
-use Rattle.naga_wgsl_fns.specs.declared.refusals.error.Error.TheVariants.{Unimplemented}
+use Rattle.naga_wgsl_fns.specs.PlanRefusals.{TellsOfForm, TellsOfFullNamer, TellsOfScope}
+use Rattle.naga_wgsl_fns.specs.PlanRefusals.{custom_texts}
+use Rattle.naga_wgsl_fns.specs.PlanRefusals.{unimplemented_texts}
+use Rattle.naga_wgsl_shared.specs.declared.refusals.error.Error.{Error}
+use Rattle.naga_wgsl_shared.specs.declared.refusals.error.Error.TheVariants.{Custom, Memory}
+use Rattle.naga_wgsl_shared.specs.declared.refusals.error.Error.TheVariants.{Unimplemented}
 use Rattle.naga_wgsl_out.specs.ModuleRefusals.{ComesBeforeText, IsNamesRefusal, ItemsAreFull}
 use Rattle.naga_wgsl_out.specs.ModuleRefusals.{TellsOfFunction, TellsOfKeys}
 

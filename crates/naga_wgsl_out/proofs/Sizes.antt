@@ -14,12 +14,12 @@ use Rattle.naga_ir.specs.declared.module.Module.{Module}
 use Rattle.naga_ir.specs.declared.types.StructMember.{StructMember}
 use Rattle.naga_layout.specs.Types.{StandInOrder, placed_members}
 use Rattle.naga_naming.specs.Reset.{members_of}
-use Rattle.naga_scope.proofs.FilledTables.{items_in_order}
+use Rattle.naga_tables.proofs.FilledTables.{items_in_order}
 use Rattle.wgsl_layout.specs.Capped.{capped, past}
 use Rattle.wgsl_layout.specs.Members.{gap_size}
 use Rattle.wgsl_layout.specs.declared.layouts.Layout.{Layout}
 use Rattle.wgsl_layout.specs.declared.layouts.Placed.{Placed}
-use Rattle.naga_wgsl_fns.specs.declared.module_text.ModuleText.{ModuleText}
+use Rattle.naga_wgsl_shared.specs.declared.module_text.ModuleText.{ModuleText}
 use Rattle.naga_wgsl_out.specs.Items.{CanDeclare}
 use Rattle.naga_wgsl_out.specs.Structs.{IsDeclaredStruct, after_member}
 use Rattle.naga_wgsl_out.specs.declared.structs.After.{After}

@@ -38,12 +38,12 @@ use Rattle.wgsl_text.proofs.Text.{text-append}
 use Rattle.wgsl_text.specs.Attributes.{Size}
 use Rattle.wgsl_text.specs.Declarations.{Struct, StructMember, members_pieces, structs_pieces}
 use Rattle.wgsl_text.specs.Text.{text}
-use Rattle.naga_wgsl_fns.proofs.AttributeRows.{attributes_then, no_attributes, numbered_alone}
+use Rattle.naga_wgsl_shared.proofs.AttributeRows.{attributes_then, no_attributes, numbered_alone}
 use Rattle.naga_ir.proofs.Listed.{drop_first}
-use Rattle.naga_wgsl_fns.specs.Attributes.{attributes_text, numbered_text}
-use Rattle.naga_wgsl_fns.specs.Bindings.{passing_has_form}
-use Rattle.naga_wgsl_fns.specs.Types.{spelled_text}
-use Rattle.naga_wgsl_fns.specs.declared.module_text.ModuleText.{ModuleText}
+use Rattle.naga_wgsl_shared.specs.Attributes.{attributes_text, numbered_text}
+use Rattle.naga_wgsl_shared.specs.Bindings.{passing_has_form}
+use Rattle.naga_wgsl_shared.specs.Types.{spelled_text}
+use Rattle.naga_wgsl_shared.specs.declared.module_text.ModuleText.{ModuleText}
 use Rattle.naga_wgsl_out.proofs.ArenaLoops.{texts_of}
 use Rattle.naga_wgsl_out.proofs.ItemRows.{typed_then}
 use Rattle.naga_wgsl_out.specs.Items.{CanDeclare, IsNamedIn, typed_text}

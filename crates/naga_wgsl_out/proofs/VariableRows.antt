@@ -34,11 +34,11 @@ use Rattle.wgsl_text.specs.Declarations.{globals_pieces, space_pieces}
 use Rattle.wgsl_text.specs.Token.{Piece}
 use Rattle.wgsl_text.specs.Text.{text}
 use Rattle.wgsl_words.specs.Words.{space_access_word, space_word}
-use Rattle.naga_wgsl_fns.proofs.AttributeRows.{attributes_then, plain_if}
-use Rattle.naga_wgsl_fns.specs.Attributes.{attributes_text, numbered_text, text_if}
+use Rattle.naga_wgsl_shared.proofs.AttributeRows.{attributes_then, plain_if}
+use Rattle.naga_wgsl_shared.specs.Attributes.{attributes_text, numbered_text, text_if}
 use Rattle.naga_wgsl_fns.specs.Functions.{group_end_text}
-use Rattle.naga_wgsl_fns.specs.Types.{spelled_text}
-use Rattle.naga_wgsl_fns.specs.declared.module_text.ModuleText.{ModuleText}
+use Rattle.naga_wgsl_shared.specs.Types.{spelled_text}
+use Rattle.naga_wgsl_shared.specs.declared.module_text.ModuleText.{ModuleText}
 use Rattle.naga_wgsl_out.proofs.ArenaLoops.{texts_of}
 use Rattle.naga_wgsl_out.proofs.ItemRows.{group_end_row, typed_then}
 use Rattle.naga_wgsl_out.specs.Items.{CanDeclare, IsNamedIn, typed_text, value_text}

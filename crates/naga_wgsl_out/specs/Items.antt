@@ -12,9 +12,9 @@ use Rattle.module_semantics.specs.Types.{type_names}
 use Rattle.naga_form.specs.ConstantForms.{global_form}
 use Rattle.wgsl_text.specs.Functions.{value_pieces}
 use Rattle.wgsl_text.specs.Text.{text}
-use Rattle.naga_wgsl_fns.specs.ModuleText.{CanWriteIn}
-use Rattle.naga_wgsl_fns.specs.Types.{spelled_text}
-use Rattle.naga_wgsl_fns.specs.declared.module_text.ModuleText.{ModuleText}
+use Rattle.naga_wgsl_shared.specs.ModuleText.{CanWriteIn}
+use Rattle.naga_wgsl_shared.specs.Types.{spelled_text}
+use Rattle.naga_wgsl_shared.specs.declared.module_text.ModuleText.{ModuleText}
 use Rattle.naga_wgsl_out.specs.ModuleRefusals.{KeyIsOutOfRange}
 
 -- it can be written, what it declares has forms, and there is a key for each of its items

@@ -22,25 +22,26 @@ use Rattle.naga_info.specs.declared.info.TypeResolution.TheVariants.{Handle}
 use Rattle.naga_ir.specs.declared.module.Function.{Function}
 use Rattle.naga_ir.specs.declared.module.Module.{Module}
 use Rattle.naga_naming.specs.Naming.{Names}
-use Rattle.naga_scope.specs.Declarations.{HaveFormsBefore, IsUnsupportedIn}
+use Rattle.naga_tables.specs.Declarations.{HaveFormsBefore, IsUnsupportedIn}
 use Rattle.naga_scope.specs.UnsupportedStatements.{IsUnsupportedAt, unsupported_statement}
 use Rattle.naga_scope.specs.Lines.{IsWrittenAt, declared_type, lets_at}
 use Rattle.naga_scope.specs.Plans.{IsFirstToPlan}
 use Rattle.naga_scope.specs.ScopeFaults.{IsScopeFault}
-use Rattle.naga_scope.specs.declared.declarations.DeclarationPosition.{DeclarationPosition}
-use Rattle.naga_scope.specs.declared.declarations.UnsupportedDeclaration.{UnsupportedDeclaration}
+use Rattle.naga_tables.specs.declared.declarations.DeclarationPosition.{DeclarationPosition}
+use Rattle.naga_tables.specs.declared.declarations.UnsupportedDeclaration.{UnsupportedDeclaration}
 use Rattle.naga_scope.specs.declared.plan.PlanError.{PlanError}
 use Rattle.naga_scope.specs.declared.statements.UnsupportedStatement.{UnsupportedStatement}
 use Rattle.shader_runs.specs.Program.{binds}
-use Rattle.naga_wgsl_fns.specs.Carried.{CarriesOfDeclaration, CarriesOfExpression, CarriesOfType}
-use Rattle.naga_wgsl_fns.specs.Constructs.{IsToldAs, Tells}
-use Rattle.naga_wgsl_fns.specs.DeclarationRefusals.{NamesUnsupportedDeclaration}
-use Rattle.naga_wgsl_fns.specs.Errors.{IsCustom}
-use Rattle.naga_wgsl_fns.specs.Refusals.{ExpressionNamesAreFullIn, NamesExpression, NamesStatement}
-use Rattle.naga_wgsl_fns.specs.Refusals.{NamesType}
+use Rattle.naga_wgsl_shared.specs.Carried.{CarriesOfDeclaration, CarriesOfExpression, CarriesOfType}
+use Rattle.naga_wgsl_shared.specs.Constructs.{IsToldAs, Tells}
+use Rattle.naga_wgsl_shared.specs.DeclarationRefusals.{NamesUnsupportedDeclaration}
+use Rattle.naga_wgsl_shared.specs.Errors.{IsCustom}
+use Rattle.naga_wgsl_fns.specs.PlanRefusals.{ExpressionNamesAreFullIn, NamesStatement}
+use Rattle.naga_wgsl_shared.specs.Refusals.{NamesExpression}
+use Rattle.naga_wgsl_shared.specs.Refusals.{NamesType}
 use Rattle.naga_wgsl_fns.specs.Unplanned.{function_position}
-use Rattle.naga_wgsl_fns.specs.declared.refusals.construct.Construct.{Construct}
-use Rattle.naga_wgsl_fns.specs.declared.refusals.error.Error.{Error}
+use Rattle.naga_wgsl_shared.specs.declared.refusals.construct.Construct.{Construct}
+use Rattle.naga_wgsl_shared.specs.declared.refusals.error.Error.{Error}
 use Rattle.naga_scope.specs.declared.positions.FunctionRefusalPosition.{FunctionRefusalPosition}
 use Rattle.naga_scope.specs.declared.positions.FunctionRefusalPosition.TheVariants as part
 use Rattle.naga_wgsl_fns.specs.declared.plans.Unplanned.{Unplanned}

@@ -15,12 +15,13 @@ use Rattle.module_semantics.specs.FunctionNumbers.{all_functions, function_type}
 use Rattle.module_semantics.specs.Names.{expression_name, labels_before}
 use Rattle.naga_naming.specs.Naming.{Names}
 use Rattle.wgsl_text.specs.Reading.{printed_program}
-use Rattle.naga_wgsl_fns.specs.Appends.{StoppedWithin, Wrote}
+use Rattle.naga_wgsl_shared.specs.Appends.{StoppedWithin, Wrote}
 use Rattle.naga_back.specs.Flags.{annotates_types}
 use Rattle.naga_wgsl_fns.specs.Functions.{known_of, text_of, text_of_function}
-use Rattle.naga_wgsl_fns.specs.declared.refusals.error.Error.{Error}
-use Rattle.naga_wgsl_fns.specs.Refusals.{ExpressionNamesAreFullIn, IsReasonForNoPlan, IsWritableAt}
-use Rattle.naga_wgsl_fns.specs.Refusals.{TellsOfModule}
+use Rattle.naga_wgsl_shared.specs.declared.refusals.error.Error.{Error}
+use Rattle.naga_wgsl_fns.specs.PlanRefusals.{ExpressionNamesAreFullIn, IsReasonForNoPlan}
+use Rattle.naga_wgsl_fns.specs.PlanRefusals.{IsWritableAt}
+use Rattle.naga_wgsl_shared.specs.Refusals.{TellsOfModule}
 use Rattle.naga_wgsl_out.specs.Declarations.{declarations_text}
 use Rattle.naga_wgsl_out.specs.Enables.{enables_text}
 use Rattle.naga_wgsl_out.specs.ModuleRefusals.{HasNamedBefore}

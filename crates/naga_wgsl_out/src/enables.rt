@@ -9,7 +9,7 @@ ghost use Rattle.module_semantics.specs.Enables.{type_needs, written_enables};
 ghost use Rattle.naga_back.specs.Flags.{is_portable};
 ghost use Rattle.naga_ir.specs.declared.binding.Binding.TheVariants as binding;
 ghost use Rattle.naga_ir.specs.declared.types.TypeInner.TheVariants as inner;
-ghost use Rattle.naga_wgsl_fns.specs.Appends.{Appends};
+ghost use Rattle.naga_wgsl_shared.specs.Appends.{Appends};
 ghost use Rattle.naga_wgsl_out.specs.Enables.{either, enables_of, enables_text, end_text};
 ghost use Rattle.naga_wgsl_out.specs.Enables.{in_each_text, is_any, line_text, words_among};
 ghost use Rattle.naga_wgsl_out.specs.Enables.{words_found};
@@ -23,8 +23,8 @@ use naga_ir::{
     GlobalVariable, Interpolation, Module, Scalar, ScalarKind, ShaderStage, StructMember, Type_,
     TypeInner, UniqueArena,
 };
-use naga_wgsl_fns::Error;
-use naga_wgsl_fns::refusals::error::error_of_want;
+use naga_wgsl_shared::Error;
+use naga_wgsl_shared::refusals::error::error_of_want;
 use naga_words::{Output, TextSink};
 
 /// Writes a line for each extension that a text of the module enables, written with these flags,

@@ -7,7 +7,7 @@ ghost use Rattle.naga_layout.specs.Types.{layout_at, told, user_rule};
 
 use naga_ir::{Handle, Type_, UniqueArena};
 pub use naga_layout::TypeLayout;
-pub use naga_wgsl_fns::names_undeclared;
+pub use naga_wgsl_shared::names_undeclared;
 pub use naga_words::types::{type_fits, types_in_order};
 pub use naga_words::{SinkError, TextSink, TypeContext, TypeTextError, WriterTypeContext};
 

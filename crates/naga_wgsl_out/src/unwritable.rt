@@ -7,7 +7,7 @@ ghost use Rattle.module_semantics.specs.FunctionNumbers.{IsFunctionOf, function_
 ghost use Rattle.module_semantics.specs.Names.{HasNamesOf};
 ghost use Rattle.naga_back.specs.Flags.{annotates_types};
 ghost use Rattle.naga_naming.specs.Keys.{names_in};
-ghost use Rattle.naga_scope.specs.Tables.{AreTablesOf};
+ghost use Rattle.naga_tables.specs.Tables.{AreTablesOf};
 ghost use Rattle.naga_wgsl_out.specs.ModuleRefusals.{HasAllNames, HasNamedBefore, NothingIsRefused};
 ghost use Rattle.naga_wgsl_out.specs.Unwritable.{IsFirst, IsFoundOf, IsRefusalOf, IsWritable};
 ghost use Rattle.naga_wgsl_out.specs.Unwritable.{StandsIn, position_at};
@@ -18,10 +18,10 @@ use naga_info::ModuleInfo;
 use naga_ir::{Function, Handle, ItemIndex, Module};
 use naga_names::namer::Namer;
 use naga_naming::NameKey;
-use naga_scope::{FunctionRefusalPosition, ModuleTables, RefusalPosition, unsupported_declaration};
-use naga_wgsl_fns::{
-    Construct, Unplanned, construct_of_names, plan_or_refusal, unsupported_construct,
-};
+use naga_scope::{FunctionRefusalPosition, RefusalPosition};
+use naga_tables::{ModuleTables, unsupported_declaration};
+use naga_wgsl_fns::{Unplanned, construct_of_names, plan_or_refusal};
+use naga_wgsl_shared::{Construct, unsupported_construct};
 use std::alloc::{AllocError, Global};
 use std::collections::HashMap;
 

@@ -12,7 +12,7 @@ use naga_acceptance::{Unaccepted, count, unaccepted};
 use naga_back::WriterFlags;
 use naga_info::ModuleInfo;
 use naga_ir::Module;
-use naga_wgsl_fns::Error;
+use naga_wgsl_shared::Error;
 use std::alloc::{AllocError, Global};
 use thiserror::Error as DisplayedError;
 

@@ -9,8 +9,8 @@ use module_positions::{
 use naga_acceptance::Unaccepted;
 use naga_json::Known;
 use naga_listing::{ListingPosition, Spot, explain, explain_with};
-use naga_wgsl_fns::Error;
 use naga_wgsl_out::wgsl::Refusal;
+use naga_wgsl_shared::Error;
 use std::alloc::{AllocError, Global};
 use yorwethul_input::Style;
 

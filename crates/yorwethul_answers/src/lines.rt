@@ -12,8 +12,8 @@ use module_positions::{
 use naga_acceptance::Unaccepted;
 use naga_ir::Module;
 use naga_json::{Known, ReadError, known_of, parse_bytes};
-use naga_wgsl_fns::Error;
 use naga_wgsl_out::wgsl::Refusal;
+use naga_wgsl_shared::Error;
 use serde_json::{Map, Value};
 use std::alloc::{AllocError, Global};
 use std::fmt::Display;

@@ -8,7 +8,7 @@ use module_positions::{JsonHolder, fault_line};
 use naga_acceptance::{Unaccepted, unaccepted};
 use naga_ir::Module;
 use naga_json::Known;
-use naga_wgsl_fns::Error;
+use naga_wgsl_shared::Error;
 use std::alloc::Global;
 use std::fmt::Display;
 use std::io::{BufReader, Read, Write};

@@ -20,8 +20,8 @@ use naga_acceptance::{Unaccepted, unaccepted};
 use naga_back::WriterFlags;
 use naga_ir::Module;
 use naga_json::{Known, ReadError, read_known};
-use naga_wgsl_fns::Error;
 use naga_wgsl_out::wgsl::Refusal;
+use naga_wgsl_shared::Error;
 use std::alloc::{AllocError, Global};
 use std::fmt::Display;
 

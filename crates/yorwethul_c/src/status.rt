@@ -3,7 +3,7 @@
 ghost use Rattle.std.specs.Prelude.{◌≡◌};
 ghost use Rattle.yorwethul_c.specs.Answers.{number_of, status_of_error};
 
-use naga_wgsl_fns::Error;
+use naga_wgsl_shared::Error;
 
 /// What becomes of a module, in one word. `yorwethul.h` has a constant for each.
 #[derive(Clone, Copy, Debug, PartialEq, Eq)]

@@ -7,7 +7,7 @@ use Rattle.naga_scope.specs.KnownFunctions.{bound_in}
 use Rattle.naga_scope.specs.SpelledTypes.{own_annotated}
 use Rattle.naga_scope.specs.declared.known_function.KnownFunction.{KnownFunction}
 use Rattle.naga_scope.proofs.InOrder.{tree_at}
-use Rattle.naga_scope.proofs.Searching.{all_passed, none_passed, one_passed}
+use Rattle.naga_tables.proofs.Searching.{all_passed, none_passed, one_passed}
 use Rattle.naga_scope.proofs.spelled.let_without_form.Goals as goal
 
 abbrev IsGonePast : KnownFunction → (n : ℕ) → StatementTree → Type 0

@@ -2,7 +2,7 @@ use Rattle.std.proofs.Common.{◌≡◌, None, true}
 use Rattle.naga_ir.specs.InOrder.{trees_of}
 use Rattle.naga_scope.specs.KnownFunctions.{bound_in}
 use Rattle.naga_scope.specs.SpelledTypes.{own_annotated}
-use Rattle.naga_scope.proofs.Searching.{Passed}
+use Rattle.naga_tables.proofs.Searching.{Passed}
 use Rattle.naga_scope.proofs.spelled.let_without_form.Given as goal
 
 abbrev pub invariant-loop-statement : goal.invariant-loop-statement

@@ -4,7 +4,7 @@ use Rattle.naga_ir.specs.StatementViews.{tree_of}
 use Rattle.naga_scope.specs.UnsupportedStatements.{own_unsupported}
 use Rattle.naga_ir.specs.InOrder.{trees_of}
 use Rattle.naga_scope.proofs.InOrder.{tree_at}
-use Rattle.naga_scope.proofs.Searching.{all_passed, one_passed}
+use Rattle.naga_tables.proofs.Searching.{all_passed, one_passed}
 use Rattle.naga_scope.proofs.statements.unsupported_statement.Goals as goal
 
 pub loop-statement-preserved : goal.loop-statement-preserved

@@ -1,8 +1,8 @@
 use Rattle.std.proofs.Common.{◌≡◌, ◌<◌, ap, arith, length, sym, subst, ◌∙◌}
 use Rattle.std.specs.Prelude.{slice_get}
 use Rattle.module_semantics.specs.WrittenOut.{is_written_out}
-use Rattle.naga_scope.proofs.WrittenConstants.{MarksBelow, all_below, constant_by, none_below}
-use Rattle.naga_scope.proofs.WrittenConstants.{not_beyond, one_below}
+use Rattle.naga_tables.proofs.WrittenConstants.{MarksBelow, all_below, constant_by, none_below}
+use Rattle.naga_tables.proofs.WrittenConstants.{not_beyond, one_below}
 use Rattle.naga_scope.proofs.written.mark_constants.Goals as goal
 
 pub loop-index-init : goal.loop-index-init

@@ -1,6 +1,6 @@
 use Rattle.std.proofs.Common.{length}
 use Rattle.module_semantics.specs.WrittenOut.{is_written_out}
-use Rattle.naga_scope.proofs.WrittenConstants.{MarksBelow}
+use Rattle.naga_tables.proofs.WrittenConstants.{MarksBelow}
 use Rattle.naga_scope.proofs.written.mark_constants.Given as goal
 
 abbrev pub invariant-loop-index : goal.invariant-loop-index

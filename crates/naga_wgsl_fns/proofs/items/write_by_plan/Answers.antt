@@ -1,4 +1,4 @@
-use Rattle.naga_scope.proofs.FilledTables.{items_in_order}
+use Rattle.naga_tables.proofs.FilledTables.{items_in_order}
 use Rattle.naga_wgsl_fns.proofs.SingleFunctions.{for_plan, none_named, refused, writes}
 use Rattle.naga_wgsl_fns.proofs.items.write_by_plan.Goals as goal
 

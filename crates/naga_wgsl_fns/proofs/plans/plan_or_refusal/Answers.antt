@@ -4,12 +4,12 @@ use Rattle.module_semantics.specs.FunctionNumbers.{function_number}
 use Rattle.module_semantics.specs.Written.{OfFunctionAt}
 use Rattle.naga_form.proofs.declarations.AcceptedGroups.{fits_in_range, known_is_fit}
 use Rattle.naga_scope.proofs.Planned.{of_the_ok}
-use Rattle.naga_scope.proofs.WrittenConstants.{globals_in_order}
+use Rattle.naga_tables.proofs.WrittenConstants.{globals_in_order}
 use Rattle.naga_scope.specs.Plans.{IsPlanOf}
 use Rattle.naga_wgsl_fns.proofs.PlanRefusals.{is_of_plan, items_there}
-use Rattle.naga_wgsl_fns.specs.Carried.{CarriesOfPlan}
-use Rattle.naga_wgsl_fns.specs.Constructs.{Tells}
-use Rattle.naga_wgsl_fns.specs.Refusals.{TellsPlanError}
+use Rattle.naga_wgsl_fns.specs.PlanRefusals.{CarriesOfPlan}
+use Rattle.naga_wgsl_shared.specs.Constructs.{Tells}
+use Rattle.naga_wgsl_fns.specs.PlanRefusals.{TellsPlanError}
 use Rattle.naga_wgsl_fns.specs.Unplanned.{IsRefusedFor}
 use Rattle.naga_wgsl_fns.proofs.plans.plan_or_refusal.Goals as goal
 

@@ -1,7 +1,7 @@
 use Rattle.std.proofs.Common.{◌∙◌, ap, codes, sym}
 use Rattle.naga_form.specs.Attributes.{id_attributes}
 use Rattle.naga_words.proofs.Writing.{writes_as, writes_nothing}
-use Rattle.naga_wgsl_fns.specs.Attributes.{attributes_text, numbered_text}
+use Rattle.naga_wgsl_shared.specs.Attributes.{attributes_text, numbered_text}
 use Rattle.naga_wgsl_out.proofs.ConstantRows.{id_row, no_id_row}
 use Rattle.naga_wgsl_out.proofs.constants.write_id.Goals as goal
 

@@ -3,8 +3,8 @@ use Rattle.module_semantics.specs.Enables.{is_enabled}
 use Rattle.naga_back.specs.Flags.{is_portable}
 use Rattle.naga_words.proofs.Writing.{content_begun_as, content_whole_as, never_failed}
 use Rattle.naga_words.proofs.Writing.{never_unsupported, reason_known, same_sink, writes_as}
-use Rattle.naga_wgsl_fns.specs.Errors.{IsWant}
-use Rattle.naga_wgsl_fns.proofs.FunctionRows.{reason_reported}
+use Rattle.naga_wgsl_shared.specs.Errors.{IsWant}
+use Rattle.naga_wgsl_shared.proofs.Wants.{reason_reported}
 use Rattle.naga_wgsl_out.specs.Enables.{enables_text, words_among, words_found}
 use Rattle.naga_wgsl_out.proofs.EnableRows.{words_needed}
 use Rattle.naga_wgsl_out.proofs.enables.write_enables.Goals as goal

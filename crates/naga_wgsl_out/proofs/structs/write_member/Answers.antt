@@ -1,6 +1,6 @@
 use Rattle.std.proofs.Common.{ap, sym}
 use Rattle.naga_words.proofs.Writing.{writes_as, writes_then}
-use Rattle.naga_wgsl_fns.specs.Attributes.{attributes_text}
+use Rattle.naga_wgsl_shared.specs.Attributes.{attributes_text}
 use Rattle.naga_wgsl_out.proofs.StructRows.{member_has_form, member_is_named, member_has_type_form}
 use Rattle.naga_wgsl_out.proofs.StructRows.{member_row}
 use Rattle.naga_wgsl_out.specs.Structs.{given_size_attributes}

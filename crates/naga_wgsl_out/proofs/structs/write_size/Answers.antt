@@ -1,6 +1,6 @@
 use Rattle.std.proofs.Common.{◌∙◌, ap, sym}
 use Rattle.naga_words.proofs.Writing.{writes_as, writes_nothing}
-use Rattle.naga_wgsl_fns.specs.Attributes.{attributes_text}
+use Rattle.naga_wgsl_shared.specs.Attributes.{attributes_text}
 use Rattle.naga_wgsl_out.proofs.StructRows.{no_size_row, size_row}
 use Rattle.naga_wgsl_out.specs.Structs.{given_size_attributes}
 use Rattle.naga_wgsl_out.proofs.structs.write_size.Goals as goal

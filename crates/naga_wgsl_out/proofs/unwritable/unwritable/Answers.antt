@@ -1,4 +1,4 @@
-use Rattle.naga_scope.proofs.FilledTables.{items_in_order}
+use Rattle.naga_tables.proofs.FilledTables.{items_in_order}
 use Rattle.naga_wgsl_out.proofs.Positions.{labels_stand}
 use Rattle.naga_wgsl_out.proofs.unwritable.unwritable.Goals as goal
 

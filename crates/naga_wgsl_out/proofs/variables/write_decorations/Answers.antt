@@ -1,6 +1,6 @@
 use Rattle.std.proofs.Common.{ap, codes, sym}
 use Rattle.naga_words.proofs.Writing.{writes_as, writes_then}
-use Rattle.naga_wgsl_fns.specs.Attributes.{text_if}
+use Rattle.naga_wgsl_shared.specs.Attributes.{text_if}
 use Rattle.naga_wgsl_out.proofs.VariableRows.{decorations_row}
 use Rattle.naga_wgsl_out.proofs.variables.write_decorations.Goals as goal
 

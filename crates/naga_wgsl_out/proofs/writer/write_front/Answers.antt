@@ -1,4 +1,4 @@
-use Rattle.naga_wgsl_fns.proofs.Appending.{appends_stopped, appends_then, stopped_first}
+use Rattle.naga_wgsl_shared.proofs.Appending.{appends_stopped, appends_then, stopped_first}
 use Rattle.naga_wgsl_out.proofs.writer.write_front.Goals as goal
 
 pub returns-in_err-write_enables : goal.returns-in_err-write_enables

@@ -7,8 +7,8 @@ use Rattle.naga_ir.specs.declared.module.Module.{Module}
 use Rattle.naga_scope.specs.Plans.{AreExpressionNames, Planned}
 use Rattle.naga_spelling.specs.Sink.{IsAfter}
 use Rattle.naga_wgsl_fns.specs.Functions.{names_of, text_of_function, text_under}
-use Rattle.naga_wgsl_fns.proofs.Appending.{appends_stopped, appends_then, stopped_first}
-use Rattle.naga_wgsl_fns.specs.Appends.{Appends}
+use Rattle.naga_wgsl_shared.proofs.Appending.{appends_stopped, appends_then, stopped_first}
+use Rattle.naga_wgsl_shared.specs.Appends.{Appends}
 use Rattle.naga_wgsl_out.specs.Writing.{line_after}
 use Rattle.naga_wgsl_out.proofs.writer.write_with_line.Goals as goal
 

@@ -14,7 +14,7 @@ use Rattle.naga_wgsl_fns.proofs.Preconditions.{part_has_form, IsOperand, argumen
 use Rattle.naga_wgsl_fns.proofs.Preconditions.{local_within, made_value, operands_in, written_as}
 use Rattle.naga_wgsl_fns.proofs.ModuleTexts.{can_in}
 use Rattle.naga_wgsl_fns.proofs.VariableRows.{handle_variable_reference, memory_variable_reference}
-use Rattle.naga_wgsl_fns.specs.Names.{name_of_override}
+use Rattle.naga_wgsl_shared.specs.Names.{name_of_override}
 use Rattle.naga_wgsl_fns.specs.Expressions.{next_operand_text, operands_left, operands_text}
 use Rattle.naga_wgsl_fns.specs.FunctionText.{AreInText, expressions}
 use Rattle.module_semantics.specs.ExpressionOperators.{level_of}

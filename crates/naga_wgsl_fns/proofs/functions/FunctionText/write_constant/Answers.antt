@@ -2,7 +2,7 @@ use Rattle.std.proofs.Common.{ap, ◌∙◌}
 use Rattle.module_semantics.specs.ExpressionForms.{constant_has_form}
 use Rattle.naga_words.proofs.Writing.{writes_as}
 use Rattle.naga_wgsl_fns.proofs.ModuleTexts.{can_in}
-use Rattle.naga_wgsl_fns.specs.Constants.{constant_text}
+use Rattle.naga_wgsl_shared.specs.Constants.{constant_text}
 use Rattle.naga_wgsl_fns.proofs.functions.FunctionText.write_constant.Goals as goal
 
 pub write_constant-requires-clause-can : goal.write_constant-requires-clause-can

@@ -1,9 +1,9 @@
 use Rattle.std.proofs.Common.{ap, subst, sym, ◌∙◌}
-use Rattle.naga_wgsl_fns.specs.Stages.{StageIsThere, stage_text}
+use Rattle.naga_wgsl_shared.specs.Stages.{StageIsThere, stage_text}
 use Rattle.naga_words.proofs.Writing.{writes_as}
 use Rattle.naga_wgsl_fns.proofs.FunctionRows.{own_entry_point, entry_point_there, stage_row}
 use Rattle.naga_wgsl_fns.proofs.ModuleTexts.{can_in}
-use Rattle.naga_wgsl_fns.proofs.StageRows.{stage_is_there}
+use Rattle.naga_wgsl_shared.proofs.StageRows.{stage_is_there}
 use Rattle.naga_wgsl_fns.proofs.functions.FunctionText.write_own_stage.Goals as goal
 
 pub write_stage-requires-clause-can : goal.write_stage-requires-clause-can

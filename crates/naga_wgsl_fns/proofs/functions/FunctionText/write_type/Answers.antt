@@ -4,7 +4,7 @@ use Rattle.naga_info.specs.declared.info.TypeResolution.TheVariants.{Handle}
 use Rattle.naga_words.proofs.Writing.{writes_as}
 use Rattle.naga_wgsl_fns.proofs.ModuleTexts.{can_in}
 use Rattle.naga_wgsl_fns.proofs.TypeRows.{type_same}
-use Rattle.naga_wgsl_fns.specs.Types.{spelled_text}
+use Rattle.naga_wgsl_shared.specs.Types.{spelled_text}
 use Rattle.naga_wgsl_fns.proofs.functions.FunctionText.write_type.Goals as goal
 
 pub write_type-requires-clause-can : goal.write_type-requires-clause-can

@@ -3,8 +3,9 @@ use Rattle.naga_spelling.specs.Contexts.{names_context}
 use Rattle.naga_spelling.specs.Spelling.{resolution_segments}
 use Rattle.naga_wgsl_fns.specs.Types.{resolution_text}
 use Rattle.naga_wgsl_fns.proofs.ModuleTexts.{can_of}
-use Rattle.naga_wgsl_fns.proofs.TypeRows.{in_order, known_wrote, resolution_known}
-use Rattle.naga_wgsl_fns.proofs.TypeRows.{resolution_within}
+use Rattle.naga_wgsl_shared.proofs.TypeRows.{in_order, known_wrote}
+use Rattle.naga_wgsl_fns.proofs.TypeRows.{resolution_known}
+use Rattle.naga_wgsl_shared.proofs.TypeRows.{resolution_within}
 use Rattle.naga_wgsl_fns.proofs.functions.FunctionText.write_type_of.Goals as goal
 
 pub write_resolution_in-requires-clause-order : goal.write_resolution_in-requires-clause-order

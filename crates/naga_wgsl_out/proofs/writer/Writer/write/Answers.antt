@@ -1,5 +1,5 @@
 use Rattle.std.proofs.Common.{Err, ap, refl, subst}
-use Rattle.naga_scope.proofs.FilledTables.{items_in_order}
+use Rattle.naga_tables.proofs.FilledTables.{items_in_order}
 use Rattle.naga_wgsl_out.proofs.Faithful.{Concludes, concludes, concludes_in_front}
 use Rattle.naga_wgsl_out.proofs.Faithful.{leaves_untouched, refused}
 use Rattle.naga_wgsl_out.proofs.ModuleScopes.{declaration_refuses, declaration_tells_of_none}

@@ -1,7 +1,0 @@
-use Rattle.naga_scope.proofs.Searching.{Passed}
-use Rattle.naga_scope.specs.Declarations.{BindingHasForm}
-use Rattle.naga_scope.proofs.declarations.unsupported_in_arguments.Given as goal
-
-abbrev pub invariant-loop-argument : goal.invariant-loop-argument
-invariant-loop-argument l =
-    Passed (λ i a. BindingHasForm a.binding) l.arguments l.argument-index

@@ -1,7 +1,0 @@
-use Rattle.naga_scope.proofs.Searching.{Left}
-use Rattle.naga_scope.specs.Declarations.{ValueHasForm}
-use Rattle.naga_scope.proofs.declarations.unsupported_in_variables.Given as goal
-
-abbrev pub invariant-loop-handle : goal.invariant-loop-handle
-invariant-loop-handle l =
-    Left (λ i g. ValueHasForm l.module g.ty g.init) l.module.global_variables l.handle-iterator

@@ -1,5 +1,0 @@
-use Rattle.std.proofs.Common.{◌∙◌}
-use Rattle.naga_scope.proofs.tables.handle_names.Goals as goal
-
-pub returns : goal.returns
-returns c = c.is_marked.ensures ∙ c.requires.naming c.args.ty

@@ -1,8 +1,0 @@
-use Rattle.std.proofs.Common.{length}
-use Rattle.module_semantics.specs.Undeclared.{handle_names_undeclared}
-use Rattle.naga_scope.proofs.WrittenConstants.{MarksBelow}
-use Rattle.naga_scope.proofs.tables.mark_naming.Given as goal
-
-abbrev pub invariant-loop-index : goal.invariant-loop-index
-invariant-loop-index l =
-    MarksBelow (handle_names_undeclared l.module) (length l.module.types) l.marks l.index

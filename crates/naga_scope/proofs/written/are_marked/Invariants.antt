@@ -1,9 +1,0 @@
-use Rattle.std.proofs.Common.{◌≡◌, drop}
-use Rattle.std.specs.List.{list_all}
-use Rattle.naga_scope.specs.Marks.{is_marked}
-use Rattle.naga_scope.proofs.written.are_marked.Given as goal
-
-abbrev pub invariant-loop-handle : goal.invariant-loop-handle
-invariant-loop-handle l =
-    list_all (is_marked l.marks) (drop l.handle-index l.handles) ≡
-    list_all (is_marked l.marks) l.handles

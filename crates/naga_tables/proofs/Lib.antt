@@ -1,0 +1,7 @@
+pub mod FilledTables
+pub mod Finding
+pub mod FirstMisplaced
+pub mod Marking
+pub mod Searching
+pub mod UnsupportedDeclarations
+pub mod WrittenConstants

@@ -1,0 +1,163 @@
+-- Which expressions may be written out as constants, and which of a module's own are written, by one
+-- pass over them in their order.
+use Rattle.std.proofs.Common.{◌≡◌, ℕ, ◌+◌, ◌<◌, ◌≤◌, ◌&&◌, ◌||◌, Bool, true, false, List, [], ◌∷◌}
+use Rattle.std.proofs.Common.{Option, Some, None, refl, sym, ap, ap₂, ◌∙◌, arith, subst, length}
+use Rattle.std.proofs.Common.{below_more, get_or, nat_lt, slice_get, slice_set}
+use Rattle.std.specs.List.{list_all}
+use Rattle.std.specs.Prelude.{IsTrue}
+use Rattle.std.specs.Option.{is_some, option_map_or}
+use Rattle.std.proofs.lemmas.Bool.{ltb-false, ltb-true}
+use Rattle.std.proofs.lemmas.Grind.{get_or-set_at}
+use Rattle.std.proofs.lemmas.List.{get_or-set_other, get_or_past, length-set}
+use Rattle.std.proofs.lemmas.Option.{slice_get_past, slice_get_within}
+use Rattle.module_semantics.proofs.Stepwise.{by_those_before}
+use Rattle.module_semantics.specs.acceptance.Accepted.{is_accepted}
+use Rattle.naga_form.proofs.operators.Ordered.{each_below}
+use Rattle.naga_form.proofs.declarations.OwnExpressions.{Own, constant_named}
+use Rattle.naga_form.proofs.declarations.OwnExpressions.{initialiser_stands_before}
+use Rattle.naga_form.proofs.declarations.OwnExpressions.{initialiser_within, own_is}
+use Rattle.naga_info.specs.declared.info.ModuleInfo.{ModuleInfo}
+use Rattle.module_semantics.specs.Undeclared.{is_spellable}
+use Rattle.module_semantics.specs.ExpressionForms.{constant_has_form, constant_has_form_over}
+use Rattle.module_semantics.specs.ExpressionForms.{global_has_form, global_has_form_over}
+use Rattle.module_semantics.specs.ExpressionForms.{global_has_form_within}
+use Rattle.module_semantics.specs.Premises.{OperandsStandBefore}
+use Rattle.module_semantics.specs.WrittenOut.{is_written_out, written_out_over, written_out_within}
+use Rattle.naga_ir.specs.Operands.{expression_operands}
+use Rattle.naga_ir.specs.declared.expression.Expression.{Expression}
+use Rattle.naga_ir.specs.declared.expression.Expression.TheVariants as expression
+use Rattle.naga_info.specs.declared.info.TypeResolution.TheVariants.{Handle}
+use Rattle.naga_ir.specs.declared.module.Constant.{Constant}
+use Rattle.naga_ir.specs.declared.module.Module.{Module}
+use Rattle.naga_tables.specs.Marks.{GlobalsStandInOrder, MarksGlobals, is_marked}
+use Rattle.shader_runs.specs.Premises.{AllBelow}
+
+-- ---- tests that agree below a handle
+list_same : (a b : ℕ → Bool) (h : ℕ) (xs : List ℕ) → AllBelow h xs →
+    ((x : ℕ) → x < h → a x ≡ b x) → list_all a xs ≡ list_all b xs
+list_same a b h [] below same = refl
+list_same a b h (x ∷ xs) below same =
+    ap₂ (λ p q. p && q) (same x below.0) (list_same a b h xs below.1 same)
+
+out_same : (a b : ℕ → Bool) (h : ℕ) (e : Expression) → AllBelow h (expression_operands e) →
+    ((x : ℕ) → x < h → a x ≡ b x) → written_out_over a e ≡ written_out_over b e
+out_same a b h (expression.Compose ty components) below same =
+    list_same a b h components.items below same
+out_same a b h (expression.Splat size value) below same = same value below.0
+out_same a b h _ below same = refl
+
+-- ---- tables of marks
+-- a table of so many marks, in which those below i are right
+pub record MarksBelow (is : ℕ → Bool) (count : ℕ) (marks : List Bool) (i : ℕ) : Type 0 where
+  pub size : length marks ≡ count
+  pub cells : (h : ℕ) → h < i → is_marked marks h ≡ is h
+
+module _ (is : ℕ → Bool) (count : ℕ) where
+  pub none_below : (marks : List Bool) → length marks ≡ count → MarksBelow is count marks 0
+  none_below marks size = record { size = size; cells = λ h lt. absurd (omega (arith, lt)) }
+
+  pub one_below : (marks : List Bool) (i : ℕ) (mark : Bool) → i < count → mark ≡ is i →
+      MarksBelow is count marks i → MarksBelow is count (slice_set marks i mark) (i + 1)
+  one_below marks i mark lt same below =
+      let within : i < length marks = subst (λ n. i < n) (sym below.size) lt in
+      let now = slice_set marks i mark in
+      record {
+        size = length-set marks i mark ∙ below.size;
+        cells = below_more (λ h. get_or now h false ≡ is h) i
+            (λ h l.
+            get_or-set_other marks i h mark false (λ same. absurd (omega (arith, l, same)))
+            ∙ below.cells h l)
+            (get_or-set_at marks i i mark false refl within ∙ same);
+      }
+
+  pub all_below : ((h : ℕ) → count ≤ h → is h ≡ false) → (marks : List Bool) →
+      MarksBelow is count marks count → (h : ℕ) → is_marked marks h ≡ is h
+  all_below beyond marks below h = by (nat_lt h count) refl
+    where
+      by : (b : Bool) → nat_lt h count ≡ b → is_marked marks h ≡ is h
+      by true within = below.cells h (ltb-true h count within)
+      by false outside =
+          let le = ltb-false h count outside in
+          let past : length marks ≤ h = omega (arith, le, below.size) in
+          get_or_past marks h false past ∙ sym (beyond h le)
+
+-- ---- what may be written out
+module _ (es : List Expression) (ordered : OperandsStandBefore es) where
+  -- an expression may be written out by what may of its operands
+  pub constant_by : (h : ℕ) (e : Expression) → slice_get es h ≡ Some e → (marks : List Bool) →
+      MarksBelow (is_written_out es) (length es) marks h →
+      written_out_over (is_marked marks) e ≡ is_written_out es h
+  constant_by h e at marks below =
+      by_those_before false es written_out_over (λ k h. written_out_within k es h) (λ k h. refl)
+      (λ h e at a b. out_same a b h e (ordered h e at)) h e at (is_marked marks) below.cells
+
+pub not_beyond : (es : List Expression) (h : ℕ) → length es ≤ h → is_written_out es h ≡ false
+not_beyond es h le =
+    ap (λ o. option_map_or (written_out_over (written_out_within h es)) o false)
+    (slice_get_past es h le)
+
+-- ---- a module's own expressions
+-- a constant whose initialiser stands below
+constant_same : (m : Module) (a b : ℕ → Bool) (h c : ℕ) →
+    ((k : Constant) → slice_get m.constants c ≡ Some k → k.init < h) →
+    ((x : ℕ) → x < h → a x ≡ b x) → constant_has_form_over m a c ≡ constant_has_form_over m b c
+constant_same m a b h c before same = by (slice_get m.constants c) refl
+  where
+    by : (o : Option Constant) → slice_get m.constants c ≡ o →
+        option_map_or (λ k. is_some k.name || a k.init) o false ≡
+        option_map_or (λ k. is_some k.name || b k.init) o false
+    by None at = refl
+    by (Some k) at = ap (λ w. is_some k.name || w) (same k.init (before k at))
+
+pub global_same : (m : Module) → GlobalsStandInOrder m → (h : ℕ) (e : Expression) →
+    slice_get m.global_expressions h ≡ Some e → (a b : ℕ → Bool) →
+    ((x : ℕ) → x < h → a x ≡ b x) → global_has_form_over m a e ≡ global_has_form_over m b e
+global_same m ordered h (expression.Constant c) at a b same =
+    constant_same m a b h c (λ k there. ordered.initialisers h c k at there) same
+global_same m ordered h (expression.Compose ty components) at a b same =
+    ap (λ all. is_spellable m (Handle ty) && all)
+    (list_same a b h components.items
+    (ordered.operands h (expression.Compose ty components) at) same)
+global_same m ordered h (expression.Splat size value) at a b same =
+    same value (ordered.operands h (expression.Splat size value) at).0
+global_same m ordered h _ at a b same = refl
+
+-- one is written by which of those before it are
+pub global_by : (m : Module) → GlobalsStandInOrder m → (h : ℕ) (e : Expression) →
+    slice_get m.global_expressions h ≡ Some e → (marks : List Bool) →
+    MarksBelow (global_has_form m) (length m.global_expressions) marks h →
+    global_has_form_over m (is_marked marks) e ≡ global_has_form m h
+global_by m ordered h e at marks below =
+    by_those_before false m.global_expressions (global_has_form_over m)
+    (λ k h. global_has_form_within k m h) (λ k h. refl) (global_same m ordered) h e at
+    (is_marked marks) below.cells
+
+pub no_global_beyond : (m : Module) (h : ℕ) → length m.global_expressions ≤ h →
+    global_has_form m h ≡ false
+no_global_beyond m h le =
+    ap (λ o. option_map_or (global_has_form_over m (global_has_form_within h m)) o false)
+    (slice_get_past m.global_expressions h le)
+
+-- a constant is written, by marks of the module's own expressions
+pub constant_marked : (m : Module) (marks : List Bool) → MarksGlobals m marks → (c : ℕ) →
+    constant_has_form_over m (is_marked marks) c ≡ constant_has_form m c
+constant_marked m marks are c = by (slice_get m.constants c)
+  where
+    by : (o : Option Constant) →
+        option_map_or (λ k. is_some k.name || is_marked marks k.init) o false ≡
+        option_map_or (λ k. is_some k.name || global_has_form m k.init) o false
+    by None = refl
+    by (Some k) = ap (λ w. is_some k.name || w) (are k.init)
+
+-- ---- order
+-- in a module that is accepted operands and initialisers stand before
+pub globals_in_order : (m : Module) (info : ModuleInfo) → IsTrue (is_accepted m info) →
+    GlobalsStandInOrder m
+globals_in_order m info accepted = record {
+  operands = λ h e at. each_below h (expression_operands e) ((own_is m info accepted).below h e at);
+  initialisers = λ h c k at there. initialiser_stands_before m info accepted h c at k there;
+  named = λ h c at.
+      let k = constant_named m info accepted None (Own m info accepted) (own_is m info accepted) h c at in
+      slice_get_within m.constants c k.0 k.1;
+  initialised = initialiser_within m info accepted;
+}

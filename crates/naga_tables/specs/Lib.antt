@@ -1,0 +1,4 @@
+pub mod Declarations
+pub mod Forms
+pub mod Marks
+pub mod Tables

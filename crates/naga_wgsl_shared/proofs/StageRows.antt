@@ -1,0 +1,188 @@
+-- The texts of the stages of entry points, from what is written of them in turn.
+--
+-- Throughout, m is a module, e an entry point of it, and front is what stands in front of a variable.
+use Rattle.std.proofs.Common.{◌≡◌, ◌∙◌, ◌++◌, ℕ, List, [], ◌∷◌, append_assoc, ap, arith, codes}
+use Rattle.std.proofs.Common.{decimal, get_or, length, refl, slice_get, sym}
+use Rattle.std.specs.Prelude.{◌&&◌, Option, Some, None, IsTrue}
+use Rattle.std.specs.List.{list_all}
+use Rattle.std.specs.Option.{option_map}
+use Rattle.std.proofs.lemmas.Bool.{and_parts}
+use Rattle.std.proofs.lemmas.List.{append-nil}
+use Rattle.naga_info.specs.declared.info.ModuleInfo.{ModuleInfo}
+use Rattle.naga_ir.specs.declared.module.EntryPoint.{EntryPoint}
+use Rattle.naga_ir.specs.declared.module.MeshStageInfo.{MeshStageInfo}
+use Rattle.naga_ir.specs.declared.module.Module.{Module}
+use Rattle.naga_ir.specs.declared.module.ShaderStage.TheVariants as stage
+use Rattle.module_semantics.proofs.Lists.{list_all_at}
+use Rattle.module_semantics.specs.acceptance.Accepted.{is_accepted}
+use Rattle.module_semantics.specs.Names.{global_name, module_names}
+use Rattle.module_semantics.specs.acceptance.AgreeingOperators.{module_operators_agree}
+use Rattle.module_semantics.specs.acceptance.InfoSizes.{sizes_fit, type_is_fit}
+use Rattle.module_semantics.specs.acceptance.Ranges.{all_by_handle, declarations_in_range}
+use Rattle.module_semantics.specs.acceptance.Ranges.{entry_point_in_range, function_in_range}
+use Rattle.module_semantics.specs.acceptance.Ranges.{is_below, module_in_range, module_ranges_fit}
+use Rattle.module_semantics.specs.acceptance.Soundness.{module_is_sound}
+use Rattle.naga_form.specs.Attributes.{attribute_of, payload_attributes, size_attributes}
+use Rattle.naga_form.specs.Attributes.{stage_attributes}
+use Rattle.naga_words.specs.Output.{joined_texts}
+use Rattle.wgsl_text.specs.Attributes.{Attribute, Compute, IncomingPayload, Mesh, Payload, Plain}
+use Rattle.wgsl_text.specs.Attributes.{PlainAttribute, Task, WorkgroupSize, Worded, WordedAttribute}
+use Rattle.wgsl_text.specs.Attributes.{plain_attribute_word}
+use Rattle.naga_wgsl_shared.proofs.AttributeRows.{attributes_then, no_attributes, worded_alone}
+use Rattle.naga_wgsl_shared.proofs.AttributeRows.{worded_front}
+use Rattle.naga_wgsl_shared.specs.Attributes.{attributes_text, worded_text}
+use Rattle.naga_wgsl_shared.specs.Stages.{StageIsThere, compute_text, hit_text, output_text}
+use Rattle.naga_wgsl_shared.specs.Stages.{size_text}
+use Rattle.naga_wgsl_shared.specs.Stages.{stage_text, variable_text}
+
+-- what an entry point of an accepted module names is there
+pub stage_is_there : (m : Module) (info : ModuleInfo) → IsTrue (is_accepted m info) → (i : ℕ)
+    (e : EntryPoint) → slice_get m.entry_points.items i ≡ Some e → StageIsThere m e
+unfolding is_accepted module_ranges_fit
+stage_is_there m info accepted i e at =
+    let ranges = and_parts (module_ranges_fit m info)
+    (module_is_sound m info && module_operators_agree m info) accepted in
+    let types = and_parts (sizes_fit m info) _ ranges.0 in
+    let known = and_parts (list_all type_is_fit m.types) _ types.1 in
+    let all = and_parts (module_in_range m) _ known.1 in
+    let declared = and_parts (declarations_in_range m) _ all.0 in
+    let points = and_parts (all_by_handle (function_in_range m) m.functions)
+    (list_all (entry_point_in_range m) m.entry_points.items) declared.1 in
+    let own = list_all_at (entry_point_in_range m) m.entry_points.items i e points.1 at in
+    let count = length m.global_variables in
+    let one = and_parts (is_below count (option_map (λ k. k.output_variable) e.mesh_info)) _ own in
+    let two = and_parts (is_below count e.task_payload) _ one.1 in
+    let three = and_parts (is_below count e.incoming_ray_payload) _ two.1 in
+    record { output = one.0; payload = two.0; incoming = three.0 }
+
+pub stage_row : (m : Module) (e : EntryPoint) →
+    stage_text m e ≡
+    joined_texts (attributes_text (stage_attributes (module_names m) e e.stage)) (codes "\n")
+unfolding stage_text joined_texts
+stage_row m e = refl
+
+-- ---- stages without variables
+pub plain_row : (a : PlainAttribute) →
+    attributes_text (Plain a ∷ []) ≡ codes "@" ++ (plain_attribute_word a ++ codes " ")
+unfolding attributes_text
+plain_row a = refl
+
+pub compute_row : (sizes : List ℕ) →
+    compute_text sizes ≡ joined_texts (codes "@compute ") (attributes_text (size_attributes sizes))
+unfolding compute_text joined_texts
+compute_row sizes = refl
+
+pub compute_is : (sizes : List ℕ) →
+    compute_text sizes ≡ attributes_text (Plain Compute ∷ size_attributes sizes)
+unfolding compute_text attributes_text
+compute_is sizes = refl
+
+-- three sizes
+pub size_parts : (x y z : ℕ) →
+    size_text x y z ≡
+    joined_texts (codes "@workgroup_size(")
+    (joined_texts (decimal x ++ codes ", ")
+    (joined_texts (decimal y ++ codes ", ") (decimal z ++ codes ") ")))
+unfolding size_text joined_texts
+size_parts x y z = refl
+
+size_is : (x y z : ℕ) → attributes_text (WorkgroupSize x y z ∷ []) ≡ size_text x y z
+unfolding attributes_text size_text
+size_is x y z =
+    let last = decimal z ++ codes ") " in
+    let rest = decimal y ++ (codes ", " ++ last) in
+    (λ i. codes "@workgroup_size(" ++ (append-nil (decimal x) i ++
+    (codes ", " ++ (append-nil (decimal y) i ++ (codes ", " ++ (append-nil (decimal z) i ++ codes ") "))))))
+    ∙ ap (λ t. codes "@workgroup_size(" ++ t)
+    (sym (append_assoc (decimal x) (codes ", ") rest)
+    ∙ ap (λ t. (decimal x ++ codes ", ") ++ t) (sym (append_assoc (decimal y) (codes ", ") last)))
+
+three : (sizes : List ℕ) (d : ℕ) → length sizes ≡ 3 →
+    sizes ≡ get_or sizes 0 d ∷ get_or sizes 1 d ∷ get_or sizes 2 d ∷ []
+three [] d is = absurd (omega (arith, is))
+three (x ∷ []) d is = absurd (omega (arith, is))
+three (x ∷ y ∷ []) d is = absurd (omega (arith, is))
+three (x ∷ y ∷ z ∷ []) d is = refl
+three (x ∷ y ∷ z ∷ w ∷ more) d is = absurd (omega (arith, is))
+
+pub sizes_row : (sizes : List ℕ) (d : ℕ) → length sizes ≡ 3 →
+    size_text (get_or sizes 0 d) (get_or sizes 1 d) (get_or sizes 2 d) ≡
+    attributes_text (size_attributes sizes)
+sizes_row sizes d is =
+    sym (size_is (get_or sizes 0 d) (get_or sizes 1 d) (get_or sizes 2 d))
+    ∙ ap (λ l. attributes_text (size_attributes l)) (sym (three sizes d is))
+
+-- ---- stages with variables
+variable_row : (m : Module) (a : WordedAttribute) (variable : Option ℕ) →
+    attributes_text (attribute_of (λ v. Worded a (global_name (module_names m) v)) variable) ≡
+    variable_text m (worded_front a) variable
+unfolding variable_text
+variable_row m a None = no_attributes
+variable_row m a (Some v) = worded_alone a (global_name (module_names m) v)
+
+output_row : (m : Module) (output : Option MeshStageInfo) →
+    attributes_text
+    (attribute_of (λ i. Worded Mesh (global_name (module_names m) i.output_variable)) output) ≡
+    output_text m output
+unfolding output_text variable_text
+output_row m None = no_attributes
+output_row m (Some i) = worded_alone Mesh (global_name (module_names m) i.output_variable)
+
+pub output_is : (m : Module) (i : MeshStageInfo) →
+    worded_text (codes "@mesh(") (global_name (module_names m) i.output_variable) ≡
+    output_text m (Some i)
+unfolding output_text variable_text
+output_is m i = refl
+
+pub mesh_row : (m : Module) (e : EntryPoint) →
+    attributes_text (stage_attributes (module_names m) e stage.Mesh) ≡
+    joined_texts (output_text m e.mesh_info)
+    (joined_texts (attributes_text (size_attributes e.workgroup_size))
+    (variable_text m (codes "@payload(") e.task_payload))
+mesh_row m e =
+    let names = module_names m in
+    let output = attribute_of (λ (i : MeshStageInfo). Worded Mesh (global_name names i.output_variable)) e.mesh_info in
+    let sizes = size_attributes e.workgroup_size in
+    attributes_then output (sizes ++ payload_attributes names e)
+    ∙ (λ i. joined_texts (output_row m e.mesh_info i)
+    (attributes_then sizes (payload_attributes names e) i))
+    ∙ ap (λ t. joined_texts (output_text m e.mesh_info) (joined_texts (attributes_text sizes) t))
+    (variable_row m Payload e.task_payload)
+
+-- one in front of others
+plain_then : (a : PlainAttribute) (more : List Attribute) →
+    attributes_text (Plain a ∷ more) ≡
+    joined_texts (codes "@" ++ (plain_attribute_word a ++ codes " ")) (attributes_text more)
+plain_then a more =
+    attributes_then (Plain a ∷ []) more
+    ∙ ap (λ t. joined_texts t (attributes_text more)) (plain_row a)
+
+pub task_row : (m : Module) (e : EntryPoint) →
+    attributes_text (stage_attributes (module_names m) e stage.Task) ≡
+    joined_texts (codes "@task ")
+    (joined_texts (variable_text m (codes "@payload(") e.task_payload)
+    (attributes_text (size_attributes e.workgroup_size)))
+task_row m e =
+    let payload = payload_attributes (module_names m) e in
+    let sizes = size_attributes e.workgroup_size in
+    plain_then Task (payload ++ sizes)
+    ∙ (ap (joined_texts (codes "@task ")) (attributes_then payload sizes)
+    ∙ ap (λ t. joined_texts (codes "@task ") (joined_texts t (attributes_text sizes)))
+    (variable_row m Payload e.task_payload))
+
+pub hit_row : (m : Module) (front : List ℕ) (payload : Option ℕ) →
+    hit_text m front payload ≡
+    joined_texts front (variable_text m (codes "@incoming_payload(") payload)
+unfolding hit_text joined_texts
+hit_row m front payload = refl
+
+-- of a stage that answers a ray
+pub hit_is : (m : Module) (a : PlainAttribute) (payload : Option ℕ) →
+    hit_text m (codes "@" ++ (plain_attribute_word a ++ codes " ")) payload ≡
+    attributes_text
+    (Plain a ∷ attribute_of (λ v. Worded IncomingPayload (global_name (module_names m) v)) payload)
+hit_is m a payload =
+    let front = codes "@" ++ (plain_attribute_word a ++ codes " ") in
+    hit_row m front payload
+    ∙ (ap (joined_texts front) (sym (variable_row m IncomingPayload payload))
+    ∙ sym (plain_then a _))
