@@ -29,7 +29,7 @@ pub fn push_rule(alloc: Global, case: &Value<'_>, answer: &mut String) -> Result
     };
     let rule = rule_of(alloc, text_in(case, "tool"), word)?;
     let shown = rule.display_wgsl_ident().to_string(alloc)?;
-    let line = format!(in alloc; "{read}, shown {shown}")?;
+    let line = format!(in alloc; "{read}, shown {shown:?}")?;
     push_line(line.as_str(), answer)
 }
 
@@ -46,8 +46,6 @@ fn rule_of(
     }
     match StandardFilterableTriggeringRule::from_wgsl_ident(word) {
         Some(rule) => Ok(FilterableTriggeringRule::Standard(rule)),
-        None => Ok(FilterableTriggeringRule::Unknown(String::from_str(
-            alloc, word,
-        )?)),
+        None => Ok(FilterableTriggeringRule::Unknown(String::from_str(alloc, word)?)),
     }
 }

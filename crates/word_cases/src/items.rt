@@ -60,14 +60,7 @@ pub fn reset(
     let keywords = KeywordSet::from_slice(alloc, RESERVED)?;
     let builtin = KeywordSet::from_slice(alloc, BUILTIN_IDENTIFIERS)?;
     let caseless = CaseInsensitiveKeywordSet::new(alloc);
-    namer.reset(
-        module,
-        keywords,
-        builtin,
-        caseless,
-        &["__", "_naga"],
-        names,
-    )
+    namer.reset(module, keywords, builtin, caseless, &["__", "_naga"], names)
 }
 
 /// Adds each key of the map with its name, in the order of their texts.

@@ -120,11 +120,7 @@ fn push_by_numbers(alloc: Global, known: &Known, answer: &mut String) -> Result<
     Ok(())
 }
 
-fn spelled_by_numbers(
-    alloc: Global,
-    context: &NumberedTypes<'_>,
-    ty: &TypeResolution,
-) -> Spelled {
+fn spelled_by_numbers(alloc: Global, context: &NumberedTypes<'_>, ty: &TypeResolution) -> Spelled {
     if !context.is_in_order(usize::MAX) {
         return None;
     }

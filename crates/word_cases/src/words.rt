@@ -81,10 +81,19 @@ fn push_spaces(alloc: Global, module: &Module, answer: &mut String) -> Result<()
     for (_, variable) in module.global_variables.iter() {
         let (space, access) = address_space_str(variable.space);
         let (space, access) = (space.unwrap_or("no word"), access.unwrap_or("no word"));
-        let line = format!(in alloc; "{space}, {access}")?;
-        push_line(line.as_str(), answer)?;
+        push_pair(alloc, space, access, answer)?;
     }
     Ok(())
+}
+
+fn push_pair(
+    alloc: Global,
+    first: &str,
+    second: &str,
+    answer: &mut String,
+) -> Result<(), AllocError> {
+    let line = format!(in alloc; "{first}, {second}")?;
+    push_line(line.as_str(), answer)
 }
 
 /// Adds the names of the structs that functions of WGSL give.
@@ -106,13 +115,14 @@ fn push_arguments(
     for argument in &function.arguments {
         match argument.binding {
             Some(Binding::BuiltIn(value)) => push_word(alloc, value, answer)?,
-            Some(Binding::Location {
-                interpolation: Some(interpolation),
-                sampling: Some(sampling),
-                ..
-            }) => {
-                push_line(interpolation.to_wgsl(), answer)?;
-                push_line(sampling.to_wgsl(), answer)?;
+            Some(
+                Binding::Location {
+                    interpolation: Some(interpolation),
+                    sampling: Some(sampling),
+                    ..
+                },
+            ) => {
+                push_pair(alloc, interpolation.to_wgsl(), sampling.to_wgsl(), answer)?;
             }
             _ => {}
         }
