@@ -59,16 +59,16 @@ fn spelled_by_arena(alloc: Global, types: &UniqueArena<Type_>, ty: &TypeResoluti
     }
     match ty {
         TypeResolution::Handle(handle) => {
-            if handle.index() >= types.len() {
-                return None;
+            if handle.index() < types.len() {
+                return Some(types.type_to_string(alloc, *handle));
             }
-            Some(types.type_to_string(alloc, *handle))
+            None
         }
         TypeResolution::Value(inner) => {
-            if !type_fits(types.len(), usize::MAX, inner) {
-                return None;
+            if type_fits(types.len(), usize::MAX, inner) {
+                return Some(types.type_resolution_to_string(alloc, ty));
             }
-            Some(types.type_resolution_to_string(alloc, ty))
+            None
         }
     }
 }
@@ -95,16 +95,16 @@ fn spelled_by_labels(alloc: Global, module: &Module, ty: &TypeResolution) -> Spe
     }
     match ty {
         TypeResolution::Handle(handle) => {
-            if handle.index() >= context.types.len() {
-                return None;
+            if handle.index() < context.types.len() {
+                return Some(context.type_to_string(alloc, *handle));
             }
-            Some(context.type_to_string(alloc, *handle))
+            None
         }
         TypeResolution::Value(inner) => {
-            if !type_fits(context.types.len(), context.overrides.len(), inner) {
-                return None;
+            if type_fits(context.types.len(), context.overrides.len(), inner) {
+                return Some(context.type_resolution_to_string(alloc, ty));
             }
-            Some(context.type_resolution_to_string(alloc, ty))
+            None
         }
     }
 }
@@ -126,16 +126,16 @@ fn spelled_by_numbers(alloc: Global, context: &NumberedTypes<'_>, ty: &TypeResol
     }
     match ty {
         TypeResolution::Handle(handle) => {
-            if handle.index() >= context.types.len() {
-                return None;
+            if handle.index() < context.types.len() {
+                return Some(context.type_to_string(alloc, *handle));
             }
-            Some(context.type_to_string(alloc, *handle))
+            None
         }
         TypeResolution::Value(inner) => {
-            if !type_fits(context.types.len(), usize::MAX, inner) {
-                return None;
+            if type_fits(context.types.len(), usize::MAX, inner) {
+                return Some(context.type_resolution_to_string(alloc, ty));
             }
-            Some(context.type_resolution_to_string(alloc, ty))
+            None
         }
     }
 }
@@ -184,16 +184,16 @@ fn spelled_by_names(
     }
     match ty {
         TypeResolution::Handle(handle) => {
-            if handle.index() >= types.len() {
-                return None;
+            if handle.index() < types.len() {
+                return Some(context.type_to_string(alloc, *handle));
             }
-            Some(context.type_to_string(alloc, *handle))
+            None
         }
         TypeResolution::Value(inner) => {
-            if !type_fits(types.len(), usize::MAX, inner) {
-                return None;
+            if type_fits(types.len(), usize::MAX, inner) {
+                return Some(context.type_resolution_to_string(alloc, ty));
             }
-            Some(context.type_resolution_to_string(alloc, ty))
+            None
         }
     }
 }
