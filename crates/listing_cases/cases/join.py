@@ -74,7 +74,30 @@ def joined():
                     line = {"name": name, **position_of(case, head), **told}
                     read.append(json.dumps(line, ensure_ascii=False, separators=(",", ":")) + "\n")
                     printed.append(f"== {name}\n{text_of(lines)}")
+    for name, line, told in rows_not_read(HERE / "not_read.rows"):
+        read.append(line + "\n")
+        printed.append(f"== {name}\n{told}\n")
     return {"stdin": "".join(read), "stdout": "".join(printed)}
+
+
+def rows_not_read(file):
+    """The rows of what is no module or no info: a name, what the program reads, and what it prints. The JSON stays as it is
+    written there."""
+    rows, told = [], {}
+    for number, text in enumerate(file.read_text(encoding="utf-8").splitlines(), 1):
+        if not text or text.startswith("# "):
+            continue
+        word, rest = text.split(" ", 1)
+        if word == "not":
+            name = f"not read: row {len(rows) + 1}"
+            module, info = told.get("module", "{}"), told.get("info", "{}")
+            rows.append((name, f'{{"name":{json.dumps(name)},"module":{module},"info":{info}}}', text))
+            told = {}
+        elif word in ("module", "info") and word not in told:
+            told[word] = rest
+        else:
+            raise CaseError(f"{file.name}:{number}: a row has a module, an info and an answer")
+    return rows
 
 
 def main(words):

@@ -150,7 +150,8 @@ class Expected:
         elif word == "not accepted":
             self.only = self.first_time(case, head, self.only, f"{word}: {rest}\n")
         elif word == "at":
-            self.position = self.first_time(case, head, self.position, f"{word}: {rest}\n")
+            position = "" if rest == "nowhere" else f"{word}: {rest}\n"
+            self.position = self.first_time(case, head, self.position, position)
         elif word:
             self.refusals[typed] = self.first_time(case, head, self.refusals[typed], told)
         else:
@@ -172,8 +173,10 @@ class Expected:
             raise case.error("a module that is not accepted has no text and no refusal")
         if plain == (None, None) and typed != (None, None):
             raise case.error("with types alone: what is written without them is not told")
-        if self.position is not None and self.refusals == [None, None]:
+        if self.position and self.refusals == [None, None]:
             raise case.error("a position of what is not refused")
+        if self.position == "" and self.refusals != [None, None]:
+            raise case.error("what is refused stands somewhere")
         if self.portable is not None and self.refusals != [None, None]:
             raise case.error("a module that is not written has no portable text")
         if self.portable is not None and self.texts[0] is None:

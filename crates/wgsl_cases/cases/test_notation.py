@@ -36,6 +36,8 @@ case b
 REFUSED = [
     ("  fn f()\n  gives nothing\n", "1: a line in front of the first case"),
     (FUNCTION, "2: nothing is expected"),
+    (FUNCTION + "  refused: why\n  at: nowhere\n", "2: what is refused stands somewhere"),
+    (FUNCTION + "  gives nothing\n  at: module\n", "2: a position of what is not refused"),
     # what stands below a line that has nothing below it
     (FUNCTION + "      Return\n  gives nothing\n", "5: nothing stands below the line before"),
     (FUNCTION + "    Return\n      Kill\n  gives nothing\n",

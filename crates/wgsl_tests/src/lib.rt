@@ -24,8 +24,6 @@ mod nesting;
 #[cfg(test)]
 mod public;
 #[cfg(test)]
-mod refusals;
-#[cfg(test)]
 mod sinks;
 #[cfg(test)]
 mod whole_module;

@@ -1,6 +1,6 @@
-//! Tests of names, words and spellings: what the namer makes of labels and of a module's items,
-//! sets of words, WGSL's words for values, types in each context, and sinks. Beside them a context
-//! as a user would write it.
+//! Tests of words and spellings that no case of `word_cases` can say: sets of words, the calls of
+//! each context, and sinks, also those that refuse a write. Beside them a context as a user would
+//! write it.
 #![tactic(auto)]
 
 pub mod numbered;
@@ -8,13 +8,11 @@ pub mod numbered;
 pub use numbered::NumberedTypes;
 
 #[cfg(test)]
-mod diagnostics;
+mod keyword_sets;
 #[cfg(test)]
-mod names;
+mod rules;
 #[cfg(test)]
 mod sinks;
-#[cfg(test)]
-mod spellings;
 #[cfg(test)]
 mod to_wgsl;
 #[cfg(test)]

@@ -3,7 +3,16 @@ ghost use Rattle.naga_words.specs.Rules.{AllFit, FitsConclusion};
 ghost use Rattle.naga_spelling.specs.Spelling.{IsInOrder};
 ghost use Rattle.word_tests.specs.Rules.{FitsAmong};
 
-use super::*;
+use crate::NumberedTypes;
+use naga_info::{Conclusion, Rule, TypeResolution};
+use naga_ir::{
+    ItemIndex, Module, PredeclaredType, Scalar, Type_, TypeInner, UniqueArena, VectorSize,
+};
+use naga_json::read_module;
+use naga_words::types::types_in_order;
+use naga_words::{Limited, SinkError, TypeContext, TypeTextError};
+use std::alloc::Global;
+use std::process::Abort;
 
 const DOT_TEXT: &str = "fn dot(vec3<f32>, vec3<f32>) -> f32";
 
@@ -110,11 +119,8 @@ fn rule_holds<C: TypeContext>(
     for limit in 0..=want.len() {
         written_within(rt, alloc, context, name, rule, want, limit);
     }
-    reads(
-        rt,
-        &context.type_rule_to_string(alloc, name, rule),
-        Some(want),
-    );
+    let spelled = context.type_rule_to_string(alloc, name, rule);
+    assert_eq!(rt; spelled.expect(rt, "a text").as_str(), want);
 }
 
 /// Rules that name no type of the context.
@@ -132,7 +138,7 @@ fn numbered_rules_hold(rt: &impl Abort, alloc: Global, context: &NumberedTypes<'
 }
 
 /// Rules where there are no types.
-pub fn rules_without_types(rt: &impl Abort, alloc: Global, types: &UniqueArena<Type_>) {
+fn rules_without_types(rt: &impl Abort, alloc: Global, types: &UniqueArena<Type_>) {
     assert!(rt; types_in_order(types, 0));
     rules_hold(rt, alloc, types);
     let context = NumberedTypes::new(alloc, types).expect(rt, "memory");
@@ -140,9 +146,30 @@ pub fn rules_without_types(rt: &impl Abort, alloc: Global, types: &UniqueArena<T
 }
 
 /// A rule that names a type, which has its number.
-pub fn handle_rule_holds(rt: &impl Abort, alloc: Global, context: &NumberedTypes<'_>) {
+fn handle_rule_holds(rt: &impl Abort, alloc: Global, context: &NumberedTypes<'_>) {
     assert!(rt; context.is_in_order(2));
     assert!(rt; 2 <= context.types.len());
     let rule = count_rule(rt, alloc);
     rule_holds(rt, alloc, context, "count", &rule, COUNT_TEXT);
+}
+
+#[test]
+fn rules_that_name_no_type(rt: HostRuntime) {
+    let module = Module::new(rt.alloc());
+    rules_without_types(&rt, rt.alloc(), &module.types);
+}
+
+/// A struct, and an array of it whose length is an override.
+const TYPES: &str = r#"{
+    "types": [
+        {"inner": {"Struct": {"members": [], "span": 0}}},
+        {"inner": {"Array": {"base": 0, "size": {"Pending": 0}, "stride": 4}}}
+    ]
+}"#;
+
+#[test]
+fn a_rule_that_names_a_type(rt: HostRuntime) {
+    let module = read_module(rt.alloc(), TYPES).expect(&rt, "a module");
+    let context = NumberedTypes::new(rt.alloc(), &module.types).expect(&rt, "memory");
+    handle_rule_holds(&rt, rt.alloc(), &context);
 }

@@ -1,8 +1,10 @@
 //! Sets of words, with regard to case and without.
-use super::*;
 use naga_names::by_bytes::{builtin_words, reserved_words};
-use naga_names::keyword_set::AsciiUniCase;
+use naga_names::keyword_set::{AsciiUniCase, CaseInsensitiveKeywordSet, KeywordSet};
+use naga_names::keywords::{BUILTIN_IDENTIFIERS, RESERVED};
+use std::alloc::Global;
 use std::hash::{DefaultHasher, Hash, Hasher};
+use std::process::Abort;
 
 /// The set with regard to case.
 fn set_of(rt: &impl Abort, alloc: Global, words: &[&'static str]) -> KeywordSet {

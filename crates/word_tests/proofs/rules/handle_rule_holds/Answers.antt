@@ -1,6 +1,6 @@
 use Rattle.std.proofs.Common.{rules, ◌≤◌, length}
 use Rattle.word_tests.specs.Numbered.{numbered_context}
-use Rattle.word_tests.proofs.spellings.rules.handle_rule_holds.Goals as goal
+use Rattle.word_tests.proofs.rules.handle_rule_holds.Goals as goal
 
 pub rule_holds-requires-clause-fits : goal.rule_holds-requires-clause-fits
 rule_holds-requires-clause-fits g c =
