@@ -57,10 +57,14 @@ LAYERS = [
         ("decimal_semantics", "and mean the same"),
     ]),
     ("the form", LAWS, [("naga_form", "which syntax tree is written for a module, and the laws of the square")]),
-    ("the writer", CODE, [
+    ("what is asked", CODE, [
         ("naga_acceptance", "accepts, count"),
         ("fault_details", "what was expected"),
+        ("naga_tables", "what has a form"),
         ("naga_scope", "scope, plans"),
+    ]),
+    ("the writer", CODE, [
+        ("naga_wgsl_shared", "parts of texts, errors"),
         ("naga_wgsl_fns", "texts of functions"),
         ("naga_wgsl_out", "texts of modules"),
     ]),

@@ -31,4 +31,4 @@ pub use naga_wgsl_shared::{
     to_wgsl_if_implemented, unsupported_construct, write_binding, write_global_expression,
     write_literal,
 };
-pub use plans::{FunctionRefusalPosition, Unplanned, construct_of_names, plan_of, plan_or_refusal};
+pub use plans::{Unplanned, construct_of_names, plan_of, plan_or_refusal};

@@ -33,7 +33,7 @@ use naga_info::{FunctionInfo, ModuleInfo, TypeResolution};
 use naga_ir::{Function, Module};
 use naga_names::namer::Namer;
 use naga_naming::{NameKey, NamerError};
-use naga_scope::{FunctionRefusalPosition, Plan, PlanError, function_of};
+use naga_scope::{FunctionRefusalPosition, Plan, PlanError, UnsupportedStatement, function_of};
 use naga_tables::ModuleTables;
 use naga_wgsl_shared::refusals::forms::{type_without_form, without_form};
 use naga_wgsl_shared::{Construct, Error};
