@@ -6,7 +6,7 @@ pub mod Members
 pub mod NameShapes
 pub mod NamedItems
 pub mod Naming
-mod Numerals
+pub mod Numerals
 pub mod Outputs
 pub mod Refusal
 pub mod Reset
