@@ -21,10 +21,16 @@ fn hash_of<T: Hash>(value: &T) -> u64 {
     hasher.finish()
 }
 
+/// Whether a copy is the same by equality.
+fn is_copied<T: Clone + Copy + Debug + Eq>(value: T) -> bool {
+    let copy = value;
+    copy == value
+}
+
 /// Whether a copy is the same by equality and by hash.
 fn is_plain_data<T: Clone + Copy + Debug + Eq + Hash>(value: T) -> bool {
     let copy = value;
-    copy == value && hash_of(&copy) == hash_of(&value)
+    is_copied(value) && hash_of(&copy) == hash_of(&value)
 }
 
 /// A copy of the value has this text, as the value has.
@@ -46,13 +52,14 @@ fn plain_data(rt: HostRuntime) {
     assert!(rt; is_plain_data(ExternalTextureNameKey::Plane(1)));
     assert!(rt; is_plain_data(NameKey::Function(ItemIndex::from_index(2))));
     assert!(rt; is_plain_data(AsciiUniCase { word: "If" }));
-    assert!(rt; is_plain_data(ExpressionKind::Pure));
+    assert!(rt; is_plain_data(Scalar::I32));
+    assert!(rt; is_copied(ExpressionKind::Pure));
     assert!(rt; is_plain_data(ItemIndex::<NoItem>::from_index(3)));
     let result = FunctionResult {
         ty: ItemIndex::from_index(4),
         binding: None,
     };
-    assert!(rt; is_plain_data(result));
+    assert!(rt; is_copied(result));
 }
 
 /// A mark of nothing, and without a trait: those of its handles ask none of it.
