@@ -17,7 +17,7 @@ HERE = Path(__file__).resolve().parent
 CRATE = HERE.parent
 
 EXPECTATION = re.compile(
-    r"(gives nothing|gives with types|gives portable|gives)|(refused with types|refused|at|not accepted): (.+)"
+    r"(gives nothing|gives with types|gives portable|gives)|(refused with types|refused|at with types|at|not accepted): (.+)"
 )
 ONLY_WITH_TYPES = re.compile(r"\[(: [^\[\]]+)\]")
 # A line of attributes alone, in front of an entry point or a variable that is bound.
@@ -130,7 +130,7 @@ class Expected:
     def __init__(self):
         self.texts = [None, None]
         self.refusals = [None, None]
-        self.position = None
+        self.positions = [None, None]
         self.portable = None
         self.only = None
 
@@ -149,9 +149,9 @@ class Expected:
             self.portable = self.first_time(case, head, self.portable, told)
         elif word == "not accepted":
             self.only = self.first_time(case, head, self.only, f"{word}: {rest}\n")
-        elif word == "at":
-            position = "" if rest == "nowhere" else f"{word}: {rest}\n"
-            self.position = self.first_time(case, head, self.position, position)
+        elif word in ("at", "at with types"):
+            position = "" if rest == "nowhere" else f"at: {rest}\n"
+            self.positions[typed] = self.first_time(case, head, self.positions[typed], position)
         elif word:
             self.refusals[typed] = self.first_time(case, head, self.refusals[typed], told)
         else:
@@ -173,9 +173,11 @@ class Expected:
             raise case.error("a module that is not accepted has no text and no refusal")
         if plain == (None, None) and typed != (None, None):
             raise case.error("with types alone: what is written without them is not told")
-        if self.position and self.refusals == [None, None]:
+        if self.positions[0] and self.refusals == [None, None]:
             raise case.error("a position of what is not refused")
-        if self.position == "" and self.refusals != [None, None]:
+        if self.positions[1] is not None and self.refusals[1] is None:
+            raise case.error("a position of what is not refused with types")
+        if "" in self.positions and self.refusals != [None, None]:
             raise case.error("what is refused stands somewhere")
         if self.portable is not None and self.refusals != [None, None]:
             raise case.error("a module that is not written has no portable text")
@@ -189,16 +191,17 @@ class Expected:
             return [told, told]
         has_entry_points = bool(module.get("entry_points"))
 
-        def told(text, refusal):
+        def told(text, refusal, typed=False):
             if refusal is not None:
-                return f"{text}refused: {refusal}\n{self.position or ''}"
+                position = self.positions[typed] or self.positions[False]
+                return f"{text}refused: {refusal}\n{position or ''}"
             return ended(text, has_entry_points)
 
         plain = self.texts[0] or ""
         first = told(ONLY_WITH_TYPES.sub("", plain), self.refusals[0])
         if self.texts[1] is None and self.refusals[1] is None:
             return [first, told(ONLY_WITH_TYPES.sub(r"\1", plain), self.refusals[0])]
-        return [first, told(self.texts[1] or "", self.refusals[1])]
+        return [first, told(self.texts[1] or "", self.refusals[1], typed=True)]
 
     def portable_answers(self, has_entry_points):
         """The same in texts for standard compilers, if the case tells of them."""
@@ -393,7 +396,7 @@ class Joined:
         told = {"name": case.name, **told}
         if expected.portable is not None:
             told["portable"] = True
-        if expected.position is not None:
+        if expected.positions != [None, None]:
             told["positions"] = True
         self.input.append(json.dumps(told, ensure_ascii=False, separators=(",", ":")) + "\n")
         plain, typed = expected.answers(told["module"])
