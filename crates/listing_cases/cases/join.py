@@ -19,6 +19,7 @@ from importlib import util  # noqa: E402
 spec = util.spec_from_file_location("wgsl_join", CRATE.parent / "wgsl_cases" / "cases" / "join.py")
 wgsl = util.module_from_spec(spec)
 spec.loader.exec_module(wgsl)
+from made import check_or_write  # noqa: E402
 from notation import CaseError, Module  # noqa: E402
 
 LISTED = re.compile(r"(declarations|function (\d+)|entry point (\d+))(?:, ([a-z ]+?) (\d+))?(?:, beside ([a-z ]+?) (\d+))?")
@@ -106,17 +107,7 @@ def main(words):
     except CaseError as error:
         print(error, file=sys.stderr)
         return 1
-    if words == ["--check"]:
-        stale = [name for name, text in wanted.items() if wgsl.read(CRATE / name) != text]
-        for name in stale:
-            print(f"{CRATE / name} is not what the case files say: run {__file__}", file=sys.stderr)
-        return 1 if stale else 0
-    if words:
-        print(f"usage: {sys.argv[0]} [--check]", file=sys.stderr)
-        return 2
-    for name, text in wanted.items():
-        (CRATE / name).write_text(text, encoding="utf-8")
-    return 0
+    return check_or_write(words, __file__, CRATE, wanted)
 
 
 if __name__ == "__main__":

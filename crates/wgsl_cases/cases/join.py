@@ -11,6 +11,7 @@ import sys
 from pathlib import Path
 
 sys.dont_write_bytecode = True
+from made import check_or_write  # noqa: E402
 from notation import EXPRESSIONS, STATEMENTS, CaseError, Module  # noqa: E402
 
 HERE = Path(__file__).resolve().parent
@@ -422,22 +423,10 @@ def main(words):
         print(error, file=sys.stderr)
         return 1
     wanted = {"stdin": "".join(joined.input), "stdout": "".join(joined.output)}
-    if words == ["--check"]:
-        stale = [name for name, text in wanted.items() if read(CRATE / name) != text]
-        for name in stale:
-            print(f"{CRATE / name} is not what the case files say: run {__file__}", file=sys.stderr)
-        return 1 if stale else 0
-    if words:
-        print(f"usage: {sys.argv[0]} [--check]", file=sys.stderr)
-        return 2
-    for name, text in wanted.items():
-        (CRATE / name).write_text(text, encoding="utf-8")
-    print(f"{len(joined.input)} cases")
-    return 0
-
-
-def read(path):
-    return path.read_text(encoding="utf-8") if path.exists() else None
+    status = check_or_write(words, __file__, CRATE, wanted)
+    if not words:
+        print(f"{len(joined.input)} cases")
+    return status
 
 
 if __name__ == "__main__":

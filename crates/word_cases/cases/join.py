@@ -10,8 +10,11 @@ import re
 import sys
 from pathlib import Path
 
+sys.dont_write_bytecode = True
 HERE = Path(__file__).resolve().parent
 CRATE = HERE.parent
+sys.path.insert(0, str(CRATE.parent / "wgsl_cases" / "cases"))
+from made import check_or_write  # noqa: E402
 
 MEMBER = re.compile(r"([a-z]+): (.*)")
 REPEATED = re.compile(r'("[^"]*") \* (\d+)')
@@ -180,21 +183,7 @@ def main(words):
     except CaseError as error:
         print(error, file=sys.stderr)
         return 1
-    if words == ["--check"]:
-        stale = [name for name, text in wanted.items() if read(CRATE / name) != text]
-        for name in stale:
-            print(f"{CRATE / name} is not what the case files say: run {__file__}", file=sys.stderr)
-        return 1 if stale else 0
-    if words:
-        print(f"usage: {sys.argv[0]} [--check]", file=sys.stderr)
-        return 2
-    for name, text in wanted.items():
-        (CRATE / name).write_text(text, encoding="utf-8")
-    return 0
-
-
-def read(path):
-    return path.read_text(encoding="utf-8") if path.exists() else None
+    return check_or_write(words, __file__, CRATE, wanted)
 
 
 if __name__ == "__main__":
