@@ -1,16 +1,13 @@
 -- The first values of locals, each in scope after the locals before it.
-use Rattle.std.proofs.Common.{◌≡◌, ℕ, ◌+◌, min, Bool, true, false, ◌&&◌, nat_lt, List, [], ◌∷◌, map}
-use Rattle.std.proofs.Common.{Option, Some, None, refl, sym, ap, ap₂, ◌∙◌, add-one, ◌<◌, arith}
-use Rattle.std.specs.Prelude.{slice_get, if◌then◌else◌, Ok}
-use Rattle.std.specs.Result.{result_and}
-use Rattle.std.specs.List.{enumerate_from}
+use Rattle.std.proofs.Common.{◌≡◌, ℕ, min, Bool, true, false, ◌&&◌, nat_lt, List, [], ◌∷◌}
+use Rattle.std.proofs.Common.{Option, Some, None, refl, sym, ap, ap₂, ◌∙◌, ◌<◌, arith}
+use Rattle.std.specs.Prelude.{slice_get, if◌then◌else◌}
 use Rattle.std.proofs.Math.Nat.{min-le_left, min-le_right, le-min}
 use Rattle.std.proofs.lemmas.Bool.{ltb-true, lt-ltb, ltb_from_iff}
 use Rattle.std.proofs.lemmas.List.{length-take}
 use Rattle.naga_ir.specs.declared.expression.Expression as ir
 use Rattle.naga_ir.specs.declared.expression.Expression.TheVariants as expression
 use Rattle.naga_ir.specs.declared.module.Function as ir_function
-use Rattle.naga_ir.specs.declared.module.LocalVariable.{LocalVariable}
 use Rattle.naga_ir.specs.declared.module.Module.{Module}
 use Rattle.naga_info.specs.declared.info.ExpressionInfo.{ExpressionInfo}
 use Rattle.shader_runs.specs.Program.{Expression, Function, Load, local_count}
@@ -28,20 +25,8 @@ use Rattle.naga_form.proofs.statements.WellFormed.{applied_any}
 use Rattle.naga_info.specs.declared.info.ModuleInfo.{ModuleInfo}
 use Rattle.shader_runs.specs.Value.{Selector}
 use Rattle.naga_scope.specs.Availabilities.{names_earlier, is_earlier}
-use Rattle.naga_scope.specs.ScopeChecks.{Checked, check_first, check_first_values, unless}
+use Rattle.naga_scope.specs.ScopeChecks.{check_first, unless}
 use Rattle.naga_scope.specs.declared.scope_faults.ScopeFault.TheVariants.{FirstValue}
-
--- each local with its index: the first fault of their first values
-abbrev pub all_checked : Function → List (ℕ × LocalVariable) → Checked
-all_checked f [] = Ok tt
-all_checked f (p ∷ ps) = result_and (check_first f p.0 p.1.init) (all_checked f ps)
-
-pub all_listed : (f : Function) (i : ℕ) (ls : List LocalVariable) →
-    all_checked f (enumerate_from i ls) ≡ check_first_values f i (map (λ l. l.init) ls)
-all_listed f i [] = refl
-all_listed f i (l ∷ ls) =
-    ap (result_and (check_first f i l.init))
-    (all_listed f (i + 1) ls ∙ ap (λ k. check_first_values f k (map (λ l. l.init) ls)) (add-one i))
 
 -- the first value of a local is checked by whether it is in scope in front of the local
 pub first_checked : (f : Function) (i h : ℕ) (s : Handles) (o : Option ℕ) (b : Bool) → o ≡ Some h → s ≡ at_start f →

@@ -12,13 +12,12 @@ use Rattle.naga_ir.specs.StatementTree.{subgroup_collective_operation, Statement
 use Rattle.naga_ir.specs.StatementTree.{switch, BlockTree, CaseTrees, no_cases, case}
 use Rattle.naga_ir.specs.StatementTree.{has_no_statements}
 use Rattle.naga_scope.proofs.InOrder.{all_of, gathered}
-use Rattle.naga_scope.specs.UnsupportedStatements.{FindsUnsupported, FormedBefore, IsUnsupportedAt}
 use Rattle.naga_scope.specs.UnsupportedStatements.{LacksForm, SomeCaseFalls, falls_unsupported}
 use Rattle.naga_scope.specs.UnsupportedStatements.{first_unsupported, unsupported_case}
 use Rattle.naga_scope.specs.UnsupportedStatements.{unsupported_statement, own_unsupported}
 use Rattle.naga_scope.specs.UnsupportedStatements.{simple_unsupported, unless}
-use Rattle.naga_ir.specs.InOrder.{trees_in}
 use Rattle.naga_scope.specs.declared.statements.UnsupportedStatement.{UnsupportedStatement}
+use Rattle.naga_tables.specs.Declarations.{Each, EachBefore}
 
 unless_none : (b : Bool) (it : UnsupportedStatement) → is_none (unless b it) ≡ b
 unless_none true it = refl
@@ -90,14 +89,15 @@ pub some_unsupported : (b : BlockTree) (it : UnsupportedStatement) → unsupport
 some_unsupported b it is = sym (block_formed b) ∙ ap is_none is
 
 -- ---- what is found
-all_formed : (sts : List StatementTree) → FindsUnsupported sts None → first_unsupported sts ≡ None
+pub all_formed : (sts : List StatementTree) → Each sts (λ i st. own_unsupported st ≡ None) → first_unsupported sts ≡ None
 all_formed [] each = refl
 all_formed (st ∷ sts) each =
     ap (λ o. option_or o (first_unsupported sts)) (each 0 st refl) ∙ all_formed sts (λ i x at. each (suc i) x at)
 
-first_is : (sts : List StatementTree) (i : ℕ) (st : StatementTree) (it : UnsupportedStatement) → slice_get sts i
+pub first_is : (sts : List StatementTree) (i : ℕ) (st : StatementTree) (it : UnsupportedStatement) → slice_get sts i
     ≡ Some st →
-    FormedBefore sts i → own_unsupported st ≡ Some it → first_unsupported sts ≡ Some it
+    EachBefore sts i (λ i st. own_unsupported st ≡ None) → own_unsupported st ≡ Some it →
+    first_unsupported sts ≡ Some it
 first_is [] i st it at before is = absurd cc
 first_is (x ∷ sts) zero st it at before is =
     let same : x ≡ st = cc in ap (λ o. option_or o (first_unsupported sts)) (ap own_unsupported same ∙ is)
@@ -115,22 +115,7 @@ case_falls (case v b falls cs) it is = by (falls_unsupported falls (has_no_state
     by None is further = inr (further is)
     by (Some x) is further = inl is
 
-lacks_form : (st : StatementTree) (it : UnsupportedStatement) → own_unsupported st ≡ Some it → LacksForm st it
+pub lacks_form : (st : StatementTree) (it : UnsupportedStatement) → own_unsupported st ≡ Some it → LacksForm st it
 lacks_form (simple st) it is = is
 lacks_form (switch s cs) it is = case_falls cs it is
 lacks_form _ it is = absurd cc
-
-module _ (sts : List StatementTree) (b : BlockTree) (trees : sts ≡ trees_in b) where
-  pub none_found : FindsUnsupported sts None → unsupported_statement b ≡ None
-  none_found each = ap first_unsupported (sym trees) ∙ all_formed sts each
-
-  module _ (n : ℕ) (it : UnsupportedStatement) (found : FindsUnsupported sts (Some (n, it))) where
-    pub one_found : unsupported_statement b ≡ Some it
-    one_found = ap first_unsupported (sym trees) ∙ first_is sts found.0 found.1 it found.2 found.4 found.5
-
-    pub found_lacks : IsUnsupportedAt b n it
-    found_lacks = (
-      found.1,
-      ap (slice_get (trees_in b)) found.3 ∙ (ap (λ ts. slice_get ts found.0) (sym trees) ∙ found.2),
-      lacks_form found.1 it found.5,
-    )

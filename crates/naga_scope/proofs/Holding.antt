@@ -1,7 +1,7 @@
 -- The check over the locals, and over statements without blocks.
 use Rattle.std.proofs.Common.{◌≡◌, ℕ, Bool, true, false, Option, None, Some, List, [], ◌∷◌}
 use Rattle.std.proofs.Common.{length, refl, sym}
-use Rattle.std.specs.Prelude.{Result, Ok, Err}
+use Rattle.std.specs.Prelude.{Ok, Err}
 use Rattle.std.specs.Result.{result_and}
 use Rattle.std.specs.Option.{option_to_list}
 use Rattle.module_semantics.specs.ExpressionOperators.{ExpressionContext, is_atomic_pointer}
@@ -14,9 +14,8 @@ use Rattle.naga_ir.specs.declared.statement.Range.{Range}
 use Rattle.naga_ir.specs.declared.statement.Statement.{Statement}
 use Rattle.naga_ir.specs.declared.statement.Statement.TheVariants as statement_variant
 use Rattle.naga_scope.specs.Changes.{simple_changes}
-use Rattle.naga_scope.specs.ScopeChecks.{Checked, check_result, check_statement, check_use, check_uses, next_number}
-use Rattle.naga_scope.specs.declared.scope_faults.ScopeFault.{ScopeFault}
-use Rattle.shader_runs.specs.Scope.{Naming, Handles, after, after_result, named_by}
+use Rattle.naga_scope.specs.ScopeChecks.{Checked, check_own, check_result, check_use, check_uses, own_named}
+use Rattle.shader_runs.specs.Scope.{Naming, Handles, after, after_result}
 
 -- ---- first values
 
@@ -27,59 +26,46 @@ is_emit st = false
 
 -- ---- statements without blocks
 module _ (n : Naming) (a : ExpressionContext) where
-  -- one check and then others
-  and_assoc : {X Y Z : Type 0} (r : Result X ScopeFault) (q : Result Y ScopeFault) (p : Result Z ScopeFault) →
-      result_and r (result_and q p) ≡ result_and (result_and r q) p
-  and_assoc (Ok x) q p = refl
-  and_assoc (Err e) q p = refl
+  -- what is asked of its operands and its result
+  abbrev checked_act : (number : ℕ) → (operands : List ℕ) → (outcome : Option ℕ) → Handles → Checked
+  checked_act number operands outcome s =
+      result_and (check_uses n.function s number operands) (check_result number outcome s)
 
   abbrev fine : Checked
   fine = Ok tt
 
-  both_checked : (r q : Checked) (j : ℕ) → result_and r (result_and q (Ok j)) ≡
-      result_and (result_and (result_and r (result_and q fine)) fine) (Ok j)
-  both_checked (Ok x) (Ok y) j = refl
-  both_checked (Ok x) (Err e) j = refl
-  both_checked (Err e) q j = refl
+  both_checked : (r q : Checked) → result_and r q ≡ result_and (result_and r (result_and q fine)) fine
+  both_checked (Ok x) (Ok y) = refl
+  both_checked (Ok x) (Err e) = refl
+  both_checked (Err e) q = refl
 
-  one_checked : (r : Checked) (j : ℕ) → result_and r (Ok j) ≡
-      result_and (result_and (result_and r fine) fine) (Ok j)
-  one_checked (Ok x) j = refl
-  one_checked (Err e) j = refl
-
-  -- what is asked of its operands and its result, and then the number of the next one
-  abbrev checked_act : (number : ℕ) → (operands : List ℕ) → (outcome : Option ℕ) → Handles → Result ℕ ScopeFault
-  checked_act number operands outcome s =
-      result_and (result_and (check_uses n.function s number operands) (check_result number outcome s))
-      (Ok (next_number number))
+  one_checked : (r : Checked) → r ≡ result_and (result_and r fine) fine
+  one_checked (Ok x) = refl
+  one_checked (Err e) = refl
 
   -- a store is asked for its pointer and its value, and changes nothing, whether an atomic is stored
   -- to or not
   stored_checks : (atomic : Bool) (p v k number : ℕ) (s : Handles) →
-      check_statement n k number (store_shape atomic p v) s ≡ checked_act number (p ∷ v ∷ []) None s
-  stored_checks true p v k number s =
-      and_assoc (check_uses n.function s number (p ∷ v ∷ [])) (check_result number None s) (Ok (next_number number))
-  stored_checks false p v k number s =
-      both_checked (check_use n.function s number p) (check_use n.function s number v) (next_number number)
+      check_own n k number (store_shape atomic p v) s ≡ checked_act number (p ∷ v ∷ []) None s
+  stored_checks true p v k number s = refl
+  stored_checks false p v k number s = both_checked (check_use n.function s number p) (check_use n.function s number v)
 
   stored_after : (atomic : Bool) (p v k : ℕ) (s : Handles) → s ≡ after n k (store_shape atomic p v) s
   stored_after true p v k s = refl
   stored_after false p v k s = refl
 
-  stored_named : (atomic : Bool) (p v k : ℕ) → k ≡ named_by n.function (store_shape atomic p v) k
+  stored_named : (atomic : Bool) (p v k : ℕ) → k ≡ own_named n.function (store_shape atomic p v) k
   stored_named true p v k = refl
   stored_named false p v k = refl
 
   -- so is any other that is no `Emit` for its operands and its result
   pub act_checks : (st : SimpleStatement) → is_emit st ≡ false → (k number : ℕ) (s : Handles) →
-      check_statement n k number (simple_shape a st) s ≡ checked_act number (simple_operands st) (simple_result st) s
+      check_own n k number (simple_shape a st) s ≡ checked_act number (simple_operands st) (simple_result st) s
   act_checks (emit first end) other k number s = absurd cc
   act_checks (store p v) other k number s = stored_checks (is_atomic_pointer a p) p v k number s
   act_checks (return None) other k number s = refl
-  act_checks (return (Some v)) other k number s = one_checked (check_use n.function s number v) (next_number number)
-  act_checks st other k number s =
-      and_assoc (check_uses n.function s number (simple_operands st)) (check_result number (simple_result st) s)
-      (Ok (next_number number))
+  act_checks (return (Some v)) other k number s = one_checked (check_use n.function s number v)
+  act_checks st other k number s = refl
 
   pub act_after : (st : SimpleStatement) → is_emit st ≡ false → (k : ℕ) (s : Handles) →
       after n k (simple_shape a st) s ≡ after_result n.names (simple_result st) s
@@ -87,7 +73,8 @@ module _ (n : Naming) (a : ExpressionContext) where
   act_after (store p v) other k s = sym (stored_after (is_atomic_pointer a p) p v k s)
   act_after _ other k s = refl
 
-  pub act_named : (st : SimpleStatement) → is_emit st ≡ false → (k : ℕ) → named_by n.function (simple_shape a st) k ≡ k
+  pub act_named : (st : SimpleStatement) → is_emit st ≡ false → (k : ℕ) → own_named n.function (simple_shape a st) k
+      ≡ k
   act_named (emit first end) other k = absurd cc
   act_named (store p v) other k = sym (stored_named (is_atomic_pointer a p) p v k)
   act_named _ other k = refl

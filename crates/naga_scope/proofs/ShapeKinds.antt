@@ -14,7 +14,7 @@ use Rattle.naga_ir.specs.declared.module.Function as ir_function
 use Rattle.naga_ir.specs.declared.module.Module.{Module}
 use Rattle.naga_info.specs.declared.info.ExpressionInfo.{ExpressionInfo}
 use Rattle.naga_info.specs.declared.info.ModuleInfo.{ModuleInfo}
-use Rattle.shader_runs.specs.Program.{Expression, Load, AccessIndex, Constant, Request, Result}
+use Rattle.shader_runs.specs.Program.{Expression, Load, Constant}
 use Rattle.shader_runs.specs.Program.{operands_of, Function, expression_of, is_counted, is_named}
 use Rattle.shader_runs.specs.Program.{binds, is_emittable, is_pure}
 use Rattle.shader_runs.specs.Scope.{Handles, Availability, is_present, is_constant_leaf, usable}
@@ -27,7 +27,6 @@ use Rattle.module_semantics.specs.LetCounts.{is_bound_by_uses, uses_of}
 use Rattle.module_semantics.specs.FunctionShapes.{function_shape}
 use Rattle.module_semantics.proofs.LetCounts.{bound_by_uses_at}
 use Rattle.module_semantics.specs.OperatorTable.{Operator as TableOperator, AtomicLoad, BinarySign}
-use Rattle.module_semantics.specs.OperatorTable.{CooperativeLoad}
 use Rattle.module_semantics.specs.ShapeKinds.{shape_kind}
 use Rattle.module_semantics.specs.ExpressionContexts.{declared, types_known}
 use Rattle.module_semantics.specs.Types.{declared_type}
@@ -38,7 +37,6 @@ use Rattle.naga_form.proofs.ModuleIndices.{expression_at, no_expression_at}
 use Rattle.naga_form.proofs.statements.WellFormed.{applied_any}
 use Rattle.naga_scope.specs.Availabilities.{kind_at, operands_at, is_pure_kind, is_constant_kind}
 use Rattle.naga_scope.specs.Availabilities.{is_emittable_kind, usable_by}
-use Rattle.naga_ir.specs.declared.expression.ImageQuery.{ImageQuery}
 
 -- ---- the runs' words for shapes are tests of their kind
 pure_shape : (o : Option Expression) → is_pure o ≡ is_pure_kind (shape_kind o)

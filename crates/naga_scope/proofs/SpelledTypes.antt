@@ -1,13 +1,11 @@
 -- What a search for a type without a form says of the types that the text of a function spells.
 use Rattle.std.proofs.Common.{◌≡◌, ◌<◌, ◌+◌, ℕ, zero, suc, Bool, true, false, ◌&&◌, List, [], ◌∷◌}
-use Rattle.std.proofs.Common.{◌++◌, nat_eq, drop, length, map, slice_index_or, Option, Some, None}
+use Rattle.std.proofs.Common.{drop, length, map, slice_index_or, Option, Some, None}
 use Rattle.std.proofs.Common.{refl, sym, ap, subst, ◌∙◌, arith}
-use Rattle.std.specs.Prelude.{IsFalse, IsSomeAnd, IsTrue, ◌⊎◌, cond, if◌then◌else◌, not, slice_get}
-use mathlib.Core.Logic.{inl, inr}
-use Rattle.std.specs.List.{IsAmong, enumerate_from, filter, find, flat_map}
+use Rattle.std.specs.Prelude.{IsFalse, IsSomeAnd, IsTrue, cond, if◌then◌else◌, not, slice_get}
+use Rattle.std.specs.List.{IsAmong, enumerate_from, filter, find}
 use Rattle.std.specs.Option.{option_map, option_map_or, option_or}
-use Rattle.std.proofs.lemmas.Bool.{and_parts, ltb-true, not-false, not-true, or_cases, or_left, or_right}
-use Rattle.std.proofs.lemmas.List.Folds.{find-append, list_any-append}
+use Rattle.std.proofs.lemmas.Bool.{and_parts, not-false, not-true}
 use Rattle.naga_ir.proofs.Listed.{drop_first}
 use Rattle.module_semantics.specs.AlikeTypes.{has_type_form}
 use Rattle.module_semantics.specs.Undeclared.{is_spellable, names_undeclared}
@@ -25,23 +23,20 @@ use Rattle.naga_ir.specs.declared.module.FunctionArgument.{FunctionArgument}
 use Rattle.naga_ir.specs.declared.module.FunctionResult.{FunctionResult}
 use Rattle.naga_ir.specs.declared.module.LocalVariable.{LocalVariable}
 use Rattle.naga_ir.specs.declared.module.Module.{Module}
+use Rattle.naga_scope.proofs.Among.{among_one, of_some, one_among, some_of}
 use Rattle.naga_scope.proofs.InOrder.{lets_in_order}
 use Rattle.naga_tables.proofs.Finding.{none_passes, found_passes, found_first, there_among}
 use Rattle.naga_tables.proofs.Finding.{among_there}
-use Rattle.naga_scope.proofs.Sweeping.{among_one, one_among}
-use Rattle.naga_scope.specs.Earliest.{line_of_declared}
 use Rattle.naga_ir.specs.InOrder.{trees_in}
 use Rattle.naga_scope.specs.InOrder.{own_lets}
-use Rattle.naga_scope.specs.Lines.{declared_type, is_before, lets_at}
+use Rattle.naga_scope.specs.Lines.{declared_type, lets_at}
+use Rattle.naga_tables.specs.Declarations.{Each}
 use Rattle.naga_tables.specs.Marks.{is_one_of}
-use Rattle.naga_scope.specs.SpelledTypes.{FindsAnnotated, argument_types, declared_unsupported}
-use Rattle.naga_scope.specs.SpelledTypes.{first_unspellable, is_annotated_unsupported}
-use Rattle.naga_scope.specs.SpelledTypes.{is_unspellable, is_unsupported_let, local_types}
-use Rattle.naga_scope.specs.SpelledTypes.{own_annotated, result_types}
+use Rattle.naga_scope.specs.SpelledTypes.{argument_types, first_unspellable, is_annotated_unsupported}
+use Rattle.naga_scope.specs.SpelledTypes.{is_unspellable, is_unsupported_let, own_annotated, result_types}
 use Rattle.naga_scope.specs.declared.lines.Declared.{Declared}
 use Rattle.naga_scope.specs.declared.lines.Declared.TheVariants.{Argument, Local}
 use Rattle.naga_scope.specs.declared.lines.Declared.TheVariants as declared
-use Rattle.naga_scope.specs.declared.lines.Line.TheVariants as line
 use Rattle.shader_runs.specs.Program.{binds}
 
 -- ---- searches
@@ -70,12 +65,9 @@ module _ {X Y : Type 0} (g : ℕ × X → Y) where
       let more : n + suc i ≡ n + 1 + i = omega arith in
       (rest.0, rest.1, ap (λ k. g (k, rest.0)) more ∙ rest.2)
 
--- what arguments declare, of which the first has this number, and numbered locals
+-- what arguments declare, of which the first has this number
 abbrev pub arguments_from : (n : ℕ) → List FunctionArgument → List (Declared × ℕ)
 arguments_from n xs = map (λ p. (Argument p.0, p.1.ty)) (enumerate_from n xs)
-
-abbrev pub numbered_locals : List (ℕ × LocalVariable) → List (Declared × ℕ)
-numbered_locals ps = map (λ p. (Local p.0, p.1.ty)) ps
 
 -- a search from an argument on, by whether its type has no form
 module _ (m : Module) (xs : List FunctionArgument) (i n : ℕ) (x : FunctionArgument) (lt : i < length xs)
@@ -100,10 +92,6 @@ module _ (m : Module) (xs : List FunctionArgument) (i n : ℕ) (x : FunctionArgu
       ∙ ap (λ b. cond b (Some (Argument n, x.ty))
       (first_unspellable m (arguments_from (n + 1) (drop (i + 1) xs)))) fails)
 
-neither : {X : Type 0} (a b : Option X) → option_or a b ≡ None → (a ≡ None) × (b ≡ None)
-neither None b is = (refl, is)
-neither (Some x) b is = absurd cc
-
 -- ---- lists in parts
 module _ {X : Type 0} (p : X → Bool) where
   -- one through what is left of a list by a test, by the first item
@@ -125,17 +113,6 @@ module _ {X : Type 0} (p : X → Bool) where
       by false kept fails = refl
 
 -- ---- a function
--- the first of all is the first of the arguments', or of the result's, or of the locals'
-pub parted : (m : Module) (f : Function) →
-    declared_unsupported m f ≡
-    option_or (first_unspellable m (argument_types f.arguments.items))
-    (option_or (first_unspellable m (result_types f.result)) (first_unspellable m (local_types f.local_variables)))
-parted m f =
-    find-append (λ d. is_unspellable m d.1) (argument_types f.arguments.items)
-    (result_types f.result ++ local_types f.local_variables)
-    ∙ ap (option_or (first_unspellable m (argument_types f.arguments.items)))
-    (find-append (λ d. is_unspellable m d.1) (result_types f.result) (local_types f.local_variables))
-
 none_more : (x : ℕ) → 0 + x ≡ x
 none_more x = omega arith
 
@@ -147,7 +124,7 @@ module _ (m : Module) (f : Function) where
   IsSpellable ty = is_spellable m (Handle ty) ≡ true
 
   -- where no argument has a type without a form, and so on
-  arguments_spelled : first_unspellable m (argument_types f.arguments.items) ≡ None → (i ty : ℕ) →
+  pub arguments_spelled : first_unspellable m (argument_types f.arguments.items) ≡ None → (i ty : ℕ) →
       declared_type f (Argument i) ≡ Some ty → IsSpellable ty
   arguments_spelled none i ty is =
       let a = map_some (λ a. a.ty) (slice_get f.arguments.items i) ty is in
@@ -155,7 +132,7 @@ module _ (m : Module) (f : Function) where
       subst IsSpellable a.2
       (not-false _ (none_passes lacks (argument_types f.arguments.items) none i (Argument (0 + i), a.0.ty) at))
 
-  result_spelled : first_unspellable m (result_types f.result) ≡ None → (ty : ℕ) →
+  pub result_spelled : first_unspellable m (result_types f.result) ≡ None → (ty : ℕ) →
       declared_type f declared.Result ≡ Some ty → IsSpellable ty
   result_spelled none ty is =
       let r = map_some (λ r. r.ty) f.result ty is in
@@ -165,30 +142,6 @@ module _ (m : Module) (f : Function) where
       there : (r : FunctionResult) → f.result ≡ Some r → slice_get (result_types f.result) 0
           ≡ Some (declared.Result, r.ty)
       there r is = ap (λ o. slice_get (result_types o) 0) is
-
-  local_at : (i ty : ℕ) → declared_type f (Local i) ≡ Some ty → slice_get (local_types f.local_variables) i
-      ≡ Some (Local i, ty)
-  local_at i ty is =
-      let v = map_some (λ l. l.ty) (slice_get f.local_variables i) ty is in
-      numbered_at (λ p. (Local p.0, p.1.ty)) 0 f.local_variables i v.0 v.1 ∙ (λ j. Some (Local (none_more i j), v.2 j))
-
-  locals_spelled : first_unspellable m (local_types f.local_variables) ≡ None → (i ty : ℕ) →
-      declared_type f (Local i) ≡ Some ty → IsSpellable ty
-  locals_spelled none i ty is =
-      not-false _ (none_passes lacks (local_types f.local_variables) none i (Local i, ty) (local_at i ty is))
-
-  -- where none is found, each type that is declared has a form
-  pub declared_spelled : declared_unsupported m f ≡ None → (at : Declared) (ty : ℕ) → declared_type f at
-      ≡ Some ty → IsSpellable ty
-  declared_spelled none at ty is = by (neither _ _ (sym (parted m f) ∙ none)) at is
-    where
-      by : (first_unspellable m (argument_types f.arguments.items) ≡ None)
-          × (option_or (first_unspellable m (result_types f.result))
-          (first_unspellable m (local_types f.local_variables)) ≡ None) →
-          (at : Declared) → declared_type f at ≡ Some ty → IsSpellable ty
-      by both (Argument i) is = arguments_spelled both.0 i ty is
-      by both declared.Result is = result_spelled (neither _ _ both.1).0 ty is
-      by both (Local i) is = locals_spelled (neither _ _ both.1).1 i ty is
 
   -- what is declared is spelled
   pub declared_is_spelled : (explicit : Bool) (info : ModuleInfo) (es : List ExpressionInfo) (at : Declared) (ty : ℕ) →
@@ -203,76 +156,41 @@ module _ (m : Module) (f : Function) where
       let v = map_some (λ l. l.ty) (slice_get f.local_variables i) ty is in
       subst (λ ty. IsSpelledIn explicit m info f es (Handle ty)) v.2 (OfLocal i v.0 v.1)
 
-  -- what is found is declared there, has no form, and each that is declared on a line before has one
-  pub record FirstDeclared (found : Declared × ℕ) : Type 0 where
-    pub declared : declared_type f found.0 ≡ Some found.1
-    pub lacks : is_spellable m (Handle found.1) ≡ false
-    pub before : (at : Declared) (ty : ℕ) → declared_type f at ≡ Some ty →
-        is_before (line_of_declared at) (line_of_declared found.0) ≡ true → IsSpellable ty
+  -- what is found in the signature is declared there, and has no form
+  abbrev pub LacksForm : Declared × ℕ → Type 0
+  LacksForm found = (declared_type f found.0 ≡ Some found.1) × (is_spellable m (Handle found.1) ≡ false)
 
-  never_before : (at : Declared) → is_before (line_of_declared at) line.Signature ≡ true → ⊥
-  never_before (Argument i) is = absurd cc
-  never_before declared.Result is = absurd cc
-  never_before (Local i) is = absurd cc
-
-  pub declared_found : (found : Declared × ℕ) → declared_unsupported m f ≡ Some found → FirstDeclared found
+  pub declared_found : (found : Declared × ℕ) →
+      option_or (first_unspellable m (argument_types f.arguments.items)) (first_unspellable m (result_types f.result))
+      ≡ Some found → LacksForm found
   declared_found found is =
       by (first_unspellable m (argument_types f.arguments.items)) (first_unspellable m (result_types f.result))
-      (first_unspellable m (local_types f.local_variables)) refl refl refl (sym (parted m f) ∙ is)
+      refl refl is
     where
-      by : (a r l : Option (Declared × ℕ)) → first_unspellable m (argument_types f.arguments.items) ≡ a →
-          first_unspellable m (result_types f.result) ≡ r → first_unspellable m (local_types f.local_variables) ≡ l →
-          option_or a (option_or r l) ≡ Some found → FirstDeclared found
-      by (Some x) r l arguments result locals is =
+      at_result : (o : Option FunctionResult) → f.result ≡ o → (x : Declared × ℕ) (i : ℕ) →
+          slice_get (result_types o) i ≡ Some x → lacks x ≡ true → LacksForm x
+      at_result None is x i at fails = absurd cc
+      at_result (Some r) is x zero at fails =
+          let same : (declared.Result, r.ty) ≡ x = cc in
+          subst LacksForm same (ap (option_map (λ r. r.ty)) is, not-true _ (ap lacks same ∙ fails))
+      at_result (Some r) is x (suc i) at fails = absurd cc
+
+      by : (a r : Option (Declared × ℕ)) → first_unspellable m (argument_types f.arguments.items) ≡ a →
+          first_unspellable m (result_types f.result) ≡ r → option_or a r ≡ Some found → LacksForm found
+      by (Some x) r arguments result is =
           let same : x ≡ found = cc in
           let first = found_first lacks (argument_types f.arguments.items) x arguments in
           let a = at_numbered (λ p. (Argument p.0, p.1.ty)) 0 f.arguments.items first.0 x first.1 in
-          subst FirstDeclared (a.2 ∙ same)
-          (record {
-            declared = ap (λ i. option_map (λ a. a.ty) (slice_get f.arguments.items i)) (none_more first.0)
-                ∙ ap (option_map (λ a. a.ty)) a.1;
-            lacks = not-true _ (ap lacks a.2 ∙ first.2);
-            before = λ at ty there lt. absurd (never_before at lt);
-          })
-      by None (Some x) l arguments result locals is =
+          subst LacksForm (a.2 ∙ same) (
+            ap (λ i. option_map (λ a. a.ty) (slice_get f.arguments.items i)) (none_more first.0)
+                ∙ ap (option_map (λ a. a.ty)) a.1,
+            not-true _ (ap lacks a.2 ∙ first.2),
+          )
+      by None (Some x) arguments result is =
           let same : x ≡ found = cc in
           let first = found_first lacks (result_types f.result) x result in
-          subst FirstDeclared same (at_result f.result refl x first.0 first.1 first.2)
-        where
-          at_result : (o : Option FunctionResult) → f.result ≡ o → (x : Declared × ℕ) (i : ℕ) →
-              slice_get (result_types o) i ≡ Some x →
-              lacks x ≡ true → FirstDeclared x
-          at_result None is x i at fails = absurd cc
-          at_result (Some r) is x zero at fails =
-              let same : (declared.Result, r.ty) ≡ x = cc in
-              subst FirstDeclared same
-              (record {
-                declared = ap (option_map (λ r. r.ty)) is;
-                lacks = not-true _ (ap lacks same ∙ fails);
-                before = λ at ty there lt. absurd (never_before at lt);
-              })
-          at_result (Some r) is x (suc i) at fails = absurd cc
-      by None None (Some x) arguments result locals is =
-          let same : x ≡ found = cc in
-          let first = found_first lacks (local_types f.local_variables) x locals in
-          let v = at_numbered (λ p. (Local p.0, p.1.ty)) 0 f.local_variables first.0 x first.1 in
-          let here : (Local first.0, v.0.ty) ≡ x = ap (λ i. (Local i, v.0.ty)) (sym (none_more first.0)) ∙ v.2 in
-          subst FirstDeclared (here ∙ same)
-          (record {
-            declared = ap (option_map (λ l. l.ty)) v.1;
-            lacks = not-true _ (ap lacks here ∙ first.2);
-            before = λ at ty there lt. earlier first.0 first.3 at ty there lt;
-          })
-        where
-          earlier : (i : ℕ) → ((j : ℕ) (y : Declared × ℕ) → j < i → slice_get (local_types f.local_variables) j
-              ≡ Some y → lacks y ≡ false) →
-              (at : Declared) (ty : ℕ) → declared_type f at ≡ Some ty →
-              is_before (line_of_declared at) (line.Local i) ≡ true → IsSpellable ty
-          earlier i each (Argument k) ty there lt = arguments_spelled arguments k ty there
-          earlier i each declared.Result ty there lt = result_spelled result ty there
-          earlier i each (Local k) ty there lt =
-              not-false _ (each k (Local k, ty) (ltb-true k i lt) (local_at k ty there))
-      by None None None arguments result locals is = absurd cc
+          subst LacksForm same (at_result f.result refl x first.0 first.1 first.2)
+      by None None arguments result is = absurd cc
 
 -- ---- `let`s
 module _ (explicit : Bool) (m : Module) (info : ModuleInfo) (f : Function) (es : List ExpressionInfo) where
@@ -282,38 +200,13 @@ module _ (explicit : Bool) (m : Module) (info : ModuleInfo) (f : Function) (es :
   abbrev annotated : ℕ → Bool
   annotated = is_unsupported_let m es
 
-  -- a handle that the `let`s of a list of statements name is named by one of them
-  let_of_one : (sts : List StatementTree) (h : ℕ) → is_one_of (flat_map (own_lets bound) sts) h ≡ true →
-      (n : ℕ) × (st : StatementTree) × (slice_get sts n ≡ Some st) × (is_one_of (own_lets bound st) h ≡ true)
-  let_of_one [] h is = absurd cc
-  let_of_one (st ∷ sts) h is =
-      by (or_cases _ _ (sym (list_any-append (nat_eq h) (own_lets bound st) (flat_map (own_lets bound) sts))
-      ∙ is)) (let_of_one sts h)
-    where
-      by : (is_one_of (own_lets bound st) h ≡ true) ⊎ (is_one_of (flat_map (own_lets bound) sts) h ≡ true) →
-          (is_one_of (flat_map (own_lets bound) sts) h ≡ true →
-          (n : ℕ) × (st : StatementTree) × (slice_get sts n ≡ Some st) × (is_one_of (own_lets bound st) h ≡ true)) →
-          (n : ℕ) × (s : StatementTree) × (slice_get (st ∷ sts) n ≡ Some s) × (is_one_of (own_lets bound s) h ≡ true)
-      by (inl here) rest = (0, st, refl, here)
-      by (inr later) rest = let further = rest later in (suc further.0, further.1, further.2, further.3)
-
-  -- and one of a statement is one of the body
-  let_in_body : (sts : List StatementTree) (n : ℕ) (st : StatementTree) (h : ℕ) → slice_get sts n ≡ Some st →
-      is_one_of (own_lets bound st) h ≡ true → is_one_of (flat_map (own_lets bound) sts) h ≡ true
-  let_in_body [] n st h at is = absurd cc
-  let_in_body (s ∷ sts) zero st h at is =
-      let same : s ≡ st = cc in
-      list_any-append (nat_eq h) (own_lets bound s) (flat_map (own_lets bound) sts)
-      ∙ or_left _ _ (ap (λ s. is_one_of (own_lets bound s) h) same ∙ is)
-  let_in_body (s ∷ sts) (suc n) st h at is =
-      list_any-append (nat_eq h) (own_lets bound s) (flat_map (own_lets bound) sts)
-      ∙ or_right _ _ (let_in_body sts n st h at is)
-
-  -- where neither search finds one, each type that is spelled has a form
-  pub spelled_formed : declared_unsupported m f ≡ None →
-      FindsAnnotated explicit m es bound (trees_in f.body) None →
+  -- where each type that is declared has a form, and each that a `let` tells, each that is spelled has one
+  pub spelled_formed : first_unspellable m (argument_types f.arguments.items) ≡ None →
+      first_unspellable m (result_types f.result) ≡ None →
+      ((l : ℕ) (v : LocalVariable) → slice_get f.local_variables l ≡ Some v → IsTrue (is_spellable m (Handle v.ty))) →
+      Each (trees_in f.body) (λ n st. own_annotated explicit m es bound st ≡ None) →
       (r : TypeResolution) → IsSpelledIn explicit m info f es r → IsTrue (is_spellable m r)
-  spelled_formed none_declared none_annotated = spelled
+  spelled_formed no_argument no_result locals lets = spelled
     where
       let_formed : (b : Bool) → b ≡ true → (st : StatementTree) → own_annotated b m es bound st ≡ None →
           (h : ℕ) (k : ExpressionInfo) → is_one_of (own_lets bound st) h ≡ true → slice_get es h ≡ Some k →
@@ -329,16 +222,14 @@ module _ (explicit : Bool) (m : Module) (info : ModuleInfo) (f : Function) (es :
           λ i. formed i && not (declared i)
 
       spelled : (r : TypeResolution) → IsSpelledIn explicit m info f es r → IsTrue (is_spellable m r)
-      spelled _ (OfArgument n a at) = declared_spelled m f none_declared (Argument n) a.ty
-          (ap (option_map (λ a. a.ty)) at)
-      spelled _ (OfResult r is) = declared_spelled m f none_declared declared.Result r.ty
-          (ap (option_map (λ r. r.ty)) is)
-      spelled _ (OfLocal l v at) = declared_spelled m f none_declared (Local l) v.ty (ap (option_map (λ l. l.ty)) at)
+      spelled _ (OfArgument n a at) = arguments_spelled m f no_argument n a.ty (ap (option_map (λ a. a.ty)) at)
+      spelled _ (OfResult r is) = result_spelled m f no_result r.ty (ap (option_map (λ r. r.ty)) is)
+      spelled _ (OfLocal l v at) = locals l v at
       spelled _ (OfLet h k tells among at declared) =
           let one = ap (λ hs. is_one_of hs h) (lets_in_order bound f.body)
           ∙ among_one (block_lets bound f.body) h among in
-          let of = let_of_one (trees_in f.body) h one in
-          let_formed explicit tells of.1 (none_annotated of.0 of.1 of.2) h k of.3 at declared
+          let of = of_some (own_lets bound) h (trees_in f.body) one in
+          let_formed explicit tells of.1 (lets of.0 of.1 of.2) h k of.3 at declared
 
   -- what the search in a statement finds is named there, is spelled, and has no form
   pub let_lacks : (n : ℕ) (st : StatementTree) → slice_get (trees_in f.body) n ≡ Some st → (h : ℕ) →
@@ -362,7 +253,7 @@ module _ (explicit : Bool) (m : Module) (info : ModuleInfo) (f : Function) (es :
       by true tells is =
           let found = found_passes annotated (own_lets bound st) h is in
           let among = among_there (own_lets bound st) found.0 h found.1 in
-          let one = let_in_body (trees_in f.body) n st h there (among_one (own_lets bound st) h among) in
+          let one = some_of (own_lets bound) h (trees_in f.body) n st there (among_one (own_lets bound st) h among) in
           let in_body =
           one_among (block_lets bound f.body) h
           (sym (ap (λ hs. is_one_of hs h) (lets_in_order bound f.body)) ∙ one) in (

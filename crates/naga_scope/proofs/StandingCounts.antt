@@ -26,7 +26,7 @@ module _ (f : Function) (a : ExpressionContext) where
   simple_none _ at = refl
 
   mutual
-    statement_count : (st : StatementTree) (at : ScopeState) →
+    pub statement_count : (st : StatementTree) (at : ScopeState) →
         length (inside f at (statement_shape a st)) ≡ length (trees_inside st)
     statement_count (simple s) at = simple_none s at
     statement_count (block b) at = block_count b at
@@ -41,7 +41,7 @@ module _ (f : Function) (a : ExpressionContext) where
         ∙ (ap₂ (λ i j. i + j) (block_count x at) (block_count y there)
         ∙ sym (length-append (trees_in x) (trees_in y)))
 
-    block_count : (b : BlockTree) (at : ScopeState) → length (standing f at (statements_shape a b))
+    pub block_count : (b : BlockTree) (at : ScopeState) → length (standing f at (statements_shape a b))
         ≡ length (trees_in b)
     block_count no_statements at = refl
     block_count (statement st b) at =

@@ -2,7 +2,7 @@
 use Rattle.std.proofs.Common.{◌≡◌, ℕ, suc, ◌+◌, ◌≤◌, Bool, true, false, ◌||◌, List, [], ◌∷◌}
 use Rattle.std.proofs.Common.{length, take, drop, Option, Some, None, nat_eq, eqb-true, refl, sym}
 use Rattle.std.proofs.Common.{ap, ◌∙◌, arith, add-one, subst}
-use Rattle.std.specs.Prelude.{cond, Result, Ok, Err}
+use Rattle.std.specs.Prelude.{cond}
 use Rattle.module_semantics.specs.ExpressionOperators.{ExpressionContext, is_atomic_pointer}
 use Rattle.module_semantics.specs.FunctionShapes.{cases_shape, statement_shape, statements_shape}
 use Rattle.module_semantics.specs.StatementShapes.{store_shape}
@@ -14,9 +14,7 @@ use Rattle.naga_ir.specs.declared.statement.Statement.{Statement}
 use Rattle.naga_scope.specs.Changes.{block_changes, statement_changes}
 use Rattle.naga_scope.specs.Continues.{any_continue, before_continue, count_before, from_continue}
 use Rattle.naga_scope.specs.Continues.{holds_continue, some_case_continues}
-use Rattle.naga_scope.specs.ScopeChecks.{check_all, check_statement, onward}
 use Rattle.naga_scope.specs.Walks.{after_each}
-use Rattle.naga_scope.specs.declared.scope_faults.ScopeFault.{ScopeFault}
 use Rattle.shader_runs.specs.Program as shapes
 use Rattle.shader_runs.specs.Program.{Statements, binds, expression_of, from, operands_of, is_pure}
 use Rattle.shader_runs.specs.Scope.{Absent, Availability, Barred, Bound, Everywhere, Handles}
@@ -224,43 +222,11 @@ module _ (n : Naming) (a : ExpressionContext) where
   named_part true st b front back k rest = refl
   named_part false st b front back k rest = rest
 
-  named_split : (b : BlockTree) (k : ℕ) → named_by_all n.function (lines b) k
+  pub named_split : (b : BlockTree) (k : ℕ) → named_by_all n.function (lines b) k
       ≡ named_by_all n.function (lines (from_continue b)) (named_by_all n.function (lines (before_continue b)) k)
   named_split no_statements k = refl
   named_split (statement st b) k = named_part (holds_continue st) st b (before_continue b) (from_continue b) k
       (named_split b (named_by n.function (line st) k))
-
-  -- one part is checked after the other
-  onward_then : (f g h : ℕ → Result ℕ ScopeFault) (r : Result ℕ ScopeFault) → ((j : ℕ) → f j ≡ onward h (g j)) →
-      onward f r ≡ onward h (onward g r)
-  onward_then f g h (Ok j) each = each j
-  onward_then f g h (Err e) each = refl
-
-  check_part : (c : Bool) (st : StatementTree) (b front back : BlockTree) (k j : ℕ) (s : Handles) →
-      (let k1 = named_by n.function (line st) k in let s1 = after n k (line st) s in
-      ((j : ℕ) → check_all n k1 j (lines b) s1 ≡
-      onward (λ j. check_all n (named_by_all n.function (lines front) k1) j (lines back)
-      (after_each n k1 (lines front) s1)) (check_all n k1 j (lines front) s1)) →
-      check_all n k j (lines (statement st b)) s ≡
-      onward (λ j. check_all n (named_by_all n.function (lines (cond c no_statements (statement st front))) k) j
-      (lines (cond c (statement st b) back)) (after_each n k (lines (cond c no_statements
-      (statement st front))) s)) (check_all n k j (lines (cond c no_statements (statement st front))) s))
-  check_part true st b front back k j s rest = refl
-  check_part false st b front back k j s rest =
-      let k1 = named_by n.function (line st) k in
-      let s1 = after n k (line st) s in
-      onward_then (λ j. check_all n k1 j (lines b) s1) (λ j. check_all n k1 j (lines front) s1)
-      (λ j. check_all n (named_by_all n.function (lines front) k1) j (lines back) (after_each n k1 (lines front) s1))
-      (check_statement n k j (line st) s) rest
-
-  check_split : (b : BlockTree) (k j : ℕ) (s : Handles) → check_all n k j (lines b) s ≡
-      onward (λ j. check_all n (named_by_all n.function (lines (before_continue b)) k) j
-      (lines (from_continue b)) (after_each n k (lines (before_continue b)) s))
-      (check_all n k j (lines (before_continue b)) s)
-  check_split no_statements k j s = refl
-  check_split (statement st b) k j s =
-      check_part (holds_continue st) st b (before_continue b) (from_continue b) k j s
-      (λ j. check_split b (named_by n.function (line st) k) j (after n k (line st) s))
 
   -- the walk through both parts
   walk_part : (c : Bool) (st : StatementTree) (b front back : BlockTree) (k : ℕ) (s : Handles) →
@@ -274,7 +240,7 @@ module _ (n : Naming) (a : ExpressionContext) where
   walk_part true st b front back k s rest = refl
   walk_part false st b front back k s rest = rest
 
-  walk_split : (b : BlockTree) (k : ℕ) (s : Handles) → after_each n k (lines b) s ≡
+  pub walk_split : (b : BlockTree) (k : ℕ) (s : Handles) → after_each n k (lines b) s ≡
       after_each n (named_by_all n.function (lines (before_continue b)) k) (lines (from_continue b))
       (after_each n k (lines (before_continue b)) s)
   walk_split no_statements k s = refl
@@ -325,28 +291,6 @@ module _ (n : Naming) (a : ExpressionContext) where
       ∙ (λ i. named_by_all n.function (lines (from_continue b)) (named_by_all n.function (lines (f i)) k))
       ∙ sym (named_split b k)
 
-  pub body_checks : (b front back : BlockTree) (k k1 j middle : ℕ) (s s1 : Handles) (next : Result ℕ ScopeFault) →
-      front ≡ before_continue b → back ≡ from_continue b → Ok middle ≡ check_all n k j (lines front) s →
-      k1 ≡ named_by_all n.function (lines front) k → s1 ≡ after_each n k (lines front) s →
-      next ≡ check_all n k1 middle (lines back) s1 → next ≡ check_all n k j (lines b) s
-  body_checks b front back k k1 j middle s s1 next f g first given following is =
-      let k2 = named_by_all n.function (lines (before_continue b)) k in
-      let s2 = after_each n k (lines (before_continue b)) s in
-      is ∙ (λ i. check_all n (given i) middle (lines (g i)) (following i))
-      ∙ (λ i. check_all n (named_by_all n.function (lines (f i)) k) middle (lines (from_continue b))
-      (after_each n k (lines (f i)) s))
-      ∙ ap (onward (λ j. check_all n k2 j (lines (from_continue b)) s2))
-      (first ∙ ap (λ x. check_all n k j (lines x) s) f)
-      ∙ sym (check_split b k j s)
-
-  pub body_stops : (b front : BlockTree) (k j : ℕ) (s : Handles) (fault : ScopeFault) → front ≡ before_continue b →
-      Err fault ≡ check_all n k j (lines front) s → Err fault ≡ check_all n k j (lines b) s
-  body_stops b front k j s fault f first =
-      let k2 = named_by_all n.function (lines (before_continue b)) k in
-      let s2 = after_each n k (lines (before_continue b)) s in
-      ap (onward (λ j. check_all n k2 j (lines (from_continue b)) s2)) (first ∙ ap (λ x. check_all n k j (lines x) s) f)
-      ∙ sym (check_split b k j s)
-
   pub body_leaves : (b front back : BlockTree) (k k1 : ℕ) (s s1 s2 s3 : Handles) → front ≡ before_continue b →
       back ≡ from_continue b →
       k1 ≡ named_by_all n.function (lines front) k → s1 ≡ after_each n k (lines front) s →
@@ -357,5 +301,3 @@ module _ (n : Naming) (a : ExpressionContext) where
       (lines (from_continue b)) (after_each n k (lines (before_continue b)) s) =
       second ∙ (λ i. after_each n ((given ∙ ap (λ y. named_by_all n.function (lines y) k) f) i) (lines (g i)) (u i)) in
       forgets ∙ (λ i. forgotten_handles (u i) (t i)) ∙ sym (turn b k s)
-
-pub ruleset bodies = (body_checks, body_named, body_stops)

@@ -26,3 +26,8 @@ abbrev mutual
   pub cases_changes : CaseTrees → ℕ
   cases_changes no_cases = 0
   cases_changes (case value body falls cases) = block_changes body + cases_changes cases
+
+-- of those, the ones of the statements in its blocks
+abbrev pub inside_changes : StatementTree → ℕ
+inside_changes (simple st) = 0
+inside_changes st = statement_changes st

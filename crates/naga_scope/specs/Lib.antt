@@ -1,12 +1,11 @@
 pub mod Availabilities
 pub mod Changes
 pub mod Continues
-pub mod Earliest
 pub mod ExpressionNames
-pub mod UnsupportedStatements
-pub mod FirstLines
+pub mod FirstLack
 pub mod InOrder
 pub mod KnownFunctions
+pub mod Lacks
 pub mod Lines
 pub mod Log
 pub mod Plans
@@ -14,4 +13,6 @@ pub mod Results
 pub mod ScopeChecks
 pub mod ScopeFaults
 pub mod SpelledTypes
+pub mod UnsupportedStatements
+pub mod Walked
 pub mod Walks

@@ -1,11 +1,11 @@
--- The lines of a function's text: its signature, its locals and its statements, in this order, each
--- loop's `break if` after all that stands in the loop. And what stands on each of them.
+-- What stands on each line of a function's text: on its signature, its locals, its statements and the
+-- `break if`s of its loops.
 --
 -- Throughout, f is a function, h is the handle of an expression, i of a local, n the number of a
 -- statement, end that of the one that would stand after a loop, ty the handle of a type, and bound
 -- says of each expression whether a `let` binds it.
-use Rattle.std.specs.Prelude.{ℕ, Bool, true, false, List, [], nat_eq, nat_le, nat_lt, not, Option}
-use Rattle.std.specs.Prelude.{slice_get, suc, ◌+◌, ◌&&◌, ◌||◌, length, if◌then◌else◌}
+use Rattle.std.specs.Prelude.{ℕ, suc, ◌+◌, Bool, List, [], Option, if◌then◌else◌, length, nat_eq}
+use Rattle.std.specs.Prelude.{slice_get}
 use Rattle.std.specs.Option.{option_and_then, option_map, option_map_or, option_to_list}
 use Rattle.module_semantics.specs.FunctionShapes.{function_shape}
 use Rattle.module_semantics.specs.Written.{IsWritten}
@@ -22,27 +22,6 @@ use Rattle.naga_scope.specs.declared.lines.Line.{Line}
 use Rattle.naga_scope.specs.declared.lines.Line.TheVariants.{Signature, Local, Statement, BreakIf}
 use Rattle.shader_runs.specs.Program.{binds}
 
--- ---- their order
--- The first line stands before the second. Of two `break if`s at one point that of the inner loop,
--- which has the higher number, does.
-abbrev pub is_before : Line → Line → Bool
-is_before Signature Signature = false
-is_before Signature line = true
-is_before (Local i) Signature = false
-is_before (Local i) (Local j) = nat_lt i j
-is_before (Local i) line = true
-is_before (Statement n) (Statement k) = nat_lt n k
-is_before (Statement n) (BreakIf k end) = nat_lt n end
-is_before (Statement n) line = false
-is_before (BreakIf n end) (Statement k) = nat_le end k
-is_before (BreakIf n end) (BreakIf k stop) = nat_lt end stop || (nat_eq end stop && nat_lt k n)
-is_before (BreakIf n end) line = false
-
--- the second line stands before the first, or is the same
-abbrev pub is_up_to : Line → Line → Bool
-is_up_to last line = not (is_before last line)
-
--- ---- what stands on them
 -- where the statement after this one, which has this number, would stand
 abbrev pub number_after : (n : ℕ) → StatementTree → ℕ
 number_after n st = suc n + length (trees_inside st)

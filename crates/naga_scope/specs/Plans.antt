@@ -2,20 +2,18 @@
 --
 -- Throughout, m is the module, info is what is known of its expressions, f is the shape of a
 -- function, and explicit says whether `let`s tell types.
-use Rattle.std.specs.Prelude.{◌≡◌, ◌<◌, ◌^◌, ◌⊎◌, ⊤, ℕ, Bool, List, [], Some, None, Err, IsSomeAnd}
-use Rattle.std.specs.Prelude.{IsFalse, IsTrue, Result, get_or, length, nat_le, slice_get}
+use Rattle.std.specs.Prelude.{◌≡◌, ◌<◌, ◌^◌, ⊤, ℕ, Bool, List, [], Some, IsSomeAnd, IsFalse, IsTrue}
+use Rattle.std.specs.Prelude.{get_or, length, nat_le, slice_get}
 use Rattle.std.specs.List.{IsAmong}
-use Rattle.naga_ir.specs.declared.expression.Expression.{Expression}
 use Rattle.naga_ir.specs.declared.module.Function as ir
 use Rattle.naga_info.specs.declared.info.ExpressionInfo.{ExpressionInfo}
 use Rattle.module_semantics.specs.ExpressionForms.{expression_has_form}
-use Rattle.module_semantics.specs.Namings.{function_naming}
 use Rattle.module_semantics.specs.Undeclared.{is_spellable}
 use Rattle.module_semantics.specs.Written.{IsSpelledIn, OfFunctionAt, WrittenHaveForms}
 use Rattle.naga_ir.specs.declared.module.Module.{Module}
 use Rattle.naga_info.specs.declared.info.ModuleInfo.{ModuleInfo}
 use Rattle.naga_info.specs.declared.info.TypeResolution.TheVariants.{Handle}
-use Rattle.shader_runs.specs.Program.{Function, binds}
+use Rattle.shader_runs.specs.Program.{binds}
 use Rattle.shader_runs.specs.Scope.{at_start}
 use Rattle.shader_runs.specs.ScopeRules.{ScopeHolds}
 use Rattle.shader_runs.specs.ScopeFaults.{HasScopeFault}
@@ -27,19 +25,10 @@ use Rattle.naga_naming.specs.Naming.{HasNamed, Names}
 use Rattle.naga_scope.specs.ExpressionNames.{IsRefusalOfLabels}
 use Rattle.naga_scope.specs.Availabilities.{TextPoint, handles_of}
 use Rattle.naga_scope.specs.Changes.{block_changes}
-use Rattle.naga_scope.specs.UnsupportedStatements.{IsUnsupportedAt, own_unsupported}
-use Rattle.naga_scope.specs.UnsupportedStatements.{unsupported_statement}
-use Rattle.naga_scope.specs.Earliest.{line_of, line_of_declared, line_of_fault}
-use Rattle.naga_ir.specs.InOrder.{trees_in}
-use Rattle.naga_scope.specs.ScopeChecks.{check_function}
+use Rattle.naga_scope.specs.UnsupportedStatements.{IsUnsupportedAt, unsupported_statement}
 use Rattle.naga_scope.specs.ScopeFaults.{IsScopeFault}
-use Rattle.naga_scope.specs.Lines.{IsWrittenAt, declared_type, is_before, lets_at}
-use Rattle.naga_scope.specs.SpelledTypes.{declared_unsupported, own_annotated}
-use Rattle.naga_scope.specs.declared.lines.Declared.{Declared}
-use Rattle.naga_scope.specs.declared.lines.Line.{Line}
-use Rattle.naga_scope.specs.declared.lines.Line.TheVariants.{Statement}
-use Rattle.naga_scope.specs.declared.scope_faults.ScopeFault.{ScopeFault}
-use Rattle.naga_ir.specs.StatementTree.{StatementTree}
+use Rattle.naga_scope.specs.FirstLack.{first_lack}
+use Rattle.naga_scope.specs.Lines.{IsWrittenAt, declared_type, lets_at}
 use Rattle.naga_scope.specs.declared.known_function.KnownFunction.{KnownFunction}
 use Rattle.naga_scope.specs.Log.{HasRoom}
 use Rattle.naga_scope.specs.declared.plan.PlanError.{PlanError}
@@ -104,88 +93,6 @@ LabelsGetNames namer f = (earlier : List (List ℕ)) → HasNamed namer earlier 
     SomeLabelIsFull namer earlier (expression_labels f) → ⊥
 
 -- ---- which refusal is the first
--- what a line can be refused for, in the order in which it is told: a rule of scope, the form of the
--- statement, that of an expression, of a type that is declared, or of one that a `let` tells
-pub data Kind : Type 0 where
-  ScopeRule : Kind
-  StatementForm : Kind
-  ExpressionForm : Kind
-  DeclaredType : Kind
-  LetType : Kind
-
-abbrev pub kind_rank : Kind → ℕ
-kind_rank ScopeRule = 0
-kind_rank StatementForm = 1
-kind_rank ExpressionForm = 2
-kind_rank DeclaredType = 3
-kind_rank LetType = 4
-
-abbrev pub kind_of : PlanError → Kind
-kind_of (StatementWithoutForm n it) = StatementForm
-kind_of (WithoutForm line h) = ExpressionForm
-kind_of (TypeWithoutForm at ty) = DeclaredType
-kind_of (LetWithoutForm n h) = LetType
-kind_of error = ScopeRule
-
--- the first kind on the first line comes before the second on the second
-abbrev pub ComesBefore : Line → Kind → Line → Kind → Type 0
-ComesBefore first kind second other =
-    IsTrue (is_before first second) ⊎ ((first ≡ second) × (kind_rank kind < kind_rank other))
-
--- What the check of scope finds in a function: that no fault stands on an earlier line is said below,
--- and of several on one line it finds the one that it asks first.
-abbrev pub checked_scope : Module → ModuleInfo → ir.Function → List ExpressionInfo →
-    Result ℕ ScopeFault
-checked_scope m info f es =
-    check_function (function_naming (λ key. None) (λ number. []) m info 0 f es)
-
--- Nothing of this kind is refused on this line.
-abbrev pub NothingAt : (explicit : Bool) → Module → ModuleInfo → ir.Function →
-    List ExpressionInfo → Kind → Line → Type 0
-NothingAt explicit m info f es ScopeRule line =
-    (fault : ScopeFault) → IsScopeFault (function_shape m info f es) fault →
-    line_of_fault fault ≡ line → ⊥
-NothingAt explicit m info f es StatementForm (Statement n) =
-    (st : StatementTree) → slice_get (trees_in f.body) n ≡ Some st → own_unsupported st ≡ None
-NothingAt explicit m info f es ExpressionForm line =
-    (h : ℕ) (e : Expression) → slice_get f.expressions h ≡ Some e →
-    IsWrittenAt m info f es line h → IsTrue (expression_has_form m es f.expressions e)
-NothingAt explicit m info f es DeclaredType line =
-    (at : Declared) (ty : ℕ) → declared_type f at ≡ Some ty → line_of_declared at ≡ line →
-    IsTrue (is_spellable m (Handle ty))
-NothingAt explicit m info f es LetType (Statement n) =
-    (st : StatementTree) → slice_get (trees_in f.body) n ≡ Some st →
-    own_annotated explicit m es (binds (function_shape m info f es)) st ≡ None
-NothingAt explicit m info f es StatementForm line = ⊤
-NothingAt explicit m info f es LetType line = ⊤
-
--- It is the first of its kind on its line: of faults that stand there the one that the check finds, the
--- written expression without a form with the lowest handle, the first declared type without a form,
--- or the first `let` of the statement that tells one. A statement lacks a form in one way.
-abbrev pub IsFirstOfKind : (explicit : Bool) → Module → ModuleInfo → ir.Function →
-    List ExpressionInfo → PlanError → Type 0
-IsFirstOfKind explicit m info f es (OutOfScope fault) = checked_scope m info f es ≡ Err fault
-IsFirstOfKind explicit m info f es (WithoutForm line h) =
-    (x : ℕ) (e : Expression) → x < h → slice_get f.expressions x ≡ Some e →
-    IsWrittenAt m info f es line x → IsTrue (expression_has_form m es f.expressions e)
-IsFirstOfKind explicit m info f es (TypeWithoutForm at ty) =
-    declared_unsupported m f ≡ Some (at, ty)
-IsFirstOfKind explicit m info f es (LetWithoutForm n h) =
-    (st : StatementTree) → slice_get (trees_in f.body) n ≡ Some st →
-    own_annotated explicit m es (binds (function_shape m info f es)) st ≡ Some h
-IsFirstOfKind explicit m info f es (StatementWithoutForm n it) = ⊤
-IsFirstOfKind explicit m info f es (Unnamed error) = ⊤
-IsFirstOfKind explicit m info f es (Memory error) = ⊤
-
--- It is the first of its kind on its line, and nothing is refused on a line before, nor on its own
--- line for a kind that is told before.
-pub record IsFirstInText (explicit : Bool) (m : Module) (info : ModuleInfo) (f : ir.Function)
-    (es : List ExpressionInfo) (error : PlanError) : Type 0 where
-  pub of_kind : IsFirstOfKind explicit m info f es error
-  pub before : (line : Line) (kind : Kind) →
-      ComesBefore line kind (line_of error) (kind_of error) →
-      NothingAt explicit m info f es kind line
-
 -- Of a function first the labels are looked at that front ends gave in it, then its lines in the order
 -- of the text. Nothing that is looked at before this error has one; that the labels have none is the
 -- premise Labelled. Where the error is a label's or memory's, nothing is said of what comes before it.
@@ -194,7 +101,14 @@ abbrev pub IsFirstToPlan : (Labelled : Type 0) → (explicit : Bool) → Module 
 IsFirstToPlan Labelled explicit m info f es (Unnamed error) = ⊤
 IsFirstToPlan Labelled explicit m info f es (Memory e) = ⊤
 IsFirstToPlan Labelled explicit m info f es error =
-    Labelled × IsFirstInText explicit m info f es error
+    Labelled
+    × (first_lack (record {
+      explicit = explicit;
+      shader = m;
+      info = info;
+      function = f;
+      known = es;
+    }) ≡ Some error)
 
 -- so it is where the namer was this
 abbrev pub IsFirstToPlanFor : (explicit : Bool) → KnownFunction → Names → PlanError → Type 0

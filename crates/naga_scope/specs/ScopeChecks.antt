@@ -1,24 +1,22 @@
--- The check of the rules of scope, which tells the first fault that it finds: an Emit is asked handle
--- by handle, a statement before those in its blocks, and a loop's `break if` after them.
+-- The check of the rules of scope at a statement, which tells the first fault that it finds: an Emit is
+-- asked handle by handle, and another statement what it uses before what it gives.
 --
 -- Throughout, f is a function, with its names where a naming is taken, s are the handles in scope, k
 -- is how many names have been given, n the number of a statement, next that of the one that would
--- stand after a loop, h a handle, e an expression, st a statement, and a, b and d are bodies.
-use Rattle.std.specs.Prelude.{ℕ, suc, Bool, true, false, List, [], ◌∷◌, Option, Some, None, Result}
-use Rattle.std.specs.Prelude.{Ok, Err}
-use Rattle.std.specs.Hash.DefaultHasher.{wrapping_add}
+-- stand after a loop, h a handle, e an expression, and st a statement.
+use Rattle.std.specs.Prelude.{ℕ, Bool, true, false, List, [], ◌∷◌, Option, Some, None, Result, Ok}
+use Rattle.std.specs.Prelude.{Err}
 use Rattle.std.specs.Result.{result_and}
 use Rattle.naga_scope.specs.declared.scope_faults.ScopeFault.{ScopeFault}
 use Rattle.naga_scope.specs.declared.scope_faults.ScopeFault.TheVariants.{FirstValue, Operand}
 use Rattle.naga_scope.specs.declared.scope_faults.ScopeFault.TheVariants.{BreakIf, EmittedOperand}
 use Rattle.naga_scope.specs.declared.scope_faults.ScopeFault.TheVariants.{IntroducedBefore}
 use Rattle.naga_scope.specs.declared.scope_faults.ScopeFault.TheVariants.{NeedsNoEmit}
-use Rattle.shader_runs.specs.Program.{Statement, Emit, Store, Block, If, Switch, Loop, Return, Act}
-use Rattle.shader_runs.specs.Program.{Jumps, Statements, end, then, Cases, no_case, case, Function}
-use Rattle.shader_runs.specs.Program.{expression_of, operands_of, binds, from, is_emittable}
+use Rattle.shader_runs.specs.Program.{Statement, Emit, Store, If, Switch, Return, Act, Jumps}
+use Rattle.shader_runs.specs.Program.{Function, expression_of, operands_of, binds, from}
+use Rattle.shader_runs.specs.Program.{is_emittable}
 use Rattle.shader_runs.specs.Scope.{Handles, Naming, before_local, at_start, is_new, usable}
-use Rattle.shader_runs.specs.Scope.{after_one, after, after_all, named_after, named_by}
-use Rattle.shader_runs.specs.Scope.{named_by_all}
+use Rattle.shader_runs.specs.Scope.{after_one, named_after, named_after_all, named_by}
 
 -- nothing is wrong, or there is a fault
 abbrev pub Checked : Type 0
@@ -28,15 +26,6 @@ Checked = Result (Unit {0}) ScopeFault
 abbrev pub unless : Bool → ScopeFault → Checked
 unless true fault = Ok tt
 unless false fault = Err fault
-
--- goes on with the number of the next statement, unless there was a fault
-abbrev pub onward : {E : Type 0} → (ℕ → Result ℕ E) → Result ℕ E → Result ℕ E
-onward next (Ok n) = next n
-onward next (Err fault) = Err fault
-
--- the number after this one
-abbrev pub next_number : ℕ → ℕ
-next_number n = wrapping_add n 1
 
 -- ---- uses
 abbrev pub check_use : Function → Handles → (n h : ℕ) → Checked
@@ -84,57 +73,29 @@ check_result n None s = Ok tt
 check_result n (Some h) s = unless (is_new (s h)) (IntroducedBefore n h)
 
 -- ---- statements
--- Each check of statements tells the number of the next one.
-abbrev mutual
-  pub check_statement : Naming → (k n : ℕ) → Statement → Handles → Result ℕ ScopeFault
-  check_statement f k n (Emit first count) s =
-      result_and (check_emit f k n (from first count) s) (Ok (next_number n))
-  check_statement f k n (Store p v) s =
-      result_and (check_use f.function s n p)
-      (result_and (check_use f.function s n v) (Ok (next_number n)))
-  check_statement f k n (Block b) s = check_all f k (next_number n) b s
-  check_statement f k n (If c a b) s =
-      result_and (check_use f.function s n c)
-      (onward (λ n. check_all f (named_by_all f.function a k) n b s)
-      (check_all f k (next_number n) a s))
-  check_statement f k n (Switch h cs) s =
-      result_and (check_use f.function s n h) (check_cases f k (next_number n) cs s)
-  check_statement f k n (Loop b d e) s =
-      let s1 = after_all f k b s in
-      let k1 = named_by_all f.function b k in
-      let s2 = after_all f k1 d s1 in
-      onward (λ i. onward (λ j. result_and (check_break f.function s2 n j e) (Ok j))
-      (check_all f k1 i d s1))
-      (check_all f k (next_number n) b s)
-  check_statement f k n (Jumps (Return v)) s =
-      result_and (check_use_if f.function s n v) (Ok (next_number n))
-  check_statement f k n (Act a xs r) s =
-      result_and (check_uses f.function s n xs)
-      (result_and (check_result n r s) (Ok (next_number n)))
-  check_statement f k n st s = Ok (next_number n)
+-- A statement by itself: what it uses and what it gives. What stands in its blocks is left out, and so
+-- is a loop's `break if`.
+abbrev pub check_own : Naming → (k n : ℕ) → Statement → Handles → Checked
+check_own f k n (Emit first count) s = check_emit f k n (from first count) s
+check_own f k n (Store p v) s = result_and (check_use f.function s n p) (check_use f.function s n v)
+check_own f k n (If c a b) s = check_use f.function s n c
+check_own f k n (Switch h cs) s = check_use f.function s n h
+check_own f k n (Jumps (Return v)) s = check_use_if f.function s n v
+check_own f k n (Act a xs r) s = result_and (check_uses f.function s n xs) (check_result n r s)
+check_own f k n st s = Ok tt
 
-  pub check_all : Naming → (k n : ℕ) → Statements → Handles → Result ℕ ScopeFault
-  check_all f k n end s = Ok n
-  check_all f k n (then st ss) s =
-      onward (λ n. check_all f (named_by f.function st k) n ss (after f k st s))
-      (check_statement f k n st s)
+-- how many names it gives by itself, after k given ones
+abbrev pub own_named : Function → Statement → (k : ℕ) → ℕ
+own_named f (Emit first count) k = named_after_all f (from first count) k
+own_named f st k = k
 
-  pub check_cases : Naming → (k n : ℕ) → Cases → Handles → Result ℕ ScopeFault
-  check_cases f k n no_case s = Ok n
-  check_cases f k n (case l b falls cs) s =
-      onward (λ n. check_cases f (named_by_all f.function b k) n cs s) (check_all f k n b s)
+-- and how many are given in its blocks
+abbrev pub inside_named : Function → Statement → (k : ℕ) → ℕ
+inside_named f (Emit first count) k = k
+inside_named f st k = named_by f st k
 
--- ---- functions
--- the first values of locals, from this one on
+-- ---- locals
+-- the first value of a local
 abbrev pub check_first : Function → (i : ℕ) → Option ℕ → Checked
 check_first f i None = Ok tt
 check_first f i (Some h) = unless (usable (before_local f i) (at_start f) h) (FirstValue i h)
-
-abbrev pub check_first_values : Function → (i : ℕ) → List (Option ℕ) → Checked
-check_first_values f i [] = Ok tt
-check_first_values f i (o ∷ os) = result_and (check_first f i o) (check_first_values f (suc i) os)
-
-abbrev pub check_function : Naming → Result ℕ ScopeFault
-check_function f =
-    result_and (check_first_values f.function 0 f.function.first_values)
-    (check_all f 0 0 f.function.body (at_start f.function))

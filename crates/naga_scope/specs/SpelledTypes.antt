@@ -1,10 +1,10 @@
--- The types that the text of a function spells beside those of its expressions, and the first of
--- them that no text can spell.
+-- The types that the text of a function spells beside those of its expressions, and which of them no
+-- text can spell.
 --
--- Throughout, m is a module, ty is the handle of one of its types, r a type of an expression, f is
--- a function, es is what is known of its expressions, h is the handle of one, binds says of each
--- whether a `let` binds it, and n is the number of a statement.
-use Rattle.std.specs.Prelude.{◌≡◌, ℕ, Bool, false, List, ◌&&◌, ◌++◌, Option, Some, None, map}
+-- Throughout, m is a module, ty is the handle of one of its types, r a type of an expression, es is
+-- what is known of the expressions of a function, h is the handle of one, and binds says of each
+-- whether a `let` binds it.
+use Rattle.std.specs.Prelude.{ℕ, Bool, false, List, ◌&&◌, Option, None, map}
 use Rattle.std.specs.Prelude.{if◌then◌else◌, not, slice_get}
 use Rattle.std.specs.List.{enumerate_from, find}
 use Rattle.std.specs.Option.{option_map, option_map_or, option_to_list}
@@ -14,40 +14,27 @@ use Rattle.naga_info.specs.declared.info.ExpressionInfo.{ExpressionInfo}
 use Rattle.naga_info.specs.declared.info.TypeResolution.{TypeResolution}
 use Rattle.naga_info.specs.declared.info.TypeResolution.TheVariants.{Handle}
 use Rattle.naga_ir.specs.StatementTree.{StatementTree}
-use Rattle.naga_ir.specs.declared.module.Function.{Function}
 use Rattle.naga_ir.specs.declared.module.FunctionArgument.{FunctionArgument}
 use Rattle.naga_ir.specs.declared.module.FunctionResult.{FunctionResult}
-use Rattle.naga_ir.specs.declared.module.LocalVariable.{LocalVariable}
 use Rattle.naga_ir.specs.declared.module.Module.{Module}
-use Rattle.naga_tables.specs.Declarations.{FindsFirst}
 use Rattle.naga_scope.specs.InOrder.{own_lets}
 use Rattle.naga_scope.specs.declared.lines.Declared.{Declared}
-use Rattle.naga_scope.specs.declared.lines.Declared.TheVariants.{Argument, Result, Local}
+use Rattle.naga_scope.specs.declared.lines.Declared.TheVariants.{Argument, Result}
 
--- those of its arguments, its result and its locals, each with what declares it
+-- those of arguments and of a result, each with what declares it
 abbrev pub argument_types : List FunctionArgument → List (Declared × ℕ)
 argument_types arguments = map (λ p. (Argument p.0, p.1.ty)) (enumerate_from 0 arguments)
 
 abbrev pub result_types : Option FunctionResult → List (Declared × ℕ)
 result_types result = option_to_list (option_map (λ r. (Result, r.ty)) result)
 
-abbrev pub local_types : List LocalVariable → List (Declared × ℕ)
-local_types locals = map (λ p. (Local p.0, p.1.ty)) (enumerate_from 0 locals)
-
-abbrev pub declared_types : Function → List (Declared × ℕ)
-declared_types f =
-    argument_types f.arguments.items ++ (result_types f.result ++ local_types f.local_variables)
-
 -- no text can spell it
 abbrev pub is_unspellable : Module → (ty : ℕ) → Bool
 is_unspellable m ty = not (is_spellable m (Handle ty))
 
--- the first of some that none can, and of all of them
+-- the first of some that none can
 abbrev pub first_unspellable : Module → List (Declared × ℕ) → Option (Declared × ℕ)
 first_unspellable m types = find (λ d. is_unspellable m d.1) types
-
-abbrev pub declared_unsupported : Module → Function → Option (Declared × ℕ)
-declared_unsupported m f = first_unspellable m (declared_types f)
 
 -- a type is told, since it names no struct that no text declares, and has no form
 abbrev pub is_annotated_unsupported : Module → TypeResolution → Bool
@@ -64,10 +51,3 @@ abbrev pub own_annotated : (explicit : Bool) → Module → List ExpressionInfo 
     StatementTree → Option ℕ
 own_annotated explicit m es binds st =
     if explicit then find (is_unsupported_let m es) (own_lets binds st) else None
-
--- no statement of these has one, or this statement is the first that has one, with its number
-abbrev pub FindsAnnotated : (explicit : Bool) → Module → List ExpressionInfo → (binds : ℕ → Bool) →
-    List StatementTree → Option (ℕ × ℕ) → Type 0
-FindsAnnotated explicit m es binds sts found =
-    FindsFirst sts (λ n st. own_annotated explicit m es binds st ≡ None) (λ n. n)
-    (λ n st h. own_annotated explicit m es binds st ≡ Some h) found

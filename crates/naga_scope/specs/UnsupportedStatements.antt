@@ -11,7 +11,6 @@ use Rattle.naga_ir.specs.StatementTree.{SimpleStatement, image_atomic, ray_query
 use Rattle.naga_ir.specs.StatementTree.{subgroup_collective_operation}
 use Rattle.naga_ir.specs.StatementTree.{StatementTree, simple, switch, BlockTree}
 use Rattle.naga_ir.specs.StatementTree.{CaseTrees, no_cases, case, has_no_statements}
-use Rattle.naga_tables.specs.Declarations.{EachBefore, FindsFirst}
 use Rattle.naga_ir.specs.InOrder.{trees_in}
 use Rattle.naga_scope.specs.declared.statements.UnsupportedStatement.{UnsupportedStatement}
 use Rattle.naga_scope.specs.declared.statements.UnsupportedStatement.TheVariants.{RayQuery}
@@ -58,16 +57,6 @@ first_unsupported (st ∷ sts) = option_or (own_unsupported st) (first_unsupport
 
 abbrev pub unsupported_statement : BlockTree → Option UnsupportedStatement
 unsupported_statement b = first_unsupported (trees_in b)
-
--- the statements in front of this number have forms, their blocks left out
-abbrev pub FormedBefore : List StatementTree → (n : ℕ) → Type 0
-FormedBefore sts n = EachBefore sts n (λ i st. own_unsupported st ≡ None)
-
--- all of these have, or this one is the first that has none, with its number
-abbrev pub FindsUnsupported : List StatementTree → Option (ℕ × UnsupportedStatement) → Type 0
-FindsUnsupported sts found =
-    FindsFirst sts (λ i st. own_unsupported st ≡ None) (λ i. i)
-    (λ i st it. own_unsupported st ≡ Some it) found
 
 -- ---- where it stands
 -- a case with statements falls through

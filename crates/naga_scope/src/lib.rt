@@ -2,14 +2,13 @@
 //! function, which refuses an operand out of scope before the function's text.
 #![tactic(auto)]
 
-mod breaks;
 mod changes;
 pub mod check;
 pub mod continues;
-mod earliest;
 pub mod functions;
 mod in_order;
 mod known_function;
+mod lacks;
 pub mod lets;
 pub mod lines;
 mod named;
@@ -19,7 +18,7 @@ pub mod positions;
 mod scope_faults;
 mod spelled;
 pub mod statements;
-mod written;
+mod walk;
 
 pub use continues::split_at_continue;
 pub use functions::function_of;

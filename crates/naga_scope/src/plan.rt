@@ -15,21 +15,19 @@ ghost use Rattle.naga_scope.specs.Plans.{IsFirstToPlanFor, IsFirstToPlanOf, IsPl
 ghost use Rattle.naga_scope.specs.Plans.{IsRefusalToPlanFor, IsRefusalToPlanOf};
 ghost use Rattle.naga_scope.specs.Results.{ResultsFit};
 ghost use Rattle.naga_tables.specs.Tables.{AreTablesOf};
-ghost use Rattle.naga_scope.specs.declared.plan.PlanError.TheVariants.{Memory, Unnamed};
+ghost use Rattle.naga_scope.specs.declared.plan.PlanError.TheVariants.{Memory, OutOfScope, Unnamed};
 
 use crate::changes::count_changes;
-use crate::check::check_function;
-use crate::earliest::first_lack;
 use crate::functions::function_of;
 use crate::in_order::statements_in;
 use crate::known_function::KnownFunction;
+use crate::lacks::lowest_lacks;
 use crate::lines::{Declared, Line};
 use crate::named::expression_names;
 use crate::points::Scope;
 use crate::scope_faults::ScopeFault;
-use crate::spelled::{annotated_without_form, declared_without_form};
-use crate::statements::{UnsupportedStatement, unsupported_statement};
-use crate::written::written_without_form;
+use crate::statements::UnsupportedStatement;
+use crate::walk::Walk;
 use naga_back::FunctionType;
 use naga_info::ModuleInfo;
 use naga_ir::{Expression, Handle, Module, Type_};
@@ -59,6 +57,14 @@ pub enum PlanError {
     Unnamed(NamerError),
     /// Memory has run out.
     Memory(AllocError),
+}
+
+impl From<ScopeFault> for PlanError {
+    ghost from_gives = { λ fault error. error ≡ OutOfScope fault };
+
+    fn from(fault: ScopeFault) -> PlanError {
+        PlanError::OutOfScope(fault)
+    }
 }
 
 impl From<NamerError> for PlanError {
@@ -112,9 +118,9 @@ impl Plan {
     /// the text. Where there is no plan, it has named some first ones of them.
     ///
     /// Beside the names it takes memory for a list of the statements, and four times more: one table
-    /// and its log serve the check, are then set back to the function's start, and serve the text;
-    /// two others have the marks of what may be written out as a constant and the first lines of what
-    /// is written, and are given back as the list is.
+    /// and its log serve the walk, are then set back to the function's start, and serve the text; two
+    /// others have the marks of what may be written out as a constant and the lowest expression
+    /// without a form that each is made of, and are given back as the list is.
     pub fn of<'a>(
         alloc: Global,
         module: &'a Module,
@@ -182,17 +188,14 @@ impl Plan {
         };
         let mut scope = Scope::start(alloc, known.function, changes)?;
         let start = scope.mark();
-        let checked = check_function(&mut scope, known);
-        let written = written_without_form(alloc, known, statements, names)?;
-        let first = first_lack(
-            checked,
-            unsupported_statement(statements),
-            written,
-            declared_without_form(known.shader, known.tables, known.function),
-            annotated_without_form(known, statements, explicit),
-        );
-        if let Some(error) = first {
-            return Err(error);
+        let lacks = lowest_lacks(alloc, known, names)?;
+        let walk = Walk {
+            known: *known,
+            lacks: &lacks,
+            explicit,
+        };
+        if let Err(lack) = walk.walk_function(&mut scope) {
+            return Err(lack);
         }
         scope.rewind(start);
         Ok(Plan { scope, named })

@@ -1,16 +1,14 @@
-//! Which type in a function's text cannot be spelled.
+//! Which types in a function's text cannot be spelled.
 
-ghost use Rattle.std.specs.Prelude.{◌≡◌, ◌-◌, ◌&&◌, true};
+ghost use Rattle.std.specs.Prelude.{◌≡◌, ◌-◌, ◌&&◌};
 ghost use Rattle.std.specs.List.{filter, find};
-ghost use Rattle.std.specs.Option.{option_to_list};
+ghost use Rattle.std.specs.Option.{option_or, option_to_list};
 ghost use Rattle.naga_ir.specs.Operands.{own_result};
 ghost use Rattle.naga_ir.specs.StatementViews.{tree_of};
-ghost use Rattle.naga_ir.specs.InOrder.{trees_of};
 ghost use Rattle.naga_scope.specs.InOrder.{own_lets};
 ghost use Rattle.naga_scope.specs.KnownFunctions.{bound_in};
-ghost use Rattle.naga_scope.specs.SpelledTypes.{FindsAnnotated, argument_types};
-ghost use Rattle.naga_scope.specs.SpelledTypes.{declared_unsupported, first_unspellable};
-ghost use Rattle.naga_scope.specs.SpelledTypes.{is_unsupported_let, local_types, result_types};
+ghost use Rattle.naga_scope.specs.SpelledTypes.{argument_types, first_unspellable};
+ghost use Rattle.naga_scope.specs.SpelledTypes.{is_unsupported_let, own_annotated, result_types};
 ghost use Rattle.naga_tables.specs.Tables.{AreTablesOf};
 ghost use Rattle.shader_runs.specs.Program.{from};
 
@@ -61,39 +59,22 @@ fn answer_without_form(
     }
 }
 
-fn local_without_form(
+/// The first type of the function's arguments and its result that no text can spell, if there is one,
+/// with what declares it.
+pub(crate) fn signature_without_form(
     module: &Module,
     tables: &ModuleTables,
     function: &Function,
 ) -> Option<(Declared, Handle<Type_>)>
     requires tables { AreTablesOf «module».now tables.now }
-    ensures { result ≡ first_unspellable «module».now (local_types function.now.local_variables) }
-{
-    for (handle, local) in function.local_variables.iter() {
-        if !tables.is_spellable(module, local.ty) {
-            return Some((Declared::Local(handle), local.ty));
-        }
-    }
-    None
-}
-
-/// The first type of the function's arguments, its result and its locals that no text can spell, if
-/// there is one, with what declares it.
-pub(crate) fn declared_without_form(
-    module: &Module,
-    tables: &ModuleTables,
-    function: &Function,
-) -> Option<(Declared, Handle<Type_>)>
-    requires tables { AreTablesOf «module».now tables.now }
-    ensures { result ≡ declared_unsupported «module».now function.now }
+    ensures { result
+        ≡ option_or (first_unspellable «module».now (argument_types function.now.arguments.items))
+        (first_unspellable «module».now (result_types function.now.result)) }
 {
     if let Some(found) = argument_without_form(module, tables, &function.arguments) {
         return Some(found);
     }
-    if let Some(found) = answer_without_form(module, tables, &function.result) {
-        return Some(found);
-    }
-    local_without_form(module, tables, function)
+    answer_without_form(module, tables, &function.result)
 }
 
 /// Whether the type of the expression with this handle is known, names no struct that no text
@@ -181,38 +162,18 @@ fn let_in_statement(known: &KnownFunction<'_>, statement: &Statement) -> Option<
     }
 }
 
-/// The first statement of these of which a `let` names an expression whose type has no form, by its
-/// number, with the first such expression.
-fn let_without_form(
-    known: &KnownFunction<'_>,
-    statements: &[&Statement],
-) -> Option<(usize, Handle<Expression>)>
-    requires tables { AreTablesOf known.now.shader.now known.now.tables.now }
-    ensures { FindsAnnotated true known.now.shader.now known.now.info.now (bound_in known.now)
-        (trees_of statements.now) result }
-{
-    let mut number = 0;
-    for statement in statements {
-        if let Some(handle) = let_in_statement(known, statement) {
-            return Some((number, handle));
-        }
-        number += 1;
-    }
-    None
-}
-
 /// The same where `let`s tell types, and else none.
 pub(crate) fn annotated_without_form(
     known: &KnownFunction<'_>,
-    statements: &[&Statement],
+    statement: &Statement,
     explicit: bool,
-) -> Option<(usize, Handle<Expression>)>
+) -> Option<Handle<Expression>>
     requires tables { AreTablesOf known.now.shader.now known.now.tables.now }
-    ensures { FindsAnnotated explicit known.now.shader.now known.now.info.now
-        (bound_in known.now) (trees_of statements.now) result }
+    ensures { result ≡ own_annotated explicit known.now.shader.now known.now.info.now
+        (bound_in known.now) (tree_of statement.now) }
 {
     if explicit {
-        let_without_form(known, statements)
+        let_in_statement(known, statement)
     } else {
         None
     }

@@ -1,14 +1,12 @@
-//! Which statement no text has a form for.
+//! Which statements no text has a form for.
 
 ghost use Rattle.std.specs.Prelude.{◌≡◌};
 ghost use Rattle.std.specs.Option.{is_some};
 ghost use Rattle.module_semantics.specs.OperatorTable.{collective_word, texel_change_word};
 ghost use Rattle.module_semantics.specs.StatementShapes.{change_of};
 ghost use Rattle.naga_ir.specs.StatementViews.{cases_of, tree_of};
-ghost use Rattle.naga_scope.specs.UnsupportedStatements.{FindsUnsupported, unsupported_case};
-ghost use Rattle.naga_scope.specs.UnsupportedStatements.{own_unsupported};
-ghost use Rattle.naga_scope.specs.UnsupportedStatements.{unless};
-ghost use Rattle.naga_ir.specs.InOrder.{trees_of};
+ghost use Rattle.naga_scope.specs.UnsupportedStatements.{own_unsupported, unless};
+ghost use Rattle.naga_scope.specs.UnsupportedStatements.{unsupported_case};
 ghost use Rattle.naga_scope.specs.declared.statements.UnsupportedStatement.TheVariants as unsupported;
 
 use naga_ir::{AtomicFunction, CollectiveOperation, Statement, SubgroupOperation, SwitchCase};
@@ -26,24 +24,8 @@ pub enum UnsupportedStatement {
     ImageCompareExchange,
 }
 
-/// The first of these statements that has no form by itself, and how many stand in front of it.
-pub(crate) fn unsupported_statement(
-    statements: &[&Statement],
-) -> Option<(usize, UnsupportedStatement)>
-    ensures { FindsUnsupported (trees_of statements.now) result }
-{
-    let mut number = 0;
-    for statement in statements {
-        if let Some(unsupported) = own_unsupported(statement) {
-            return Some((number, unsupported));
-        }
-        number += 1;
-    }
-    None
-}
-
 /// What of a statement has no form, those in its blocks left out.
-fn own_unsupported(statement: &Statement) -> Option<UnsupportedStatement>
+pub(crate) fn own_unsupported(statement: &Statement) -> Option<UnsupportedStatement>
     ensures { result ≡ own_unsupported (tree_of statement.now) }
 {
     match statement {

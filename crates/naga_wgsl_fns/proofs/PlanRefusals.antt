@@ -55,7 +55,7 @@ use Rattle.module_semantics.specs.Names.{labels_named_in, wgsl_names}
 use Rattle.naga_scope.specs.ExpressionNames.{HasOtherUses, IsRefusalOfLabels}
 use Rattle.module_semantics.specs.Premises.{function_shape_at}
 use Rattle.naga_scope.specs.Plans.{HasScopeFaultIn, IsPlanOf, IsRefusalToPlanOf, Planned}
-use Rattle.naga_scope.proofs.FaultLines.{fault_breaks}
+use Rattle.naga_scope.proofs.ScopeFaults.{fault_breaks}
 use Rattle.naga_scope.specs.declared.scope_faults.ScopeFault.{ScopeFault}
 use Rattle.naga_scope.specs.declared.plan.PlanError.{PlanError}
 use Rattle.naga_scope.specs.declared.plan.PlanError.TheVariants as plan_error

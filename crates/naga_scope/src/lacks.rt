@@ -1,0 +1,226 @@
+//! Which expression without a form, the lowest, each expression of a function is made of.
+
+ghost use Rattle.std.specs.Prelude.{◌≡◌, List, None, get_or, if◌then◌else◌, length, replicate};
+ghost use Rattle.std.specs.Prelude.{IfOk, Some};
+ghost use Rattle.naga_ir.specs.Operands.{expression_operands};
+ghost use Rattle.naga_ir.specs.declared.expression.Expression.{Expression};
+ghost use Rattle.naga_naming.specs.Keys.{names_in};
+ghost use Rattle.module_semantics.specs.Names.{HasNamesOf};
+ghost use Rattle.module_semantics.specs.Premises.{OperandsStandBefore};
+ghost use Rattle.module_semantics.specs.Sampling.{own_offset_has_form};
+ghost use Rattle.module_semantics.specs.WrittenOut.{written_out_over};
+ghost use Rattle.module_semantics.specs.ExpressionForms.{expression_has_form};
+ghost use Rattle.naga_tables.specs.Forms.{AreKnownIn};
+ghost use Rattle.naga_scope.specs.KnownFunctions.{expressions_of, has_form_in};
+ghost use Rattle.naga_scope.specs.Lacks.{AreLowestLacks, lower, lowest_of, lowest_over};
+ghost use Rattle.naga_tables.specs.Marks.{MarksConstants};
+ghost use Rattle.naga_tables.specs.Marks.{is_marked};
+ghost use Rattle.naga_tables.specs.Tables.{AreTablesOf};
+
+use crate::known_function::KnownFunction;
+use naga_info::FunctionInfo;
+use naga_ir::{Expression, Function, Handle, ItemIndex, Module};
+use naga_naming::NameKey;
+use naga_tables::ModuleTables;
+use naga_tables::forms::has_own_form;
+use naga_tables::marks::{are_marked, is_marked, no_marks};
+use std::alloc::{AllocError, Global};
+use std::collections::HashMap;
+
+/// Whether an expression may be written out as a constant, by marks of its operands that may.
+fn is_constant(marks: &[bool], expression: &Expression) -> bool
+    ensures { result ≡ written_out_over (is_marked marks.now) expression.now }
+{
+    match expression {
+        Expression::Literal(_)
+        | Expression::Constant(_)
+        | Expression::Override(_)
+        | Expression::ZeroValue(_) => true,
+        Expression::Compose { components, .. } => are_marked(marks, components.as_slice()),
+        Expression::Splat { value, .. } => is_marked(marks, *value),
+        _ => false,
+    }
+}
+
+/// Marks the expressions that may be written out as constants, from the first to the last.
+fn mark_constants(marks: &mut [bool], function: &Function)
+    requires size { length marks.old ≡ length function.now.expressions }
+    requires ordered { OperandsStandBefore function.now.expressions }
+    ensures { MarksConstants function.now.expressions marks.new }
+{
+    for index in 0..function.expressions.len() {
+        let is_constant = is_constant(marks, &function.expressions[ItemIndex::from_index(index)]);
+        marks[index] = is_constant;
+    }
+}
+
+/// Whether the offset of an expression, if it has one, may be written out as a constant, by marks of
+/// those that may.
+fn offset_has_form(constants: &[bool], expression: &Expression) -> bool
+    ensures { (es : List Expression) → MarksConstants es constants.now →
+        result ≡ own_offset_has_form es expression.now }
+{
+    match expression {
+        Expression::ImageSample { offset, .. } => match offset {
+            Some(offset) => is_marked(constants, *offset),
+            None => true,
+        },
+        _ => true,
+    }
+}
+
+/// Whether an expression has a form, by marks of those that may be written out as constants.
+fn expression_has_form(
+    constants: &[bool],
+    module: &Module,
+    tables: &ModuleTables,
+    names: &HashMap<NameKey, String>,
+    info: &FunctionInfo,
+    expression: &Expression,
+) -> bool
+    requires tables { AreTablesOf «module».now tables.now }
+    requires named { HasNamesOf «module».now (names_in names.now) }
+    requires known { AreKnownIn «module».now.types info.now }
+    ensures { (es : List Expression) → MarksConstants es constants.now →
+        result ≡ expression_has_form «module».now info.now es expression.now }
+{
+    has_own_form(module, tables, names, info, expression) && offset_has_form(constants, expression)
+}
+
+/// The lower of two handles, if there are any.
+pub(crate) fn lower(
+    one: Option<Handle<Expression>>,
+    other: Option<Handle<Expression>>,
+) -> Option<Handle<Expression>>
+    ensures { result ≡ lower one other }
+{
+    match one {
+        Some(first) => match other {
+            Some(second) => {
+                if second.index() < first.index() {
+                    other
+                } else {
+                    one
+                }
+            }
+            None => one,
+        },
+        None => other,
+    }
+}
+
+/// The lowest expression without a form that the expression with this handle is made of, by a table of
+/// those, if there is one.
+pub(crate) fn lack_at(
+    lacks: &[Option<Handle<Expression>>],
+    handle: Handle<Expression>,
+) -> Option<Handle<Expression>>
+    ensures { result ≡ get_or lacks.now handle None }
+{
+    match lacks.get(handle.index()) {
+        Some(lack) => *lack,
+        None => None,
+    }
+}
+
+/// The lowest that the operands of an expression are made of.
+fn operands_lack(
+    lacks: &[Option<Handle<Expression>>],
+    expression: &Expression,
+) -> Option<Handle<Expression>>
+    ensures { result
+        ≡ lowest_of (λ h. get_or lacks.now h None) (expression_operands expression.now) }
+{
+    let mut found = None;
+    for operand in expression.operands() {
+        found = lower(found, lack_at(lacks, operand));
+    }
+    found
+}
+
+/// This handle where its expression has no form.
+fn own_lack(handle: Handle<Expression>, has_form: bool) -> Option<Handle<Expression>>
+    ensures { result ≡ (if has_form then None else Some handle) }
+{
+    if has_form { None } else { Some(handle) }
+}
+
+/// The lowest that the expression with this handle is made of, itself among them, where those before
+/// it stand in the table.
+fn expression_lack(
+    lacks: &[Option<Handle<Expression>>],
+    constants: &[bool],
+    known: &KnownFunction<'_>,
+    names: &HashMap<NameKey, String>,
+    handle: Handle<Expression>,
+    expression: &Expression,
+) -> Option<Handle<Expression>>
+    requires constants { MarksConstants (expressions_of known.now) constants.now }
+    requires tables { AreTablesOf known.now.shader.now known.now.tables.now }
+    requires named { HasNamesOf known.now.shader.now (names_in names.now) }
+    requires types { AreKnownIn known.now.shader.now.types known.now.info.now }
+    ensures { result ≡ lowest_over (has_form_in known.now) (λ h. get_or lacks.now h None) handle
+        expression.now }
+{
+    let has_form = expression_has_form(
+        constants,
+        known.shader,
+        known.tables,
+        names,
+        known.info,
+        expression,
+    );
+    lower(operands_lack(lacks, expression), own_lack(handle, has_form))
+}
+
+/// Notes the lowest of each expression, from the first to the last, since operands stand before what
+/// they are operands of.
+fn note_lacks(
+    lacks: &mut [Option<Handle<Expression>>],
+    constants: &[bool],
+    known: &KnownFunction<'_>,
+    names: &HashMap<NameKey, String>,
+)
+    requires size { length lacks.old ≡ length (expressions_of known.now) }
+    requires ordered { OperandsStandBefore (expressions_of known.now) }
+    requires constants { MarksConstants (expressions_of known.now) constants.now }
+    requires tables { AreTablesOf known.now.shader.now known.now.tables.now }
+    requires named { HasNamesOf known.now.shader.now (names_in names.now) }
+    requires types { AreKnownIn known.now.shader.now.types known.now.info.now }
+    ensures { AreLowestLacks (has_form_in known.now) (expressions_of known.now) lacks.new }
+{
+    for index in 0..known.function.expressions.len() {
+        let handle = ItemIndex::from_index(index);
+        let expression = &known.function.expressions[handle];
+        let lack = expression_lack(lacks, constants, known, names, handle, expression);
+        lacks[index] = lack;
+    }
+}
+
+/// A table of so many cells without a handle.
+fn no_lacks(alloc: Global, count: usize) -> Result<Vec<Option<Handle<Expression>>>, AllocError>
+    ensures { IfOk result (λ lacks. lacks.items ≡ replicate count None) }
+{
+    vec![in alloc; None; count]
+}
+
+/// A table of the lowest expression without a form that each expression of the function is made of,
+/// itself among them. It takes memory for the table, and for one of marks that is given back.
+pub(crate) fn lowest_lacks(
+    alloc: Global,
+    known: &KnownFunction<'_>,
+    names: &HashMap<NameKey, String>,
+) -> Result<Vec<Option<Handle<Expression>>>, AllocError>
+    requires ordered { OperandsStandBefore (expressions_of known.now) }
+    requires tables { AreTablesOf known.now.shader.now known.now.tables.now }
+    requires named { HasNamesOf known.now.shader.now (names_in names.now) }
+    requires types { AreKnownIn known.now.shader.now.types known.now.info.now }
+    ensures { IfOk result (λ lacks.
+        AreLowestLacks (has_form_in known.now) (expressions_of known.now) lacks.items) }
+{
+    let mut constants = no_marks(alloc, known.function.expressions.len())?;
+    mark_constants(&mut constants, known.function);
+    let mut lacks = no_lacks(alloc, known.function.expressions.len())?;
+    note_lacks(&mut lacks, &constants, known, names);
+    Ok(lacks)
+}
