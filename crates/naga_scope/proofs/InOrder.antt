@@ -200,18 +200,6 @@ pub first_tree : (ss : List (Bor Statement)) (i : ℕ) (x : Bor Statement) → i
     trees_of (drop i ss) ≡ tree_of x.now ∷ trees_of (drop (i + 1) ss)
 first_tree ss i x lt is = ap trees_of (drop_first i ss x lt is)
 
--- what one of them is seen as
-pub tree_at : (ss : List (Bor Statement)) (i n : ℕ) (x : Bor Statement) → n ≡ i → i < length ss →
-    x ≡ slice_index_or ss i x →
-    slice_get (trees_of ss) n ≡ Some (tree_of x.now)
-tree_at ss i n x same lt is = ap (slice_get (trees_of ss)) same ∙ at ss i lt is
-  where
-    at : (ss : List (Bor Statement)) (i : ℕ) → i < length ss → x ≡ slice_index_or ss i x →
-        slice_get (trees_of ss) i ≡ Some (tree_of x.now)
-    at [] i lt is = absurd (omega (arith, lt))
-    at (s ∷ ss) zero lt is = ap (λ y. Some (tree_of y.now)) (sym is)
-    at (s ∷ ss) (suc i) lt is = at ss i (omega (arith, lt)) is
-
 -- none is left of them
 pub no_tree : (ss : List (Bor Statement)) (i : ℕ) → length ss ≤ i → trees_of (drop i ss) ≡ []
 no_tree ss i past = ap trees_of (drop_all i ss past)

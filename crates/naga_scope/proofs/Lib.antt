@@ -24,3 +24,4 @@ pub mod StandingCounts
 pub mod Turns
 pub mod Walking
 pub mod WrittenLines
+mod WalkExamples

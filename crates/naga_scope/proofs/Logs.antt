@@ -499,9 +499,4 @@ forgotten_reverts m a b c is at x =
       );
     }
 
--- ---- how far a scope has gone that is undone
-pub counted_back : (a b c : TextPoint) (n : ℕ) → Same a c → Counted a b n → c.named ≡ b.named → Counted a c n
-counted_back a b c n same counted named =
-    record { log = omega (arith, ap length same.log); names = omega (arith, named, counted.names) }
-
 pub ruleset extending = (extends_refl, extends_then)

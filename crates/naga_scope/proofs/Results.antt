@@ -72,5 +72,3 @@ module _ (count : ℕ) where
 
   pub second_results : (b back : BlockTree) → back ≡ from_continue b → ResultsFit count b → ResultsFit count back
   second_results b back is fit = subst (ResultsFit count) (sym is) (results_from b fit)
-
-pub ruleset halves = (first_results, second_results)

@@ -58,9 +58,3 @@ module _ (f : Function) (a : ExpressionContext) where
         length-append (standing f at (statements_shape a b)) (case_standing f at (cases_shape a cs))
         ∙ (ap₂ (λ i j. i + j) (block_count b at) (cases_count cs at)
         ∙ sym (length-append (trees_in b) (case_trees cs)))
-
-pub standing_count : (m : Module) (info : ModuleInfo) (f : ir_function.Function) (es : List ExpressionInfo) →
-    length (standing (function_shape m info f es) start_state (function_shape m info f es).body)
-    ≡ length (trees_in f.body)
-standing_count m info f es =
-    block_count (function_shape m info f es) (declared m info (types_known es)).context f.body start_state

@@ -9,12 +9,11 @@ use Rattle.module_semantics.specs.ExpressionContexts.{declared, types_known}
 use Rattle.module_semantics.specs.ExpressionOperators.{ExpressionContext}
 use Rattle.naga_ir.specs.InOrder.{trees_in, trees_inside}
 use Rattle.naga_ir.specs.StatementTree.{StatementTree, simple, block, branch, switch, loop, BlockTree}
-use Rattle.naga_ir.specs.StatementTree.{no_statements, statement, CaseTrees, case}
+use Rattle.naga_ir.specs.StatementTree.{no_statements, statement}
 use Rattle.naga_ir.specs.declared.module.LocalVariable.{LocalVariable}
-use Rattle.naga_ir.specs.declared.statement.SwitchValue.{SwitchValue}
 use Rattle.naga_scope.specs.Changes.{inside_changes, statement_changes}
 use Rattle.naga_scope.specs.Continues.{before_continue, from_continue, holds_continue}
-use Rattle.naga_scope.specs.FirstLack.{WrittenFunction, block_in, block_lack, break_lack, case_lack, inside_lack}
+use Rattle.naga_scope.specs.FirstLack.{WrittenFunction, block_in, block_lack, break_lack, inside_lack}
 use Rattle.naga_scope.specs.FirstLack.{local_lack}
 use Rattle.naga_scope.specs.FirstLack.{locals_lack, shape_of, statement_in, statement_lack, unless_lack, unnamed}
 use Rattle.naga_scope.specs.InOrder.{own_changes}
@@ -190,32 +189,6 @@ module _ (w : WrittenFunction) where
         ∙ sym (ap (λ b. block_lack w k j b s) split
         ∙ ap (λ o. option_or o (block_lack w (named_by g (statement_in w st) k) (number_after j st) b
         (after n k (statement_in w st) s))) none.0)
-
-    pub line_stops : (e : PlanError) → Err e ≡ unless_lack (number_after j st) (statement_lack w k j st s) →
-        block_lack w k j whole s ≡ Some e
-    line_stops e first =
-        ap (λ b. block_lack w k j b s) split
-        ∙ ap (λ o. option_or o (block_lack w (named_by g (statement_in w st) k) (number_after j st) b
-        (after n k (statement_in w st) s))) (refused (number_after j st) (statement_lack w k j st s) e first)
-
-  -- one case and then the others
-  module _ (v : SwitchValue) (b : BlockTree) (falls : Bool) (cs whole : CaseTrees) (split : whole ≡ case v b falls cs)
-      (k k1 j next : ℕ) (s s1 : Handles) where
-    pub case_lacks : Ok next ≡ unless_lack (j + length (trees_in b)) (block_lack w k j b s) →
-        k1 ≡ named_by_all g (block_in w b) k → s1 ≡ s →
-        case_lack w k1 next cs s1 ≡ case_lack w k j whole s
-    case_lacks first given same =
-        let none = answered (j + length (trees_in b)) next (block_lack w k j b s) first in
-        (λ i. case_lack w (given i) (none.1 i) cs (same i))
-        ∙ sym (ap (λ cs. case_lack w k j cs s) split
-        ∙ ap (λ o. option_or o (case_lack w (named_by_all g (block_in w b) k) (j + length (trees_in b)) cs s)) none.0)
-
-    pub case_stops : (e : PlanError) → Err e ≡ unless_lack (j + length (trees_in b)) (block_lack w k j b s) →
-        case_lack w k j whole s ≡ Some e
-    case_stops e first =
-        ap (λ cs. case_lack w k j cs s) split
-        ∙ ap (λ o. option_or o (case_lack w (named_by_all g (block_in w b) k) (j + length (trees_in b)) cs s))
-        (refused (j + length (trees_in b)) (block_lack w k j b s) e first)
 
   -- a turn of a loop, and its `break if`
   module _ (x y : BlockTree) (o : Option ℕ) (k k1 j first next : ℕ) (s s1 s2 : Handles)

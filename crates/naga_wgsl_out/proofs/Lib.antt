@@ -18,4 +18,3 @@ pub mod Positions
 pub mod Bounded
 pub mod FirstRefusals
 pub mod FirstParts
-mod LineExamples

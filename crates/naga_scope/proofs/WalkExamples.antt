@@ -1,0 +1,163 @@
+-- The order in which what lacks of a function is told, by an example for each rule.
+--
+-- Throughout, type 0 is `i32`, and type 1 a truth value of four bytes, which has no form. Expression 0
+-- is `0u`, and expressions 1 and 2 are zero values of type 1, which have no form either. No expression
+-- has the handle 9, so that it is out of scope.
+use Rattle.std.proofs.Common.{◌≡◌, ℕ, true, List, [], ◌∷◌, Option, None, Some, refl}
+use Rattle.module_semantics.specs.AlikeTypes.{handle_key}
+use Rattle.module_semantics.proofs.ModuleShapeExamples.{one}
+use Rattle.module_semantics.proofs.PlaceExamples.{none_of}
+use Rattle.naga_info.specs.declared.info.ModuleInfo.{ModuleInfo}
+use Rattle.naga_ir.specs.StatementTree.{StatementTree, simple, ray_query, branch, loop, BlockTree}
+use Rattle.naga_ir.specs.StatementTree.{no_statements, statement}
+use Rattle.naga_ir.specs.declared.expression.Expression.TheVariants as expression
+use Rattle.naga_ir.specs.declared.expression.Literal.TheVariants as literal
+use Rattle.naga_ir.specs.declared.module.Function.{Function}
+use Rattle.naga_ir.specs.declared.module.FunctionArgument.{FunctionArgument}
+use Rattle.naga_ir.specs.declared.module.FunctionResult.{FunctionResult}
+use Rattle.naga_ir.specs.declared.module.LocalVariable.{LocalVariable}
+use Rattle.naga_ir.specs.declared.module.Module.{Module}
+use Rattle.naga_ir.specs.declared.types.ScalarKind.TheVariants as kind
+use Rattle.naga_ir.specs.declared.types.TypeInner.{TypeInner}
+use Rattle.naga_ir.specs.declared.types.TypeInner.TheVariants.{Scalar}
+use Rattle.naga_ir.specs.declared.types.Type_.{Type_}
+use Rattle.naga_scope.specs.FirstLack.{WrittenFunction, first_lack}
+use Rattle.naga_scope.specs.declared.lines.Declared.TheVariants as by
+use Rattle.naga_scope.specs.declared.lines.Line.TheVariants as line
+use Rattle.naga_scope.specs.declared.plan.PlanError.{PlanError}
+use Rattle.naga_scope.specs.declared.plan.PlanError.TheVariants.{OutOfScope, StatementWithoutForm}
+use Rattle.naga_scope.specs.declared.plan.PlanError.TheVariants.{TypeWithoutForm, WithoutForm}
+use Rattle.naga_scope.specs.declared.scope_faults.ScopeFault.TheVariants as fault
+use Rattle.naga_scope.specs.declared.statements.UnsupportedStatement.TheVariants as unsupported
+
+module _ (other : Module) (info : ModuleInfo) (f : Function) (argument : FunctionArgument)
+    (answer : FunctionResult) (variable : LocalVariable) where
+  abbrev unnamed : TypeInner → Type_
+  unnamed it = record { name = None; inner = it }
+
+  abbrev m : Module
+  m =
+      record other {
+        types = unnamed (Scalar (record { kind = kind.Sint; width = 4 }))
+            ∷ unnamed (Scalar (record { kind = kind.Bool; width = 4 })) ∷ [];
+        constants = [];
+        overrides = [];
+        global_variables = [];
+        global_expressions = [];
+        functions = [];
+        entry_points = none_of other.entry_points;
+      }
+
+  abbrev empty : Function
+  empty =
+      record f {
+        arguments = none_of f.arguments;
+        result = None;
+        local_variables = [];
+        expressions = expression.Literal (literal.U32 0) ∷ expression.ZeroValue 1 ∷ expression.ZeroValue 1 ∷ [];
+        body = no_statements;
+      }
+
+  -- the first lack of a function of the module
+  abbrev first_of : Function → Option PlanError
+  first_of f = first_lack (record { explicit = true; shader = m; info = info; function = f; known = [] })
+
+  -- of one with this body
+  abbrev first_in : List StatementTree → Option PlanError
+  first_in sts = first_of (record empty { body = body sts })
+    where
+      body : List StatementTree → BlockTree
+      body [] = no_statements
+      body (st ∷ sts) = statement st (body sts)
+
+  abbrev local_of : (ty : ℕ) → (init : Option ℕ) → LocalVariable
+  local_of ty init = record variable { ty = ty; init = init }
+
+  -- statements: one without a form, one that asks an expression, and a loop
+  abbrev unformed : StatementTree
+  unformed = simple (ray_query 0)
+
+  abbrev asks : (h : ℕ) → StatementTree
+  asks h = branch h no_statements no_statements
+
+  abbrev body_of : StatementTree → BlockTree
+  body_of st = statement st no_statements
+
+  -- ---- lines
+  nothing_lacks : first_of empty ≡ None
+  nothing_lacks = refl
+
+  arguments_first : first_of (record empty {
+    arguments = one f.arguments (record argument { ty = 1 });
+    result = Some (record answer { ty = 1 });
+  }) ≡ Some (TypeWithoutForm (by.Argument 0) 1)
+  unfolding handle_key
+  arguments_first = refl
+
+  signature_first : first_of (record empty {
+    result = Some (record answer { ty = 1 });
+    local_variables = local_of 1 None ∷ [];
+  }) ≡ Some (TypeWithoutForm by.Result 1)
+  unfolding handle_key
+  signature_first = refl
+
+  locals_in_order : first_of (record empty { local_variables = local_of 1 None ∷ local_of 0 (Some 9) ∷ [] })
+      ≡ Some (TypeWithoutForm (by.Local 0) 1)
+  unfolding handle_key
+  locals_in_order = refl
+
+  locals_before_statements : first_of (record empty {
+    local_variables = local_of 1 None ∷ [];
+    body = body_of unformed;
+  }) ≡ Some (TypeWithoutForm (by.Local 0) 1)
+  unfolding handle_key
+  locals_before_statements = refl
+
+  statements_in_order : first_in (asks 0 ∷ asks 1 ∷ unformed ∷ []) ≡ Some (WithoutForm (line.Statement 1) 1)
+  unfolding handle_key
+  statements_in_order = refl
+
+  -- a statement before those in its blocks, which are counted before those after it
+  outer_first : first_in (branch 1 (body_of unformed) no_statements ∷ []) ≡ Some (WithoutForm (line.Statement 0) 1)
+  unfolding handle_key
+  outer_first = refl
+
+  inner_before_the_next : first_in (branch 0 (body_of unformed) (body_of (asks 9)) ∷ asks 9 ∷ [])
+      ≡ Some (StatementWithoutForm 1 unsupported.RayQuery)
+  inner_before_the_next = refl
+
+  counted_after_the_inner : first_in (branch 0 (body_of (asks 0)) (body_of (asks 0)) ∷ asks 9 ∷ [])
+      ≡ Some (OutOfScope (fault.Operand 3 9))
+  counted_after_the_inner = refl
+
+  -- a `break if` after all in its loop, of two the inner loop's first, and before what follows
+  break_if_last : first_in (loop no_statements (body_of unformed) (Some 9) ∷ [])
+      ≡ Some (StatementWithoutForm 1 unsupported.RayQuery)
+  break_if_last = refl
+
+  inner_loop_first : first_in (loop (body_of (loop no_statements no_statements (Some 1))) no_statements (Some 2) ∷ [])
+      ≡ Some (WithoutForm (line.BreakIf 1 2) 1)
+  unfolding handle_key
+  inner_loop_first = refl
+
+  break_if_before_the_next : first_in (loop (body_of (asks 0)) no_statements (Some 2) ∷ unformed ∷ [])
+      ≡ Some (WithoutForm (line.BreakIf 0 2) 2)
+  unfolding handle_key
+  break_if_before_the_next = refl
+
+  -- ---- of one line
+  scope_before_a_form : first_in (simple (ray_query 9) ∷ []) ≡ Some (OutOfScope (fault.Operand 0 9))
+  scope_before_a_form = refl
+
+  statement_before_an_expression : first_in (simple (ray_query 1) ∷ [])
+      ≡ Some (StatementWithoutForm 0 unsupported.RayQuery)
+  statement_before_an_expression = refl
+
+  scope_before_a_form_of_a_local : first_of (record empty { local_variables = local_of 1 (Some 9) ∷ [] })
+      ≡ Some (OutOfScope (fault.FirstValue 0 9))
+  scope_before_a_form_of_a_local = refl
+
+  expression_before_a_type : first_of (record empty { local_variables = local_of 1 (Some 2) ∷ [] })
+      ≡ Some (WithoutForm (line.Local 0) 2)
+  unfolding handle_key
+  expression_before_a_type = refl
