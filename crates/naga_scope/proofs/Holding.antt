@@ -1,4 +1,4 @@
--- The check over the locals, and over statements without blocks.
+-- The check over statements without blocks.
 use Rattle.std.proofs.Common.{◌≡◌, ℕ, Bool, true, false, Option, None, Some, List, [], ◌∷◌}
 use Rattle.std.proofs.Common.{length, refl, sym}
 use Rattle.std.specs.Prelude.{Ok, Err}
@@ -16,8 +16,6 @@ use Rattle.naga_ir.specs.declared.statement.Statement.TheVariants as statement_v
 use Rattle.naga_scope.specs.Changes.{simple_changes}
 use Rattle.naga_scope.specs.ScopeChecks.{Checked, check_own, check_result, check_use, check_uses, own_named}
 use Rattle.shader_runs.specs.Scope.{Naming, Handles, after, after_result}
-
--- ---- first values
 
 -- an `Emit`
 abbrev pub is_emit : SimpleStatement → Bool

@@ -1,15 +1,16 @@
 -- The order in which what lacks of a function is told, by an example for each rule.
 --
 -- Throughout, type 0 is `i32`, and type 1 a truth value of four bytes, which has no form. Expression 0
--- is `0u`, and expressions 1 and 2 are zero values of type 1, which have no form either. No expression
--- has the handle 9, so that it is out of scope.
-use Rattle.std.proofs.Common.{◌≡◌, ℕ, true, List, [], ◌∷◌, Option, None, Some, refl}
+-- is `0u`, and expressions 1 and 2 are zero values of type 1, which have no form either. Expression 3 is
+-- a load of 1 that nothing emits, so that it is out of scope and is made of what has no form.
+-- No expression has the handle 9.
+use Rattle.std.proofs.Common.{◌≡◌, ℕ, Bool, true, false, List, [], ◌∷◌, Option, None, Some, refl, arith, Vec, Global}
 use Rattle.module_semantics.specs.AlikeTypes.{handle_key}
 use Rattle.module_semantics.proofs.ModuleShapeExamples.{one}
 use Rattle.module_semantics.proofs.PlaceExamples.{none_of}
 use Rattle.naga_info.specs.declared.info.ModuleInfo.{ModuleInfo}
-use Rattle.naga_ir.specs.StatementTree.{StatementTree, simple, ray_query, branch, loop, BlockTree}
-use Rattle.naga_ir.specs.StatementTree.{no_statements, statement}
+use Rattle.naga_ir.specs.StatementTree.{StatementTree, simple, ray_query, store, block, branch, switch, loop}
+use Rattle.naga_ir.specs.StatementTree.{BlockTree, no_statements, statement, CaseTrees, no_cases, case}
 use Rattle.naga_ir.specs.declared.expression.Expression.TheVariants as expression
 use Rattle.naga_ir.specs.declared.expression.Literal.TheVariants as literal
 use Rattle.naga_ir.specs.declared.module.Function.{Function}
@@ -17,11 +18,13 @@ use Rattle.naga_ir.specs.declared.module.FunctionArgument.{FunctionArgument}
 use Rattle.naga_ir.specs.declared.module.FunctionResult.{FunctionResult}
 use Rattle.naga_ir.specs.declared.module.LocalVariable.{LocalVariable}
 use Rattle.naga_ir.specs.declared.module.Module.{Module}
+use Rattle.naga_ir.specs.declared.statement.SwitchValue.TheVariants as switch_value
 use Rattle.naga_ir.specs.declared.types.ScalarKind.TheVariants as kind
 use Rattle.naga_ir.specs.declared.types.TypeInner.{TypeInner}
 use Rattle.naga_ir.specs.declared.types.TypeInner.TheVariants.{Scalar}
 use Rattle.naga_ir.specs.declared.types.Type_.{Type_}
-use Rattle.naga_scope.specs.FirstLack.{WrittenFunction, first_lack}
+use Rattle.naga_scope.specs.FirstLack.{first_lack}
+use Rattle.naga_scope.specs.Lines.{break_at, number_after}
 use Rattle.naga_scope.specs.declared.lines.Declared.TheVariants as by
 use Rattle.naga_scope.specs.declared.lines.Line.TheVariants as line
 use Rattle.naga_scope.specs.declared.plan.PlanError.{PlanError}
@@ -32,6 +35,17 @@ use Rattle.naga_scope.specs.declared.statements.UnsupportedStatement.TheVariants
 
 module _ (other : Module) (info : ModuleInfo) (f : Function) (argument : FunctionArgument)
     (answer : FunctionResult) (variable : LocalVariable) where
+  -- a vector of two
+  abbrev two : {X : Type 0} → Vec X Global → X → X → Vec X Global
+  two v x y =
+      record v {
+        len = 2;
+        cap = 2;
+        items = x ∷ y ∷ [];
+        ok = (refl, omega arith);
+        small = omega arith;
+      }
+
   abbrev unnamed : TypeInner → Type_
   unnamed it = record { name = None; inner = it }
 
@@ -54,7 +68,8 @@ module _ (other : Module) (info : ModuleInfo) (f : Function) (argument : Functio
         arguments = none_of f.arguments;
         result = None;
         local_variables = [];
-        expressions = expression.Literal (literal.U32 0) ∷ expression.ZeroValue 1 ∷ expression.ZeroValue 1 ∷ [];
+        expressions = expression.Literal (literal.U32 0) ∷ expression.ZeroValue 1 ∷ expression.ZeroValue 1
+            ∷ expression.Load 1 ∷ [];
         body = no_statements;
       }
 
@@ -73,12 +88,19 @@ module _ (other : Module) (info : ModuleInfo) (f : Function) (argument : Functio
   abbrev local_of : (ty : ℕ) → (init : Option ℕ) → LocalVariable
   local_of ty init = record variable { ty = ty; init = init }
 
-  -- statements: one without a form, one that asks an expression, and a loop
+  -- statements: one without a form, one that asks an expression, and one that stores
   abbrev unformed : StatementTree
   unformed = simple (ray_query 0)
 
   abbrev asks : (h : ℕ) → StatementTree
   asks h = branch h no_statements no_statements
+
+  abbrev stores : (pointer value : ℕ) → StatementTree
+  stores pointer value = simple (store pointer value)
+
+  -- a case of a `switch`
+  abbrev case_of : BlockTree → (falls : Bool) → CaseTrees → CaseTrees
+  case_of b falls cs = case switch_value.Default b falls cs
 
   abbrev body_of : StatementTree → BlockTree
   body_of st = statement st no_statements
@@ -86,6 +108,12 @@ module _ (other : Module) (info : ModuleInfo) (f : Function) (argument : Functio
   -- ---- lines
   nothing_lacks : first_of empty ≡ None
   nothing_lacks = refl
+
+  arguments_in_order : first_of (record empty {
+    arguments = two f.arguments (record argument { ty = 1 }) (record argument { ty = 1 });
+  }) ≡ Some (TypeWithoutForm (by.Argument 0) 1)
+  unfolding handle_key
+  arguments_in_order = refl
 
   arguments_first : first_of (record empty {
     arguments = one f.arguments (record argument { ty = 1 });
@@ -130,6 +158,37 @@ module _ (other : Module) (info : ModuleInfo) (f : Function) (argument : Functio
       ≡ Some (OutOfScope (fault.Operand 3 9))
   counted_after_the_inner = refl
 
+  block_before_the_next : first_in (block (body_of (asks 1)) ∷ unformed ∷ []) ≡ Some (WithoutForm (line.Statement 1) 1)
+  unfolding handle_key
+  block_before_the_next = refl
+
+  -- a selector before the cases, and these in order
+  selector_first : first_in (switch 1 (case_of (body_of unformed) false no_cases) ∷ [])
+      ≡ Some (WithoutForm (line.Statement 0) 1)
+  unfolding handle_key
+  selector_first = refl
+
+  cases_in_order :
+      first_in (switch 0 (case_of (body_of (asks 1)) false (case_of (body_of unformed) false no_cases)) ∷ [])
+      ≡ Some (WithoutForm (line.Statement 1) 1)
+  unfolding handle_key
+  cases_in_order = refl
+
+  counted_by_cases :
+      first_in (switch 0 (case_of (body_of (asks 0)) false (case_of (body_of unformed) false no_cases)) ∷ [])
+      ≡ Some (StatementWithoutForm 2 unsupported.RayQuery)
+  counted_by_cases = refl
+
+  falls_through_at_the_switch :
+      first_in (switch 0 (case_of (body_of unformed) true no_cases) ∷ [])
+      ≡ Some (StatementWithoutForm 0 unsupported.FallThrough)
+  falls_through_at_the_switch = refl
+
+  body_before_continuing : first_in (loop (body_of (asks 1)) (body_of unformed) None ∷ [])
+      ≡ Some (WithoutForm (line.Statement 1) 1)
+  unfolding handle_key
+  body_before_continuing = refl
+
   -- a `break if` after all in its loop, of two the inner loop's first, and before what follows
   break_if_last : first_in (loop no_statements (body_of unformed) (Some 9) ∷ [])
       ≡ Some (StatementWithoutForm 1 unsupported.RayQuery)
@@ -161,3 +220,41 @@ module _ (other : Module) (info : ModuleInfo) (f : Function) (argument : Functio
       ≡ Some (WithoutForm (line.Local 0) 2)
   unfolding handle_key
   expression_before_a_type = refl
+
+  scope_before_a_form_of_a_break_if : first_in (loop no_statements no_statements (Some 3) ∷ [])
+      ≡ Some (OutOfScope (fault.BreakIf 0 1 3))
+  scope_before_a_form_of_a_break_if = refl
+
+  scope_before_what_a_local_is_made_of : first_of (record empty { local_variables = local_of 1 (Some 3) ∷ [] })
+      ≡ Some (OutOfScope (fault.FirstValue 0 3))
+  scope_before_what_a_local_is_made_of = refl
+
+  lowest_first : first_in (stores 2 1 ∷ []) ≡ Some (WithoutForm (line.Statement 0) 1)
+  unfolding handle_key
+  lowest_first = refl
+
+  pointer_before_the_value : first_in (stores 9 3 ∷ []) ≡ Some (OutOfScope (fault.Operand 0 9))
+  pointer_before_the_value = refl
+
+-- ---- what stands on a line
+-- Throughout, the loops are `loop { if 1 { loop {} break if 3 } } continuing { {} } break if 4`: the outer one
+-- has the number 0, the inner one 2, and one after the outer loop would have 4.
+abbrev inner : StatementTree
+inner = loop no_statements no_statements (Some 3)
+
+abbrev outer : StatementTree
+outer =
+    loop (statement (branch 1 (statement inner no_statements) no_statements) no_statements)
+    (statement (block no_statements) no_statements) (Some 4)
+
+after_the_outer : number_after 0 outer ≡ 4
+after_the_outer = refl
+
+after_the_inner : number_after 2 inner ≡ 3
+after_the_inner = refl
+
+of_the_outer : break_at 0 4 outer ≡ 4 ∷ []
+of_the_outer = refl
+
+at_no_other_end : break_at 0 3 outer ≡ []
+at_no_other_end = refl

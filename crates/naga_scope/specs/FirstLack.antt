@@ -1,12 +1,15 @@
--- What keeps a function from having a plan, and the first of it in the order of the text: the
--- signature, the locals, and the statements, each before those in its blocks and a loop's `break if`
--- after all that stands in the loop. Of one line a rule of scope is told before a form, and of forms
--- that of the statement before that of an expression, of a declared type or of one that a `let` tells.
+-- What of a function's text keeps the function from having a plan, and the first of it in the order of
+-- the text. The order is this project's own (docs/REFUSALS.md): the arguments, the result, the locals,
+-- and the statements, each before those in its blocks, and a loop's `break if` after all that stands
+-- in the loop. Of one line first a broken rule of scope is told, of an `Emit` that of its first handle
+-- that breaks one; then what has no form: the statement, the lowest expression, a declared type, or
+-- the first type that a `let` tells. Labels and memory are looked at before all lines.
 --
--- Throughout, w is the function, s are the handles in scope at a point, k is how many names have been
--- given there, n is the number of a statement and next that of the one after it, those in its blocks
--- counted, st is a statement, a and b are blocks, cs are cases, i is the index of a local, and o is
--- what a `break if` asks.
+-- Throughout, w is the function, m its module, f the function as the module has it, s are the handles
+-- in scope at a point, k is how many names have been given there, n is the number of a statement and
+-- next that of the one after it, those in its blocks counted, st is a statement, a and b are blocks, cs
+-- are cases, i is the index of a local, l is a local, h the handle of an expression, at is a line, and
+-- o is what a `break if` asks.
 use Rattle.std.specs.Prelude.{ℕ, suc, ◌+◌, Bool, List, [], ◌∷◌, ◌++◌, Option, Some, None, Result, Ok}
 use Rattle.std.specs.Prelude.{Err, if◌then◌else◌, length}
 use Rattle.std.specs.Option.{option_map, option_or, option_to_list}
@@ -40,8 +43,8 @@ use Rattle.shader_runs.specs.Program.{Function, Statement as Shape, Statements, 
 use Rattle.shader_runs.specs.Scope.{Handles, Naming, after, after_all, at_start, named_by}
 use Rattle.shader_runs.specs.Scope.{named_by_all}
 
--- a function that is written, with what is known of its module and of its expressions, and whether
--- `let`s tell types
+-- a function that is to be written, with its module, what is known of that and of its expressions, and
+-- whether `let`s tell types
 pub record WrittenFunction : Type 0 where
   pub explicit : Bool
   pub shader : Module
@@ -69,12 +72,13 @@ abbrev pub scope_lack : Checked → Option PlanError
 scope_lack (Ok passed) = None
 scope_lack (Err fault) = Some (OutOfScope fault)
 
--- an expression without a form, the lowest of those that these handles are made of
+-- the lowest expression without a form that this one is made of
 abbrev pub lowest_in : WrittenFunction → ℕ → Option ℕ
 lowest_in w h =
     let es = w.function.expressions in
     lowest_lack (λ e. expression_has_form w.shader w.known es e) es h
 
+-- and that these handles are made of, which this line writes
 abbrev pub expression_lack : WrittenFunction → Line → List ℕ → Option PlanError
 expression_lack w at handles = option_map (λ h. WithoutForm at h) (lowest_of (lowest_in w) handles)
 
@@ -98,7 +102,7 @@ break_lack w n next o s =
     option_or (scope_lack (check_break (shape_of w) s n next o))
     (expression_lack w (BreakIf n next) (option_to_list o))
 
--- a type that is declared in the signature
+-- the first type that is declared in the signature and that no text can spell
 abbrev pub signature_lack : Module → ir.Function → Option PlanError
 signature_lack m f =
     option_map (λ d. TypeWithoutForm d.0 d.1)
@@ -118,8 +122,8 @@ abbrev pub locals_lack : WrittenFunction → (i : ℕ) → List LocalVariable �
 locals_lack w i [] = None
 locals_lack w i (l ∷ ls) = option_or (local_lack w i l) (locals_lack w (suc i) ls)
 
--- of what stands in the blocks of a statement with this number and of its `break if`, and of statements
--- and cases, the first of which has this number
+-- of what stands in the blocks of a statement with this number and of its `break if`, of a block, and of
+-- cases, the first statement of which has this number; each statement itself before what stands in it
 abbrev mutual
   pub inside_lack : WrittenFunction → (k n : ℕ) → StatementTree → Handles → Option PlanError
   inside_lack w k n (simple st) s = None

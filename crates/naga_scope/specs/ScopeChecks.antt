@@ -84,12 +84,12 @@ check_own f k n (Jumps (Return v)) s = check_use_if f.function s n v
 check_own f k n (Act a xs r) s = result_and (check_uses f.function s n xs) (check_result n r s)
 check_own f k n st s = Ok tt
 
--- how many names it gives by itself, after k given ones
+-- how many names have been given after it, those in its blocks left out, where k were before it
 abbrev pub own_named : Function → Statement → (k : ℕ) → ℕ
 own_named f (Emit first count) k = named_after_all f (from first count) k
 own_named f st k = k
 
--- and how many are given in its blocks
+-- and after what stands in its blocks, where k were before that
 abbrev pub inside_named : Function → Statement → (k : ℕ) → ℕ
 inside_named f (Emit first count) k = k
 inside_named f st k = named_by f st k

@@ -1,4 +1,4 @@
--- The first statement of a block, in the order of the text, that has no form, and its number.
+-- The first statement of a block, in the order of the text, that has no form.
 --
 -- Throughout, st is a statement, b is the rest of a block, cs are the further cases, n is the number
 -- of a statement, and it is what of one has no form.

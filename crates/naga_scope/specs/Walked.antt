@@ -9,7 +9,7 @@ use Rattle.naga_scope.specs.declared.known_function.KnownFunction.{KnownFunction
 use Rattle.naga_scope.specs.declared.walk.Walk.{Walk}
 use Rattle.naga_tables.specs.Tables.{AreTablesOf}
 
--- the function that is written, by what is known of it
+-- the function that is to be written, by what is known of it
 abbrev pub written_by : (explicit : Bool) → KnownFunction → WrittenFunction
 written_by explicit k = record {
   explicit = explicit;

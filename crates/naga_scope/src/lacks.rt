@@ -1,4 +1,5 @@
-//! Which expression without a form, the lowest, each expression of a function is made of.
+//! Which expressions may be written out as constants, and the lowest expression without a form that each
+//! expression of a function is made of.
 
 ghost use Rattle.std.specs.Prelude.{◌≡◌, List, None, get_or, if◌then◌else◌, length, replicate};
 ghost use Rattle.std.specs.Prelude.{IfOk, Some};
@@ -139,7 +140,7 @@ fn operands_lack(
 }
 
 /// This handle where its expression has no form.
-fn own_lack(handle: Handle<Expression>, has_form: bool) -> Option<Handle<Expression>>
+fn handle_unless_formed(handle: Handle<Expression>, has_form: bool) -> Option<Handle<Expression>>
     ensures { result ≡ (if has_form then None else Some handle) }
 {
     if has_form { None } else { Some(handle) }
@@ -147,7 +148,7 @@ fn own_lack(handle: Handle<Expression>, has_form: bool) -> Option<Handle<Express
 
 /// The lowest that the expression with this handle is made of, itself among them, where those before
 /// it stand in the table.
-fn expression_lack(
+fn lowest_at(
     lacks: &[Option<Handle<Expression>>],
     constants: &[bool],
     known: &KnownFunction<'_>,
@@ -170,7 +171,10 @@ fn expression_lack(
         known.info,
         expression,
     );
-    lower(operands_lack(lacks, expression), own_lack(handle, has_form))
+    lower(
+        operands_lack(lacks, expression),
+        handle_unless_formed(handle, has_form),
+    )
 }
 
 /// Notes the lowest of each expression, from the first to the last, since operands stand before what
@@ -192,7 +196,7 @@ fn note_lacks(
     for index in 0..known.function.expressions.len() {
         let handle = ItemIndex::from_index(index);
         let expression = &known.function.expressions[handle];
-        let lack = expression_lack(lacks, constants, known, names, handle, expression);
+        let lack = lowest_at(lacks, constants, known, names, handle, expression);
         lacks[index] = lack;
     }
 }

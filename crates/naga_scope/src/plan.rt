@@ -194,7 +194,7 @@ impl Plan {
             lacks: &lacks,
             explicit,
         };
-        if let Err(lack) = walk.walk_function(&mut scope) {
+        if let Err(lack) = walk.check_function(&mut scope) {
             return Err(lack);
         }
         scope.rewind(start);

@@ -1,5 +1,6 @@
 //! The walk over a function in the order of its text, which tells the first thing that keeps it from
-//! having a plan.
+//! having a plan. It hands a `PlanError` on by `match`: the borrow checker cannot yet pass one to the
+//! `From::from` of a `?`.
 
 ghost use Rattle.std.specs.Prelude.{◌≡◌, ◌+◌, ◌-◌, ◌++◌, ◌<◌, ◌^◌, IsTrue, None, Some};
 ghost use Rattle.std.specs.Prelude.{if◌then◌else◌, length, suc};
@@ -47,7 +48,7 @@ use crate::statements::own_unsupported;
 use naga_ir::{Block, Expression, Handle, ItemIndex, LocalVariable, Range, Statement, SwitchCase};
 
 /// What a walk over a function goes by.
-#[derive(Clone, Copy)]
+#[derive(Drop)]
 pub(crate) struct Walk<'a> {
     /// The function, with what is known of it.
     pub(crate) known: KnownFunction<'a>,
@@ -66,7 +67,7 @@ impl Walk<'_> {
         lack_at(self.lacks, handle)
     }
 
-    /// The same, if there is one.
+    /// The lowest expression without a form that this one is made of, if there is one.
     fn lack_if(&self, handle: Option<Handle<Expression>>) -> Option<Handle<Expression>>
         requires tables { HasTables self.now }
         ensures { result ≡ lowest_of (lowest_in (walked self.now)) (option_to_list handle) }
@@ -77,7 +78,7 @@ impl Walk<'_> {
         }
     }
 
-    /// The same where a `let` binds it.
+    /// The lowest that this expression is made of, where a `let` binds it.
     fn lack_if_bound(&self, handle: Handle<Expression>) -> Option<Handle<Expression>>
         requires tables { HasTables self.now }
         ensures { result
@@ -178,33 +179,8 @@ impl Walk<'_> {
         self.check_forms(number, statement)
     }
 
-    /// What the `break if` of the loop with this number lacks, which asks this expression. The statement
-    /// with the number `next` would stand after the loop.
-    fn check_asked(
-        &self,
-        scope: &Scope,
-        number: usize,
-        next: usize,
-        asked: Handle<Expression>,
-    ) -> Result<(), PlanError>
-        requires tables { HasTables self.now }
-        ensures { result ≡ unless_lack tt
-            (break_lack (walked self.now) number next (Some asked) (handles_at scope.now)) }
-    {
-        if !is_usable(scope, &self.known, asked) {
-            return Err(PlanError::OutOfScope(ScopeFault::BreakIf {
-                statement: number,
-                next,
-                operand: asked,
-            }));
-        }
-        match self.lack_of(asked) {
-            Some(lack) => Err(PlanError::WithoutForm(Line::BreakIf { number, next }, lack)),
-            None => Ok(()),
-        }
-    }
-
-    /// The same, if there is one.
+    /// What the `break if` of the loop with this number lacks, if there is one. The statement with the
+    /// number `next` would stand after the loop.
     fn check_break(
         &self,
         scope: &Scope,
@@ -216,8 +192,18 @@ impl Walk<'_> {
         ensures { result ≡ unless_lack tt
             (break_lack (walked self.now) number next break_if (handles_at scope.now)) }
     {
-        match break_if {
-            Some(asked) => self.check_asked(scope, number, next, asked),
+        let Some(asked) = break_if else {
+            return Ok(());
+        };
+        if !is_usable(scope, &self.known, asked) {
+            return Err(PlanError::OutOfScope(ScopeFault::BreakIf {
+                statement: number,
+                next,
+                operand: asked,
+            }));
+        }
+        match self.lack_of(asked) {
+            Some(lack) => Err(PlanError::WithoutForm(Line::BreakIf { number, next }, lack)),
             None => Ok(()),
         }
     }
@@ -355,7 +341,8 @@ impl Walk<'_> {
         }
     }
 
-    /// The same of two blocks, one after the other, the first statement of which has this number.
+    /// The first lack of two blocks, one after the other, the first statement of which has this number,
+    /// or the number of the statement after them. The scope stays.
     #[cycle(walk)]
     fn walk_both(
         &self,
@@ -459,7 +446,8 @@ impl Walk<'_> {
         next
     }
 
-    /// The same of a turn of the loop, of which the scope is left inside.
+    /// The first lack of a turn of the loop with this number, its `break if` last, or the number of the
+    /// statement after the loop. The scope is left inside.
     #[cycle(walk)]
     fn walk_turn(
         &self,
@@ -597,7 +585,7 @@ impl Walk<'_> {
 
     /// The first lack of the function in the order of its text. The scope is that of the function's
     /// start, and then that of some point inside.
-    pub(crate) fn walk_function(&self, scope: &mut Scope) -> Result<(), PlanError>
+    pub(crate) fn check_function(&self, scope: &mut Scope) -> Result<(), PlanError>
         requires tables { HasTables self.now }
         requires at { IsPointOf self.now.known scope.old }
         requires start { handles_at scope.old ≡ at_start (shape_of self.now.known) }

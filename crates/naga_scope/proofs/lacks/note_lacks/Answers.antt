@@ -21,8 +21,8 @@ loop-index-preserved c =
     let test = c.loop-index-test.true in
     let within : i < length es = omega (arith, end, test) in
     let at = ap (slice_get es) (sym c.from_index-handle.ensures) ∙ c.index-expression.ensures in
-    one_lack_below formed es c.loop-index.lacks i c.expression_lack-lack.result within
-    (c.expression_lack-lack.ensures
+    one_lack_below formed es c.loop-index.lacks i c.lowest_at-lack.result within
+    (c.lowest_at-lack.ensures
     ∙ (ap (λ h. lowest_over formed lack h e) c.from_index-handle.ensures
     ∙ lack_by formed es c.requires.ordered lack i e at c.loop-index.invariant.cells))
     c.loop-index.invariant

@@ -56,8 +56,8 @@ on_err (Ok x) p = tt
 on_err (Err e) p = p
 
 -- ---- the walk
-pub walk_function-requires-clause-at : goal.walk_function-requires-clause-at
-walk_function-requires-clause-at c =
+pub check_function-requires-clause-at : goal.check_function-requires-clause-at
+check_function-requires-clause-at c =
     let k = c.args.known.now in
     let start = c.in_ok-scope.ensures.start (λ number. []) k.shader.now k.module_info.now k.info.now in
     record {
@@ -66,13 +66,13 @@ walk_function-requires-clause-at c =
       held = subst (KeepsStart (shape_of k)) (sym start) (λ h first. first);
     }
 
-pub walk_function-requires-clause-start : goal.walk_function-requires-clause-start
-walk_function-requires-clause-start c =
+pub check_function-requires-clause-start : goal.check_function-requires-clause-start
+check_function-requires-clause-start c =
     let k = c.args.known.now in
     c.in_ok-scope.ensures.start (λ number. []) k.shader.now k.module_info.now k.info.now
 
-pub walk_function-requires-clause-room : goal.walk_function-requires-clause-room
-walk_function-requires-clause-room c =
+pub check_function-requires-clause-room : goal.check_function-requires-clause-room
+check_function-requires-clause-room c =
     subst (HasRoom c.in_ok-scope.scope)
     (all_changes c.args.known.now _ (ap trees_of c.as_slice-statements.ensures.value ∙ c.in_ok-found.ensures)
     c.in-Some.changes c.in-Some.ensures.some) c.in_ok-scope.ensures.room
@@ -104,7 +104,7 @@ returns-in-Err-clause-begun c =
 pub rewind-requires : goal.rewind-requires
 rewind-requires c =
     let at = c.mark-start.ensures in
-    let longer = c.walk_function.ensures.kept.longer in omega (arith, at, longer)
+    let longer = c.check_function.ensures.kept.longer in omega (arith, at, longer)
 
 pub returns-clause-ok : goal.returns-clause-ok
 returns-clause-ok c =
@@ -114,8 +114,8 @@ returns-clause-ok c =
     let sts = trees_of c.as_slice-statements.result.now in
     let trees = ap trees_of c.as_slice-statements.ensures.value ∙ c.in_ok-found.ensures in
     let nothing = nothing_lacks w c.requires.ordered
-    (answered tt c.in_default-walk_function.field-0 (first_lack w) c.in_default-walk_function.ensures.lack).0 in
-    let kept = c.walk_function.ensures.kept in
+    (answered tt c.in_default-check_function.field-0 (first_lack w) c.in_default-check_function.ensures.lack).0 in
+    let kept = c.check_function.ensures.kept in
     let same = c.rewind.ensures.restores c.in_ok-scope.scope c.mark-start.ensures (reverts kept) in
     let at_first =
     subst (HasRoom c.in_ok-scope.scope) (all_changes k sts trees c.in-Some.changes c.in-Some.ensures.some)

@@ -4,7 +4,7 @@ use Rattle.naga_scope.proofs.Walking.{handed_on}
 use Rattle.naga_scope.specs.FirstLack.{block_lack, locals_lack, shape_of, signature_lack}
 use Rattle.naga_scope.specs.Walked.{walked}
 use Rattle.shader_runs.specs.Scope.{at_start}
-use Rattle.naga_scope.proofs.walk.Walk.walk_function.Goals as goal
+use Rattle.naga_scope.proofs.walk.Walk.check_function.Goals as goal
 
 pub returns-in-Err-clause-lack : goal.returns-in-Err-clause-lack
 returns-in-Err-clause-lack c =
