@@ -57,7 +57,7 @@ use Rattle.fault_details.specs.Demands.{are_met, unmet}
 use Rattle.fault_details.specs.Reasons.{reason_at, entry_point_demands, expression_demands}
 use Rattle.fault_details.specs.Reasons.{function_demands, global_demands, item_demands}
 use Rattle.fault_details.specs.WithReason.{AreNumbered, TypeFaultsHaveReasons}
-use Rattle.fault_details.proofs.Reasoning.{IsKnown, item_before, some_at, unfit_told}
+use Rattle.fault_details.proofs.Reasoning.{IsKnown, item_before, some_then, unfit_told}
 use Rattle.fault_details.proofs.FunctionReasons.{IsOfItem, function_told, initialiser_same}
 use Rattle.fault_details.proofs.FunctionReasons.{operands_same, own_type_same, numbered_here}
 use Rattle.fault_details.proofs.Disagreeing.{disagreement_told}
@@ -309,7 +309,7 @@ module _ (m : Module) (info : ModuleInfo) (ranges : IsTrue (module_ranges_fit m 
       let known = known_of info.functions.items h in
       let sized : length f.expressions ≡ length known = eqb-true (length f.expressions) (length es.0) es.2
       ∙ sym (known_sized m info.functions.items known_fit.0 h es.0 es.1) in
-      some_at m.types (λ f. function_demands m h f known kind position) (slice_get m.functions h) f at
+      some_then (λ f. unmet m.types (function_demands m h f known kind position)) (slice_get m.functions h) f at
       (function_told m f known h (omega (arith, slice_get_within m.functions h f at)) sized
       (numbered_here (function_in_range m) m.functions h f functions_in_range.0 at)
       (known_formed m info.functions.items known_fit.0 h es.0 es.1) (numbered.functions h f at) kind position of fails)
@@ -345,7 +345,8 @@ module _ (m : Module) (info : ModuleInfo) (ranges : IsTrue (module_ranges_fit m 
       let sized : length p.function.expressions ≡ length known =
       eqb-true (length p.function.expressions) (length es.0) es.2
       ∙ sym (known_sized m info.entry_points.items known_fit.1 h es.0 es.1) in
-      some_at m.types (λ p. entry_point_demands m p known kind position) (slice_get m.entry_points.items h) p at
+      some_then (λ p. unmet m.types (entry_point_demands m p known kind position)) (slice_get m.entry_points.items h)
+      p at
       (sym (ap (λ ds. is_some (unmet m.types ds)) (entry_same p known position kind of))
       ∙ function_told m p.function known
       (length m.functions) (omega arith) sized

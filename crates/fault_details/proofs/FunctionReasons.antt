@@ -9,15 +9,14 @@ use Rattle.std.proofs.Common.{is_some, nat_lt, option_and_then, option_map, opti
 use Rattle.std.proofs.Common.{slice_get, sym, true≢false}
 use Rattle.std.specs.Prelude.{⊤, if◌then◌else◌, take}
 use Rattle.std.specs.List.{list_all, enumerate_from}
-use Rattle.std.specs.Option.{option_map_or, option_or}
+use Rattle.std.specs.Option.{option_map_or}
 use Rattle.std.proofs.lemmas.Bool.{and_parts, lt-ltb}
 use Rattle.std.proofs.lemmas.Option.{slice_get_within}
 use Rattle.std.proofs.Math.Bool.{and_assoc}
 use Rattle.naga_ir.specs.Operands.{expression_operands, simple_operands, simple_result}
-use Rattle.naga_ir.specs.StatementTree.{SimpleStatement, break, continue, return, store, atomic}
-use Rattle.naga_ir.specs.StatementTree.{call, cooperative_store, subgroup_ballot}
-use Rattle.naga_ir.specs.StatementTree.{subgroup_collective_operation, subgroup_gather}
-use Rattle.naga_ir.specs.StatementTree.{work_group_uniform_load, StatementTree, simple, branch}
+use Rattle.naga_ir.specs.StatementTree.{SimpleStatement, return, store, atomic}
+use Rattle.naga_ir.specs.StatementTree.{call, cooperative_store}
+use Rattle.naga_ir.specs.StatementTree.{StatementTree, simple, branch}
 use Rattle.naga_ir.specs.StatementTree.{switch, loop}
 use Rattle.naga_ir.specs.declared.expression.Expression.{Expression}
 use Rattle.naga_ir.specs.declared.expression.Expression.TheVariants as expression
@@ -34,22 +33,20 @@ use Rattle.module_semantics.specs.TypeIdentity.{component_count}
 use Rattle.naga_info.specs.Resolution.{inner_of}
 use Rattle.naga_info.specs.declared.info.TypeResolution.{TypeResolution}
 use Rattle.naga_info.specs.declared.info.TypeResolution.TheVariants.{Handle}
-use Rattle.module_semantics.specs.AlikeTypes.{are_alike}
 use Rattle.module_semantics.specs.acceptance.ExpressionTypes.{ExpectedType, LikeThis, Anything}
 use Rattle.module_semantics.specs.acceptance.ExpressionTypes.{Nothing, argument_type, binary_type}
 use Rattle.module_semantics.specs.acceptance.ExpressionTypes.{has_its_type, if_any, is_bool}
 use Rattle.module_semantics.specs.acceptance.ExpressionTypes.{is_expected, local_type, logical_type}
 use Rattle.module_semantics.specs.acceptance.ExpressionTypes.{only, vector_of, expected_type}
-use Rattle.module_semantics.specs.acceptance.OperandDemands.{is_scalar_or_vector, is_integer}
+use Rattle.module_semantics.specs.acceptance.OperandDemands.{is_scalar_or_vector}
 use Rattle.module_semantics.specs.acceptance.OperandDemands.{operand_is, is_swizzled, operands_fit}
 use Rattle.module_semantics.specs.acceptance.Initialisers.{initialiser_fits, local_is_sound}
 use Rattle.module_semantics.specs.acceptance.Ranges.{all_below, block_in_range, expression_in_range}
 use Rattle.module_semantics.specs.acceptance.Ranges.{expressions_in_range, function_in_range}
 use Rattle.module_semantics.specs.acceptance.Ranges.{is_below, local_in_range, named_in_range}
 use Rattle.module_semantics.specs.acceptance.Ranges.{names_fit, names_in_range, signature_fits}
-use Rattle.module_semantics.specs.acceptance.StatementsFit.{are_passed, calls, is_answered}
-use Rattle.module_semantics.specs.acceptance.StatementsFit.{is_atomic_result, is_call, is_condition}
-use Rattle.module_semantics.specs.acceptance.StatementsFit.{is_result, is_result_if, is_result_of}
+use Rattle.module_semantics.specs.acceptance.StatementsFit.{calls, is_answered}
+use Rattle.module_semantics.specs.acceptance.StatementsFit.{is_call, is_condition}
 use Rattle.module_semantics.specs.acceptance.StatementsFit.{simple_is_sound}
 use Rattle.module_semantics.proofs.Lists.{list_all_at, numbered_at}
 use Rattle.naga_acceptance.specs.Faults.{FunctionPositionFails, UnfitStatement}
@@ -59,11 +56,10 @@ use Rattle.naga_acceptance.specs.declared.faults.Fault.{Fault}
 use Rattle.naga_acceptance.specs.declared.faults.Fault.TheVariants as fault
 use Rattle.naga_acceptance.specs.declared.faults.FunctionPosition.{FunctionPosition}
 use Rattle.naga_acceptance.specs.declared.faults.FunctionPosition.TheVariants as part
-use Rattle.naga_acceptance.proofs.Finding.{unfit_item}
 use Rattle.naga_acceptance.proofs.Walking.{block_range}
 use Rattle.module_semantics.specs.TypeParts.{component_scalar, has_computed_parts, is_part_number}
 use Rattle.module_semantics.specs.TypeParts.{known_inner, part_count, part_type, pointee_type}
-use Rattle.module_semantics.specs.TypeParts.{points_to_atomic, vector_scalar}
+use Rattle.module_semantics.specs.TypeParts.{vector_scalar}
 use Rattle.fault_details.specs.Demands.{OfSome, are_met, has_letter, is_in_class, of_class, of_type, unmet}
 use Rattle.fault_details.specs.Reasons.{answer_demands, call_demands, declared_demands}
 use Rattle.fault_details.specs.Reasons.{expected_demands, expression_demands, function_demands}

@@ -1,5 +1,5 @@
 -- Each reason is one: each comes from a test that fails.
-use Rattle.std.proofs.Common.{◌≡◌, ◌<◌, ◌==◌, ◌-◌, ℕ, zero, suc, Bool, true, false, List, [], ◌∷◌}
+use Rattle.std.proofs.Common.{◌≡◌, ◌<◌, ◌-◌, ℕ, zero, suc, Bool, true, false, List, [], ◌∷◌}
 use Rattle.std.proofs.Common.{arith, Option, Some, None, refl, length, nat_lt, slice_get}
 use Rattle.std.proofs.Common.{true≢false, sym, eq-eqb, ◌∙◌}
 use Rattle.std.proofs.lemmas.Bool.{ltb-false, ltb-true, leb-false}
@@ -27,7 +27,7 @@ use Rattle.fault_details.specs.Demands.{Reason, Absent, Later, Demand, Demands, 
 use Rattle.fault_details.specs.Demands.{OfEach, OfSome, IsThere, StandsBefore, Begins, Ends}
 use Rattle.fault_details.specs.Demands.{HasNumber, HasType, Gives, IsOfClass, HasLetter, HasPart}
 use Rattle.fault_details.specs.Demands.{IsCaseOf, HasValue, HasNoValue, Passes, asked}
-use Rattle.fault_details.specs.Demands.{reason_unless, unmet}
+use Rattle.fault_details.specs.Demands.{unmet}
 use Rattle.fault_details.specs.Holds.{IsReason, ReasonsHold}
 use Rattle.fault_details.specs.Reasons.{item_demands, reason_at, use_reason}
 use Rattle.fault_details.specs.declared.words.ListName.{ListName}

@@ -3,9 +3,9 @@
 -- Throughout, m is a module, info what is known of it, f a function, p an entry point, e an
 -- expression, s a statement, it a type by itself, h is a handle, here is that of an item, count is
 -- how many there are, a and b are tests, and fails says that a test fails.
-use Rattle.std.proofs.Common.{◌≡◌, ◌∙◌, ◌≤◌, ◌&&◌, ◌^◌, ℕ, Bool, true, false, length, Option, Some}
+use Rattle.std.proofs.Common.{◌≡◌, ◌∙◌, ◌≤◌, ◌&&◌, ◌^◌, ℕ, Bool, true, false, List, length, Option, Some}
 use Rattle.std.proofs.Common.{None, IsSome, ap, nat_lt, option_map, option_to_list, refl, slice_get}
-use Rattle.std.proofs.Common.{sym, true≢false}
+use Rattle.std.proofs.Common.{sym}
 use Rattle.std.specs.Prelude.{IsTrue}
 use Rattle.std.specs.List.{list_all}
 use Rattle.std.specs.Option.{option_map_or}
@@ -56,7 +56,7 @@ use Rattle.fault_details.specs.Reasons.{statement_name_demands, variables_demand
 use Rattle.fault_details.specs.WithReason.{AreNumbered, AreOfTheirTypes, HasItsNumbers, IsOfNames}
 use Rattle.fault_details.specs.WithReason.{NameFaultsHaveReasons, case_numbers_fit, own_numbers_fit}
 use Rattle.fault_details.specs.declared.words.ListName.TheVariants as list
-use Rattle.fault_details.proofs.Reasoning.{both, placed_told, some_at, told, turned, unfit_told}
+use Rattle.fault_details.proofs.Reasoning.{both, placed_told, some_then, told, turned, unfit_told}
 
 -- ---- numbers, which are of their types
 
@@ -270,7 +270,7 @@ module _ (m : Module) (info : ModuleInfo) (fit : AreOfTheirTypes m) (numbered : 
   function_at_told : (h : ℕ) (position : FunctionPosition) (kind : Fault) → IsOfNames kind →
       FunctionFails m info h position kind → ItemTold kind (item.Function h position)
   function_at_told h position kind of (f, at, fails) =
-      some_at m.types (λ f. function_demands m h f (known_of info.functions.items h) kind position)
+      some_then (λ f. unmet m.types (function_demands m h f (known_of info.functions.items h) kind position))
       (slice_get m.functions h) f at (part_of_told m f (known_of info.functions.items h) h
       (fit.functions h f at) (numbered.functions h f at) position kind of fails)
 
@@ -300,7 +300,7 @@ module _ (m : Module) (info : ModuleInfo) (fit : AreOfTheirTypes m) (numbered : 
   entry_point_told : (h : ℕ) (position : FunctionPosition) (kind : Fault) → IsOfNames kind →
       EntryPointFails m info h position kind → ItemTold kind (item.EntryPoint h position)
   entry_point_told h position kind of (p, at, fails) =
-      some_at m.types (λ p. entry_point_demands m p (known_of info.entry_points.items h) kind position)
+      some_then (λ p. unmet m.types (entry_point_demands m p (known_of info.entry_points.items h) kind position))
       (slice_get m.entry_points.items h) p at
       (entry_told p (known_of info.entry_points.items h) (fit.entry_points h p at) (numbered.entry_points h p at)
       position kind of fails)

@@ -7,10 +7,12 @@ use Rattle.std.proofs.Common.{◌≡◌, ◌∙◌, ◌<◌, ◌≤◌, ◌==◌
 use Rattle.std.proofs.Common.{[], ◌∷◌, length, Option, Some, None, IsSome, arith, ⊎_elim, ap, is_some}
 use Rattle.std.proofs.Common.{nat_lt, option_and_then, option_map, refl, slice_get, sym}
 use Rattle.std.proofs.Common.{true≢false}
+use Rattle.std.specs.Prelude.{if◌then◌else◌}
 use Rattle.std.specs.Option.{option_map_or, option_or}
 use Rattle.std.proofs.lemmas.Bool.{and_parts, ltb-true}
 use Rattle.std.proofs.lemmas.Option.{slice_get_cases, slice_get_within}
 use Rattle.std.proofs.Math.Bool.{and_assoc, and_comm}
+use Rattle.std.proofs.Math.Dec.{eqb-suc-suc, eqb-suc-zero, eqb-zero-suc}
 use Rattle.naga_ir.specs.StatementTree.{CaseTrees, no_cases, case}
 use Rattle.naga_ir.specs.declared.module.Function.{Function}
 use Rattle.naga_ir.specs.declared.module.FunctionArgument.{FunctionArgument}
@@ -35,8 +37,8 @@ use Rattle.module_semantics.specs.acceptance.StatementsFit.{value_has_type}
 use Rattle.module_semantics.specs.TypeParts.{known_inner, known_pointee, pointee_type}
 use Rattle.fault_details.specs.Demands.{Reason, Demands, NoDemand, One, Then, OfEach, OfSome}
 use Rattle.fault_details.specs.Demands.{IsCaseOf, are_met, asked, of_class, of_type}
-use Rattle.fault_details.specs.Demands.{is_in_class, reason_unless, unmet}
-use Rattle.fault_details.specs.Reasons.{case_value_demands, case_values, passed_demands}
+use Rattle.fault_details.specs.Demands.{is_in_class, unmet}
+use Rattle.fault_details.specs.Reasons.{case_values, passed_demands}
 use Rattle.fault_details.specs.Reasons.{return_demands, selected_demands, store_demands}
 use Rattle.fault_details.specs.Reasons.{stored_demands, switch_demands}
 use Rattle.fault_details.specs.declared.words.TypeClass.{TypeClass}
@@ -70,22 +72,36 @@ item_before xs n h within below =
     ⊎_elim (λ found. (found.0, found.2)) (λ past. absurd (omega (arith, within, past.0, ltb-true h n below)))
     (slice_get_cases xs h).1
 
+-- ---- optional values
+
+module _ {X : Type 0} where
+  pub some_first : (a b : Option X) → IsSome a → IsSome (option_or a b)
+  some_first None b some = absurd (true≢false (sym some))
+  some_first (Some x) b some = refl
+
+  pub some_second : (a b : Option X) → IsSome b → IsSome (option_or a b)
+  some_second None b some = some
+  some_second (Some x) b some = refl
+
+  pub some_unless : (test : Bool) (x : X) → test ≡ false → IsSome (if test then None else Some x)
+  some_unless true x fails = absurd (true≢false fails)
+  some_unless false x fails = refl
+
+  pub some_then : {Y : Type 0} (f : Y → Option X) (o : Option Y) (y : Y) → o ≡ Some y → IsSome (f y) →
+      IsSome (option_and_then f o)
+  some_then f o y is some = ap (λ o. is_some (option_and_then f o)) is ∙ some
+
 -- ---- demands that are not met
 
 module _ (types : List Type_) where
   or_told : (a b : Bool) (x y : Option Reason) → (a ≡ false → IsSome x) → (b ≡ false → IsSome y) →
       (a && b) ≡ false → IsSome (option_or x y)
-  or_told a b (Some x) y first second fails = refl
-  or_told true b None y first second fails = second fails
-  or_told false b None y first second fails = absurd (true≢false (sym (first refl)))
-
-  unless_told : (one : Bool × Reason) → one.0 ≡ false → IsSome (reason_unless one)
-  unless_told (true, why) fails = absurd (true≢false fails)
-  unless_told (false, why) fails = refl
+  or_told true b x y first second fails = some_second x y (second fails)
+  or_told false b x y first second fails = some_first x y (first refl)
 
   pub told : (ds : Demands) → are_met types ds ≡ false → IsSome (unmet types ds)
   told NoDemand fails = absurd (true≢false fails)
-  told (One d) fails = unless_told (asked types d) fails
+  told (One d) fails = some_unless (asked types d).0 (asked types d).1 fails
   told (Then a b) fails =
       or_told (are_met types a) (are_met types b) (unmet types a) (unmet types b) (told a) (told b) fails
   told (OfEach f []) fails = absurd (true≢false fails)
@@ -94,10 +110,6 @@ module _ (types : List Type_) where
       (told (f x)) (told (OfEach f xs)) fails
   told (OfSome f None) fails = absurd (true≢false fails)
   told (OfSome f (Some x)) fails = told (f x) fails
-
-  pub some_at : {X : Type 0} (f : X → Demands) (o : Option X) (x : X) → o ≡ Some x → IsSome (unmet types (f x)) →
-      IsSome (unmet types (OfSome f o))
-  some_at f o x is some = ap (λ o. is_some (unmet types (OfSome f o))) is ∙ some
 
   -- an item at which a test fails, of which as much is demanded
   pub unfit_told : {X : Type 0} (test : X → Bool) (f : X → Demands) (o : Option X) →
@@ -164,15 +176,15 @@ module _ (types : List Type_) (known : List TypeResolution) where
       (arguments : List FunctionArgument) (xs : List ℕ) → all_below n xs ≡ true → are_passed types known arguments xs
       ≡ (length arguments == length xs && are_met types (passed_demands known arguments xs))
   passed_same n there [] [] below = refl
-  passed_same n there [] (x ∷ xs) below = refl
-  passed_same n there (a ∷ arguments) [] below = refl
+  passed_same n there [] (x ∷ xs) below = ap (λ b. b && true) (sym (eqb-zero-suc (length xs)))
+  passed_same n there (a ∷ arguments) [] below = ap (λ b. b && true) (sym (eqb-suc-zero (length arguments)))
   passed_same n there (a ∷ arguments) (x ∷ xs) below =
       let parts = and_parts (nat_lt x n) (all_below n xs) below in
+      let first = are_met types (of_type known (Handle a.ty) x) in
+      let rest = are_met types (passed_demands known arguments xs) in
       both (type_same (Handle a.ty) x (there x parts.0)) (passed_same n there arguments xs parts.1)
-      ∙ (turned (are_met types (of_type known (Handle a.ty) x)) (length arguments == length xs)
-      (are_met types (passed_demands known arguments xs))
-      ∙ ap (λ b. length arguments == length xs && b) (and_comm (are_met types (passed_demands known arguments xs))
-      (are_met types (of_type known (Handle a.ty) x))))
+      ∙ (turned first (length arguments == length xs) rest
+      ∙ both (sym (eqb-suc-suc (length arguments) (length xs))) (and_comm rest first))
 
   -- ---- switches
 
