@@ -142,9 +142,10 @@ asked types (IsOfClass class got) =
 asked types (HasLetter got letter) =
     (option_map_or (has_letter letter) (inner_of got types) false, LacksLetter letter got)
 asked types (HasPart h count) = (nat_lt h count, PastParts count h)
-asked types (IsCaseOf selector v) =
-    (case_value_is_of selector v,
-    OtherType (scalar_type selector) (scalar_type (case_value_scalar selector v)))
+asked types (IsCaseOf selector v) = (
+  case_value_is_of selector v,
+  OtherType (scalar_type selector) (scalar_type (case_value_scalar selector v)),
+)
 asked types (HasValue expected) = (false, NoValue expected)
 asked types (HasNoValue got) = (false, Unexpected got)
 asked types (Passes test it) = (test, Needs it)

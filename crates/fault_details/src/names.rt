@@ -52,11 +52,7 @@ fn members_reason<'a>(here: usize, count: usize, members: &[StructMember]) -> Op
 }
 
 /// A type that a type is made of, and that does not stand before it.
-pub(crate) fn part_reason<'a>(
-    module: &Module,
-    here: usize,
-    inner: &TypeInner,
-) -> Option<Reason<'a>>
+pub(crate) fn part_reason<'a>(module: &Module, here: usize, inner: &TypeInner) -> Option<Reason<'a>>
     ensures { option_map shown result ≡ unmet «module».now.types
         (part_demands here (length «module».now.types) inner.now) }
 {
