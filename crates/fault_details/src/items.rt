@@ -205,7 +205,7 @@ fn whole_reason<'a>(
             let expected = function.expressions.len();
             number_reason(Counted::Expressions, expected, known_count(known))
         }
-        Fault::Signature => signature_reason(module.types.len(), function),
+        Fault::Signature => signature_reason(module, function),
         Fault::NamedExpressions => named_reason(function),
         _ => None,
     }
@@ -318,9 +318,7 @@ fn entry_point_reason<'a>(
         «module».now entry_point.now (known_types known.entry) fault position) }
 {
     match (position, fault) {
-        (FunctionPosition::Whole, Fault::Names) => {
-            variables_reason(module.global_variables.len(), entry_point)
-        }
+        (FunctionPosition::Whole, Fault::Names) => variables_reason(module, entry_point),
         _ => {
             let callees = module.functions.len();
             function_reason(
@@ -424,7 +422,7 @@ fn module_reason<'a>(module: &Module, info: &ModuleInfo, fault: Fault) -> Option
 {
     match fault {
         Fault::InfoSize => sizes_reason(module, info),
-        Fault::SpecialTypes => special_reason(module.types.len(), &module.special_types),
+        Fault::SpecialTypes => special_reason(module),
         _ => None,
     }
 }

@@ -19,7 +19,7 @@ use indexmap::IndexMap;
 use naga_info::TypeResolution;
 use naga_ir::{
     ArraySize, EntryPoint, Expression, Function, FunctionArgument, FunctionResult, Handle,
-    ItemIndex, Module, PredeclaredType, SpecialTypes, Statement, StructMember, Type_, TypeInner,
+    ItemIndex, Module, PredeclaredType, Statement, StructMember, Type_, TypeInner,
 };
 
 /// An item that is not there, if one is named.
@@ -321,12 +321,13 @@ fn own_name_reason<'a>(
 pub(crate) fn statement_name_reason<'a>(
     module: &Module,
     callees: usize,
-    expressions: usize,
+    function: &Function,
     statement: &Statement,
 ) -> Option<Reason<'a>>
-    ensures { option_map shown result ≡ unmet «module».now.types
-        (statement_name_demands «module».now callees expressions (tree_of statement.now)) }
+    ensures { option_map shown result ≡ unmet «module».now.types (statement_name_demands
+        «module».now callees (length function.now.expressions) (tree_of statement.now)) }
 {
+    let expressions = function.expressions.len();
     let operand = statement_operands_reason(expressions, statement);
     if operand.is_some() {
         return operand;
@@ -364,9 +365,11 @@ fn answer_reason<'a>(types: usize, answer: &Option<FunctionResult>) -> Option<Re
 }
 
 /// A type of the signature that is not there.
-pub(crate) fn signature_reason<'a>(types: usize, function: &Function) -> Option<Reason<'a>>
-    ensures { option_map shown result ≡ unmet [] (signature_demands types function.now) }
+pub(crate) fn signature_reason<'a>(module: &Module, function: &Function) -> Option<Reason<'a>>
+    ensures { option_map shown result ≡ unmet «module».now.types
+        (signature_demands (length «module».now.types) function.now) }
 {
+    let types = module.types.len();
     let argument = arguments_reason(types, &function.arguments);
     if argument.is_some() {
         return argument;
@@ -391,9 +394,11 @@ pub(crate) fn named_reason<'a>(function: &Function) -> Option<Reason<'a>>
 }
 
 /// The first variable of an entry point that is not there.
-pub(crate) fn variables_reason<'a>(variables: usize, entry_point: &EntryPoint) -> Option<Reason<'a>>
-    ensures { option_map shown result ≡ unmet [] (variables_demands variables entry_point.now) }
+pub(crate) fn variables_reason<'a>(module: &Module, entry_point: &EntryPoint) -> Option<Reason<'a>>
+    ensures { option_map shown result ≡ unmet «module».now.types
+        (variables_demands (length «module».now.global_variables) entry_point.now) }
 {
+    let variables = module.global_variables.len();
     let list = ListName::GlobalVariables;
     let output = match &entry_point.mesh_info {
         Some(mesh_info) => Some(mesh_info.output_variable),
@@ -427,9 +432,12 @@ fn predeclared_reason<'a>(
 }
 
 /// The first special type that is not there.
-pub(crate) fn special_reason<'a>(types: usize, special: &SpecialTypes) -> Option<Reason<'a>>
-    ensures { option_map shown result ≡ unmet [] (special_demands types special.now) }
+pub(crate) fn special_reason<'a>(module: &Module) -> Option<Reason<'a>>
+    ensures { option_map shown result ≡ unmet «module».now.types
+        (special_demands (length «module».now.types) «module».now.special_types) }
 {
+    let types = module.types.len();
+    let special = &module.special_types;
     let predeclared = predeclared_reason(types, &special.predeclared_types);
     if predeclared.is_some() {
         return predeclared;

@@ -371,12 +371,7 @@ pub(crate) fn statement_reason<'a>(
         callees function.now (known_types known.entry) fault (placed at.entry)) }
 {
     match fault {
-        Fault::Names => statement_name_reason(
-            module,
-            callees,
-            function.expressions.len(),
-            at.statement,
-        ),
+        Fault::Names => statement_name_reason(module, callees, function, at.statement),
         Fault::Unsatisfied => own_reason(
             module,
             function,
