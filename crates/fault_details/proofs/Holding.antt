@@ -1,5 +1,5 @@
 -- Each reason is one: each comes from a test that fails.
-use Rattle.std.proofs.Common.{◌≡◌, ◌<◌, ◌-◌, ℕ, zero, suc, Bool, true, false, List, [], ◌∷◌}
+use Rattle.std.proofs.Common.{◌≡◌, ◌<◌, ℕ, zero, suc, Bool, true, false, List, [], ◌∷◌}
 use Rattle.std.proofs.Common.{arith, Option, Some, None, refl, length, nat_lt, slice_get}
 use Rattle.std.proofs.Common.{true≢false, sym, eq-eqb, ◌∙◌}
 use Rattle.std.proofs.lemmas.Bool.{ltb-false, ltb-true, leb-false}

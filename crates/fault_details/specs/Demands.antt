@@ -6,7 +6,7 @@
 -- items, here is the handle of an item that names others, count is how many items a list has, d is
 -- a demand, and a, b and ds are several.
 use Rattle.std.specs.Prelude.{ℕ, ◌-◌, ◌==◌, ◌&&◌, Bool, true, false, nat_lt, nat_le, List, [], ◌∷◌}
-use Rattle.std.specs.Prelude.{length, slice_get, Option, Some, None, if◌then◌else◌}
+use Rattle.std.specs.Prelude.{slice_get, Option, Some, None, if◌then◌else◌}
 use Rattle.std.specs.List.{list_all}
 use Rattle.std.specs.Option.{is_some, option_and_then, option_map_or, option_or}
 use denote.Enum.Declared.{tag_of}
