@@ -4,7 +4,7 @@
 -- types of several expressions, e is one of them and h its handle, at is a position, and fails says
 -- that a test fails.
 use Rattle.std.proofs.Common.{◌≡◌, ◌∙◌, ◌≤◌, ◌==◌, ◌&&◌, ℕ, zero, suc, Bool, true, List, [], ◌∷◌}
-use Rattle.std.proofs.Common.{length, map, Some, None, IsSome, arith, ap, is_some, nat_lt}
+use Rattle.std.proofs.Common.{length, map, Option, Some, None, IsSome, arith, ap, is_some, nat_lt}
 use Rattle.std.proofs.Common.{option_map, refl, slice_get, sym, zip}
 use Rattle.std.specs.Prelude.{IsTrue}
 use Rattle.std.specs.List.{list_all}
@@ -15,7 +15,6 @@ use Rattle.std.proofs.lemmas.Option.{slice_get-map, slice_get_within}
 use Rattle.naga_ir.specs.Operands.{expression_operands}
 use Rattle.naga_ir.specs.declared.expression.Expression.{Expression}
 use Rattle.naga_ir.specs.declared.module.EntryPoint.{EntryPoint}
-use Rattle.naga_ir.specs.declared.module.Function.{Function}
 use Rattle.naga_ir.specs.declared.module.Module.{Module}
 use Rattle.naga_ir.specs.declared.types.Type_.{Type_}
 use Rattle.naga_ir.specs.declared.types.TypeInner.{TypeInner}
@@ -29,7 +28,7 @@ use Rattle.module_semantics.specs.acceptance.OperandDemands.{operands_fit}
 use Rattle.module_semantics.specs.acceptance.InfoSizes.{all_known, all_paired, entry_point_size_fits}
 use Rattle.module_semantics.specs.acceptance.InfoSizes.{function_size_fits, sizes_fit, type_is_fit}
 use Rattle.module_semantics.specs.acceptance.Initialisers.{constant_is_sound, global_is_sound}
-use Rattle.module_semantics.specs.acceptance.Initialisers.{override_is_sound}
+use Rattle.module_semantics.specs.acceptance.Initialisers.{initialiser_fits, override_is_sound}
 use Rattle.module_semantics.specs.acceptance.Numbers.{fits_16_bits, resource_fits_32_bits}
 use Rattle.module_semantics.specs.acceptance.Numbers.{workgroup_fits_32_bits}
 use Rattle.module_semantics.specs.acceptance.Ranges.{all_below, all_by_handle, constant_in_range}
@@ -53,13 +52,13 @@ use Rattle.naga_acceptance.specs.declared.faults.FunctionPosition.{FunctionPosit
 use Rattle.naga_acceptance.specs.declared.faults.FunctionPosition.TheVariants as part
 use Rattle.naga_acceptance.specs.declared.faults.FaultPosition.{FaultPosition}
 use Rattle.naga_acceptance.specs.declared.faults.FaultPosition.TheVariants as item
-use Rattle.naga_acceptance.proofs.Finding.{unfit_item}
-use Rattle.fault_details.specs.Reasons.{reason_at, entry_point_reason, expression_reason}
-use Rattle.fault_details.specs.Reasons.{function_reason, global_reason, item_reason}
+use Rattle.fault_details.specs.Demands.{are_met, unmet}
+use Rattle.fault_details.specs.Reasons.{reason_at, entry_point_demands, expression_demands}
+use Rattle.fault_details.specs.Reasons.{function_demands, global_demands, item_demands}
 use Rattle.fault_details.specs.WithReason.{AreNumbered, TypeFaultsHaveReasons}
-use Rattle.fault_details.proofs.Reasoning.{IsKnown, item_before, some_then}
-use Rattle.fault_details.proofs.FunctionReasons.{IsOfItem, function_told, initialiser_told}
-use Rattle.fault_details.proofs.FunctionReasons.{operands_told, own_type_told, numbered_here}
+use Rattle.fault_details.proofs.Reasoning.{IsKnown, item_before, some_then, unfit_told}
+use Rattle.fault_details.proofs.FunctionReasons.{IsOfItem, function_told, initialiser_same}
+use Rattle.fault_details.proofs.FunctionReasons.{operands_same, own_type_same, numbered_here}
 use Rattle.fault_details.proofs.Disagreeing.{disagreement_told}
 
 -- ---- what is known of several functions
@@ -190,7 +189,7 @@ module _ (m : Module) (info : ModuleInfo) (ranges : IsTrue (module_ranges_fit m 
       (a.0, b.0, b.1)
 
   abbrev Told : Fault → FaultPosition → Type 0
-  Told kind at = IsSome (item_reason m info kind at)
+  Told kind at = IsSome (unmet m.types (item_demands m info kind at))
 
   -- of the module itself and of its types there is no such fault
   no_module : (kind : Fault) → IsOfItem kind → ModuleFails m info kind → ⊥
@@ -207,15 +206,25 @@ module _ (m : Module) (info : ModuleInfo) (ranges : IsTrue (module_ranges_fit m 
   no_type h fault.Unsatisfied of fails = fails
   no_type h _ of fails = of
 
+  -- the initialiser of an item of the module
+  initialised : (ty : ℕ) (init : Option ℕ) → is_below (length m.global_expressions) init ≡ true →
+      initialiser_fits m.types info.const_expression_types.items ty init
+      ≡ are_met m.types (global_demands m info fault.InitialiserType ty init)
+  initialised ty init below =
+      initialiser_same m.types info.const_expression_types.items (length m.global_expressions)
+      (omega (arith, known_sizes.2)) ty init below
+
+  middle : (a b c : Bool) → (a && (b && c)) ≡ true → b ≡ true
+  middle a b c all = (and_parts b c (and_parts a (b && c) all).1).0
+
   constant_told : (h : ℕ) (kind : Fault) → IsOfItem kind → ConstantFails m info h kind → Told kind (item.Constant h)
   constant_told h fault.InitialiserType of fails =
-      let k = unfit_item (constant_is_sound m.types info.const_expression_types.items) m.constants h fails in
-      let fits = list_all_at (constant_in_range (length m.types) (length m.global_expressions)) m.constants h
-      k.0 declared_in_range.0 k.1 in
-      some_then (λ k. global_reason m info fault.InitialiserType k.ty (Some k.init)) (slice_get m.constants h) k.0 k.1
-      (initialiser_told m.types info.const_expression_types.items (length m.global_expressions)
-      (omega (arith, known_sizes.2)) k.0.ty (Some k.0.init)
-      (and_parts (nat_lt k.0.ty (length m.types)) (nat_lt k.0.init (length m.global_expressions)) fits).1 k.2)
+      unfit_told m.types (constant_is_sound m.types info.const_expression_types.items)
+      (λ k. global_demands m info fault.InitialiserType k.ty (Some k.init)) (slice_get m.constants h)
+      (λ k at. initialised k.ty (Some k.init)
+      (and_parts (nat_lt k.ty (length m.types)) (nat_lt k.init (length m.global_expressions))
+      (list_all_at (constant_in_range (length m.types) (length m.global_expressions)) m.constants h k
+      declared_in_range.0 at)).1) fails
   constant_told h fault.OtherType of fails = absurd fails
   constant_told h fault.OperandTypes of fails = absurd fails
   constant_told h fault.Unsatisfied of fails = absurd fails
@@ -223,15 +232,12 @@ module _ (m : Module) (info : ModuleInfo) (ranges : IsTrue (module_ranges_fit m 
 
   override_told : (h : ℕ) (kind : Fault) → IsOfItem kind → OverrideFails m info h kind → Told kind (item.Override h)
   override_told h fault.InitialiserType of fails =
-      let k = unfit_item (override_is_sound m.types info.const_expression_types.items) m.overrides h fails in
-      let fits = list_all_at (override_in_range (length m.types) (length m.global_expressions)) m.overrides h
-      k.0 declared_in_range.1 k.1 in
-      let initialised = is_below (length m.global_expressions) k.0.init in
-      let number = option_map_or fits_16_bits k.0.id true in
-      some_then (λ k. global_reason m info fault.InitialiserType k.ty k.init) (slice_get m.overrides h) k.0 k.1
-      (initialiser_told m.types info.const_expression_types.items (length m.global_expressions)
-      (omega (arith, known_sizes.2)) k.0.ty k.0.init
-      (and_parts initialised number (and_parts (nat_lt k.0.ty (length m.types)) (initialised && number) fits).1).0 k.2)
+      unfit_told m.types (override_is_sound m.types info.const_expression_types.items)
+      (λ k. global_demands m info fault.InitialiserType k.ty k.init) (slice_get m.overrides h)
+      (λ k at. initialised k.ty k.init (middle (nat_lt k.ty (length m.types))
+      (is_below (length m.global_expressions) k.init) (option_map_or fits_16_bits k.id true)
+      (list_all_at (override_in_range (length m.types) (length m.global_expressions)) m.overrides h k
+      declared_in_range.1 at))) fails
   override_told h fault.OtherType of fails = absurd fails
   override_told h fault.OperandTypes of fails = absurd fails
   override_told h fault.Unsatisfied of fails = absurd fails
@@ -239,15 +245,12 @@ module _ (m : Module) (info : ModuleInfo) (ranges : IsTrue (module_ranges_fit m 
 
   global_told : (h : ℕ) (kind : Fault) → IsOfItem kind → GlobalFails m info h kind → Told kind (item.GlobalVariable h)
   global_told h fault.InitialiserType of fails =
-      let k = unfit_item (global_is_sound m.types info.const_expression_types.items) m.global_variables h fails in
-      let fits = list_all_at (global_in_range (length m.types) (length m.global_expressions)) m.global_variables
-      h k.0 declared_in_range.2 k.1 in
-      let initialised = is_below (length m.global_expressions) k.0.init in
-      let bound = option_map_or resource_fits_32_bits k.0.binding true in
-      some_then (λ k. global_reason m info fault.InitialiserType k.ty k.init) (slice_get m.global_variables h) k.0 k.1
-      (initialiser_told m.types info.const_expression_types.items (length m.global_expressions)
-      (omega (arith, known_sizes.2)) k.0.ty k.0.init
-      (and_parts initialised bound (and_parts (nat_lt k.0.ty (length m.types)) (initialised && bound) fits).1).0 k.2)
+      unfit_told m.types (global_is_sound m.types info.const_expression_types.items)
+      (λ k. global_demands m info fault.InitialiserType k.ty k.init) (slice_get m.global_variables h)
+      (λ k at. initialised k.ty k.init (middle (nat_lt k.ty (length m.types))
+      (is_below (length m.global_expressions) k.init) (option_map_or resource_fits_32_bits k.binding true)
+      (list_all_at (global_in_range (length m.types) (length m.global_expressions)) m.global_variables h k
+      declared_in_range.2 at))) fails
   global_told h fault.OtherType of fails = absurd fails
   global_told h fault.OperandTypes of fails = absurd fails
   global_told h fault.Unsatisfied of fails = absurd fails
@@ -278,25 +281,22 @@ module _ (m : Module) (info : ModuleInfo) (ranges : IsTrue (module_ranges_fit m 
   global_expression_told : (h : ℕ) (kind : Fault) → IsOfItem kind → GlobalExpressionFails m info h kind →
       Told kind (item.GlobalExpression h)
   global_expression_told h fault.OtherType of fails =
-      let e = unfit_item (has_its_type m None info.const_expression_types.items h) m.global_expressions h fails in
-      let fits = global_ranges h e.0 e.1 in
-      let le = slice_get_within m.global_expressions h e.0 e.1 in
-      some_then (expression_reason m None info.const_expression_types.items fault.OtherType h)
-      (slice_get m.global_expressions h) e.0 e.1
-      (own_type_told m None info.const_expression_types.items 0 0 (λ number below none. no_number number below)
+      unfit_told m.types (has_its_type m None info.const_expression_types.items h)
+      (expression_demands m None info.const_expression_types.items fault.OtherType h)
+      (slice_get m.global_expressions h) (λ e at. let fits = global_ranges h e at in
+      let le = slice_get_within m.global_expressions h e at in
+      own_type_same m None info.const_expression_types.items 0 0 (λ number below none. no_number number below)
       (λ number below none. no_number number below) h
-      (λ x below. global_before h e.0 e.1 h x (omega (arith, le)) below) global_formed e.0
-      (global_before h e.0 e.1 (length m.global_expressions) h (omega arith)
-      (lt-ltb h (length m.global_expressions) le)) e.2 fits.0 fits.1)
+      (λ x below. global_before h e at h x (omega (arith, le)) below) global_formed e
+      (global_before h e at (length m.global_expressions) h (omega arith)
+      (lt-ltb h (length m.global_expressions) le)) fits.0 fits.1) fails
   global_expression_told h fault.OperandTypes of fails =
-      let e = unfit_item (operands_fit m.types info.const_expression_types.items) m.global_expressions h fails in
-      let fits = global_ranges h e.0 e.1 in
-      let le = slice_get_within m.global_expressions h e.0 e.1 in
-      some_then (expression_reason m None info.const_expression_types.items fault.OperandTypes h)
-      (slice_get m.global_expressions h) e.0 e.1
-      (operands_told m None info.const_expression_types.items 0 0 (λ number below none. no_number number below)
+      unfit_told m.types (operands_fit m.types info.const_expression_types.items)
+      (expression_demands m None info.const_expression_types.items fault.OperandTypes h)
+      (slice_get m.global_expressions h) (λ e at. let le = slice_get_within m.global_expressions h e at in
+      operands_same m None info.const_expression_types.items 0 0 (λ number below none. no_number number below)
       (λ number below none. no_number number below) h
-      (λ x below. global_before h e.0 e.1 h x (omega (arith, le)) below) global_formed e.0 e.2 fits.0)
+      (λ x below. global_before h e at h x (omega (arith, le)) below) global_formed e (global_ranges h e at).0) fails
   global_expression_told h fault.InitialiserType of fails = absurd fails
   global_expression_told h fault.Unsatisfied of fails = absurd fails
   global_expression_told h _ of fails = absurd of
@@ -308,7 +308,7 @@ module _ (m : Module) (info : ModuleInfo) (ranges : IsTrue (module_ranges_fit m 
       let known = known_of info.functions.items h in
       let sized : length f.expressions ≡ length known = eqb-true (length f.expressions) (length es.0) es.2
       ∙ sym (known_sized m info.functions.items known_fit.0 h es.0 es.1) in
-      some_then (λ f. function_reason m h f known kind position) (slice_get m.functions h) f at
+      some_then (λ f. unmet m.types (function_demands m h f known kind position)) (slice_get m.functions h) f at
       (function_told m f known h (omega (arith, slice_get_within m.functions h f at)) sized
       (numbered_here (function_in_range m) m.functions h f functions_in_range.0 at)
       (known_formed m info.functions.items known_fit.0 h es.0 es.1) (numbered.functions h f at) kind position of fails)
@@ -326,14 +326,15 @@ module _ (m : Module) (info : ModuleInfo) (ranges : IsTrue (module_ranges_fit m 
   entry_fails p known (part.Expression h) kind of fails = fails
   entry_fails p known (part.Statement number) kind of fails = fails
 
-  entry_reason : (p : EntryPoint) (known : List TypeResolution) (position : FunctionPosition) (kind : Fault) →
+  entry_same : (p : EntryPoint) (known : List TypeResolution) (position : FunctionPosition) (kind : Fault) →
       IsOfItem kind →
-      function_reason m (length m.functions) p.function known kind position ≡ entry_point_reason m p known kind position
-  entry_reason p known position fault.OtherType of = refl
-  entry_reason p known position fault.OperandTypes of = refl
-  entry_reason p known position fault.InitialiserType of = refl
-  entry_reason p known position fault.Unsatisfied of = refl
-  entry_reason p known position _ of = absurd of
+      function_demands m (length m.functions) p.function known kind position
+      ≡ entry_point_demands m p known kind position
+  entry_same p known position fault.OtherType of = refl
+  entry_same p known position fault.OperandTypes of = refl
+  entry_same p known position fault.InitialiserType of = refl
+  entry_same p known position fault.Unsatisfied of = refl
+  entry_same p known position _ of = absurd of
 
   entry_point_told : (h : ℕ) (position : FunctionPosition) (kind : Fault) → IsOfItem kind →
       EntryPointFails m info h position kind → Told kind (item.EntryPoint h position)
@@ -343,8 +344,10 @@ module _ (m : Module) (info : ModuleInfo) (ranges : IsTrue (module_ranges_fit m 
       let sized : length p.function.expressions ≡ length known =
       eqb-true (length p.function.expressions) (length es.0) es.2
       ∙ sym (known_sized m info.entry_points.items known_fit.1 h es.0 es.1) in
-      some_then (λ p. entry_point_reason m p known kind position) (slice_get m.entry_points.items h) p at
-      (sym (ap is_some (entry_reason p known position kind of)) ∙ function_told m p.function known
+      some_then (λ p. unmet m.types (entry_point_demands m p known kind position)) (slice_get m.entry_points.items h)
+      p at
+      (sym (ap (λ ds. is_some (unmet m.types ds)) (entry_same p known position kind of))
+      ∙ function_told m p.function known
       (length m.functions) (omega arith) sized
       (in_range p (list_all_at (entry_point_in_range m) m.entry_points.items h p functions_in_range.1 at))
       (known_formed m info.entry_points.items known_fit.1 h es.0 es.1) (numbered.entry_points h p at) kind position

@@ -5,7 +5,7 @@
 -- expressions that stand together (gs are several), v and w are uses (os are several), here and
 -- there their types, at is a position, f gives what there is of a number, n is a bound or a number
 -- below it, and i and k are indices in lists.
-use Rattle.std.proofs.Common.{◌≡◌, ◌∙◌, ◌<◌, ◌+◌, ◌-◌, ◌==◌, ◌&&◌, inl, inr, ◌⊎◌, ℕ, zero, suc}
+use Rattle.std.proofs.Common.{◌≡◌, ◌∙◌, ◌<◌, ◌+◌, ◌-◌, ◌==◌, ◌&&◌, inl, inr, ℕ, zero, suc}
 use Rattle.std.proofs.Common.{Bool, true, false, List, [], ◌∷◌, ◌++◌, length, map, Option, Some, None}
 use Rattle.std.proofs.Common.{IsSome, append-nil, arith, ap, is_some, option_and_then, option_map}
 use Rattle.std.proofs.Common.{option_to_list, refl, slice_get, subst, sym, true≢false, zip, ⊎_elim}

@@ -3,20 +3,20 @@
 --
 -- Throughout, m is a module, f a function, known the types of several expressions, e is one of them
 -- and h its handle, n is how many there are, s a statement, and fails says that a test fails.
-use Rattle.std.proofs.Common.{◌≡◌, ◌∙◌, ◌<◌, ◌≤◌, ◌+◌, ◌^◌, ◌%◌, ◌&&◌, ℕ, Bool, true, false, List}
-use Rattle.std.proofs.Common.{[], ◌∷◌, length, Option, Some, None, IsSome, arith, ⊎_elim, ap}
+use Rattle.std.proofs.Common.{◌≡◌, ◌∙◌, ◌≤◌, ◌+◌, ◌^◌, ◌==◌, ◌&&◌, ℕ, Bool, true, false, List}
+use Rattle.std.proofs.Common.{[], ◌∷◌, length, Option, Some, None, IsSome, arith, ap}
 use Rattle.std.proofs.Common.{is_some, nat_lt, option_and_then, option_map, option_to_list, refl}
 use Rattle.std.proofs.Common.{slice_get, sym, true≢false}
 use Rattle.std.specs.Prelude.{⊤, if◌then◌else◌, take}
 use Rattle.std.specs.List.{list_all, enumerate_from}
-use Rattle.std.specs.Option.{option_map_or, option_or}
-use Rattle.std.proofs.lemmas.Bool.{and_parts, and_cases, lt-ltb}
+use Rattle.std.specs.Option.{option_map_or}
+use Rattle.std.proofs.lemmas.Bool.{and_parts, lt-ltb}
 use Rattle.std.proofs.lemmas.Option.{slice_get_within}
+use Rattle.std.proofs.Math.Bool.{and_assoc}
 use Rattle.naga_ir.specs.Operands.{expression_operands, simple_operands, simple_result}
-use Rattle.naga_ir.specs.StatementTree.{SimpleStatement, break, continue, return, store, atomic}
-use Rattle.naga_ir.specs.StatementTree.{call, cooperative_store, subgroup_ballot}
-use Rattle.naga_ir.specs.StatementTree.{subgroup_collective_operation, subgroup_gather}
-use Rattle.naga_ir.specs.StatementTree.{work_group_uniform_load, StatementTree, simple, branch}
+use Rattle.naga_ir.specs.StatementTree.{SimpleStatement, return, store, atomic}
+use Rattle.naga_ir.specs.StatementTree.{call, cooperative_store}
+use Rattle.naga_ir.specs.StatementTree.{StatementTree, simple, branch}
 use Rattle.naga_ir.specs.StatementTree.{switch, loop}
 use Rattle.naga_ir.specs.declared.expression.Expression.{Expression}
 use Rattle.naga_ir.specs.declared.expression.Expression.TheVariants as expression
@@ -33,22 +33,20 @@ use Rattle.module_semantics.specs.TypeIdentity.{component_count}
 use Rattle.naga_info.specs.Resolution.{inner_of}
 use Rattle.naga_info.specs.declared.info.TypeResolution.{TypeResolution}
 use Rattle.naga_info.specs.declared.info.TypeResolution.TheVariants.{Handle}
-use Rattle.module_semantics.specs.AlikeTypes.{are_alike}
 use Rattle.module_semantics.specs.acceptance.ExpressionTypes.{ExpectedType, LikeThis, Anything}
 use Rattle.module_semantics.specs.acceptance.ExpressionTypes.{Nothing, argument_type, binary_type}
 use Rattle.module_semantics.specs.acceptance.ExpressionTypes.{has_its_type, if_any, is_bool}
 use Rattle.module_semantics.specs.acceptance.ExpressionTypes.{is_expected, local_type, logical_type}
 use Rattle.module_semantics.specs.acceptance.ExpressionTypes.{only, vector_of, expected_type}
-use Rattle.module_semantics.specs.acceptance.OperandDemands.{is_scalar_or_vector, is_integer}
+use Rattle.module_semantics.specs.acceptance.OperandDemands.{is_scalar_or_vector}
 use Rattle.module_semantics.specs.acceptance.OperandDemands.{operand_is, is_swizzled, operands_fit}
 use Rattle.module_semantics.specs.acceptance.Initialisers.{initialiser_fits, local_is_sound}
 use Rattle.module_semantics.specs.acceptance.Ranges.{all_below, block_in_range, expression_in_range}
 use Rattle.module_semantics.specs.acceptance.Ranges.{expressions_in_range, function_in_range}
 use Rattle.module_semantics.specs.acceptance.Ranges.{is_below, local_in_range, named_in_range}
 use Rattle.module_semantics.specs.acceptance.Ranges.{names_fit, names_in_range, signature_fits}
-use Rattle.module_semantics.specs.acceptance.StatementsFit.{are_passed, calls, is_answered}
-use Rattle.module_semantics.specs.acceptance.StatementsFit.{is_atomic_result, is_call, is_condition}
-use Rattle.module_semantics.specs.acceptance.StatementsFit.{is_result, is_result_if, is_result_of}
+use Rattle.module_semantics.specs.acceptance.StatementsFit.{calls, is_answered}
+use Rattle.module_semantics.specs.acceptance.StatementsFit.{is_call, is_condition}
 use Rattle.module_semantics.specs.acceptance.StatementsFit.{simple_is_sound}
 use Rattle.module_semantics.proofs.Lists.{list_all_at, numbered_at}
 use Rattle.naga_acceptance.specs.Faults.{FunctionPositionFails, UnfitStatement}
@@ -58,25 +56,21 @@ use Rattle.naga_acceptance.specs.declared.faults.Fault.{Fault}
 use Rattle.naga_acceptance.specs.declared.faults.Fault.TheVariants as fault
 use Rattle.naga_acceptance.specs.declared.faults.FunctionPosition.{FunctionPosition}
 use Rattle.naga_acceptance.specs.declared.faults.FunctionPosition.TheVariants as part
-use Rattle.naga_acceptance.proofs.Finding.{unfit_item}
 use Rattle.naga_acceptance.proofs.Walking.{block_range}
 use Rattle.module_semantics.specs.TypeParts.{component_scalar, has_computed_parts, is_part_number}
 use Rattle.module_semantics.specs.TypeParts.{known_inner, part_count, part_type, pointee_type}
-use Rattle.module_semantics.specs.TypeParts.{points_to_atomic, vector_scalar}
-use Rattle.fault_details.specs.Reasons.{LacksLetter, first_reason, has_letter, letter_reason}
-use Rattle.fault_details.specs.Reasons.{swizzle_reason, answer_reason, call_reason, class_reason}
-use Rattle.fault_details.specs.Reasons.{declared_reason, expression_reason, function_reason}
-use Rattle.fault_details.specs.Reasons.{index_reason, is_in_class, need_unless, number_reason}
-use Rattle.fault_details.specs.Reasons.{operand_reason, own_reason, own_type_reason, passed_reason}
-use Rattle.fault_details.specs.Reasons.{result_reason, simple_reason, statement_reason, type_reason}
-use Rattle.fault_details.specs.Reasons.{typeless_reason, expected_reason}
-use Rattle.fault_details.specs.declared.words.Counted.TheVariants as counted
+use Rattle.module_semantics.specs.TypeParts.{vector_scalar}
+use Rattle.fault_details.specs.Demands.{OfSome, are_met, has_letter, is_in_class, of_class, of_type, unmet}
+use Rattle.fault_details.specs.Reasons.{answer_demands, call_demands, declared_demands}
+use Rattle.fault_details.specs.Reasons.{expected_demands, expression_demands, function_demands}
+use Rattle.fault_details.specs.Reasons.{letter_demands, operand_demands, own_demands, own_type_demands}
+use Rattle.fault_details.specs.Reasons.{passed_demands, simple_demands, statement_demands, typeless_demands}
 use Rattle.fault_details.specs.declared.words.ListName.TheVariants as list
-use Rattle.fault_details.specs.declared.words.Need.TheVariants as need
+use Rattle.fault_details.specs.declared.words.TypeClass.{TypeClass}
 use Rattle.fault_details.specs.declared.words.TypeClass.TheVariants as class
-use Rattle.fault_details.proofs.Reasoning.{IsKnown, call_told, class_told, item_before, none_is}
-use Rattle.fault_details.proofs.Reasoning.{return_told, some_first, some_second, some_then}
-use Rattle.fault_details.proofs.Reasoning.{some_unless, store_told, switch_told, type_told}
+use Rattle.fault_details.proofs.Reasoning.{IsKnown, asked_of, both, class_same, item_before, none_is}
+use Rattle.fault_details.proofs.Reasoning.{passed_same, placed_told, return_same, store_same, switch_same}
+use Rattle.fault_details.proofs.Reasoning.{type_same, unfit_told}
 
 -- a kind of fault of types that tells of one item by itself
 abbrev pub IsOfItem : Fault → Type 0
@@ -137,132 +131,107 @@ module _ (m : Module) (f : Option Function) (known : List TypeResolution) (argum
   first_there : (x : ℕ) (xs : List ℕ) → all_below h (x ∷ xs) ≡ true → IsKnown m.types known x
   first_there x xs below = there x (and_parts (nat_lt x h) (all_below h xs) below).0
 
-  typeless_told : (own : TypeResolution) (e : Expression) → expected_type m f known e ≡ Nothing →
+  -- an operand is of no type of the class
+  no_class : (it : TypeClass) (x : ℕ) → IsKnown m.types known x →
+      operand_is m.types known (is_in_class m.types it) x ≡ false → are_met m.types (of_class known it x) ≡ false
+  no_class it x k fails = sym (class_same m.types known it x k) ∙ fails
+
+  typeless_unmet : (own : TypeResolution) (e : Expression) → expected_type m f known e ≡ Nothing →
       all_below h (expression_operands e) ≡ true →
-      names_in_range m arguments locals e ≡ true → IsSome (typeless_reason m.types known own e)
-  typeless_told own (expression.Constant handle) nothing below named =
+      names_in_range m arguments locals e ≡ true → are_met m.types (typeless_demands known own e) ≡ false
+  typeless_unmet own (expression.Constant handle) nothing below named =
       absurd (not_absent m.constants handle (map_none _ _ (only_none _ nothing)) named)
-  typeless_told own (expression.Override handle) nothing below named =
+  typeless_unmet own (expression.Override handle) nothing below named =
       absurd (not_absent m.overrides handle (map_none _ _ (only_none _ nothing)) named)
-  typeless_told own (expression.FunctionArgument number) nothing below named =
+  typeless_unmet own (expression.FunctionArgument number) nothing below named =
       absurd (argument_there number named (only_none _ nothing))
-  typeless_told own (expression.GlobalVariable handle) nothing below named =
+  typeless_unmet own (expression.GlobalVariable handle) nothing below named =
       absurd (not_absent m.global_variables handle (map_none _ _ (only_none _ nothing)) named)
-  typeless_told own (expression.LocalVariable handle) nothing below named =
+  typeless_unmet own (expression.LocalVariable handle) nothing below named =
       absurd (local_there handle named (only_none _ nothing))
-  typeless_told own (expression.Access base index) nothing below named =
-      class_told m.types known class.Composite base (first_there base (index ∷ []) below)
+  typeless_unmet own (expression.Access base index) nothing below named =
+      no_class class.Composite base (first_there base (index ∷ []) below)
       (none_is (has_computed_parts m.types) (λ it. part_type m.types it None) (λ it. refl)
       (known_inner m.types known base) (only_none _ nothing))
-  typeless_told own (expression.AccessIndex base index) nothing below named =
+  typeless_unmet own (expression.AccessIndex base index) nothing below named =
       absurd (true≢false (sym (ap is_nothing nothing) ∙ any_given _))
-  typeless_told own (expression.Splat n value) nothing below named =
-      class_told m.types known class.Components value (first_there value [] below)
+  typeless_unmet own (expression.Splat n value) nothing below named =
+      no_class class.Components value (first_there value [] below)
       (none_is is_scalar_or_vector component_scalar components_same (known_inner m.types known value)
       (map_none (vector_of n) _ (only_none _ nothing)))
-  typeless_told own (expression.Swizzle n vector pattern) nothing below named =
-      class_told m.types known class.Vector vector (first_there vector [] below)
+  typeless_unmet own (expression.Swizzle n vector pattern) nothing below named =
+      no_class class.Vector vector (first_there vector [] below)
       (none_is (λ it. is_some (vector_scalar it)) vector_scalar (λ it. refl) (known_inner m.types known vector)
       (map_none (vector_of n) _ (only_none _ nothing)))
-  typeless_told own (expression.Load pointer) nothing below named =
-      class_told m.types known class.Pointer pointer (first_there pointer [] below)
+  typeless_unmet own (expression.Load pointer) nothing below named =
+      no_class class.Pointer pointer (first_there pointer [] below)
       (none_is (is_in_class m.types class.Pointer) (pointee_type m.types) (λ it. refl)
       (known_inner m.types known pointer) (only_none _ nothing))
-  typeless_told own (expression.Binary op left right) nothing below named =
+  typeless_unmet own (expression.Binary op left right) nothing below named =
       absurd (true≢false (sym (ap is_nothing nothing) ∙ binary_given op _))
-  typeless_told own (expression.CallResult function) nothing below named = refl
-  typeless_told own _ nothing below named = absurd (true≢false (sym (ap is_nothing nothing)))
+  typeless_unmet own (expression.CallResult function) nothing below named = refl
+  typeless_unmet own _ nothing below named = absurd (true≢false (sym (ap is_nothing nothing)))
 
-  pub own_type_told : (e : Expression) (k : IsKnown m.types known h) →
-      option_map_or (is_expected m.types (expected_type m f known e)) (slice_get known h) false ≡ false →
-      all_below h (expression_operands e) ≡ true → names_in_range m arguments locals e ≡ true →
-      IsSome (own_type_reason m f known h e)
-  own_type_told e k fails below named =
-      some_then (λ own. expected_reason m.types known own e (expected_type m f known e)) (slice_get known h) k.0 k.1
-      (by (expected_type m f known e) refl
-      (sym (ap (λ o. option_map_or (is_expected m.types (expected_type m f known e)) o false) k.1) ∙ fails))
+  pub own_type_same : (e : Expression) → IsKnown m.types known h → all_below h (expression_operands e) ≡ true →
+      names_in_range m arguments locals e ≡ true →
+      has_its_type m f known h e ≡ are_met m.types (own_type_demands m f known h e)
+  own_type_same e k below named =
+      asked_of (is_expected m.types (expected_type m f known e))
+      (λ own. are_met m.types (expected_demands known own e (expected_type m f known e))) (slice_get known h) k.0 k.1
+      (by (expected_type m f known e) refl)
     where
-      by : (w : ExpectedType) → expected_type m f known e ≡ w → is_expected m.types w k.0 ≡ false →
-          IsSome (expected_reason m.types known k.0 e w)
-      by (LikeThis r) is other = some_unless (are_alike m.types k.0 r) _ other
-      by Anything is other = absurd (true≢false other)
-      by Nothing is other = typeless_told k.0 e is below named
+      by : (w : ExpectedType) → expected_type m f known e ≡ w →
+          is_expected m.types w k.0 ≡ are_met m.types (expected_demands known k.0 e w)
+      by (LikeThis r) is = refl
+      by Anything is = refl
+      by Nothing is = sym (typeless_unmet k.0 e is below named)
 
-  index_told : (index : ℕ) (count : Option ℕ) → option_map_or (λ c. nat_lt index c) count true ≡ false →
-      IsSome (option_and_then (index_reason index) count)
-  index_told index None fails = absurd (true≢false fails)
-  index_told index (Some c) fails = some_unless (nat_lt index c) _ fails
+  -- the type of an operand by itself
+  inner_known : (x : ℕ) (k : IsKnown m.types known x) →
+      known_inner m.types known x ≡ Some (formed x k.0 k.1).0
+  inner_known x k = ap (option_and_then (λ r. inner_of r m.types)) k.1 ∙ (formed x k.0 k.1).1
 
-  -- a letter for which the type has no component
-  lacking_told : (r : TypeResolution) (it : TypeInner) → inner_of r m.types ≡ Some it → (xs : List SwizzleComponent) →
-      list_all (λ letter. has_letter letter it) xs ≡ false → IsSome (first_reason (letter_reason m.types r) xs)
-  lacking_told r it is [] fails = absurd (true≢false fails)
-  lacking_told r it is (x ∷ xs) fails =
-      ⊎_elim
-      (λ lacks. some_first (letter_reason m.types r x) (first_reason (letter_reason m.types r) xs)
-      (some_unless (option_map_or (has_letter x) (inner_of r m.types) false) (LacksLetter x r)
-      (ap (λ o. option_map_or (has_letter x) o false) is ∙ lacks)))
-      (λ further. some_second (letter_reason m.types r x) (first_reason (letter_reason m.types r) xs)
-      (lacking_told r it is xs further))
-      (and_cases (has_letter x it) (list_all (λ letter. has_letter letter it) xs) fails)
+  letters_same : (n : VectorSize) (pattern : List SwizzleComponent) (it : TypeInner) → is_swizzled n pattern it
+      ≡ (is_in_class m.types class.Vector it
+      && list_all (λ letter. has_letter letter it) (take (component_count n) pattern))
+  letters_same n pattern (inner.Vector size scalar) = refl
+  letters_same n pattern _ = refl
 
-  letters_told : (n : VectorSize) (pattern : List SwizzleComponent) (r : TypeResolution) (it : TypeInner) →
-      inner_of r m.types ≡ Some it →
-      is_in_class m.types class.Vector it ≡ true → is_swizzled n pattern it ≡ false →
-      IsSome (first_reason (letter_reason m.types r) (take (component_count n) pattern))
-  letters_told n pattern r (inner.Vector size scalar) is vector fails =
-      lacking_told r (inner.Vector size scalar) is (take (component_count n) pattern) fails
-  letters_told n pattern r _ is vector fails = absurd (true≢false (sym vector))
+  swizzle_same : (n : VectorSize) (pattern : List SwizzleComponent) (vector : ℕ) → IsKnown m.types known vector →
+      operand_is m.types known (is_swizzled n pattern) vector
+      ≡ (operand_is m.types known (is_in_class m.types class.Vector) vector
+      && are_met m.types (letter_demands known n pattern vector))
+  swizzle_same n pattern vector k =
+      let letters = take (component_count n) pattern in
+      let here = inner_known vector k in
+      ap (λ o. option_map_or (is_swizzled n pattern) o false) here
+      ∙ (letters_same n pattern (formed vector k.0 k.1).0
+      ∙ both (sym (ap (λ o. option_map_or (is_in_class m.types class.Vector) o false) here))
+      (sym (ap (λ o. option_map_or (λ r. list_all (λ letter. option_map_or (has_letter letter) (inner_of r m.types)
+      false) letters) o true) k.1
+      ∙ ap (λ o. list_all (λ letter. option_map_or (has_letter letter) o false) letters) (formed vector k.0 k.1).1)))
 
-  pub operands_told : (e : Expression) → operands_fit m.types known e ≡ false →
-      all_below h (expression_operands e) ≡ true →
-      IsSome (operand_reason m.types known e)
-  operands_told (expression.Access base index) fails below =
+  pub operands_same : (e : Expression) → all_below h (expression_operands e) ≡ true →
+      operands_fit m.types known e ≡ are_met m.types (operand_demands m.types known e)
+  operands_same (expression.Access base index) below =
       let parts = and_parts (nat_lt base h) (all_below h (index ∷ [])) below in
-      ⊎_elim
-      (λ other. some_first (class_reason m.types known class.Composite base)
-      (class_reason m.types known class.Integer index)
-      (class_told m.types known class.Composite base (there base parts.0) other))
-      (λ other. some_second (class_reason m.types known class.Composite base)
-      (class_reason m.types known class.Integer index)
-      (class_told m.types known class.Integer index (first_there index [] parts.1) other))
-      (and_cases (operand_is m.types known (has_computed_parts m.types) base)
-      (operand_is m.types known is_integer index) fails)
-  operands_told (expression.AccessIndex base index) fails below =
-      let k = first_there base [] below in
-      let it = formed base k.0 k.1 in
-      let is : known_inner m.types known base ≡ Some it.0 = ap (option_and_then (λ r. inner_of r m.types)) k.1 ∙ it.1 in
-      ap (λ o. is_some (option_and_then (index_reason index) (option_and_then (part_count m.types) o))) is
-      ∙ index_told index (part_count m.types it.0)
-      (sym (ap (λ o. option_map_or (λ it. is_part_number m.types it index) o false) is) ∙ fails)
-  operands_told (expression.Splat n value) fails below = class_told m.types known class.Components value
-      (first_there value [] below) fails
-  operands_told (expression.Swizzle n vector pattern) fails below =
-      by (operand_is m.types known (is_in_class m.types class.Vector) vector) refl
-    where
-      by : (b : Bool) → operand_is m.types known (is_in_class m.types class.Vector) vector ≡ b →
-          IsSome (option_or (class_reason m.types known class.Vector vector)
-          (swizzle_reason m.types known n pattern vector))
-      by true is =
-          let k = first_there vector [] below in
-          let it = formed vector k.0 k.1 in
-          let here : known_inner m.types known vector ≡ Some it.0 =
-          ap (option_and_then (λ r. inner_of r m.types)) k.1 ∙ it.1 in
-          some_second (class_reason m.types known class.Vector vector) (swizzle_reason m.types known n pattern vector)
-          (some_then (λ r. first_reason (letter_reason m.types r) (take (component_count n) pattern))
-          (slice_get known vector) k.0 k.1
-          (letters_told n pattern k.0 it.0 it.1
-          (sym (ap (λ o. option_map_or (is_in_class m.types class.Vector) o false) here) ∙ is)
-          (sym (ap (λ o. option_map_or (is_swizzled n pattern) o false) here) ∙ fails)))
-      by false is =
-          some_first (class_reason m.types known class.Vector vector) (swizzle_reason m.types known n pattern vector)
-          (class_told m.types known class.Vector vector (first_there vector [] below) is)
-  operands_told (expression.Load pointer) fails below = class_told m.types known class.Pointer pointer
-      (first_there pointer [] below) fails
-  operands_told (expression.CooperativeLoad columns rows role place) fails below =
-      class_told m.types known class.ComponentsPointer place.pointer
-      (first_there place.pointer (place.stride ∷ []) below) fails
-  operands_told _ fails below = absurd (true≢false fails)
+      both (class_same m.types known class.Composite base (there base parts.0))
+      (class_same m.types known class.Integer index (first_there index [] parts.1))
+  operands_same (expression.AccessIndex base index) below =
+      let is = inner_known base (first_there base [] below) in
+      ap (λ o. option_map_or (λ it. is_part_number m.types it index) o false) is
+      ∙ sym (ap (λ o. option_map_or (λ count. nat_lt index count) (option_and_then (part_count m.types) o) true) is)
+  operands_same (expression.Splat n value) below =
+      class_same m.types known class.Components value (first_there value [] below)
+  operands_same (expression.Swizzle n vector pattern) below =
+      let k = first_there vector [] below in
+      swizzle_same n pattern vector k ∙ both (class_same m.types known class.Vector vector k) refl
+  operands_same (expression.Load pointer) below =
+      class_same m.types known class.Pointer pointer (first_there pointer [] below)
+  operands_same (expression.CooperativeLoad columns rows role place) below =
+      class_same m.types known class.ComponentsPointer place.pointer
+      (first_there place.pointer (place.stride ∷ []) below)
+  operands_same _ below = refl
 
 -- ---- statements of a function that may call so many
 
@@ -276,126 +245,84 @@ module _ (m : Module) (f : Function) (known : List TypeResolution) (callees : �
       all_below (length f.expressions) xs ≡ true
   later_below x xs below = (and_parts (nat_lt x (length f.expressions)) (all_below (length f.expressions) xs) below).1
 
-  result_told : (test : Expression → Bool) (outcome : Option ℕ) → is_result_if test f outcome ≡ false →
-      IsSome (option_and_then (result_reason test f) outcome)
-  result_told test None fails = absurd (true≢false fails)
-  result_told test (Some outcome) fails = some_unless (is_result test f outcome) _ fails
+  answer_same : (callee : Function) (function : ℕ) (outcome : Option ℕ) → is_answered callee function f outcome
+      ≡ are_met m.types (OfSome (answer_demands callee function f) outcome)
+  answer_same callee function None = refl
+  answer_same callee function (Some outcome) = refl
 
-  answer_told : (callee : Function) (function : ℕ) (outcome : Option ℕ) → is_answered callee function f outcome
-      ≡ false → IsSome (option_and_then (answer_reason callee function f) outcome)
-  answer_told callee function None fails = absurd (true≢false fails)
-  answer_told callee function (Some outcome) fails =
-      ⊎_elim
-      (λ none. some_first (need_unless (is_some callee.result) need.CalleeResult)
-      (need_unless (is_result (is_result_of function) f outcome) need.OwnResult) (some_unless _ _ none))
-      (λ other. some_second (need_unless (is_some callee.result) need.CalleeResult)
-      (need_unless (is_result (is_result_of function) f outcome) need.OwnResult) (some_unless _ _ other))
-      (and_cases (is_some callee.result) (is_result (is_result_of function) f outcome) fails)
-
-  call_at_told : (function : ℕ) (xs : List ℕ) (outcome : Option ℕ) → nat_lt function callees ≡ true →
-      all_below (length f.expressions) xs ≡ true →
-      is_call m f known function xs outcome ≡ false →
-      IsSome (option_and_then (call_reason m.types known f function xs outcome) (slice_get m.functions function))
-  call_at_told function xs outcome named below fails =
+  call_same : (function : ℕ) (xs : List ℕ) (outcome : Option ℕ) → nat_lt function callees ≡ true →
+      all_below (length f.expressions) xs ≡ true → is_call m f known function xs outcome
+      ≡ are_met m.types (simple_demands m f known false false (call function xs outcome))
+  call_same function xs outcome named below =
       let callee = item_before m.functions callees function within named in
-      some_then (call_reason m.types known f function xs outcome) (slice_get m.functions function) callee.0 callee.1
-      (one callee.0 (sym (ap (λ o. option_map_or (calls m.types known f function xs outcome) o false) callee.1)
-      ∙ fails))
-    where
-      one : (callee : Function) → calls m.types known f function xs outcome callee ≡ false →
-          IsSome (call_reason m.types known f function xs outcome callee)
-      one callee fails =
-          let number = number_reason counted.Arguments (length callee.arguments.items) (length xs) in
-          let passed = passed_reason m.types known callee.arguments.items xs in
-          let answer = option_and_then (answer_reason callee function f) outcome in
-          ⊎_elim
-          (λ other. call_told m.types known (length f.expressions) there callee.arguments.items xs answer below other)
-          (λ unanswered. some_second number (option_or passed answer)
-          (some_second passed answer (answer_told callee function outcome unanswered)))
-          (and_cases (are_passed m.types known callee.arguments.items xs) (is_answered callee function f outcome) fails)
+      asked_of (calls m.types known f function xs outcome)
+      (λ callee. are_met m.types (call_demands known f function xs outcome callee))
+      (slice_get m.functions function) callee.0 callee.1
+      (both (passed_same m.types known (length f.expressions) there callee.0.arguments.items xs below)
+      (answer_same callee.0 function outcome)
+      ∙ and_assoc (length callee.0.arguments.items == length xs)
+      (are_met m.types (passed_demands known callee.0.arguments.items xs))
+      (are_met m.types (OfSome (answer_demands callee.0 function f) outcome)))
 
-  simple_told : (breaks continues : Bool) (s : SimpleStatement) →
+  simple_same : (breaks continues : Bool) (s : SimpleStatement) →
       named_in_range callees (length f.expressions) s ≡ true →
       all_below (length f.expressions) (simple_operands s) ≡ true →
-      simple_is_sound m f known breaks continues s ≡ false → IsSome (simple_reason m f known breaks continues s)
-  simple_told breaks continues break named below fails = some_unless breaks _ fails
-  simple_told breaks continues continue named below fails = some_unless continues _ fails
-  simple_told breaks continues (return value) named below fails =
-      return_told m.types known f.result value
-      (λ h is. first_known h [] (sym (ap (λ v. all_below (length f.expressions) (option_to_list v)) is) ∙ below)) fails
-  simple_told breaks continues (store pointer value) named below fails =
-      store_told m.types known pointer value (first_known pointer (value ∷ []) below)
-      (first_known value [] (later_below pointer (value ∷ []) below)) fails
-  simple_told breaks continues (atomic pointer fun value outcome) named below fails =
-      ⊎_elim
-      (λ other. some_first (class_reason m.types known class.AtomicPointer pointer)
-      (option_and_then (result_reason is_atomic_result f) outcome)
-      (class_told m.types known class.AtomicPointer pointer (first_known pointer _ below) other))
-      (λ other. some_second (class_reason m.types known class.AtomicPointer pointer)
-      (option_and_then (result_reason is_atomic_result f) outcome)
-      (result_told is_atomic_result outcome other))
-      (and_cases (operand_is m.types known (points_to_atomic m.types) pointer)
-      (is_result_if is_atomic_result f outcome) fails)
-  simple_told breaks continues (work_group_uniform_load pointer outcome) named below fails = some_unless _ _ fails
-  simple_told breaks continues (call function xs outcome) named below fails =
-      call_at_told function xs outcome named below fails
-  simple_told breaks continues (subgroup_ballot outcome predicate) named below fails = some_unless _ _ fails
-  simple_told breaks continues (subgroup_gather mode argument outcome) named below fails = some_unless _ _ fails
-  simple_told breaks continues (subgroup_collective_operation op collective argument outcome) named below
-      fails = some_unless _ _ fails
-  simple_told breaks continues (cooperative_store target place) named below fails =
-      class_told m.types known class.ComponentsPointer place.pointer
+      simple_is_sound m f known breaks continues s ≡ are_met m.types (simple_demands m f known breaks continues s)
+  simple_same breaks continues (return value) named below =
+      return_same m.types known f.result value
+      (λ h is. first_known h [] (sym (ap (λ v. all_below (length f.expressions) (option_to_list v)) is) ∙ below))
+  simple_same breaks continues (store pointer value) named below =
+      store_same m.types known pointer value (first_known pointer (value ∷ []) below)
+      (first_known value [] (later_below pointer (value ∷ []) below))
+  simple_same breaks continues (atomic pointer fun value outcome) named below =
+      both (class_same m.types known class.AtomicPointer pointer (first_known pointer _ below)) refl
+  simple_same breaks continues (call function xs outcome) named below = call_same function xs outcome named below
+  simple_same breaks continues (cooperative_store target place) named below =
+      class_same m.types known class.ComponentsPointer place.pointer
       (first_known place.pointer (place.stride ∷ [])
-      (later_below target (place.pointer ∷ place.stride ∷ []) below)) fails
-  simple_told breaks continues _ named below fails = absurd (true≢false fails)
+      (later_below target (place.pointer ∷ place.stride ∷ []) below))
+  simple_same breaks continues _ named below = refl
 
-  condition_told : (condition : Option ℕ) → is_below (length f.expressions) condition ≡ true →
-      option_map_or (is_condition m.types known) condition true ≡ false →
-      IsSome (option_and_then (class_reason m.types known class.Bool) condition)
-  condition_told None below fails = absurd (true≢false fails)
-  condition_told (Some condition) below fails = class_told m.types known class.Bool condition
-      (there condition below) fails
+  condition_same : (condition : Option ℕ) → is_below (length f.expressions) condition ≡ true →
+      option_map_or (is_condition m.types known) condition true
+      ≡ are_met m.types (OfSome (of_class known class.Bool) condition)
+  condition_same None below = refl
+  condition_same (Some condition) below = class_same m.types known class.Bool condition (there condition below)
 
-  own_told : (breaks continues : Bool) (s : StatementTree) → own_in_range callees (length f.expressions) s ≡ true →
-      own_is_sound m f known breaks continues s ≡ false → IsSome (own_reason m f known breaks continues s)
-  own_told breaks continues (simple s) range fails =
+  own_same : (breaks continues : Bool) (s : StatementTree) → own_in_range callees (length f.expressions) s ≡ true →
+      own_is_sound m f known breaks continues s ≡ are_met m.types (own_demands m f known breaks continues s)
+  own_same breaks continues (simple s) range =
       let parts = and_parts (named_in_range callees (length f.expressions) s)
       (all_below (length f.expressions) (simple_operands s) && is_below (length f.expressions)
       (simple_result s)) range in
-      simple_told breaks continues s parts.0
+      simple_same breaks continues s parts.0
       (and_parts (all_below (length f.expressions) (simple_operands s))
-      (is_below (length f.expressions) (simple_result s)) parts.1).0 fails
-  own_told breaks continues (branch condition accept reject) range fails =
-      class_told m.types known class.Bool condition (there condition range) fails
-  own_told breaks continues (switch selector cs) range fails =
-      switch_told m.types known selector cs
-      (there selector (and_parts (nat_lt selector (length f.expressions))
-      (case_values_fit_32_bits cs) range).0) fails
-  own_told breaks continues (loop body continuing break_if) range fails = condition_told break_if range fails
-  own_told breaks continues _ range fails = absurd (true≢false fails)
+      (is_below (length f.expressions) (simple_result s)) parts.1).0
+  own_same breaks continues (branch condition accept reject) range =
+      class_same m.types known class.Bool condition (there condition range)
+  own_same breaks continues (switch selector cs) range =
+      switch_same m.types known selector cs
+      (there selector (and_parts (nat_lt selector (length f.expressions)) (case_values_fit_32_bits cs) range).0)
+  own_same breaks continues (loop body continuing break_if) range = condition_same break_if range
+  own_same breaks continues _ range = refl
 
   statement_told : block_in_range callees (length f.expressions) f.body ≡ true → length (text_order f.body)
       ≤ 2 ^ 64 → (number : ℕ) → UnfitStatement (is_sound m f known) f number →
-      IsSome (option_and_then (statement_reason m callees f known fault.Unsatisfied)
-      (slice_get (text_order f.body) number))
-  statement_told range few number (k, is, unfit) =
-      let s = unfit_item (is_sound m f known) (text_order f.body) k unfit in
-      let small : k < length (text_order f.body) = slice_get_within (text_order f.body) k s.0 s.1 in
-      let own : k % 2 ^ 64 ≡ k = omega (arith, small, few) in
-      let fits = list_all_at (is_in_range callees (length f.expressions)) (text_order f.body) k s.0
-      (sym (block_range callees (length f.expressions) false false f.body) ∙ range) s.1 in
-      some_then (statement_reason m callees f known fault.Unsatisfied) (slice_get (text_order f.body) number)
-      s.0 (ap (slice_get (text_order f.body)) (is ∙ own) ∙ s.1)
-      (own_told s.0.breaks s.0.continues s.0.tree fits s.2)
+      IsSome (unmet m.types (function_demands m callees f known fault.Unsatisfied (part.Statement number)))
+  statement_told range few number fails =
+      placed_told m.types (is_sound m f known) (statement_demands m callees f known fault.Unsatisfied) f few
+      (λ k s at. own_same s.breaks s.continues s.tree
+      (list_all_at (is_in_range callees (length f.expressions)) (text_order f.body) k s
+      (sym (block_range callees (length f.expressions) false false f.body) ∙ range) at)) number fails
 
 -- ---- initialisers
 
-pub initialiser_told : (types : List Type_) (known : List TypeResolution) (n : ℕ) → n ≤ length known →
+pub initialiser_same : (types : List Type_) (known : List TypeResolution) (n : ℕ) → n ≤ length known →
     (ty : ℕ) (init : Option ℕ) → is_below n init ≡ true →
-    initialiser_fits types known ty init ≡ false → IsSome (option_and_then (type_reason types known (Handle ty)) init)
-initialiser_told types known n within ty None below fails = absurd (true≢false fails)
-initialiser_told types known n within ty (Some h) below fails =
-    type_told types known (Handle ty) h (item_before known n h within below) fails
+    initialiser_fits types known ty init ≡ are_met types (OfSome (of_type known (Handle ty)) init)
+initialiser_same types known n within ty None below = refl
+initialiser_same types known n within ty (Some h) below =
+    type_same types known (Handle ty) h (item_before known n h within below)
 
 -- ---- functions
 
@@ -442,30 +369,27 @@ module _ (m : Module) (f : Function) (known : List TypeResolution) (callees : �
 
   pub function_told : (kind : Fault) (position : FunctionPosition) → IsOfItem kind →
       FunctionPositionFails m callees f known position kind →
-      IsSome (function_reason m callees f known kind position)
+      IsSome (unmet m.types (function_demands m callees f known kind position))
   function_told fault.OtherType (part.Expression h) of fails =
-      let e = unfit_item (has_its_type m (Some f) known h) f.expressions h fails in
-      let fits = expression_ranges h e.0 e.1 in
-      let le = slice_get_within f.expressions h e.0 e.1 in
-      some_then (expression_reason m (Some f) known fault.OtherType h) (slice_get f.expressions h) e.0 e.1
-      (own_type_told m (Some f) known (length f.arguments.items) (length f.local_variables) argument_there
-      local_there h (λ x below. there_within h x (omega (arith, le)) below) formed e.0
-      (there_within (length f.expressions) h (omega arith) (lt-ltb h (length f.expressions) le)) e.2 fits.0 fits.1)
+      unfit_told m.types (has_its_type m (Some f) known h) (expression_demands m (Some f) known fault.OtherType h)
+      (slice_get f.expressions h) (λ e at. let fits = expression_ranges h e at in
+      let le = slice_get_within f.expressions h e at in
+      own_type_same m (Some f) known (length f.arguments.items) (length f.local_variables) argument_there
+      local_there h (λ x below. there_within h x (omega (arith, le)) below) formed e
+      (there_within (length f.expressions) h (omega arith) (lt-ltb h (length f.expressions) le)) fits.0 fits.1) fails
   function_told fault.OperandTypes (part.Expression h) of fails =
-      let e = unfit_item (operands_fit m.types known) f.expressions h fails in
-      let fits = expression_ranges h e.0 e.1 in
-      let le = slice_get_within f.expressions h e.0 e.1 in
-      some_then (expression_reason m (Some f) known fault.OperandTypes h) (slice_get f.expressions h) e.0 e.1
-      (operands_told m (Some f) known (length f.arguments.items) (length f.local_variables) argument_there
-      local_there h (λ x below. there_within h x (omega (arith, le)) below) formed e.0 e.2 fits.0)
+      unfit_told m.types (operands_fit m.types known) (expression_demands m (Some f) known fault.OperandTypes h)
+      (slice_get f.expressions h) (λ e at. let le = slice_get_within f.expressions h e at in
+      operands_same m (Some f) known (length f.arguments.items) (length f.local_variables) argument_there
+      local_there h (λ x below. there_within h x (omega (arith, le)) below) formed e (expression_ranges h e at).0) fails
   function_told fault.InitialiserType (part.Local h) of fails =
-      let l = unfit_item (local_is_sound m.types known) f.local_variables h fails in
-      let fits = list_all_at (local_in_range (length m.types) (length f.expressions)) f.local_variables h l.0
-      parts_in_range.0 l.1 in
-      some_then (λ k. declared_reason m.types list.Expressions (length f.expressions) known
-      fault.InitialiserType k.ty k.init) (slice_get f.local_variables h) l.0 l.1
-      (initialiser_told m.types known (length f.expressions) (omega (arith, sized)) l.0.ty l.0.init
-      (and_parts (nat_lt l.0.ty (length m.types)) (is_below (length f.expressions) l.0.init) fits).1 l.2)
+      unfit_told m.types (local_is_sound m.types known)
+      (λ k. declared_demands (length m.types) list.Expressions (length f.expressions) known fault.InitialiserType
+      k.ty k.init) (slice_get f.local_variables h)
+      (λ k at. initialiser_same m.types known (length f.expressions) (omega (arith, sized)) k.ty k.init
+      (and_parts (nat_lt k.ty (length m.types)) (is_below (length f.expressions) k.init)
+      (list_all_at (local_in_range (length m.types) (length f.expressions)) f.local_variables h k parts_in_range.0
+      at)).1) fails
   function_told fault.Unsatisfied (part.Statement number) of fails =
       statement_told m f known callees within
       (λ x below. there_within (length f.expressions) x (omega arith) below) parts_in_range.2 few number fails

@@ -12,10 +12,10 @@ use Rattle.naga_info.specs.declared.info.ModuleInfo.{ModuleInfo}
 use Rattle.naga_info.specs.Resolution.{inner_of}
 use Rattle.naga_acceptance.specs.declared.faults.Unaccepted.{Unaccepted}
 use Rattle.module_semantics.specs.AlikeTypes.{are_alike}
-use Rattle.fault_details.specs.Reasons.{Reason, OtherType, KnownType, OtherClass, NoValue}
-use Rattle.fault_details.specs.Reasons.{Unexpected, Absent, Later, OtherNumber, OtherUse, PastParts}
-use Rattle.fault_details.specs.Reasons.{LacksLetter, Needs}
-use Rattle.fault_details.specs.Reasons.{fault_reason, has_letter, is_in_class}
+use Rattle.fault_details.specs.Demands.{Reason, OtherType, KnownType, OtherClass, NoValue}
+use Rattle.fault_details.specs.Demands.{Unexpected, Absent, Later, OtherNumber, OtherUse, PastParts}
+use Rattle.fault_details.specs.Demands.{LacksLetter, Needs, has_letter, is_in_class}
+use Rattle.fault_details.specs.Reasons.{fault_reason}
 
 abbrev pub IsReason : Module → Reason → Type 0
 IsReason m (OtherType expected got) = are_alike m.types got expected ≡ false

@@ -1,3 +1,4 @@
+pub mod Demands
 pub mod Holds
 pub mod OtherUses
 pub mod Reasons

@@ -5,9 +5,9 @@ use Rattle.naga_ir.specs.declared.types.TypeInner.TheVariants as inner
 use Rattle.naga_info.specs.declared.info.TypeResolution.TheVariants.{Value}
 use Rattle.naga_acceptance.specs.KnownTypes.{inferred}
 use Rattle.naga_acceptance.specs.TextOrder.{PlacedStatement}
-use Rattle.fault_details.specs.Reasons.{Reason as Told, OtherType, KnownType, OtherClass, NoValue}
-use Rattle.fault_details.specs.Reasons.{Unexpected, Absent, Later, OtherNumber, OtherUse, PastParts}
-use Rattle.fault_details.specs.Reasons.{LacksLetter, Needs}
+use Rattle.fault_details.specs.Demands.{Reason as Told, OtherType, KnownType, OtherClass, NoValue}
+use Rattle.fault_details.specs.Demands.{Unexpected, Absent, Later, OtherNumber, OtherUse, PastParts}
+use Rattle.fault_details.specs.Demands.{LacksLetter, Needs}
 use Rattle.fault_details.specs.declared.reasons.Reason.{Reason}
 use Rattle.fault_details.specs.declared.reasons.Reason.TheVariants as code
 use Rattle.fault_details.specs.declared.walk.StatementAt.{StatementAt}

@@ -15,9 +15,9 @@ use Rattle.naga_spelling.specs.Contexts.{global_context}
 use Rattle.naga_spelling.specs.Segments.{IsText}
 use Rattle.naga_spelling.specs.Spelling.{Context, FitsResolution, IsInOrder, resolution_segments}
 use Rattle.naga_listing.specs.OneLine.{on_one_line}
-use Rattle.fault_details.specs.Reasons.{Reason, OtherType, KnownType, OtherClass, NoValue}
-use Rattle.fault_details.specs.Reasons.{Unexpected, Absent, Later, OtherNumber, OtherUse, PastParts}
-use Rattle.fault_details.specs.Reasons.{LacksLetter, Needs}
+use Rattle.fault_details.specs.Demands.{Reason, OtherType, KnownType, OtherClass, NoValue}
+use Rattle.fault_details.specs.Demands.{Unexpected, Absent, Later, OtherNumber, OtherUse, PastParts}
+use Rattle.fault_details.specs.Demands.{LacksLetter, Needs}
 use Rattle.fault_details.specs.Texts.{item_text}
 use Rattle.fault_details.specs.declared.words.ListName.TheVariants as list
 use Rattle.fault_details.specs.declared.mismatch.Mismatch.{Mismatch}

@@ -1,18 +1,18 @@
 //! Why a module is not accepted, item by item.
 
-ghost use Rattle.std.specs.Prelude.{◌≡◌, length, slice_get};
-ghost use Rattle.std.specs.Option.{option_and_then, option_copied, option_map};
+ghost use Rattle.std.specs.Prelude.{◌≡◌, [], length, slice_get};
+ghost use Rattle.std.specs.Option.{option_copied, option_map};
 ghost use Rattle.naga_acceptance.specs.Faults.{known_of};
 ghost use Rattle.naga_acceptance.specs.FirstUses.{other_use};
 ghost use Rattle.naga_acceptance.specs.KnownTypes.{known_types};
 ghost use Rattle.naga_acceptance.specs.TextOrder.{text_order};
 ghost use Rattle.module_semantics.specs.TypeParts.{inner_at};
-ghost use Rattle.fault_details.specs.Reasons.{declared_reason, entry_point_reason};
-ghost use Rattle.fault_details.specs.Reasons.{expression_reason, fault_reason, function_reason};
-ghost use Rattle.fault_details.specs.Reasons.{global_reason};
-ghost use Rattle.fault_details.specs.Reasons.{item_reason, made_reason, module_reason};
-ghost use Rattle.fault_details.specs.Reasons.{sizes_reason, statement_reason, type_reason};
-ghost use Rattle.fault_details.specs.Reasons.{use_reason, whole_reason};
+ghost use Rattle.fault_details.specs.Demands.{OfSome, unmet};
+ghost use Rattle.fault_details.specs.Reasons.{declared_demands, entry_point_demands};
+ghost use Rattle.fault_details.specs.Reasons.{expression_demands, fault_reason, function_demands};
+ghost use Rattle.fault_details.specs.Reasons.{global_demands, item_demands, made_demands};
+ghost use Rattle.fault_details.specs.Reasons.{module_demands, sizes_demands, statement_demands};
+ghost use Rattle.fault_details.specs.Reasons.{use_reason, whole_demands};
 ghost use Rattle.fault_details.specs.Shown.{shown};
 
 use crate::names::{
@@ -47,8 +47,8 @@ fn declared_reason<'a>(
     ty: Handle<Type_>,
     init: Option<Handle<Expression>>,
 ) -> Option<Reason<'a>>
-    ensures { option_map shown result ≡ declared_reason «module».now.types list expressions
-        (known_types known.entry) fault ty init }
+    ensures { option_map shown result ≡ unmet «module».now.types (declared_demands
+        (length «module».now.types) list expressions (known_types known.entry) fault ty init) }
 {
     match fault {
         Fault::Names => {
@@ -74,7 +74,8 @@ fn global_reason<'a>(
     ty: Handle<Type_>,
     init: Option<Handle<Expression>>,
 ) -> Option<Reason<'a>>
-    ensures { option_map shown result ≡ global_reason «module».now info.now fault ty init }
+    ensures { option_map shown result
+        ≡ unmet «module».now.types (global_demands «module».now info.now fault ty init) }
 {
     let known = Known::Global(info.const_expression_types.as_slice());
     let list = ListName::GlobalExpressions;
@@ -88,8 +89,8 @@ fn constant_reason<'a>(
     fault: Fault,
     handle: Handle<Constant>,
 ) -> Option<Reason<'a>>
-    ensures { option_map shown result
-        ≡ item_reason «module».now info.now fault (FaultPosition.Constant handle) }
+    ensures { option_map shown result ≡ unmet «module».now.types
+        (item_demands «module».now info.now fault (FaultPosition.Constant handle)) }
 {
     if handle.index() < module.constants.len() {
         let constant = &module.constants[handle];
@@ -105,8 +106,8 @@ fn override_reason<'a>(
     fault: Fault,
     handle: Handle<Override>,
 ) -> Option<Reason<'a>>
-    ensures { option_map shown result
-        ≡ item_reason «module».now info.now fault (FaultPosition.Override handle) }
+    ensures { option_map shown result ≡ unmet «module».now.types
+        (item_demands «module».now info.now fault (FaultPosition.Override handle)) }
 {
     if handle.index() < module.overrides.len() {
         let item = &module.overrides[handle];
@@ -122,8 +123,8 @@ fn variable_reason<'a>(
     fault: Fault,
     handle: Handle<GlobalVariable>,
 ) -> Option<Reason<'a>>
-    ensures { option_map shown result
-        ≡ item_reason «module».now info.now fault (FaultPosition.GlobalVariable handle) }
+    ensures { option_map shown result ≡ unmet «module».now.types
+        (item_demands «module».now info.now fault (FaultPosition.GlobalVariable handle)) }
 {
     if handle.index() < module.global_variables.len() {
         let variable = &module.global_variables[handle];
@@ -144,15 +145,15 @@ fn expression_reason<'a>(
     handle: Handle<Expression>,
     expression: &Expression,
 ) -> Option<Reason<'a>>
-    ensures { option_map shown result ≡ expression_reason «module».now
-        (option_copied function.entry) (known_types known.entry) fault handle expression.now }
+    ensures { option_map shown result ≡ unmet «module».now.types (expression_demands «module».now
+        (option_copied function.entry) (known_types known.entry) fault handle expression.now) }
 {
     match fault {
         Fault::Operands => order_reason(module, function, handle.index(), expression),
         Fault::Names => names_reason(module, function, expression),
         Fault::LaterInitialiser => initialiser_reason(module, handle.index(), expression),
         Fault::KnownType => match known_type(known, handle) {
-            Some(ty) => known_reason(module.overrides.len(), module.types.len(), ty),
+            Some(ty) => known_reason(module, ty),
             None => None,
         },
         Fault::OtherType => own_type_reason(module, function, known, handle, expression),
@@ -167,8 +168,8 @@ fn global_expression_reason<'a>(
     fault: Fault,
     handle: Handle<Expression>,
 ) -> Option<Reason<'a>>
-    ensures { option_map shown result
-        ≡ item_reason «module».now info.now fault (FaultPosition.GlobalExpression handle) }
+    ensures { option_map shown result ≡ unmet «module».now.types
+        (item_demands «module».now info.now fault (FaultPosition.GlobalExpression handle)) }
 {
     let expressions = &module.global_expressions;
     if handle.index() < expressions.len() {
@@ -196,15 +197,15 @@ fn whole_reason<'a>(
     known: Known<'_>,
     fault: Fault,
 ) -> Option<Reason<'a>>
-    ensures { option_map shown result
-        ≡ whole_reason «module».now function.now (known_types known.entry) fault }
+    ensures { option_map shown result ≡ unmet «module».now.types
+        (whole_demands «module».now function.now (known_types known.entry) fault) }
 {
     match fault {
         Fault::InfoSize => {
             let expected = function.expressions.len();
             number_reason(Counted::Expressions, expected, known_count(known))
         }
-        Fault::Signature => signature_reason(module.types.len(), function),
+        Fault::Signature => signature_reason(module, function),
         Fault::NamedExpressions => named_reason(function),
         _ => None,
     }
@@ -217,9 +218,10 @@ fn local_reason<'a>(
     fault: Fault,
     handle: Handle<LocalVariable>,
 ) -> Option<Reason<'a>>
-    ensures { option_map shown result ≡ option_and_then (λ k. declared_reason «module».now.types
-        ListName.Expressions (length function.now.expressions) (known_types known.entry) fault
-        k.ty k.init) (slice_get function.now.local_variables handle) }
+    ensures { option_map shown result ≡ unmet «module».now.types (OfSome (λ k. declared_demands
+        (length «module».now.types) ListName.Expressions (length function.now.expressions)
+        (known_types known.entry) fault k.ty k.init)
+        (slice_get function.now.local_variables handle)) }
 {
     if handle.index() < function.local_variables.len() {
         let local = &function.local_variables[handle];
@@ -244,9 +246,9 @@ fn inner_expression_reason<'a>(
     fault: Fault,
     handle: Handle<Expression>,
 ) -> Option<Reason<'a>>
-    ensures { option_map shown result ≡ option_and_then (expression_reason «module».now
-        (Some function.now) (known_types known.entry) fault handle)
-        (slice_get function.now.expressions handle) }
+    ensures { option_map shown result ≡ unmet «module».now.types (OfSome (expression_demands
+        «module».now (Some function.now) (known_types known.entry) fault handle)
+        (slice_get function.now.expressions handle)) }
 {
     let expressions = &function.expressions;
     if handle.index() < expressions.len() {
@@ -271,9 +273,9 @@ fn placed_reason<'a>(
     fault: Fault,
     number: usize,
 ) -> Option<Reason<'a>>
-    ensures { option_map shown result ≡ option_and_then (statement_reason «module».now callees
-        function.now (known_types known.entry) fault) (slice_get (text_order function.now.body)
-        number) }
+    ensures { option_map shown result ≡ unmet «module».now.types (OfSome (statement_demands
+        «module».now callees function.now (known_types known.entry) fault)
+        (slice_get (text_order function.now.body) number)) }
 {
     match statement_at(&function.body, number) {
         Some(position) => statement_reason(module, callees, function, known, fault, position),
@@ -290,8 +292,8 @@ fn function_reason<'a>(
     fault: Fault,
     position: FunctionPosition,
 ) -> Option<Reason<'a>>
-    ensures { option_map shown result ≡ function_reason «module».now callees function.now
-        (known_types known.entry) fault position }
+    ensures { option_map shown result ≡ unmet «module».now.types (function_demands «module».now
+        callees function.now (known_types known.entry) fault position) }
 {
     match position {
         FunctionPosition::Whole => whole_reason(module, function, known, fault),
@@ -312,13 +314,11 @@ fn entry_point_reason<'a>(
     fault: Fault,
     position: FunctionPosition,
 ) -> Option<Reason<'a>>
-    ensures { option_map shown result ≡ entry_point_reason «module».now entry_point.now
-        (known_types known.entry) fault position }
+    ensures { option_map shown result ≡ unmet «module».now.types (entry_point_demands
+        «module».now entry_point.now (known_types known.entry) fault position) }
 {
     match (position, fault) {
-        (FunctionPosition::Whole, Fault::Names) => {
-            variables_reason(module.global_variables.len(), entry_point)
-        }
+        (FunctionPosition::Whole, Fault::Names) => variables_reason(module, entry_point),
         _ => {
             let callees = module.functions.len();
             function_reason(
@@ -350,8 +350,8 @@ fn function_reason_at<'a>(
     handle: Handle<Function>,
     position: FunctionPosition,
 ) -> Option<Reason<'a>>
-    ensures { option_map shown result
-        ≡ item_reason «module».now info.now fault (FaultPosition.Function handle position) }
+    ensures { option_map shown result ≡ unmet «module».now.types
+        (item_demands «module».now info.now fault (FaultPosition.Function handle position)) }
 {
     let index = handle.index();
     if index < module.functions.len() {
@@ -376,8 +376,8 @@ fn entry_point_reason_at<'a>(
     index: usize,
     position: FunctionPosition,
 ) -> Option<Reason<'a>>
-    ensures { option_map shown result
-        ≡ item_reason «module».now info.now fault (FaultPosition.EntryPoint index position) }
+    ensures { option_map shown result ≡ unmet «module».now.types
+        (item_demands «module».now info.now fault (FaultPosition.EntryPoint index position)) }
 {
     match module.entry_points.get(index) {
         Some(entry_point) => {
@@ -391,7 +391,7 @@ fn entry_point_reason_at<'a>(
 // ---- the module
 
 fn sizes_reason<'a>(module: &Module, info: &ModuleInfo) -> Option<Reason<'a>>
-    ensures { option_map shown result ≡ sizes_reason «module».now info.now }
+    ensures { option_map shown result ≡ unmet [] (sizes_demands «module».now info.now) }
 {
     let functions = number_reason(
         Counted::Functions,
@@ -417,11 +417,12 @@ fn sizes_reason<'a>(module: &Module, info: &ModuleInfo) -> Option<Reason<'a>>
 }
 
 fn module_reason<'a>(module: &Module, info: &ModuleInfo, fault: Fault) -> Option<Reason<'a>>
-    ensures { option_map shown result ≡ module_reason «module».now info.now fault }
+    ensures { option_map shown result
+        ≡ unmet «module».now.types (module_demands «module».now info.now fault) }
 {
     match fault {
         Fault::InfoSize => sizes_reason(module, info),
-        Fault::SpecialTypes => special_reason(module.types.len(), &module.special_types),
+        Fault::SpecialTypes => special_reason(module),
         _ => None,
     }
 }
@@ -432,18 +433,19 @@ fn made_reason<'a>(
     handle: Handle<Type_>,
     inner: &TypeInner,
 ) -> Option<Reason<'a>>
-    ensures { option_map shown result ≡ made_reason «module».now fault handle inner.now }
+    ensures { option_map shown result
+        ≡ unmet «module».now.types (made_demands «module».now fault handle inner.now) }
 {
     match fault {
-        Fault::TypeParts => part_reason(handle.index(), module.types.len(), inner),
-        Fault::TypeLength => length_reason(module.overrides.len(), inner),
+        Fault::TypeParts => part_reason(module, handle.index(), inner),
+        Fault::TypeLength => length_reason(module, inner),
         _ => None,
     }
 }
 
 fn type_reason_at<'a>(module: &Module, fault: Fault, handle: Handle<Type_>) -> Option<Reason<'a>>
-    ensures { option_map shown result ≡ option_and_then
-        (made_reason «module».now fault handle) (inner_at «module».now.types handle) }
+    ensures { option_map shown result ≡ unmet «module».now.types
+        (OfSome (made_demands «module».now fault handle) (inner_at «module».now.types handle)) }
 {
     match inner_at(&module.types, handle) {
         Some(inner) => made_reason(module, fault, handle, inner),
@@ -458,7 +460,8 @@ fn item_reason<'a>(
     fault: Fault,
     item: FaultPosition,
 ) -> Option<Reason<'a>>
-    ensures { option_map shown result ≡ item_reason «module».now info.now fault item }
+    ensures { option_map shown result
+        ≡ unmet «module».now.types (item_demands «module».now info.now fault item) }
 {
     match item {
         FaultPosition::Module => module_reason(module, info, fault),

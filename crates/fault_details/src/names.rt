@@ -1,17 +1,16 @@
 //! What is named and is not there, or does not stand before what names it.
 
-ghost use Rattle.std.specs.Prelude.{◌≡◌, length};
-ghost use Rattle.std.specs.Option.{option_and_then, option_copied, option_map};
+ghost use Rattle.std.specs.Prelude.{◌≡◌, [], length};
+ghost use Rattle.std.specs.Option.{option_copied, option_map};
 ghost use Rattle.indexmap.specs.IndexMap.{keys, values};
 ghost use Rattle.naga_ir.specs.Operands.{expression_operands, own_operands};
 ghost use Rattle.naga_ir.specs.StatementViews.{tree_of};
-ghost use Rattle.fault_details.specs.Reasons.{absent, emitted_reason, first_reason};
-ghost use Rattle.fault_details.specs.Reasons.{initialiser_reason, known_reason, length_reason};
-ghost use Rattle.fault_details.specs.Reasons.{name_reason, names_reason, not_before, order_reason};
-ghost use Rattle.fault_details.specs.Reasons.{own_name_reason, part_reason, size_reason};
-ghost use Rattle.fault_details.specs.Reasons.{signature_reason, special_reason};
-ghost use Rattle.fault_details.specs.Reasons.{statement_name_reason};
-ghost use Rattle.fault_details.specs.Reasons.{variables_reason};
+ghost use Rattle.fault_details.specs.Demands.{OfEach, OfSome, before, there, unmet};
+ghost use Rattle.fault_details.specs.Reasons.{emitted_demands, initialiser_demands, known_demands};
+ghost use Rattle.fault_details.specs.Reasons.{length_demands, name_demands, names_demands};
+ghost use Rattle.fault_details.specs.Reasons.{order_demands, own_name_demands, part_demands};
+ghost use Rattle.fault_details.specs.Reasons.{signature_demands, size_demands, special_demands};
+ghost use Rattle.fault_details.specs.Reasons.{statement_name_demands, variables_demands};
 ghost use Rattle.fault_details.specs.Shown.{shown};
 
 use crate::reasons::{Reason, absent, not_before};
@@ -20,7 +19,7 @@ use indexmap::IndexMap;
 use naga_info::TypeResolution;
 use naga_ir::{
     ArraySize, EntryPoint, Expression, Function, FunctionArgument, FunctionResult, Handle,
-    ItemIndex, Module, PredeclaredType, SpecialTypes, Statement, StructMember, Type_, TypeInner,
+    ItemIndex, Module, PredeclaredType, Statement, StructMember, Type_, TypeInner,
 };
 
 /// An item that is not there, if one is named.
@@ -29,7 +28,7 @@ pub(crate) fn absent_if<'a, M>(
     count: usize,
     named: Option<ItemIndex<M>>,
 ) -> Option<Reason<'a>>
-    ensures { option_map shown result ≡ option_and_then (absent list count) named }
+    ensures { option_map shown result ≡ unmet [] (OfSome (there list count) named) }
 {
     match named {
         Some(handle) => absent(list, count, handle.index()),
@@ -41,7 +40,7 @@ pub(crate) fn absent_if<'a, M>(
 
 fn members_reason<'a>(here: usize, count: usize, members: &[StructMember]) -> Option<Reason<'a>>
     ensures { option_map shown result
-        ≡ first_reason (λ member. not_before ListName.Types here count member.ty) members.now }
+        ≡ unmet [] (OfEach (λ member. before ListName.Types here count member.ty) members.now) }
 {
     for member in members {
         let found = not_before(ListName::Types, here, count, member.ty.index());
@@ -53,9 +52,11 @@ fn members_reason<'a>(here: usize, count: usize, members: &[StructMember]) -> Op
 }
 
 /// A type that a type is made of, and that does not stand before it.
-pub(crate) fn part_reason<'a>(here: usize, count: usize, inner: &TypeInner) -> Option<Reason<'a>>
-    ensures { option_map shown result ≡ part_reason here count inner.now }
+pub(crate) fn part_reason<'a>(module: &Module, here: usize, inner: &TypeInner) -> Option<Reason<'a>>
+    ensures { option_map shown result ≡ unmet «module».now.types
+        (part_demands here (length «module».now.types) inner.now) }
 {
+    let count = module.types.len();
     match inner {
         TypeInner::Pointer { base, .. }
         | TypeInner::Array { base, .. }
@@ -67,9 +68,11 @@ pub(crate) fn part_reason<'a>(here: usize, count: usize, inner: &TypeInner) -> O
     }
 }
 
-fn size_reason<'a>(overrides: usize, size: ArraySize) -> Option<Reason<'a>>
-    ensures { option_map shown result ≡ size_reason overrides size }
+fn size_reason<'a>(module: &Module, size: ArraySize) -> Option<Reason<'a>>
+    ensures { option_map shown result ≡ unmet «module».now.types
+        (size_demands (length «module».now.overrides) size) }
 {
+    let overrides = module.overrides.len();
     match size {
         ArraySize::Pending(handle) => absent(ListName::Overrides, overrides, handle.index()),
         ArraySize::Constant(_) => None,
@@ -78,33 +81,32 @@ fn size_reason<'a>(overrides: usize, size: ArraySize) -> Option<Reason<'a>>
 }
 
 /// The override of a type's length, if it is not there.
-pub(crate) fn length_reason<'a>(overrides: usize, inner: &TypeInner) -> Option<Reason<'a>>
-    ensures { option_map shown result ≡ length_reason overrides inner.now }
+pub(crate) fn length_reason<'a>(module: &Module, inner: &TypeInner) -> Option<Reason<'a>>
+    ensures { option_map shown result ≡ unmet «module».now.types
+        (length_demands (length «module».now.overrides) inner.now) }
 {
     match inner {
         TypeInner::Array { size, .. } | TypeInner::BindingArray { size, .. } => {
-            size_reason(overrides, *size)
+            size_reason(module, *size)
         }
         _ => None,
     }
 }
 
 /// What a known type names and is not there.
-pub(crate) fn known_reason<'a>(
-    overrides: usize,
-    types: usize,
-    ty: &TypeResolution,
-) -> Option<Reason<'a>>
-    ensures { option_map shown result ≡ known_reason overrides types ty.now }
+pub(crate) fn known_reason<'a>(module: &Module, ty: &TypeResolution) -> Option<Reason<'a>>
+    ensures { option_map shown result ≡ unmet «module».now.types
+        (known_demands (length «module».now.overrides) (length «module».now.types) ty.now) }
 {
+    let types = module.types.len();
     match ty {
         TypeResolution::Handle(handle) => absent(ListName::Types, types, handle.index()),
         TypeResolution::Value(inner) => {
-            let found = part_reason(types, types, inner);
+            let found = part_reason(module, types, inner);
             if found.is_some() {
                 return found;
             }
-            length_reason(overrides, inner)
+            length_reason(module, inner)
         }
     }
 }
@@ -119,7 +121,7 @@ fn operands_reason<'a>(
     expression: &Expression,
 ) -> Option<Reason<'a>>
     ensures { option_map shown result
-        ≡ first_reason (not_before list here count) (expression_operands expression.now) }
+        ≡ unmet [] (OfEach (before list here count) (expression_operands expression.now)) }
 {
     for operand in expression.operands() {
         let found = not_before(list, here, count, operand.index());
@@ -138,8 +140,8 @@ pub(crate) fn order_reason<'a>(
     here: usize,
     expression: &Expression,
 ) -> Option<Reason<'a>>
-    ensures { option_map shown result
-        ≡ order_reason «module».now (option_copied function.entry) here expression.now }
+    ensures { option_map shown result ≡ unmet «module».now.types
+        (order_demands «module».now (option_copied function.entry) here expression.now) }
 {
     match function {
         Some(function) => {
@@ -162,7 +164,7 @@ fn name_reason<'a>(
     expression: &Expression,
 ) -> Option<Reason<'a>>
     ensures { option_map shown result
-        ≡ name_reason «module».now arguments locals expression.now }
+        ≡ unmet «module».now.types (name_demands «module».now arguments locals expression.now) }
 {
     match expression {
         Expression::Constant(handle) => {
@@ -208,8 +210,8 @@ pub(crate) fn names_reason<'a>(
     function: Option<&Function>,
     expression: &Expression,
 ) -> Option<Reason<'a>>
-    ensures { option_map shown result
-        ≡ names_reason «module».now (option_copied function.entry) expression.now }
+    ensures { option_map shown result ≡ unmet «module».now.types
+        (names_demands «module».now (option_copied function.entry) expression.now) }
 {
     match function {
         Some(function) => name_reason(
@@ -229,7 +231,8 @@ pub(crate) fn initialiser_reason<'a>(
     here: usize,
     expression: &Expression,
 ) -> Option<Reason<'a>>
-    ensures { option_map shown result ≡ initialiser_reason «module».now here expression.now }
+    ensures { option_map shown result
+        ≡ unmet «module».now.types (initialiser_demands «module».now here expression.now) }
 {
     let count = module.global_expressions.len();
     match expression {
@@ -260,9 +263,8 @@ pub(crate) fn initialiser_reason<'a>(
 // ---- statements
 
 fn statement_operands_reason<'a>(expressions: usize, statement: &Statement) -> Option<Reason<'a>>
-    ensures { option_map shown result
-        ≡ first_reason (absent ListName.Expressions expressions)
-        (own_operands (tree_of statement.now)) }
+    ensures { option_map shown result ≡ unmet []
+        (OfEach (there ListName.Expressions expressions) (own_operands (tree_of statement.now))) }
 {
     for operand in statement.operands() {
         let found = absent(ListName::Expressions, expressions, operand.index());
@@ -275,7 +277,7 @@ fn statement_operands_reason<'a>(expressions: usize, statement: &Statement) -> O
 
 /// The end of what an `Emit` names, if it is past all expressions, or its beginning.
 fn emitted_reason<'a>(expressions: usize, first: usize, end: usize) -> Option<Reason<'a>>
-    ensures { option_map shown result ≡ emitted_reason expressions first end }
+    ensures { option_map shown result ≡ unmet [] (emitted_demands expressions first end) }
 {
     let index = if first > expressions {
         first
@@ -298,8 +300,8 @@ fn own_name_reason<'a>(
     expressions: usize,
     statement: &Statement,
 ) -> Option<Reason<'a>>
-    ensures { option_map shown result
-        ≡ own_name_reason «module».now callees expressions (tree_of statement.now) }
+    ensures { option_map shown result ≡ unmet «module».now.types
+        (own_name_demands «module».now callees expressions (tree_of statement.now)) }
 {
     match statement {
         Statement::Emit(range) => emitted_reason(expressions, range.first, range.end),
@@ -319,12 +321,13 @@ fn own_name_reason<'a>(
 pub(crate) fn statement_name_reason<'a>(
     module: &Module,
     callees: usize,
-    expressions: usize,
+    function: &Function,
     statement: &Statement,
 ) -> Option<Reason<'a>>
-    ensures { option_map shown result
-        ≡ statement_name_reason «module».now callees expressions (tree_of statement.now) }
+    ensures { option_map shown result ≡ unmet «module».now.types (statement_name_demands
+        «module».now callees (length function.now.expressions) (tree_of statement.now)) }
 {
+    let expressions = function.expressions.len();
     let operand = statement_operands_reason(expressions, statement);
     if operand.is_some() {
         return operand;
@@ -340,7 +343,7 @@ pub(crate) fn statement_name_reason<'a>(
 
 fn arguments_reason<'a>(types: usize, arguments: &[FunctionArgument]) -> Option<Reason<'a>>
     ensures { option_map shown result
-        ≡ first_reason (λ a. absent ListName.Types types a.ty) arguments.now }
+        ≡ unmet [] (OfEach (λ a. there ListName.Types types a.ty) arguments.now) }
 {
     for argument in arguments {
         let found = absent(ListName::Types, types, argument.ty.index());
@@ -352,8 +355,8 @@ fn arguments_reason<'a>(types: usize, arguments: &[FunctionArgument]) -> Option<
 }
 
 fn answer_reason<'a>(types: usize, answer: &Option<FunctionResult>) -> Option<Reason<'a>>
-    ensures { option_map shown result
-        ≡ option_and_then (λ answer. absent ListName.Types types answer.ty) answer.now }
+    ensures { option_map shown result ≡ unmet []
+        (OfSome (there ListName.Types types) (option_map (λ answer. answer.ty) answer.now)) }
 {
     match answer {
         Some(answer) => absent(ListName::Types, types, answer.ty.index()),
@@ -362,9 +365,11 @@ fn answer_reason<'a>(types: usize, answer: &Option<FunctionResult>) -> Option<Re
 }
 
 /// A type of the signature that is not there.
-pub(crate) fn signature_reason<'a>(types: usize, function: &Function) -> Option<Reason<'a>>
-    ensures { option_map shown result ≡ signature_reason types function.now }
+pub(crate) fn signature_reason<'a>(module: &Module, function: &Function) -> Option<Reason<'a>>
+    ensures { option_map shown result ≡ unmet «module».now.types
+        (signature_demands (length «module».now.types) function.now) }
 {
+    let types = module.types.len();
     let argument = arguments_reason(types, &function.arguments);
     if argument.is_some() {
         return argument;
@@ -374,9 +379,9 @@ pub(crate) fn signature_reason<'a>(types: usize, function: &Function) -> Option<
 
 /// The first of the expressions that have a front end's name and are not there.
 pub(crate) fn named_reason<'a>(function: &Function) -> Option<Reason<'a>>
-    ensures { option_map shown result
-        ≡ first_reason (absent ListName.Expressions (length function.now.expressions))
-        (keys function.now.named_expressions) }
+    ensures { option_map shown result ≡ unmet []
+        (OfEach (there ListName.Expressions (length function.now.expressions))
+        (keys function.now.named_expressions)) }
 {
     let count = function.expressions.len();
     for handle in function.named_expressions.keys() {
@@ -389,9 +394,11 @@ pub(crate) fn named_reason<'a>(function: &Function) -> Option<Reason<'a>>
 }
 
 /// The first variable of an entry point that is not there.
-pub(crate) fn variables_reason<'a>(variables: usize, entry_point: &EntryPoint) -> Option<Reason<'a>>
-    ensures { option_map shown result ≡ variables_reason variables entry_point.now }
+pub(crate) fn variables_reason<'a>(module: &Module, entry_point: &EntryPoint) -> Option<Reason<'a>>
+    ensures { option_map shown result ≡ unmet «module».now.types
+        (variables_demands (length «module».now.global_variables) entry_point.now) }
 {
+    let variables = module.global_variables.len();
     let list = ListName::GlobalVariables;
     let output = match &entry_point.mesh_info {
         Some(mesh_info) => Some(mesh_info.output_variable),
@@ -413,7 +420,7 @@ fn predeclared_reason<'a>(
     predeclared: &IndexMap<PredeclaredType, Handle<Type_>>,
 ) -> Option<Reason<'a>>
     ensures { option_map shown result
-        ≡ first_reason (absent ListName.Types types) (values predeclared.now) }
+        ≡ unmet [] (OfEach (there ListName.Types types) (values predeclared.now)) }
 {
     for handle in predeclared.values() {
         let found = absent(ListName::Types, types, handle.index());
@@ -425,9 +432,12 @@ fn predeclared_reason<'a>(
 }
 
 /// The first special type that is not there.
-pub(crate) fn special_reason<'a>(types: usize, special: &SpecialTypes) -> Option<Reason<'a>>
-    ensures { option_map shown result ≡ special_reason types special.now }
+pub(crate) fn special_reason<'a>(module: &Module) -> Option<Reason<'a>>
+    ensures { option_map shown result ≡ unmet «module».now.types
+        (special_demands (length «module».now.types) «module».now.special_types) }
 {
+    let types = module.types.len();
+    let special = &module.special_types;
     let predeclared = predeclared_reason(types, &special.predeclared_types);
     if predeclared.is_some() {
         return predeclared;

@@ -1,8 +1,8 @@
 //! Why a module is not accepted at a position, without memory.
 
-ghost use Rattle.std.specs.Prelude.{◌≡◌};
+ghost use Rattle.std.specs.Prelude.{◌≡◌, []};
 ghost use Rattle.std.specs.Option.{option_map};
-ghost use Rattle.fault_details.specs.Reasons.{absent, need_unless, not_before, number_reason};
+ghost use Rattle.fault_details.specs.Demands.{HasNumber, One, before, needed, there, unmet};
 ghost use Rattle.fault_details.specs.Shown.{shown};
 
 use crate::words::{Counted, ListName, Need, TypeClass};
@@ -86,7 +86,7 @@ pub(crate) enum Reason<'a> {
 
 /// An item that is not there, if its number is not below the length of its list.
 pub(crate) fn absent<'a>(list: ListName, count: usize, index: usize) -> Option<Reason<'a>>
-    ensures { option_map shown result ≡ absent list count index }
+    ensures { option_map shown result ≡ unmet [] (there list count index) }
 {
     if index < count {
         None
@@ -102,7 +102,7 @@ pub(crate) fn not_before<'a>(
     count: usize,
     index: usize,
 ) -> Option<Reason<'a>>
-    ensures { option_map shown result ≡ not_before list here count index }
+    ensures { option_map shown result ≡ unmet [] (before list here count index) }
 {
     if index < here {
         None
@@ -120,7 +120,7 @@ pub(crate) fn not_before<'a>(
 
 /// Another number than is expected.
 pub(crate) fn number_reason<'a>(of: Counted, expected: usize, got: usize) -> Option<Reason<'a>>
-    ensures { option_map shown result ≡ number_reason of expected got }
+    ensures { option_map shown result ≡ unmet [] (One (HasNumber of expected got)) }
 {
     if expected == got {
         None
@@ -131,7 +131,7 @@ pub(crate) fn number_reason<'a>(of: Counted, expected: usize, got: usize) -> Opt
 
 /// What is needed, where a test fails.
 pub(crate) fn need_unless<'a>(test: bool, need: Need) -> Option<Reason<'a>>
-    ensures { option_map shown result ≡ need_unless test need }
+    ensures { option_map shown result ≡ unmet [] (needed test need) }
 {
     if test {
         None

@@ -1,17 +1,17 @@
 //! Why a statement does not get what it needs.
 
-ghost use Rattle.std.specs.Prelude.{◌≡◌, length, slice_get};
-ghost use Rattle.std.specs.Option.{option_and_then, option_map, option_or};
+ghost use Rattle.std.specs.Prelude.{◌≡◌, [], length, slice_get};
+ghost use Rattle.std.specs.Option.{option_map};
 ghost use Rattle.naga_ir.specs.StatementViews.{cases_of, tree_of};
 ghost use Rattle.naga_acceptance.specs.KnownTypes.{known_types};
 ghost use Rattle.module_semantics.specs.acceptance.StatementsFit.{is_atomic_result, is_ballot_result};
 ghost use Rattle.module_semantics.specs.acceptance.StatementsFit.{is_subgroup_result};
 ghost use Rattle.module_semantics.specs.acceptance.StatementsFit.{is_uniform_load_result};
-ghost use Rattle.fault_details.specs.Reasons.{answer_reason, call_reason, class_reason};
-ghost use Rattle.fault_details.specs.Reasons.{case_value_reason, case_value_type_reason};
-ghost use Rattle.fault_details.specs.Reasons.{case_value_types_reason, own_reason, passed_reason};
-ghost use Rattle.fault_details.specs.Reasons.{result_reason, return_reason, store_reason};
-ghost use Rattle.fault_details.specs.Reasons.{statement_reason, switch_reason};
+ghost use Rattle.fault_details.specs.Demands.{IsCaseOf, OfEach, OfSome, One, Then, of_class, unmet};
+ghost use Rattle.fault_details.specs.Reasons.{answer_demands, call_demands, case_value_demands};
+ghost use Rattle.fault_details.specs.Reasons.{case_values, own_demands, passed_demands};
+ghost use Rattle.fault_details.specs.Reasons.{result_demands, return_demands, statement_demands};
+ghost use Rattle.fault_details.specs.Reasons.{store_demands, switch_demands};
 ghost use Rattle.fault_details.specs.Shown.{placed, shown};
 
 use crate::names::statement_name_reason;
@@ -37,8 +37,8 @@ fn condition_reason<'a>(
     known: Known<'a>,
     condition: Option<Handle<Expression>>,
 ) -> Option<Reason<'a>>
-    ensures { option_map shown result ≡ option_and_then
-        (class_reason types.now (known_types known.entry) TypeClass.Bool) condition }
+    ensures { option_map shown result
+        ≡ unmet types.now (OfSome (of_class (known_types known.entry) TypeClass.Bool) condition) }
 {
     match condition {
         Some(condition) => class_reason(types, known, TypeClass::Bool, condition),
@@ -50,7 +50,7 @@ fn condition_reason<'a>(
 
 /// A case value of another type than the selector.
 fn case_value_type_reason<'a>(scalar: Scalar, case_value: SwitchValue) -> Option<Reason<'a>>
-    ensures { option_map shown result ≡ case_value_type_reason scalar case_value }
+    ensures { option_map shown result ≡ unmet [] (One (IsCaseOf scalar case_value)) }
 {
     let kind = match (case_value, scalar.kind) {
         (SwitchValue::I32(_), ScalarKind::Sint) => return None,
@@ -66,7 +66,8 @@ fn case_value_type_reason<'a>(scalar: Scalar, case_value: SwitchValue) -> Option
 }
 
 fn case_value_types_reason<'a>(scalar: Scalar, cases: &[SwitchCase]) -> Option<Reason<'a>>
-    ensures { option_map shown result ≡ case_value_types_reason scalar (cases_of cases.now) }
+    ensures { option_map shown result
+        ≡ unmet [] (OfEach (λ v. One (IsCaseOf scalar v)) (case_values (cases_of cases.now))) }
 {
     for case in cases {
         let found = case_value_type_reason(scalar, case.value);
@@ -77,9 +78,9 @@ fn case_value_types_reason<'a>(scalar: Scalar, cases: &[SwitchCase]) -> Option<R
     None
 }
 
-fn scalar_case_value_reason<'a>(scalar: Scalar, cases: &[SwitchCase]) -> Option<Reason<'a>>
+fn case_value_reason<'a>(scalar: Scalar, cases: &[SwitchCase]) -> Option<Reason<'a>>
     ensures { option_map shown result
-        ≡ case_value_reason (cases_of cases.now) (TypeInner.Scalar scalar) }
+        ≡ unmet [] (case_value_demands scalar (cases_of cases.now)) }
 {
     let found = case_value_types_reason(scalar, cases);
     if found.is_some() {
@@ -98,31 +99,22 @@ fn scalar_case_value_reason<'a>(scalar: Scalar, cases: &[SwitchCase]) -> Option<
     need_unless(!last_falls_through(cases), Need::End)
 }
 
-fn case_value_reason<'a>(cases: &[SwitchCase], inner: &TypeInner) -> Option<Reason<'a>>
-    ensures { option_map shown result ≡ case_value_reason (cases_of cases.now) inner.now }
-{
-    match inner {
-        TypeInner::Scalar(scalar) => scalar_case_value_reason(*scalar, cases),
-        _ => None,
-    }
-}
-
 fn switch_reason<'a>(
     types: &'a UniqueArena<Type_>,
     known: Known<'a>,
     selector: Handle<Expression>,
     cases: &[SwitchCase],
 ) -> Option<Reason<'a>>
-    ensures { option_map shown result
-        ≡ switch_reason types.now (known_types known.entry) selector (cases_of cases.now) }
+    ensures { option_map shown result ≡ unmet types.now
+        (switch_demands types.now (known_types known.entry) selector (cases_of cases.now)) }
 {
     let found = class_reason(types, known, TypeClass::Selector, selector);
     if found.is_some() {
         return found;
     }
     match known_inner(types, known, selector) {
-        Some(inner) => case_value_reason(cases, inner),
-        None => None,
+        Some(TypeInner::Scalar(scalar)) => case_value_reason(*scalar, cases),
+        _ => None,
     }
 }
 
@@ -135,7 +127,7 @@ fn store_reason<'a>(
     value: Handle<Expression>,
 ) -> Option<Reason<'a>>
     ensures { option_map shown result
-        ≡ store_reason types.now (known_types known.entry) pointer value }
+        ≡ unmet types.now (store_demands types.now (known_types known.entry) pointer value) }
 {
     match pointee_at(types, known, pointer) {
         Some(expected) => type_reason(types, known, expected, value),
@@ -150,7 +142,7 @@ fn return_reason<'a>(
     value: Option<Handle<Expression>>,
 ) -> Option<Reason<'a>>
     ensures { option_map shown result
-        ≡ return_reason types.now (known_types known.entry) answer.now value }
+        ≡ unmet types.now (return_demands (known_types known.entry) answer.now value) }
 {
     match (answer, value) {
         (Some(answer), Some(value)) => {
@@ -176,7 +168,7 @@ fn passed_reason<'a>(
 ) -> Option<Reason<'a>>
     requires { length arguments.now ≡ length values.now }
     ensures { option_map shown result
-        ≡ passed_reason types.now (known_types known.entry) arguments.now values.now }
+        ≡ unmet types.now (passed_demands (known_types known.entry) arguments.now values.now) }
 {
     for index in 0..values.len() {
         let expected = InferredType::Handle(arguments[index].ty);
@@ -196,7 +188,7 @@ fn answer_reason<'a>(
     outcome: Handle<Expression>,
 ) -> Option<Reason<'a>>
     ensures { option_map shown result
-        ≡ answer_reason callee.now callee_handle function.now outcome }
+        ≡ unmet [] (answer_demands callee.now callee_handle function.now outcome) }
 {
     if callee.result.is_none() {
         return Some(Reason::Needs {
@@ -218,8 +210,8 @@ fn call_reason<'a>(
     outcome: Option<Handle<Expression>>,
     callee: &Function,
 ) -> Option<Reason<'a>>
-    ensures { option_map shown result ≡ call_reason types.now (known_types known.entry)
-        function.now callee_handle arguments.now outcome callee.now }
+    ensures { option_map shown result ≡ unmet types.now (call_demands (known_types known.entry)
+        function.now callee_handle arguments.now outcome callee.now) }
 {
     let expected = callee.arguments.len();
     if expected != arguments.len() {
@@ -243,9 +235,9 @@ fn call_reason_at<'a>(
     arguments: &[Handle<Expression>],
     outcome: Option<Handle<Expression>>,
 ) -> Option<Reason<'a>>
-    ensures { option_map shown result ≡ option_and_then
-        (call_reason «module».now.types (known_types known.entry) function.now callee arguments.now
-        outcome) (slice_get «module».now.functions callee) }
+    ensures { option_map shown result ≡ unmet «module».now.types (OfSome
+        (call_demands (known_types known.entry) function.now callee arguments.now outcome)
+        (slice_get «module».now.functions callee)) }
 {
     if callee.index() < module.functions.len() {
         call_reason(
@@ -271,9 +263,9 @@ fn atomic_reason<'a>(
     pointer: Handle<Expression>,
     outcome: Option<Handle<Expression>>,
 ) -> Option<Reason<'a>>
-    ensures { option_map shown result ≡ option_or
-        (class_reason types.now (known_types known.entry) TypeClass.AtomicPointer pointer)
-        (option_and_then (result_reason is_atomic_result function.now) outcome) }
+    ensures { option_map shown result ≡ unmet types.now
+        (Then (of_class (known_types known.entry) TypeClass.AtomicPointer pointer)
+        (OfSome (result_demands is_atomic_result function.now) outcome)) }
 {
     let found = class_reason(types, known, TypeClass::AtomicPointer, pointer);
     if found.is_some() {
@@ -286,20 +278,22 @@ fn atomic_reason<'a>(
 }
 
 fn subgroup_reason<'a>(function: &Function, outcome: Handle<Expression>) -> Option<Reason<'a>>
-    ensures { option_map shown result ≡ result_reason is_subgroup_result function.now outcome }
+    ensures { option_map shown result
+        ≡ unmet [] (result_demands is_subgroup_result function.now outcome) }
 {
     need_unless(is_subgroup_result(function, outcome), Need::OwnResult)
 }
 
 fn ballot_reason<'a>(function: &Function, outcome: Handle<Expression>) -> Option<Reason<'a>>
-    ensures { option_map shown result ≡ result_reason is_ballot_result function.now outcome }
+    ensures { option_map shown result
+        ≡ unmet [] (result_demands is_ballot_result function.now outcome) }
 {
     need_unless(is_ballot_result(function, outcome), Need::OwnResult)
 }
 
 fn uniform_load_reason<'a>(function: &Function, outcome: Handle<Expression>) -> Option<Reason<'a>>
     ensures { option_map shown result
-        ≡ result_reason is_uniform_load_result function.now outcome }
+        ≡ unmet [] (result_demands is_uniform_load_result function.now outcome) }
 {
     need_unless(is_uniform_load_result(function, outcome), Need::OwnResult)
 }
@@ -317,8 +311,8 @@ fn own_reason<'a>(
     continues: bool,
     statement: &Statement,
 ) -> Option<Reason<'a>>
-    ensures { option_map shown result ≡ own_reason «module».now function.now
-        (known_types known.entry) breaks continues (tree_of statement.now) }
+    ensures { option_map shown result ≡ unmet «module».now.types (own_demands «module».now
+        function.now (known_types known.entry) breaks continues (tree_of statement.now)) }
 {
     let types = &module.types;
     match statement {
@@ -373,16 +367,11 @@ pub(crate) fn statement_reason<'a>(
     fault: Fault,
     at: StatementAt<'_>,
 ) -> Option<Reason<'a>>
-    ensures { option_map shown result ≡ statement_reason «module».now callees function.now
-        (known_types known.entry) fault (placed at.entry) }
+    ensures { option_map shown result ≡ unmet «module».now.types (statement_demands «module».now
+        callees function.now (known_types known.entry) fault (placed at.entry)) }
 {
     match fault {
-        Fault::Names => statement_name_reason(
-            module,
-            callees,
-            function.expressions.len(),
-            at.statement,
-        ),
+        Fault::Names => statement_name_reason(module, callees, function, at.statement),
         Fault::Unsatisfied => own_reason(
             module,
             function,

@@ -2,17 +2,15 @@
 
 ghost use Rattle.std.specs.Prelude.{◌≡◌, [], false, take};
 ghost use Rattle.std.specs.Option.{option_and_then, option_copied, option_map, option_map_or};
-ghost use Rattle.std.specs.Option.{option_or};
 ghost use Rattle.module_semantics.specs.TypeIdentity.{component_count};
 ghost use Rattle.module_semantics.specs.TypeParts.{known_inner, part_count};
 ghost use Rattle.naga_acceptance.specs.KnownTypes.{inferred, known_types, allowed};
 ghost use Rattle.naga_info.specs.Resolution.{inner_of};
-ghost use Rattle.fault_details.specs.Reasons.{class_reason, first_reason, has_letter};
-ghost use Rattle.fault_details.specs.Reasons.{index_reason, is_in_class, known_unlike};
-ghost use Rattle.fault_details.specs.Reasons.{letter_reason};
-ghost use Rattle.fault_details.specs.Reasons.{operand_reason, own_type_reason, swizzle_reason};
-ghost use Rattle.fault_details.specs.Reasons.{type_reason};
-ghost use Rattle.fault_details.specs.Reasons.{typeless_reason, unlike, expected_reason};
+ghost use Rattle.fault_details.specs.Demands.{Gives, HasLetter, HasPart, HasType, OfEach, OfSome};
+ghost use Rattle.fault_details.specs.Demands.{One, Then, has_letter, is_in_class, of_class};
+ghost use Rattle.fault_details.specs.Demands.{of_type, unmet};
+ghost use Rattle.fault_details.specs.Reasons.{expected_demands, letter_demands, operand_demands};
+ghost use Rattle.fault_details.specs.Reasons.{own_type_demands, typeless_demands};
 ghost use Rattle.fault_details.specs.Shown.{shown};
 
 use crate::reasons::Reason;
@@ -76,7 +74,7 @@ pub(crate) fn class_reason<'a>(
     handle: Handle<Expression>,
 ) -> Option<Reason<'a>>
     ensures { option_map shown result
-        ≡ class_reason types.now (known_types known.entry) class handle }
+        ≡ unmet types.now (of_class (known_types known.entry) class handle) }
 {
     match known_type(known, handle) {
         Some(got) => {
@@ -96,7 +94,8 @@ fn unlike<'a>(
     expected: InferredType,
     got: &'a TypeResolution,
 ) -> Option<Reason<'a>>
-    ensures { option_map shown result ≡ unlike types.now (inferred expected) got.now }
+    ensures { option_map shown result
+        ≡ unmet types.now (One (HasType (inferred expected) got.now)) }
 {
     if is_like(types, got, &expected) {
         None
@@ -111,7 +110,7 @@ fn known_unlike<'a>(
     gives: InferredType,
     known: &'a TypeResolution,
 ) -> Option<Reason<'a>>
-    ensures { option_map shown result ≡ known_unlike types.now (inferred gives) known.now }
+    ensures { option_map shown result ≡ unmet types.now (One (Gives (inferred gives) known.now)) }
 {
     if is_like(types, known, &gives) {
         None
@@ -128,7 +127,7 @@ pub(crate) fn type_reason<'a>(
     handle: Handle<Expression>,
 ) -> Option<Reason<'a>>
     ensures { option_map shown result
-        ≡ type_reason types.now (known_types known.entry) (inferred expected) handle }
+        ≡ unmet types.now (of_type (known_types known.entry) (inferred expected) handle) }
 {
     match known_type(known, handle) {
         Some(got) => unlike(types, expected, got),
@@ -144,7 +143,7 @@ fn typeless_reason<'a>(
     expression: &Expression,
 ) -> Option<Reason<'a>>
     ensures { option_map shown result
-        ≡ typeless_reason types.now (known_types known.entry) own.now expression.now }
+        ≡ unmet types.now (typeless_demands (known_types known.entry) own.now expression.now) }
 {
     match expression {
         Expression::Access { base, .. } => {
@@ -169,8 +168,8 @@ fn expected_reason<'a>(
     expression: &Expression,
     demand: AllowedType,
 ) -> Option<Reason<'a>>
-    ensures { option_map shown result ≡ expected_reason types.now (known_types known.entry) own.now
-        expression.now (allowed demand) }
+    ensures { option_map shown result ≡ unmet types.now (expected_demands
+        (known_types known.entry) own.now expression.now (allowed demand)) }
 {
     match demand {
         AllowedType::LikeThis(gives) => known_unlike(types, gives, own),
@@ -187,8 +186,8 @@ pub(crate) fn own_type_reason<'a>(
     handle: Handle<Expression>,
     expression: &Expression,
 ) -> Option<Reason<'a>>
-    ensures { option_map shown result ≡ own_type_reason «module».now (option_copied function.entry)
-        (known_types known.entry) handle expression.now }
+    ensures { option_map shown result ≡ unmet «module».now.types (own_type_demands «module».now
+        (option_copied function.entry) (known_types known.entry) handle expression.now) }
 {
     match known_type(known, handle) {
         Some(own) => {
@@ -200,7 +199,7 @@ pub(crate) fn own_type_reason<'a>(
 }
 
 fn index_reason<'a>(index: u32, count: usize) -> Option<Reason<'a>>
-    ensures { option_map shown result ≡ index_reason index count }
+    ensures { option_map shown result ≡ unmet [] (One (HasPart index count)) }
 {
     let got = index as usize;
     if got < count {
@@ -216,9 +215,9 @@ fn part_number_reason<'a>(
     base: Handle<Expression>,
     index: u32,
 ) -> Option<Reason<'a>>
-    ensures { option_map shown result ≡ option_and_then (index_reason index)
+    ensures { option_map shown result ≡ unmet types.now (OfSome (λ count. One (HasPart index count))
         (option_and_then (part_count types.now)
-        (known_inner types.now (known_types known.entry) base)) }
+        (known_inner types.now (known_types known.entry) base))) }
 {
     match known_inner(types, known, base) {
         Some(inner) => match part_count(types, inner) {
@@ -258,7 +257,7 @@ fn letter_reason<'a>(
     got: &'a TypeResolution,
     letter: SwizzleComponent,
 ) -> Option<Reason<'a>>
-    ensures { option_map shown result ≡ letter_reason types.now got.now letter }
+    ensures { option_map shown result ≡ unmet types.now (One (HasLetter got.now letter)) }
 {
     if resolution_has_letter(types, letter, got) {
         None
@@ -274,7 +273,7 @@ fn letters_reason<'a>(
     letters: &[SwizzleComponent],
 ) -> Option<Reason<'a>>
     ensures { option_map shown result
-        ≡ first_reason (letter_reason types.now got.now) letters.now }
+        ≡ unmet types.now (OfEach (λ letter. One (HasLetter got.now letter)) letters.now) }
 {
     for letter in letters {
         let found = letter_reason(types, got, *letter);
@@ -304,8 +303,8 @@ fn swizzle_reason<'a>(
     vector: Handle<Expression>,
 ) -> Option<Reason<'a>>
     ensures { option_map shown result
-        ≡ option_or (class_reason types.now (known_types known.entry) TypeClass.Vector vector)
-        (swizzle_reason types.now (known_types known.entry) chosen letters.now vector) }
+        ≡ unmet types.now (Then (of_class (known_types known.entry) TypeClass.Vector vector)
+        (letter_demands (known_types known.entry) chosen letters.now vector)) }
 {
     let found = class_reason(types, known, TypeClass::Vector, vector);
     if found.is_some() {
@@ -324,8 +323,8 @@ fn access_reason<'a>(
     index: Handle<Expression>,
 ) -> Option<Reason<'a>>
     ensures { option_map shown result
-        ≡ option_or (class_reason types.now (known_types known.entry) TypeClass.Composite base)
-        (class_reason types.now (known_types known.entry) TypeClass.Integer index) }
+        ≡ unmet types.now (Then (of_class (known_types known.entry) TypeClass.Composite base)
+        (of_class (known_types known.entry) TypeClass.Integer index)) }
 {
     let found = class_reason(types, known, TypeClass::Composite, base);
     if found.is_some() {
@@ -340,8 +339,8 @@ pub(crate) fn operand_reason<'a>(
     known: Known<'a>,
     expression: &Expression,
 ) -> Option<Reason<'a>>
-    ensures { option_map shown result
-        ≡ operand_reason types.now (known_types known.entry) expression.now }
+    ensures { option_map shown result ≡ unmet types.now
+        (operand_demands types.now (known_types known.entry) expression.now) }
 {
     match expression {
         Expression::Access { base, index } => access_reason(types, known, *base, *index),

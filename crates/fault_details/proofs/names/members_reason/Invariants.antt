@@ -1,9 +1,9 @@
-use Rattle.std.proofs.Common.{◌≡◌, drop}
-use Rattle.fault_details.specs.Reasons.{first_reason, not_before}
+use Rattle.std.proofs.Common.{◌≡◌, drop, []}
+use Rattle.fault_details.specs.Demands.{OfEach, before, unmet}
 use Rattle.fault_details.specs.declared.words.ListName.TheVariants.{Types}
 use Rattle.fault_details.proofs.names.members_reason.Given as goal
 
 abbrev pub invariant-loop-member : goal.invariant-loop-member
 invariant-loop-member l =
-    first_reason (λ member. not_before Types l.here l.count member.ty) (drop l.member-index l.members)
-    ≡ first_reason (λ member. not_before Types l.here l.count member.ty) l.members
+    unmet [] (OfEach (λ member. before Types l.here l.count member.ty) (drop l.member-index l.members))
+    ≡ unmet [] (OfEach (λ member. before Types l.here l.count member.ty) l.members)

@@ -1,10 +1,10 @@
-use Rattle.std.proofs.Common.{◌≡◌}
+use Rattle.std.proofs.Common.{◌≡◌, []}
 use Rattle.indexmap.specs.IndexMap.{keys}
-use Rattle.fault_details.specs.Reasons.{absent, first_reason}
+use Rattle.fault_details.specs.Demands.{OfEach, there, unmet}
 use Rattle.fault_details.specs.declared.words.ListName.TheVariants.{Expressions}
 use Rattle.fault_details.proofs.names.named_reason.Given as goal
 
 abbrev pub invariant-loop-handle : goal.invariant-loop-handle
 invariant-loop-handle l =
-    first_reason (absent Expressions l.count) l.handle-iterator
-    ≡ first_reason (absent Expressions l.count) (keys l.function.named_expressions)
+    unmet [] (OfEach (there Expressions l.count) l.handle-iterator)
+    ≡ unmet [] (OfEach (there Expressions l.count) (keys l.function.named_expressions))

@@ -1,9 +1,9 @@
-use Rattle.std.proofs.Common.{◌≡◌}
+use Rattle.std.proofs.Common.{◌≡◌, []}
 use Rattle.naga_ir.specs.Operands.{expression_operands}
-use Rattle.fault_details.specs.Reasons.{first_reason, not_before}
+use Rattle.fault_details.specs.Demands.{OfEach, before, unmet}
 use Rattle.fault_details.proofs.names.operands_reason.Given as goal
 
 abbrev pub invariant-loop-operand : goal.invariant-loop-operand
 invariant-loop-operand l =
-    first_reason (not_before l.list l.here l.count) l.operand-iterator
-    ≡ first_reason (not_before l.list l.here l.count) (expression_operands l.expression)
+    unmet [] (OfEach (before l.list l.here l.count) l.operand-iterator)
+    ≡ unmet [] (OfEach (before l.list l.here l.count) (expression_operands l.expression))

@@ -1,11 +1,11 @@
-use Rattle.std.proofs.Common.{◌≡◌}
+use Rattle.std.proofs.Common.{◌≡◌, []}
 use Rattle.naga_ir.specs.Operands.{own_operands}
 use Rattle.naga_ir.specs.StatementViews.{tree_of}
-use Rattle.fault_details.specs.Reasons.{absent, first_reason}
+use Rattle.fault_details.specs.Demands.{OfEach, there, unmet}
 use Rattle.fault_details.specs.declared.words.ListName.TheVariants.{Expressions}
 use Rattle.fault_details.proofs.names.statement_operands_reason.Given as goal
 
 abbrev pub invariant-loop-operand : goal.invariant-loop-operand
 invariant-loop-operand l =
-    first_reason (absent Expressions l.expressions) l.operand-iterator
-    ≡ first_reason (absent Expressions l.expressions) (own_operands (tree_of l.statement))
+    unmet [] (OfEach (there Expressions l.expressions) l.operand-iterator)
+    ≡ unmet [] (OfEach (there Expressions l.expressions) (own_operands (tree_of l.statement)))
