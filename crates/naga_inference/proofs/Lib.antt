@@ -1,0 +1,7 @@
+pub mod Accepting
+pub mod Following
+pub mod Passing
+pub mod SameAcceptance
+pub mod SameIdentity
+pub mod SameSoundness
+pub mod SameTypes
