@@ -95,16 +95,17 @@ module _ (m : Module) where
   functions_found n before (f ∷ fs) [] follow = absurd follow
   functions_found n before (f ∷ fs) (ks ∷ kss) follow =
       let one : Found (function_rule m f) (HasSameType m.types) [] (enumerate_from 0 f.expressions) ks =
-          function_found f ks follow.0 in
+      function_found f ks follow.0 in
       let rest : (rss : List (List ExpressionInfo))
-          × (answers_after (function_of_module m) (before ++ (one.answers ∷ [])) (enumerate_from (n + 1) fs)
-          ≡ Ok ((before ++ (one.answers ∷ [])) ++ rss))
-          × AllLike (AllLike (HasSameType m.types)) rss kss =
-          functions_found (n + 1) (before ++ (one.answers ∷ [])) fs kss follow.1 in
-      (one.answers ∷ rest.0,
-      passed (function_of_module m) before (n, f) (enumerate_from (n + 1) fs) one.answers
-      (ap (of_function n) one.found) ∙ (rest.1 ∙ ap Ok (one_after before one.answers rest.0)),
-      (one.alike, rest.2))
+      × (answers_after (function_of_module m) (before ++ (one.answers ∷ [])) (enumerate_from (n + 1) fs)
+      ≡ Ok ((before ++ (one.answers ∷ [])) ++ rss))
+      × AllLike (AllLike (HasSameType m.types)) rss kss =
+      functions_found (n + 1) (before ++ (one.answers ∷ [])) fs kss follow.1 in (
+        one.answers ∷ rest.0,
+        passed (function_of_module m) before (n, f) (enumerate_from (n + 1) fs) one.answers
+            (ap (of_function n) one.found) ∙ (rest.1 ∙ ap Ok (one_after before one.answers rest.0)),
+        (one.alike, rest.2),
+      )
 
   pub entry_points_found : (n : ℕ) (before : List (List ExpressionInfo)) (ps : List EntryPoint)
       (kss : List (List ExpressionInfo)) → FunctionsFollow m (map (λ p. p.function) ps) kss →
@@ -116,16 +117,17 @@ module _ (m : Module) where
   entry_points_found n before (p ∷ ps) [] follow = absurd follow
   entry_points_found n before (p ∷ ps) (ks ∷ kss) follow =
       let one : Found (function_rule m p.function) (HasSameType m.types) [] (enumerate_from 0 p.function.expressions) ks =
-          function_found p.function ks follow.0 in
+      function_found p.function ks follow.0 in
       let rest : (rss : List (List ExpressionInfo))
-          × (answers_after (entry_point_of_module m) (before ++ (one.answers ∷ [])) (enumerate_from (n + 1) ps)
-          ≡ Ok ((before ++ (one.answers ∷ [])) ++ rss))
-          × AllLike (AllLike (HasSameType m.types)) rss kss =
-          entry_points_found (n + 1) (before ++ (one.answers ∷ [])) ps kss follow.1 in
-      (one.answers ∷ rest.0,
-      passed (entry_point_of_module m) before (n, p) (enumerate_from (n + 1) ps) one.answers
-      (ap (of_function n) one.found) ∙ (rest.1 ∙ ap Ok (one_after before one.answers rest.0)),
-      (one.alike, rest.2))
+      × (answers_after (entry_point_of_module m) (before ++ (one.answers ∷ [])) (enumerate_from (n + 1) ps)
+      ≡ Ok ((before ++ (one.answers ∷ [])) ++ rss))
+      × AllLike (AllLike (HasSameType m.types)) rss kss =
+      entry_points_found (n + 1) (before ++ (one.answers ∷ [])) ps kss follow.1 in (
+        one.answers ∷ rest.0,
+        passed (entry_point_of_module m) before (n, p) (enumerate_from (n + 1) ps) one.answers
+            (ap (of_function n) one.found) ∙ (rest.1 ∙ ap Ok (one_after before one.answers rest.0)),
+        (one.alike, rest.2),
+      )
 
   -- ---- the module: no expression is without a type
   none_untyped : (a : Result (List TypeResolution) ℕ) (b c : Result (List (List ExpressionInfo)) (ℕ × ℕ))

@@ -36,7 +36,7 @@ module _ {P R F : Type 0} (rule : List R → P → Result R F) where
       next (Err f) here found further = absurd cc
       next (Ok r) here found further =
           let rest : (ks : List R) × (answers ≡ (own ++ (r ∷ [])) ++ ks)
-              × Follows rule (λ a b. a ≡ b) (own ++ (r ∷ [])) ps ks = further r found in
+          × Follows rule (λ a b. a ≡ b) (own ++ (r ∷ [])) ps ks = further r found in
           (r ∷ rest.0, rest.1 ∙ one_after own r rest.0, ((r, here, refl), rest.2))
 
   module _ (Like : R → R → Type 0) where
@@ -75,7 +75,7 @@ module _ {P R F : Type 0} (rule : List R → P → Result R F) where
       pass_finds own before (p ∷ ps) [] alike follows = absurd follows
       pass_finds own before (p ∷ ps) (k ∷ ks) alike follows =
           let one : (r : R) × (rule own p ≡ Ok r) × Like r follows.0.0 =
-              congruent own before p follows.0.0 alike follows.0.1 in
+          congruent own before p follows.0.0 alike follows.0.1 in
           let like : Like one.0 k = through one.0 follows.0.0 k one.2 follows.0.2 in
           one_more own before p ps k ks one.0 one.1
           (pass_finds (own ++ (one.0 ∷ [])) (before ++ (k ∷ [])) ps ks (like_next own before one.0 k alike like) follows.1)

@@ -24,7 +24,7 @@ use Rattle.naga_spelling.specs.Spelling.{is_struct}
 use Rattle.module_semantics.proofs.Lists.{list_all_at, numbered_at}
 use Rattle.module_semantics.specs.acceptance.Accepted.{is_accepted}
 use Rattle.module_semantics.specs.acceptance.AgreeingOperators.{Group, function_groups, module_operators_agree}
-use Rattle.module_semantics.specs.acceptance.AgreeingOperators.{uses_of}
+use Rattle.module_semantics.specs.acceptance.AgreeingOperators.{module_uses, uses_of}
 use Rattle.module_semantics.specs.acceptance.InfoSizes.{all_paired, entry_point_size_fits, function_size_fits, is_handle_pointer}
 use Rattle.module_semantics.specs.acceptance.InfoSizes.{sizes_fit, type_is_fit}
 use Rattle.module_semantics.specs.acceptance.Operations.{Operation, all_agree}
@@ -102,13 +102,13 @@ module _ (overrides : ℕ) (types : List Type_) (fit : list_all type_is_fit type
       let same : it ≡ t.inner = cc in
       let free : not (is_struct it) ≡ true = ap not none in
       let form : not (is_handle_pointer it) ≡ true =
-          ap (λ x. not (is_handle_pointer x)) same ∙ list_all_at type_is_fit types g t fit at in
+      ap (λ x. not (is_handle_pointer x)) same ∙ list_all_at type_is_fit types g t fit at in
       let parts : parts_before (length types) it ≡ true =
-          parts_there g (length types) (slice_get_within types g t at) it none
-          (ap (parts_before g) same ∙ stand g t at) in
+      parts_there g (length types) (slice_get_within types g t at) it none
+      (ap (parts_before g) same ∙ stand g t at) in
       let number : numbers_in_range overrides it ≡ true =
-          ap (numbers_in_range overrides) same
-          ∙ list_all_at (λ t. numbers_in_range overrides t.inner) types g t numbers at in
+      ap (numbers_in_range overrides) same
+      ∙ list_all_at (λ t. numbers_in_range overrides t.inner) types g t numbers at in
       and_from (not (is_struct it) && not (is_handle_pointer it))
       (parts_before (length types) it && numbers_in_range overrides it)
       (and_from (not (is_struct it)) (not (is_handle_pointer it)) free form)
@@ -178,19 +178,32 @@ module _ (m : Module) (found other : ModuleInfo)
         flat_map-append (uses_of m.types) a (b ++ g ∷ [])
         ∙ ap (λ z. used a ++ z) (flat_map-append (uses_of m.types) b (g ∷ []))
 
-    agree_same : module_operators_agree m found ≡ module_operators_agree m other
-    agree_same =
-        ap all_agree (uses_split (function_groups m.functions found.functions.items)
-        (function_groups (map (λ p. p.function) m.entry_points.items) found.entry_points.items)
-        (record { expressions = m.global_expressions; known = found.const_expression_types.items })
-        ∙ ((λ i. same_groups m.functions found.functions.items other.functions.items functions i
-        ++ (same_groups (map (λ p. p.function) m.entry_points.items) found.entry_points.items
-        other.entry_points.items entry_points i
+    abbrev points : List Function
+    points = map (λ p. p.function) m.entry_points.items
+
+    -- the module's own expressions
+    abbrev own_group : ModuleInfo → Group
+    own_group info = record { expressions = m.global_expressions; known = info.const_expression_types.items }
+
+    abbrev all_used : ModuleInfo → List Operation
+    all_used info =
+        used (function_groups m.functions info.functions.items)
+        ++ (used (function_groups points info.entry_points.items) ++ used (own_group info ∷ []))
+
+    uses_are : (info : ModuleInfo) → module_uses m info ≡ all_used info
+    uses_are info =
+        uses_split (function_groups m.functions info.functions.items)
+        (function_groups points info.entry_points.items) (own_group info)
+
+    uses_same : all_used found ≡ all_used other
+    uses_same = λ i.
+        same_groups m.functions found.functions.items other.functions.items functions i
+        ++ (same_groups points found.entry_points.items other.entry_points.items entry_points i
         ++ (same_uses m stand found.const_expression_types.items other.const_expression_types.items own
-        m.global_expressions i ++ [])))
-        ∙ sym (uses_split (function_groups m.functions other.functions.items)
-        (function_groups (map (λ p. p.function) m.entry_points.items) other.entry_points.items)
-        (record { expressions = m.global_expressions; known = other.const_expression_types.items }))))
+        m.global_expressions i ++ []))
+
+    agree_same : module_operators_agree m found ≡ module_operators_agree m other
+    agree_same = ap all_agree (uses_are found ∙ (uses_same ∙ sym (uses_are other)))
 
   -- ---- acceptance
   ranges_still : module_ranges_fit m other ≡ true → PartsStand m.types × (module_ranges_fit m found ≡ true)
@@ -204,32 +217,33 @@ module _ (m : Module) (found other : ModuleInfo)
       let order = and_parts (parts_stand_before m.types) _ types.0 in
       let stand : PartsStand m.types = parts_stand m.types order.0 in
       let still : (r k : TypeResolution) → IsSameType m.types r k →
-          resolution_fits (length m.overrides) (length m.types) k ≡ true →
-          resolution_fits (length m.overrides) (length m.types) r ≡ true =
-          still_fits (length m.overrides) m.types fit.0 stand order.1 in
+      resolution_fits (length m.overrides) (length m.types) k ≡ true →
+      resolution_fits (length m.overrides) (length m.types) r ≡ true =
+      still_fits (length m.overrides) m.types fit.0 stand order.1 in
       let infos : (rs ks : List ExpressionInfo) → AllLike (HasSameType m.types) rs ks →
-          list_all (λ k. resolution_fits (length m.overrides) (length m.types) k.ty) ks ≡ true →
-          list_all (λ k. resolution_fits (length m.overrides) (length m.types) k.ty) rs ≡ true =
-          pass_still (HasSameType m.types) (λ k. resolution_fits (length m.overrides) (length m.types) k.ty)
-          (λ r k. still r.ty k.ty) in
+      list_all (λ k. resolution_fits (length m.overrides) (length m.types) k.ty) ks ≡ true →
+      list_all (λ k. resolution_fits (length m.overrides) (length m.types) k.ty) rs ≡ true =
+      pass_still (HasSameType m.types) (λ k. resolution_fits (length m.overrides) (length m.types) k.ty)
+      (λ r k. still r.ty k.ty) in
       let all_of = and_parts (list_all (list_all (λ k. resolution_fits (length m.overrides) (length m.types) k.ty))
-          other.functions.items) _ rest.1 in
+      other.functions.items) _ rest.1 in
       let further = and_parts (list_all (list_all (λ k. resolution_fits (length m.overrides) (length m.types) k.ty))
-          other.entry_points.items) _ all_of.1 in
-      (stand,
-      and_from (sizes_fit m found) _ (sizes_same ∙ known.0)
-      (and_from (list_all type_is_fit m.types) _ fit.0
-      (and_from (module_in_range m) _ rest.0
-      (and_from (list_all (list_all (λ k. resolution_fits (length m.overrides) (length m.types) k.ty)) found.functions.items) _
-      (pass_still (AllLike (HasSameType m.types))
-      (list_all (λ k. resolution_fits (length m.overrides) (length m.types) k.ty)) infos
-      found.functions.items other.functions.items functions all_of.0)
-      (and_from (list_all (list_all (λ k. resolution_fits (length m.overrides) (length m.types) k.ty)) found.entry_points.items) _
-      (pass_still (AllLike (HasSameType m.types))
-      (list_all (λ k. resolution_fits (length m.overrides) (length m.types) k.ty)) infos
-      found.entry_points.items other.entry_points.items entry_points further.0)
-      (pass_still (IsSameType m.types) (resolution_fits (length m.overrides) (length m.types)) still
-      found.const_expression_types.items other.const_expression_types.items own further.1))))))
+      other.entry_points.items) _ all_of.1 in (
+        stand,
+        and_from (sizes_fit m found) _ (sizes_same ∙ known.0)
+            (and_from (list_all type_is_fit m.types) _ fit.0
+            (and_from (module_in_range m) _ rest.0
+            (and_from (list_all (list_all (λ k. resolution_fits (length m.overrides) (length m.types) k.ty)) found.functions.items) _
+            (pass_still (AllLike (HasSameType m.types))
+            (list_all (λ k. resolution_fits (length m.overrides) (length m.types) k.ty)) infos
+            found.functions.items other.functions.items functions all_of.0)
+            (and_from (list_all (list_all (λ k. resolution_fits (length m.overrides) (length m.types) k.ty)) found.entry_points.items) _
+            (pass_still (AllLike (HasSameType m.types))
+            (list_all (λ k. resolution_fits (length m.overrides) (length m.types) k.ty)) infos
+            found.entry_points.items other.entry_points.items entry_points further.0)
+            (pass_still (IsSameType m.types) (resolution_fits (length m.overrides) (length m.types)) still
+            found.const_expression_types.items other.const_expression_types.items own further.1))))),
+      )
 
   pub accepted_still : is_accepted m other ≡ true → is_accepted m found ≡ true
   unfolding is_accepted

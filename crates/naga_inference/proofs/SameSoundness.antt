@@ -29,6 +29,7 @@ use Rattle.module_semantics.specs.acceptance.ExpressionTypes.{expected_type, has
 use Rattle.module_semantics.specs.acceptance.Initialisers.{initialiser_fits, initialisers_fit}
 use Rattle.module_semantics.specs.acceptance.OperandDemands.{is_integer, is_pointer, is_scalar_or_vector}
 use Rattle.module_semantics.specs.acceptance.OperandDemands.{is_swizzled, operand_is, operands_fit, points_to_components}
+use Rattle.module_semantics.specs.acceptance.Operations.{Operation}
 use Rattle.module_semantics.specs.acceptance.Soundness.{declarations_are_sound, expressions_are_sound, typed_function_is_sound}
 use Rattle.module_semantics.specs.acceptance.StatementsFit.{are_passed, block_is_sound, cases_are_sound}
 use Rattle.module_semantics.specs.acceptance.StatementsFit.{is_answered, is_atomic_result, is_call}
@@ -48,13 +49,13 @@ module _ (m : Module) (stand : PartsStand m.types) (rs ks : List TypeResolution)
   takes demand h = ap (λ o. option_map_or demand o false) (inner h)
 
   -- what depends on its identity alone
-  told : {X : Type 0} (use : List ℕ → X) (other : X) (o q : Option TypeResolution) → AreSame m.types o q →
-      option_map_or (λ r. use (type_identity m.types r)) o other
-      ≡ option_map_or (λ r. use (type_identity m.types r)) q other
-  told use other None None same = refl
-  told use other None (Some k) same = absurd same
-  told use other (Some r) None same = absurd same
-  told use other (Some r) (Some k) same = ap use (same_identity m.types stand r k same)
+  told : {X : Type 0} (give : List ℕ → X) (other : X) (o q : Option TypeResolution) → AreSame m.types o q →
+      option_map_or (λ r. give (type_identity m.types r)) o other
+      ≡ option_map_or (λ r. give (type_identity m.types r)) q other
+  told give other None None same = refl
+  told give other None (Some k) same = absurd same
+  told give other (Some r) None same = absurd same
+  told give other (Some r) (Some k) same = ap give (same_identity m.types stand r k same)
 
   value : (h : ℕ) (x : TypeResolution) → value_has_type m.types rs h x ≡ value_has_type m.types ks h x
   value h x =
@@ -177,13 +178,13 @@ module _ (m : Module) (stand : PartsStand m.types) (rs ks : List TypeResolution)
   keys (expression.As operand kind convert) = ap (λ o. Some (conversion_key m.types kind convert o)) (inner operand)
   keys _ = refl
 
+  abbrev operation : (operator : List ℕ) (operands : List (List ℕ)) (answer : List ℕ) → Operation
+  operation operator operands answer = record { operator = operator; operands = operands; answer = answer }
+
   used : (here : ℕ) (e : Expression) → expression_use m.types rs here e ≡ expression_use m.types ks here e
   used here e = λ i.
-      option_map (λ operator. record {
-        operator = operator;
-        operands = map (λ h. identified h i) (expression_operands e);
-        answer = identified here i;
-      }) (keys e i)
+      option_map (λ operator. operation operator (map (λ h. identified h i) (expression_operands e)) (identified here i))
+      (keys e i)
 
   pub same_uses : (es : List Expression) →
       uses_of m.types (record { expressions = es; known = rs }) ≡ uses_of m.types (record { expressions = es; known = ks })

@@ -30,7 +30,8 @@ use Rattle.naga_inference.specs.Functions.{answered, math_answer}
 use Rattle.naga_inference.specs.Inferred.{by_demand, inferred_type}
 use Rattle.naga_inference.specs.Passes.{AllLike}
 use Rattle.naga_inference.specs.Rules.{binary_rule, conversion_type, image_type, loaded_matrix, query_type, relational_type, truth_type}
-use Rattle.naga_inference.specs.Rules.{matrix_product, product_of, product_type, rule_type, same, same_as, same_inner, scaled, vector_product}
+use Rattle.naga_inference.specs.Rules.{matrix_product, product_of, product_type, rule_type, scaled, vector_product}
+use Rattle.naga_inference.specs.Types.{same, same_as, same_inner}
 use Rattle.naga_inference.specs.declared.functions.MathAnswer.{MathAnswer}
 use Rattle.naga_inference.specs.declared.functions.MathAnswer.TheVariants.{OfOperand, OfType}
 use Rattle.naga_inference.specs.declared.functions.MathAnswer.TheVariants as answer
@@ -88,7 +89,7 @@ same_once types r k (inl equal) = equal_same types (same r) (same k) (ap same eq
 same_once types (Handle g) (Handle h) (inr told) = inr told
 same_once types (Handle g) (Value it) (inr told) =
     let free : option_map is_struct (Some it) ≡ Some false =
-        sym (ap (option_map is_struct) told.1) ∙ told.0 in
+    sym (ap (option_map is_struct) told.1) ∙ told.0 in
     let none : is_struct it ≡ false = cc in
     subst (λ o. AreSame types (Some (Handle g)) (option_map (λ own. Value own) o)) (sym (no_struct it none)) (inr told)
 same_once types (Value it) (Handle h) (inr told) =
@@ -193,7 +194,8 @@ module _ (m : Module) (rs ks : List TypeResolution) (all : AllLike (IsSameType m
   -- what depends on an operand's type by itself alone
   by_inner : (rule : Option TypeInner → Option TypeResolution) (h : ℕ) →
       AreSame m.types (rule (known_inner m.types rs h)) (rule (known_inner m.types ks h))
-  by_inner rule h = equal_same m.types _ _ (ap rule (same_known_inner m.types rs ks h all))
+  by_inner rule h = equal_same m.types (rule (known_inner m.types rs h)) (rule (known_inner m.types ks h))
+      (ap rule (same_known_inner m.types rs ks h all))
 
   binary_same : (op : BinaryOperator) (left right : ℕ) →
       AreSame m.types (binary_rule m.types rs op left right) (binary_rule m.types ks op left right)

@@ -8,7 +8,6 @@
 use Rattle.std.specs.Prelude.{Option, Some, None}
 use Rattle.std.specs.Option.{option_map}
 use Rattle.indexmap.specs.IndexMap.{get}
-use Rattle.naga_ir.specs.Literals.{scalar_of}
 use Rattle.naga_ir.specs.contracts.types.PredeclaredTypePartialEq.TheImpl.{
   eq-value as predeclared-eq-value,
 }
@@ -17,7 +16,6 @@ use Rattle.naga_ir.specs.declared.operators.MathFunction.{MathFunction}
 use Rattle.naga_ir.specs.declared.operators.MathFunction.TheVariants as math
 use Rattle.naga_ir.specs.declared.types.PredeclaredType.{PredeclaredType}
 use Rattle.naga_ir.specs.declared.types.PredeclaredType.TheVariants as predeclared
-use Rattle.naga_ir.specs.declared.types.ScalarKind.TheVariants as kind
 use Rattle.naga_ir.specs.declared.types.TypeInner.{TypeInner}
 use Rattle.naga_ir.specs.declared.types.TypeInner.TheVariants as inner
 use Rattle.naga_ir.specs.declared.types.VectorSize.TheVariants as size
@@ -26,13 +24,9 @@ use Rattle.naga_info.specs.declared.info.TypeResolution.TheVariants.{Handle, Val
 use Rattle.naga_inference.specs.declared.functions.MathAnswer.{MathAnswer}
 use Rattle.naga_inference.specs.declared.functions.MathAnswer.TheVariants.{OfOperand, OfType}
 use Rattle.naga_inference.specs.declared.functions.MathAnswer.TheVariants.{Nothing}
+use Rattle.naga_inference.specs.Types.{f32_scalar, i32_scalar, scalar_type, u32_scalar}
 use Rattle.module_semantics.specs.TypeParts.{component_scalar}
-
-abbrev pub i32_scalar : TypeResolution
-i32_scalar = Value (inner.Scalar (scalar_of kind.Sint 4))
-
-abbrev pub u32_scalar : TypeResolution
-u32_scalar = Value (inner.Scalar (scalar_of kind.Uint 4))
+use Rattle.module_semantics.specs.acceptance.ExpressionTypes.{vector_of}
 
 abbrev pub of_type : Option TypeResolution → MathAnswer
 of_type None = Nothing
@@ -40,14 +34,14 @@ of_type (Some r) = OfType r
 
 -- one component by itself
 abbrev pub component_type : TypeInner → Option TypeResolution
-component_type it = option_map (λ s. Value (inner.Scalar s)) (component_scalar it)
+component_type it = option_map (λ s. scalar_type s) (component_scalar it)
 
 abbrev pub transposed_type : TypeInner → Option TypeResolution
 transposed_type (inner.Matrix columns rows s) = Some (Value (inner.Matrix rows columns s))
 transposed_type _ = None
 
 abbrev pub determinant_type : TypeInner → Option TypeResolution
-determinant_type (inner.Matrix columns rows s) = Some (Value (inner.Scalar s))
+determinant_type (inner.Matrix columns rows s) = Some (scalar_type s)
 determinant_type _ = None
 
 -- a matrix with a row for each component of the first operand and a column for each of the second
@@ -75,13 +69,13 @@ frexp_type special _ = None
 
 -- four or two components that stand in the bits of one `u32`
 abbrev pub unpacked_type : MathFunction → MathAnswer
-unpacked_type math.Unpack4x8snorm = OfType (Value (inner.Vector size.Quad (scalar_of kind.Float 4)))
-unpacked_type math.Unpack4x8unorm = OfType (Value (inner.Vector size.Quad (scalar_of kind.Float 4)))
-unpacked_type math.Unpack2x16snorm = OfType (Value (inner.Vector size.Bi (scalar_of kind.Float 4)))
-unpacked_type math.Unpack2x16unorm = OfType (Value (inner.Vector size.Bi (scalar_of kind.Float 4)))
-unpacked_type math.Unpack2x16float = OfType (Value (inner.Vector size.Bi (scalar_of kind.Float 4)))
-unpacked_type math.Unpack4xI8 = OfType (Value (inner.Vector size.Quad (scalar_of kind.Sint 4)))
-unpacked_type math.Unpack4xU8 = OfType (Value (inner.Vector size.Quad (scalar_of kind.Uint 4)))
+unpacked_type math.Unpack4x8snorm = OfType (vector_of size.Quad f32_scalar)
+unpacked_type math.Unpack4x8unorm = OfType (vector_of size.Quad f32_scalar)
+unpacked_type math.Unpack2x16snorm = OfType (vector_of size.Bi f32_scalar)
+unpacked_type math.Unpack2x16unorm = OfType (vector_of size.Bi f32_scalar)
+unpacked_type math.Unpack2x16float = OfType (vector_of size.Bi f32_scalar)
+unpacked_type math.Unpack4xI8 = OfType (vector_of size.Quad i32_scalar)
+unpacked_type math.Unpack4xU8 = OfType (vector_of size.Quad u32_scalar)
 unpacked_type _ = OfOperand
 
 -- what each function gives; what is not listed gives a value of its first operand's type
@@ -95,17 +89,17 @@ math_answer special math.Frexp it second = of_type (frexp_type special it)
 math_answer special math.Transpose it second = of_type (transposed_type it)
 math_answer special math.Determinant it second = of_type (determinant_type it)
 math_answer special math.Outer it second = of_type (outer_type it second)
-math_answer special math.Dot4I8Packed it second = OfType i32_scalar
-math_answer special math.Dot4U8Packed it second = OfType u32_scalar
-math_answer special math.Pack4x8snorm it second = OfType u32_scalar
-math_answer special math.Pack4x8unorm it second = OfType u32_scalar
-math_answer special math.Pack2x16snorm it second = OfType u32_scalar
-math_answer special math.Pack2x16unorm it second = OfType u32_scalar
-math_answer special math.Pack2x16float it second = OfType u32_scalar
-math_answer special math.Pack4xI8 it second = OfType u32_scalar
-math_answer special math.Pack4xU8 it second = OfType u32_scalar
-math_answer special math.Pack4xI8Clamp it second = OfType u32_scalar
-math_answer special math.Pack4xU8Clamp it second = OfType u32_scalar
+math_answer special math.Dot4I8Packed it second = OfType (scalar_type i32_scalar)
+math_answer special math.Dot4U8Packed it second = OfType (scalar_type u32_scalar)
+math_answer special math.Pack4x8snorm it second = OfType (scalar_type u32_scalar)
+math_answer special math.Pack4x8unorm it second = OfType (scalar_type u32_scalar)
+math_answer special math.Pack2x16snorm it second = OfType (scalar_type u32_scalar)
+math_answer special math.Pack2x16unorm it second = OfType (scalar_type u32_scalar)
+math_answer special math.Pack2x16float it second = OfType (scalar_type u32_scalar)
+math_answer special math.Pack4xI8 it second = OfType (scalar_type u32_scalar)
+math_answer special math.Pack4xU8 it second = OfType (scalar_type u32_scalar)
+math_answer special math.Pack4xI8Clamp it second = OfType (scalar_type u32_scalar)
+math_answer special math.Pack4xU8Clamp it second = OfType (scalar_type u32_scalar)
 math_answer special fun it second = unpacked_type fun
 
 -- the type that an answer stands for, by the type of the first operand

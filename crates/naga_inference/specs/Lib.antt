@@ -4,3 +4,4 @@ pub mod Functions
 pub mod Inferred
 pub mod Passes
 pub mod Rules
+pub mod Types

@@ -36,83 +36,53 @@ use Rattle.naga_ir.specs.declared.types.VectorSize.{VectorSize}
 use Rattle.naga_ir.specs.declared.types.VectorSize.TheVariants as size
 use Rattle.naga_info.specs.Resolution.{inner_of}
 use Rattle.naga_info.specs.declared.info.TypeResolution.{TypeResolution}
-use Rattle.naga_info.specs.declared.info.TypeResolution.TheVariants.{Handle, Value}
+use Rattle.naga_info.specs.declared.info.TypeResolution.TheVariants.{Value}
 use Rattle.module_semantics.specs.Conversions.{conversion_target}
 use Rattle.module_semantics.specs.ExpressionOperators.{pointee_scalar}
 use Rattle.module_semantics.specs.TypeParts.{known_inner}
+use Rattle.module_semantics.specs.acceptance.ExpressionTypes.{vector_of}
 use Rattle.naga_inference.specs.Functions.{answered, math_answer}
-
--- ---- types by themselves
-
-abbrev pub scalar : Scalar → TypeResolution
-scalar s = Value (inner.Scalar s)
-
-abbrev pub vector : VectorSize → Scalar → TypeResolution
-vector n s = Value (inner.Vector n s)
-
-abbrev pub f32 : Scalar
-f32 = scalar_of kind.Float 4
-
-abbrev pub i32 : Scalar
-i32 = scalar_of kind.Sint 4
-
-abbrev pub u32 : Scalar
-u32 = scalar_of kind.Uint 4
-
-abbrev pub truth : Scalar
-truth = scalar_of kind.Bool 1
-
--- the same type once more; a type by itself is no struct
-abbrev pub same_inner : TypeInner → Option TypeInner
-same_inner (inner.Struct members span) = None
-same_inner it = Some it
-
-abbrev pub same : TypeResolution → Option TypeResolution
-same (Handle h) = Some (Handle h)
-same (Value it) = option_map (λ own. Value own) (same_inner it)
-
--- the type of an operand
-abbrev pub same_as : (known : List TypeResolution) → (operand : ℕ) → Option TypeResolution
-same_as known operand = option_and_then same (slice_get known operand)
+use Rattle.naga_inference.specs.Types.{bool_scalar, f32_scalar, i32_scalar, same, same_as}
+use Rattle.naga_inference.specs.Types.{scalar_type, u32_scalar}
 
 -- ---- images
 
 -- the scalar of what a texel of a format is read as: naga's scalar of a format, and WGSL's channel
 -- format
 abbrev pub format_scalar : StorageFormat → Scalar
-format_scalar format.R8Uint = u32
-format_scalar format.Rg8Uint = u32
-format_scalar format.Rgba8Uint = u32
-format_scalar format.R16Uint = u32
-format_scalar format.Rg16Uint = u32
-format_scalar format.Rgba16Uint = u32
-format_scalar format.R32Uint = u32
-format_scalar format.Rg32Uint = u32
-format_scalar format.Rgba32Uint = u32
-format_scalar format.Rgb10a2Uint = u32
-format_scalar format.R8Sint = i32
-format_scalar format.Rg8Sint = i32
-format_scalar format.Rgba8Sint = i32
-format_scalar format.R16Sint = i32
-format_scalar format.Rg16Sint = i32
-format_scalar format.Rgba16Sint = i32
-format_scalar format.R32Sint = i32
-format_scalar format.Rg32Sint = i32
-format_scalar format.Rgba32Sint = i32
+format_scalar format.R8Uint = u32_scalar
+format_scalar format.Rg8Uint = u32_scalar
+format_scalar format.Rgba8Uint = u32_scalar
+format_scalar format.R16Uint = u32_scalar
+format_scalar format.Rg16Uint = u32_scalar
+format_scalar format.Rgba16Uint = u32_scalar
+format_scalar format.R32Uint = u32_scalar
+format_scalar format.Rg32Uint = u32_scalar
+format_scalar format.Rgba32Uint = u32_scalar
+format_scalar format.Rgb10a2Uint = u32_scalar
+format_scalar format.R8Sint = i32_scalar
+format_scalar format.Rg8Sint = i32_scalar
+format_scalar format.Rgba8Sint = i32_scalar
+format_scalar format.R16Sint = i32_scalar
+format_scalar format.Rg16Sint = i32_scalar
+format_scalar format.Rgba16Sint = i32_scalar
+format_scalar format.R32Sint = i32_scalar
+format_scalar format.Rg32Sint = i32_scalar
+format_scalar format.Rgba32Sint = i32_scalar
 format_scalar format.R64Uint = scalar_of kind.Uint 8
-format_scalar _ = f32
+format_scalar _ = f32_scalar
 
 -- what is gathered: four components, of depths too (WGSL's `textureGather`)
 abbrev pub gathered_type : ImageClass → TypeResolution
-gathered_type (class.Sampled kind multi) = vector size.Quad (scalar_of kind 4)
-gathered_type _ = vector size.Quad f32
+gathered_type (class.Sampled kind multi) = vector_of size.Quad (scalar_of kind 4)
+gathered_type _ = vector_of size.Quad f32_scalar
 
 -- what is sampled or loaded: of an image of depths one number
 abbrev pub texel_type : ImageClass → TypeResolution
-texel_type (class.Sampled kind multi) = vector size.Quad (scalar_of kind 4)
-texel_type (class.Depth multi) = scalar f32
-texel_type class.External = vector size.Quad f32
-texel_type (class.Storage format access) = vector size.Quad (format_scalar format)
+texel_type (class.Sampled kind multi) = vector_of size.Quad (scalar_of kind 4)
+texel_type (class.Depth multi) = scalar_type f32_scalar
+texel_type class.External = vector_of size.Quad f32_scalar
+texel_type (class.Storage format access) = vector_of size.Quad (format_scalar format)
 
 abbrev pub class_type : ImageClass → (gathers : Bool) → TypeResolution
 class_type class true = gathered_type class
@@ -124,10 +94,10 @@ image_type gathers _ = None
 
 -- the size of a cube is that of a face
 abbrev pub size_type : ImageDimension → TypeResolution
-size_type dimension.D1 = scalar u32
-size_type dimension.D2 = vector size.Bi u32
-size_type dimension.Cube = vector size.Bi u32
-size_type dimension.D3 = vector size.Tri u32
+size_type dimension.D1 = scalar_type u32_scalar
+size_type dimension.D2 = vector_of size.Bi u32_scalar
+size_type dimension.Cube = vector_of size.Bi u32_scalar
+size_type dimension.D3 = vector_of size.Tri u32_scalar
 
 abbrev pub image_size_type : TypeInner → Option TypeResolution
 image_size_type (inner.Image dim arrayed class) = Some (size_type dim)
@@ -135,14 +105,14 @@ image_size_type _ = None
 
 abbrev pub query_type : ImageQuery → (image : Option TypeInner) → Option TypeResolution
 query_type (query.Size level) image = option_and_then image_size_type image
-query_type _ image = Some (scalar u32)
+query_type _ image = Some (scalar_type u32_scalar)
 
 -- ---- operators
 
 -- `bool`, or as many as there are components
 abbrev pub truth_type : TypeInner → Option TypeResolution
-truth_type (inner.Scalar s) = Some (scalar truth)
-truth_type (inner.Vector n s) = Some (vector n truth)
+truth_type (inner.Scalar s) = Some (scalar_type bool_scalar)
+truth_type (inner.Vector n s) = Some (vector_of n bool_scalar)
 truth_type _ = None
 
 -- a product of a matrix and what stands after it
@@ -151,13 +121,13 @@ abbrev pub matrix_product :
     Option TypeResolution
 matrix_product columns rows s l (inner.Matrix columns_b rows_b t) =
     Some (Value (inner.Matrix columns_b rows s))
-matrix_product columns rows s l (inner.Vector n t) = Some (vector rows s)
+matrix_product columns rows s l (inner.Vector n t) = Some (vector_of rows s)
 matrix_product columns rows s l (inner.Scalar t) = same l
 matrix_product columns rows s l _ = None
 
 -- of a vector and what stands after it
 abbrev pub vector_product : (l : TypeResolution) → TypeInner → Option TypeResolution
-vector_product l (inner.Matrix columns rows t) = Some (vector columns t)
+vector_product l (inner.Matrix columns rows t) = Some (vector_of columns t)
 vector_product l (inner.Vector n t) = same l
 vector_product l (inner.Scalar t) = same l
 vector_product l _ = None
@@ -186,7 +156,7 @@ product types known left right =
     option_and_then (λ l. option_and_then (product_of types l) (slice_get known right))
     (slice_get known left)
 
--- Comparisons give truth values, and `&&` and `||` have a type after a `bool` alone, which
+-- Comparisons give bool_scalar values, and `&&` and `||` have a type after a `bool` alone, which
 -- acceptance gives them.
 abbrev pub binary_rule : List Type_ → (known : List TypeResolution) → BinaryOperator →
     (left right : ℕ) → Option TypeResolution
@@ -209,8 +179,8 @@ binary_rule types known _ left right = same_as known left
 
 abbrev pub relational_type :
     RelationalFunction → (argument : Option TypeInner) → Option TypeResolution
-relational_type relational.All argument = Some (scalar truth)
-relational_type relational.Any argument = Some (scalar truth)
+relational_type relational.All argument = Some (scalar_type bool_scalar)
+relational_type relational.Any argument = Some (scalar_type bool_scalar)
 relational_type relational.IsNan argument = option_and_then truth_type argument
 relational_type relational.IsInf argument = option_and_then truth_type argument
 
@@ -251,9 +221,9 @@ rule_type m known (expression.Math fun arg arg1 arg2 arg3) =
     (known_inner m.types known arg)
 rule_type m known (expression.As operand kind convert) =
     option_and_then (conversion_type kind convert) (known_inner m.types known operand)
-rule_type m known (expression.ArrayLength array) = Some (scalar u32)
-rule_type m known expression.RayQueryProceedResult = Some (scalar truth)
-rule_type m known expression.SubgroupBallotResult = Some (vector size.Quad u32)
+rule_type m known (expression.ArrayLength array) = Some (scalar_type u32_scalar)
+rule_type m known expression.RayQueryProceedResult = Some (scalar_type bool_scalar)
+rule_type m known expression.SubgroupBallotResult = Some (vector_of size.Quad u32_scalar)
 rule_type m known (expression.CooperativeLoad columns rows role data_) =
     loaded_matrix columns rows role
     (option_and_then (pointee_scalar m.types) (known_inner m.types known data_.pointer))

@@ -3,18 +3,19 @@
 
 ghost use Rattle.std.specs.Prelude.{◌≡◌};
 ghost use Rattle.std.specs.Option.{option_and_then, option_copied};
-ghost use Rattle.naga_acceptance.specs.KnownTypes.{known_types};
+ghost use Rattle.naga_acceptance.specs.KnownTypes.{inferred, known_types};
 ghost use Rattle.module_semantics.specs.ExpressionOperators.{pointee_scalar, scalar_in};
 ghost use Rattle.module_semantics.specs.TypeParts.{known_inner};
+ghost use Rattle.module_semantics.specs.acceptance.ExpressionTypes.{vector_of};
 ghost use Rattle.naga_inference.specs.Functions.{answered, math_answer};
 ghost use Rattle.naga_inference.specs.Inferred.{inferred_type};
 ghost use Rattle.naga_inference.specs.Rules.{binary_rule, class_type, conversion_type};
 ghost use Rattle.naga_inference.specs.Rules.{format_scalar, gathered_type, image_type};
 ghost use Rattle.naga_inference.specs.Rules.{loaded_matrix, matrix_product, product};
 ghost use Rattle.naga_inference.specs.Rules.{product_of, product_type, query_type};
-ghost use Rattle.naga_inference.specs.Rules.{relational_type, rule_type, same, same_as};
-ghost use Rattle.naga_inference.specs.Rules.{same_inner, scaled, size_type, texel_type};
-ghost use Rattle.naga_inference.specs.Rules.{truth_type, vector_product};
+ghost use Rattle.naga_inference.specs.Rules.{relational_type, rule_type, scaled, size_type};
+ghost use Rattle.naga_inference.specs.Rules.{texel_type, truth_type, vector_product};
+ghost use Rattle.naga_inference.specs.Types.{same, same_as, same_inner, scalar_type};
 
 use crate::functions::{MathAnswer, math_answer};
 use module_semantics::type_parts::{converted_scalar, inner_at, inner_of};
@@ -28,13 +29,13 @@ use naga_ir::{
 };
 
 fn scalar(of: Scalar) -> TypeResolution
-    ensures { result ≡ Rattle.naga_inference.specs.Rules.scalar of }
+    ensures { result ≡ scalar_type of }
 {
     TypeResolution::Value(TypeInner::Scalar(of))
 }
 
 fn vector(size: VectorSize, of: Scalar) -> TypeResolution
-    ensures { result ≡ Rattle.naga_inference.specs.Rules.vector size of }
+    ensures { result ≡ vector_of size of }
 {
     TypeResolution::Value(TypeInner::Vector { size, scalar: of })
 }
@@ -509,7 +510,7 @@ fn rule_type(module: &Module, known: Known<'_>, expression: &Expression) -> Opti
 }
 
 fn resolution_of(ty: InferredType) -> TypeResolution
-    ensures { result ≡ Rattle.naga_acceptance.specs.KnownTypes.inferred ty }
+    ensures { result ≡ inferred ty }
 {
     match ty {
         InferredType::Handle(handle) => TypeResolution::Handle(handle),
