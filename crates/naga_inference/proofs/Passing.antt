@@ -22,6 +22,27 @@ module _ {P R F : Type 0} (rule : List R → P → Result R F) where
       answers_after rule before (p ∷ ps) ≡ Err f
   stopped before p ps f here = ap (result_and_then (λ x. answers_after rule (before ++ (x ∷ [])) ps)) here
 
+  -- ---- the pass as a loop, from what stands before and what is left (its) to what is found
+  pub begins : (before : List R) (its ps : List P) → before ≡ [] → its ≡ ps →
+      answers_after rule before its ≡ answers_after rule [] ps
+  begins before its ps none all = λ i. answers_after rule (none i) (all i)
+
+  pub goes_on : (before after : List R) (r : R) (p : P) (its left : List P) (found : Result (List R) F) →
+      after ≡ before ++ (r ∷ []) → rule before p ≡ Ok r → its ≡ p ∷ left → answers_after rule before its ≡ found →
+      answers_after rule after left ≡ found
+  goes_on before after r p its left found is here steps so_far =
+      ap (λ rs. answers_after rule rs left) is
+      ∙ (sym (passed before p left r here) ∙ (ap (answers_after rule before) (sym steps) ∙ so_far))
+
+  pub stops : (before : List R) (f : F) (p : P) (its left : List P) (found : Result (List R) F) →
+      rule before p ≡ Err f → its ≡ p ∷ left → answers_after rule before its ≡ found → found ≡ Err f
+  stops before f p its left found here steps so_far =
+      sym so_far ∙ (ap (answers_after rule before) steps ∙ stopped before p left f here)
+
+  pub ends : (before : List R) (its : List P) (found : Result (List R) F) → its ≡ [] →
+      answers_after rule before its ≡ found → found ≡ Ok before
+  ends before its found none so_far = sym so_far ∙ ap (answers_after rule before) none
+
   -- what the pass finds follows the rule, item by item
   pub pass_follows : (own : List R) (ps : List P) (answers : List R) → answers_after rule own ps ≡ Ok answers →
       (ks : List R) × (answers ≡ own ++ ks) × Follows rule (λ a b. a ≡ b) own ps ks

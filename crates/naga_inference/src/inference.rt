@@ -1,9 +1,8 @@
 //! The types of all expressions of a module.
 
-ghost use Rattle.std.specs.Prelude.{◌≡◌, IsTrue, IfOk, IfErr, OnErr, Some};
-ghost use Rattle.std.specs.Result.{result_map_both};
+ghost use Rattle.std.specs.Prelude.{◌≡◌, IsTrue, IfOk, IfErr, MatchResult, OnErr, Some};
 ghost use Rattle.module_semantics.specs.acceptance.Accepted.{is_accepted};
-ghost use Rattle.naga_inference.specs.Following.{NoneIsAccepted};
+ghost use Rattle.naga_inference.specs.Following.{FollowsRules, NoneIsAccepted};
 ghost use Rattle.naga_inference.specs.Inferred.{IsTyped, IsRefused};
 ghost use Rattle.naga_inference.specs.Inferred.{entry_points_infos, function_infos};
 ghost use Rattle.naga_inference.specs.Inferred.{first_untyped, functions_infos, own_types};
@@ -21,8 +20,8 @@ fn own_types(
     alloc: Global,
     module: &Module,
 ) -> Result<Result<Vec<TypeResolution>, Handle<Expression>>, AllocError>
-    ensures { IfOk result (λ found. result_map_both (λ types. types.items) (λ h. h) found
-        ≡ own_types «module».now) }
+    ensures { IfOk result (λ found. MatchResult found
+        (λ types. own_types «module».now ≡ Ok types.items) (λ h. own_types «module».now ≡ Err h)) }
 {
     let mut types = Vec::new(alloc);
     for (handle, expression) in module.global_expressions.iter() {
@@ -40,7 +39,7 @@ fn function_infos(
     module: &Module,
     function: &Function,
 ) -> Result<Result<FunctionInfo, Handle<Expression>>, AllocError>
-    ensures { IfOk result (λ found. found ≡ function_infos «module».now function.now) }
+    ensures { IfOk result (λ found. function_infos «module».now function.now ≡ found) }
 {
     let mut expressions: Vec<ExpressionInfo> = Vec::new(alloc);
     for (handle, expression) in function.expressions.iter() {
@@ -58,8 +57,9 @@ fn functions_infos(
     alloc: Global,
     module: &Module,
 ) -> Result<Result<Vec<FunctionInfo>, (Handle<Function>, Handle<Expression>)>, AllocError>
-    ensures { IfOk result (λ found. result_map_both (λ infos. infos.items) (λ p. p) found
-        ≡ functions_infos «module».now) }
+    ensures { IfOk result (λ found. MatchResult found
+        (λ infos. functions_infos «module».now ≡ Ok infos.items)
+        (λ p. functions_infos «module».now ≡ Err p)) }
 {
     let mut infos = Vec::new(alloc);
     for (here, function) in module.functions.iter() {
@@ -76,8 +76,9 @@ fn entry_points_infos(
     alloc: Global,
     module: &Module,
 ) -> Result<Result<Vec<FunctionInfo>, (usize, Handle<Expression>)>, AllocError>
-    ensures { IfOk result (λ found. result_map_both (λ infos. infos.items) (λ p. p) found
-        ≡ entry_points_infos «module».now) }
+    ensures { IfOk result (λ found. MatchResult found
+        (λ infos. entry_points_infos «module».now ≡ Ok infos.items)
+        (λ p. entry_points_infos «module».now ≡ Err p)) }
 {
     let mut infos = Vec::new(alloc);
     for (index, entry_point) in module.entry_points.iter().enumerate() {
@@ -131,7 +132,8 @@ fn module_types(
 /// An `Ok(Ok(_))` has the types that the rules give, and the module is accepted with them. Nothing
 /// is counted in it: [`count`](naga_acceptance::count) does that.
 ///
-/// An `Ok(Err(_))` is of a module that is not accepted so:
+/// An `Ok(Err(_))` comes only where no info is accepted that follows the rules, in whichever way it
+/// tells its types, by handle or by itself:
 ///
 /// - [`InferenceError::Untyped`]: the rules give the expression there no type. It is the first: of
 ///   the module's own expressions, of the functions and of the entry points, in this order.
@@ -158,6 +160,7 @@ pub fn infer(
     ensures typed { IfOk result (λ found. IfOk found (IsTyped «module».now)) }
     ensures accepted { IfOk result (λ found. IfOk found
         (λ info. IsTrue (is_accepted «module».now info))) }
+    ensures follows { IfOk result (λ found. IfOk found (FollowsRules «module».now)) }
     ensures refused { IfOk result (λ found. IfErr found (IsRefused «module».now)) }
     ensures none { IfOk result (λ found. OnErr found (NoneIsAccepted «module».now)) }
 {
