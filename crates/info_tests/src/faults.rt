@@ -40,7 +40,10 @@ fn the_first_without_a_type_is_told(rt: HostRuntime) {
     let mut module = Module::new(alloc);
     let here = module.functions.append(function).expect(&rt, "memory");
     let position = FaultPosition::Function(here, FunctionPosition::Expression(both));
-    assert_eq!(rt; refusal(&rt, alloc, &module), InferenceError::Untyped(position));
+    assert_eq!(rt;
+        refusal(&rt, alloc, &module),
+        InferenceError::Untyped(position)
+    );
 }
 
 /// A constant of `u32` whose value is an `i32`.
@@ -65,5 +68,8 @@ fn a_fault_of_acceptance_is_told(rt: HostRuntime) {
         item: FaultPosition::Constant(ItemIndex::from_index(0)),
         fault: Fault::InitialiserType,
     };
-    assert_eq!(rt; refusal(&rt, alloc, &module), InferenceError::Unaccepted(fault));
+    assert_eq!(rt;
+        refusal(&rt, alloc, &module),
+        InferenceError::Unaccepted(fault)
+    );
 }

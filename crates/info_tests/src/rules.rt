@@ -4,9 +4,9 @@ use naga_acceptance::parts::Known;
 use naga_inference::inferred_type;
 use naga_info::TypeResolution;
 use naga_ir::{
-    BinaryOperator, Expression, Handle, ImageClass, ImageDimension, ItemIndex, MathFunction, Module,
-    SampleLevel, Scalar, ScalarKind, StorageAccess, StorageFormat, SwizzleComponent, TypeInner,
-    VectorSize,
+    BinaryOperator, Expression, Handle, ImageClass, ImageDimension, ItemIndex, MathFunction,
+    Module, SampleLevel, Scalar, ScalarKind, StorageAccess, StorageFormat, SwizzleComponent,
+    TypeInner, VectorSize,
 };
 use std::process::Abort;
 
@@ -98,9 +98,19 @@ fn operators_have_their_types(rt: HostRuntime) {
     let row = vector(VectorSize::Bi, Scalar::F32);
     gives(&rt, &module, operator(BinaryOperator::Multiply, 2, 1), row);
     let column = vector(VectorSize::Tri, Scalar::F32);
-    gives(&rt, &module, operator(BinaryOperator::Multiply, 3, 2), column);
+    gives(
+        &rt,
+        &module,
+        operator(BinaryOperator::Multiply, 3, 2),
+        column,
+    );
     let scaled = vector(VectorSize::Tri, Scalar::F32);
-    gives(&rt, &module, operator(BinaryOperator::Multiply, 4, 1), scaled);
+    gives(
+        &rt,
+        &module,
+        operator(BinaryOperator::Multiply, 4, 1),
+        scaled,
+    );
     let conversion = Expression::As {
         expr: at(0),
         kind: ScalarKind::Float,
@@ -113,11 +123,21 @@ fn operators_have_their_types(rt: HostRuntime) {
 fn functions_have_their_types(rt: HostRuntime) {
     let module = Module::new(rt.alloc());
     let transposed = matrix(VectorSize::Bi, VectorSize::Tri);
-    gives(&rt, &module, called(MathFunction::Transpose, 2, None), transposed);
+    gives(
+        &rt,
+        &module,
+        called(MathFunction::Transpose, 2, None),
+        transposed,
+    );
     let number = TypeInner::Scalar(Scalar::F32);
     gives(&rt, &module, called(MathFunction::Dot, 1, Some(1)), number);
     let bits = TypeInner::Scalar(Scalar::U32);
-    gives(&rt, &module, called(MathFunction::Pack2x16float, 3, None), bits);
+    gives(
+        &rt,
+        &module,
+        called(MathFunction::Pack2x16float, 3, None),
+        bits,
+    );
 }
 
 #[test]

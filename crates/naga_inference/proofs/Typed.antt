@@ -25,9 +25,10 @@ loosened : {P R F : Type 0} (rule : List R → P → Result R F) (Like More : R 
 loosened rule Like More more before [] [] follows = tt
 loosened rule Like More more before [] (k ∷ ks) follows = absurd follows
 loosened rule Like More more before (p ∷ ps) [] follows = absurd follows
-loosened rule Like More more before (p ∷ ps) (k ∷ ks) follows =
-    ((follows.0.0, follows.0.1, more follows.0.0 k follows.0.2),
-    loosened rule Like More more (before ++ (k ∷ [])) ps ks follows.1)
+loosened rule Like More more before (p ∷ ps) (k ∷ ks) follows = (
+  (follows.0.0, follows.0.1, more follows.0.0 k follows.0.2),
+  loosened rule Like More more (before ++ (k ∷ [])) ps ks follows.1,
+)
 
 -- what a function's pass finds, told without its handle
 unwrapped : (n : ℕ) (o : Result (List ExpressionInfo) ℕ) (r ks : List ExpressionInfo) → of_function n o ≡ Ok r →
@@ -57,9 +58,10 @@ module _ (m : Module) where
   functions_follow n before [] [] follow = tt
   functions_follow n before [] (ks ∷ kss) follow = absurd follow
   functions_follow n before (f ∷ fs) [] follow = absurd follow
-  functions_follow n before (f ∷ fs) (ks ∷ kss) follow =
-      (function_follows f ks (unwrapped n (function_infos m f) follow.0.0 ks follow.0.1 follow.0.2),
-      functions_follow (n + 1) (before ++ (ks ∷ [])) fs kss follow.1)
+  functions_follow n before (f ∷ fs) (ks ∷ kss) follow = (
+    function_follows f ks (unwrapped n (function_infos m f) follow.0.0 ks follow.0.1 follow.0.2),
+    functions_follow (n + 1) (before ++ (ks ∷ [])) fs kss follow.1,
+  )
 
   entry_points_follow : (n : ℕ) (before : List (List ExpressionInfo)) (ps : List EntryPoint)
       (kss : List (List ExpressionInfo)) →
@@ -68,21 +70,22 @@ module _ (m : Module) where
   entry_points_follow n before [] [] follow = tt
   entry_points_follow n before [] (ks ∷ kss) follow = absurd follow
   entry_points_follow n before (p ∷ ps) [] follow = absurd follow
-  entry_points_follow n before (p ∷ ps) (ks ∷ kss) follow =
-      (function_follows p.function ks
-      (unwrapped n (function_infos m p.function) follow.0.0 ks follow.0.1 follow.0.2),
-      entry_points_follow (n + 1) (before ++ (ks ∷ [])) ps kss follow.1)
+  entry_points_follow n before (p ∷ ps) (ks ∷ kss) follow = (
+    function_follows p.function ks
+        (unwrapped n (function_infos m p.function) follow.0.0 ks follow.0.1 follow.0.2),
+    entry_points_follow (n + 1) (before ++ (ks ∷ [])) ps kss follow.1,
+  )
 
   pub typed_follows : (info : ModuleInfo) → IsTyped m info → FollowsRules m info
   typed_follows info typed =
       let functions = pass_follows (function_of_module m) [] (enumerate_from 0 m.functions) info.functions.items
-          typed.functions in
+      typed.functions in
       let points = pass_follows (entry_point_of_module m) [] (enumerate_from 0 m.entry_points.items)
-          info.entry_points.items typed.entry_points in
+      info.entry_points.items typed.entry_points in
       record {
         own = own_follows info.const_expression_types.items typed.own;
         functions = subst (FunctionsFollow m m.functions) (sym functions.1)
-        (functions_follow 0 [] m.functions functions.0 functions.2);
+            (functions_follow 0 [] m.functions functions.0 functions.2);
         entry_points = subst (FunctionsFollow m (map (λ p. p.function) m.entry_points.items)) (sym points.1)
-        (entry_points_follow 0 [] m.entry_points.items points.0 points.2);
+            (entry_points_follow 0 [] m.entry_points.items points.0 points.2);
       }
