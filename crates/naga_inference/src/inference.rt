@@ -16,6 +16,7 @@ use naga_ir::{Expression, Function, Handle, Module};
 use std::alloc::{AllocError, Global};
 
 /// The types of the module's own expressions, or the first of these that has none.
+#[tactic(auto, using(crate::proofs::Passing::goes_on, crate::proofs::Passing::stops, crate::proofs::Passing::ends))]
 fn own_types(
     alloc: Global,
     module: &Module,
@@ -34,6 +35,7 @@ fn own_types(
 }
 
 /// The types of a function's expressions, or the first of these that has none.
+#[tactic(auto, using(crate::proofs::Passing::goes_on, crate::proofs::Passing::stops, crate::proofs::Passing::ends))]
 fn function_infos(
     alloc: Global,
     module: &Module,
@@ -53,6 +55,7 @@ fn function_infos(
 }
 
 /// The types of the expressions of all functions, or the first of these that has none.
+#[tactic(auto, using(crate::proofs::Passing::goes_on, crate::proofs::Passing::stops, crate::proofs::Passing::ends))]
 fn functions_infos(
     alloc: Global,
     module: &Module,
@@ -72,6 +75,7 @@ fn functions_infos(
 }
 
 /// The same of the entry points.
+#[tactic(auto, using(crate::proofs::Passing::goes_on, crate::proofs::Passing::stops, crate::proofs::Passing::ends))]
 fn entry_points_infos(
     alloc: Global,
     module: &Module,
@@ -91,6 +95,7 @@ fn entry_points_infos(
 }
 
 /// The types of all expressions, or the first expression that has none.
+#[tactic(auto, using(crate::proofs::Untyped::untyped_own, crate::proofs::Untyped::untyped_function, crate::proofs::Untyped::untyped_entry_point))]
 fn module_types(
     alloc: Global,
     module: &Module,
@@ -153,6 +158,7 @@ fn module_types(
 ///     Err(error) => println!(rt; "{error}")?,
 /// }
 /// ```
+#[tactic(auto, using(crate::proofs::Following::untyped_unfollowed, crate::proofs::Refusals::none_accepted, crate::proofs::Typed::typed_follows))]
 pub fn infer(
     alloc: Global,
     module: &Module,
