@@ -3,7 +3,8 @@
 -- Throughout, m is a module, f a function (fs are several), p an entry point or an item with its
 -- handle, rs and ks are what is known of expressions that stand together, kss that of several
 -- functions, h and n are handles, and info is what is known of m.
-use Rattle.std.proofs.Common.{◌≡◌, ℕ, ◌+◌, List, [], ◌∷◌, ◌++◌, map, Option, Some, None, refl, sym, ap, ◌∙◌, subst}
+use Rattle.std.proofs.Common.{◌≡◌, ℕ, ◌+◌, List, [], ◌∷◌, ◌++◌, map, Option, Some, None, refl, sym}
+use Rattle.std.proofs.Common.{ap, ◌∙◌, subst}
 use Rattle.std.specs.Prelude.{Result, Ok, Err, ok_or}
 use Rattle.std.specs.List.{enumerate_from}
 use Rattle.std.specs.Option.{option_map, option_or}
@@ -19,10 +20,12 @@ use Rattle.naga_info.specs.declared.info.TypeResolution.{TypeResolution}
 use Rattle.naga_acceptance.specs.declared.faults.FaultPosition.{FaultPosition}
 use Rattle.naga_acceptance.specs.declared.faults.FaultPosition.TheVariants as item
 use Rattle.naga_acceptance.specs.declared.faults.FunctionPosition.TheVariants as part
-use Rattle.naga_inference.specs.Following.{FollowsRules, FunctionFollows, FunctionsFollow, HasSameType, IsSameType}
+use Rattle.naga_inference.specs.Following.{FollowsRules, FunctionFollows, FunctionsFollow}
+use Rattle.naga_inference.specs.Following.{HasSameType, IsSameType}
 use Rattle.naga_inference.specs.Inferred.{entry_point_of_module, entry_points_infos, first_untyped}
 use Rattle.naga_inference.specs.Inferred.{function_of_module, function_rule}
-use Rattle.naga_inference.specs.Inferred.{functions_infos, inferred_type, of_function, own_rule, own_types, uncounted}
+use Rattle.naga_inference.specs.Inferred.{functions_infos, inferred_type, of_function, own_rule}
+use Rattle.naga_inference.specs.Inferred.{own_types, uncounted}
 use Rattle.naga_inference.specs.Passes.{AllLike, answers_after}
 use Rattle.naga_inference.proofs.Passing.{Found, none_after, one_after, pass_finds, passed}
 use Rattle.naga_inference.proofs.SameTypes.{AreSame, inferred_same, same_through}
@@ -116,7 +119,8 @@ module _ (m : Module) where
   entry_points_found n before [] (ks ∷ kss) follow = absurd follow
   entry_points_found n before (p ∷ ps) [] follow = absurd follow
   entry_points_found n before (p ∷ ps) (ks ∷ kss) follow =
-      let one : Found (function_rule m p.function) (HasSameType m.types) [] (enumerate_from 0 p.function.expressions) ks =
+      let one : Found (function_rule m p.function) (HasSameType m.types) []
+      (enumerate_from 0 p.function.expressions) ks =
       function_found p.function ks follow.0 in
       let rest : (rss : List (List ExpressionInfo))
       × (answers_after (entry_point_of_module m) (before ++ (one.answers ∷ [])) (enumerate_from (n + 1) ps)

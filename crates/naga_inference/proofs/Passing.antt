@@ -47,7 +47,8 @@ module _ {P R F : Type 0} (rule : List R → P → Result R F) where
   pub pass_follows : (own : List R) (ps : List P) (answers : List R) → answers_after rule own ps ≡ Ok answers →
       (ks : List R) × (answers ≡ own ++ ks) × Follows rule (λ a b. a ≡ b) own ps ks
   pass_follows own [] answers found = let same : own ≡ answers = cc in ([], sym same ∙ sym (none_after own), tt)
-  pass_follows own (p ∷ ps) answers found = next (rule own p) refl found (λ r. pass_follows (own ++ (r ∷ [])) ps answers)
+  pass_follows own (p ∷ ps) answers found =
+      next (rule own p) refl found (λ r. pass_follows (own ++ (r ∷ [])) ps answers)
     where
       next : (o : Result R F) → rule own p ≡ o →
           result_and_then (λ x. answers_after rule (own ++ (x ∷ [])) ps) o ≡ Ok answers →
@@ -91,7 +92,11 @@ module _ {P R F : Type 0} (rule : List R → P → Result R F) where
       pub pass_finds : (own before : List R) (ps : List P) (ks : List R) → AllLike Like own before →
           Follows rule Like before ps ks → Found own ps (before ++ ks)
       pass_finds own before [] [] alike follows =
-          record { answers = own; found = refl; alike = subst (λ zs. AllLike Like own zs) (sym (none_after before)) alike }
+          record {
+            answers = own;
+            found = refl;
+            alike = subst (λ zs. AllLike Like own zs) (sym (none_after before)) alike;
+          }
       pass_finds own before [] (k ∷ ks) alike follows = absurd follows
       pass_finds own before (p ∷ ps) [] alike follows = absurd follows
       pass_finds own before (p ∷ ps) (k ∷ ks) alike follows =
@@ -99,4 +104,5 @@ module _ {P R F : Type 0} (rule : List R → P → Result R F) where
           congruent own before p follows.0.0 alike follows.0.1 in
           let like : Like one.0 k = through one.0 follows.0.0 k one.2 follows.0.2 in
           one_more own before p ps k ks one.0 one.1
-          (pass_finds (own ++ (one.0 ∷ [])) (before ++ (k ∷ [])) ps ks (like_next own before one.0 k alike like) follows.1)
+          (pass_finds (own ++ (one.0 ∷ [])) (before ++ (k ∷ [])) ps ks
+          (like_next own before one.0 k alike like) follows.1)

@@ -4,7 +4,8 @@
 -- types, rs and ks are what these know of expressions that stand together (rss and kss of those of
 -- several functions), r and k of one expression, g and h are handles of types, t is a type and it a
 -- type by itself.
-use Rattle.std.proofs.Common.{◌≡◌, ◌<◌, ◌+◌, ℕ, suc, Bool, true, false, not, ◌&&◌, ◌==◌, List, [], ◌∷◌, ◌++◌, Option, Some, None}
+use Rattle.std.proofs.Common.{◌≡◌, ◌<◌, ◌+◌, ℕ, suc, Bool, true, false, not, ◌&&◌, ◌==◌, List, []}
+use Rattle.std.proofs.Common.{◌∷◌, ◌++◌, Option, Some, None}
 use Rattle.std.proofs.Common.{refl, sym, ap, ◌∙◌, map, length, slice_get, arith, inl, inr}
 use Rattle.std.specs.List.{flat_map, list_all, zip}
 use Rattle.std.specs.Option.{option_map}
@@ -23,13 +24,17 @@ use Rattle.naga_info.specs.declared.info.TypeResolution.TheVariants.{Handle, Val
 use Rattle.naga_spelling.specs.Spelling.{is_struct}
 use Rattle.module_semantics.proofs.Lists.{list_all_at, numbered_at}
 use Rattle.module_semantics.specs.acceptance.Accepted.{is_accepted}
-use Rattle.module_semantics.specs.acceptance.AgreeingOperators.{Group, function_groups, module_operators_agree}
+use Rattle.module_semantics.specs.acceptance.AgreeingOperators.{Group, function_groups}
+use Rattle.module_semantics.specs.acceptance.AgreeingOperators.{module_operators_agree}
 use Rattle.module_semantics.specs.acceptance.AgreeingOperators.{module_uses, uses_of}
-use Rattle.module_semantics.specs.acceptance.InfoSizes.{all_paired, entry_point_size_fits, function_size_fits, is_handle_pointer}
+use Rattle.module_semantics.specs.acceptance.InfoSizes.{all_paired, entry_point_size_fits}
+use Rattle.module_semantics.specs.acceptance.InfoSizes.{function_size_fits, is_handle_pointer}
 use Rattle.module_semantics.specs.acceptance.InfoSizes.{sizes_fit, type_is_fit}
 use Rattle.module_semantics.specs.acceptance.Operations.{Operation, all_agree}
-use Rattle.module_semantics.specs.acceptance.Ranges.{declarations_in_range, module_in_range, module_ranges_fit, numbers_in_range}
-use Rattle.module_semantics.specs.acceptance.Ranges.{parts_before, parts_stand_before, resolution_fits, types_in_range}
+use Rattle.module_semantics.specs.acceptance.Ranges.{declarations_in_range, module_in_range}
+use Rattle.module_semantics.specs.acceptance.Ranges.{module_ranges_fit, numbers_in_range}
+use Rattle.module_semantics.specs.acceptance.Ranges.{parts_before, parts_stand_before}
+use Rattle.module_semantics.specs.acceptance.Ranges.{resolution_fits, types_in_range}
 use Rattle.module_semantics.specs.acceptance.Soundness.{entry_point_is_sound, function_is_sound}
 use Rattle.module_semantics.specs.acceptance.Soundness.{module_is_sound}
 use Rattle.naga_inference.specs.Following.{HasSameType, IsSameType}
@@ -80,8 +85,10 @@ module _ {X : Type 0} (types : List Type_) (test : X → List ExpressionInfo →
 parts_there : (h n : ℕ) → h < n → (it : TypeInner) → is_struct it ≡ false → parts_before h it ≡ true →
     parts_before n it ≡ true
 parts_there h n lt (inner.Pointer base space) none before = lt-ltb base n (omega (arith, ltb-true base h before, lt))
-parts_there h n lt (inner.Array base size stride) none before = lt-ltb base n (omega (arith, ltb-true base h before, lt))
-parts_there h n lt (inner.BindingArray base size) none before = lt-ltb base n (omega (arith, ltb-true base h before, lt))
+parts_there h n lt (inner.Array base size stride) none before =
+    lt-ltb base n (omega (arith, ltb-true base h before, lt))
+parts_there h n lt (inner.BindingArray base size) none before =
+    lt-ltb base n (omega (arith, ltb-true base h before, lt))
 parts_there h n lt (inner.Struct members span) none before = absurd cc
 parts_there h n lt _ none before = refl
 
@@ -233,11 +240,13 @@ module _ (m : Module) (found other : ModuleInfo)
         and_from (sizes_fit m found) _ (sizes_same ∙ known.0)
             (and_from (list_all type_is_fit m.types) _ fit.0
             (and_from (module_in_range m) _ rest.0
-            (and_from (list_all (list_all (λ k. resolution_fits (length m.overrides) (length m.types) k.ty)) found.functions.items) _
+            (and_from (list_all (list_all (λ k. resolution_fits (length m.overrides) (length m.types) k.ty))
+            found.functions.items) _
             (pass_still (AllLike (HasSameType m.types))
             (list_all (λ k. resolution_fits (length m.overrides) (length m.types) k.ty)) infos
             found.functions.items other.functions.items functions all_of.0)
-            (and_from (list_all (list_all (λ k. resolution_fits (length m.overrides) (length m.types) k.ty)) found.entry_points.items) _
+            (and_from (list_all (list_all (λ k. resolution_fits (length m.overrides) (length m.types) k.ty))
+            found.entry_points.items) _
             (pass_still (AllLike (HasSameType m.types))
             (list_all (λ k. resolution_fits (length m.overrides) (length m.types) k.ty)) infos
             found.entry_points.items other.entry_points.items entry_points further.0)

@@ -15,9 +15,11 @@ use Rattle.naga_info.specs.Resolution.{inner_of}
 use Rattle.naga_info.specs.declared.info.TypeResolution.{TypeResolution}
 use Rattle.naga_info.specs.declared.info.TypeResolution.TheVariants.{Handle, Value}
 use Rattle.naga_spelling.specs.Spelling.{is_struct}
-use Rattle.module_semantics.specs.AlikeTypes.{array_key, found_key_by, handle_key, inner_key, inner_key_by}
+use Rattle.module_semantics.specs.AlikeTypes.{array_key, found_key_by, handle_key, inner_key}
+use Rattle.module_semantics.specs.AlikeTypes.{inner_key_by}
 use Rattle.module_semantics.specs.AlikeTypes.{key_within, named_key_by, pointer_key, type_identity}
-use Rattle.module_semantics.specs.TypeIdentity.{StructAt, Itself, identity, identity_at, level, word_of_unspelled_type}
+use Rattle.module_semantics.specs.TypeIdentity.{StructAt, Itself, identity, identity_at, level}
+use Rattle.module_semantics.specs.TypeIdentity.{word_of_unspelled_type}
 use Rattle.module_semantics.specs.TypeIdentity.{Nothing as NoIdentity}
 use Rattle.module_semantics.specs.acceptance.Ranges.{parts_before}
 use Rattle.naga_inference.specs.Following.{IsSameType}
@@ -94,7 +96,8 @@ module _ (types : List Type_) (stand : PartsStand types) where
   told_itself (Value jt) it is none =
       let same : jt ≡ it = cc in ap (λ x. type_identity types (Value x)) same
 
-  told_anew : (r k : TypeResolution) (o : Option TypeInner) → inner_of r types ≡ o → option_map is_struct o ≡ Some false →
+  told_anew : (r k : TypeResolution) (o : Option TypeInner) → inner_of r types ≡ o →
+      option_map is_struct o ≡ Some false →
       inner_of r types ≡ inner_of k types → type_identity types r ≡ type_identity types k
   told_anew r k None is none both = absurd cc
   told_anew r k (Some it) is none both =

@@ -3,14 +3,16 @@
 -- Throughout, m is a module, whose types are made of earlier ones (stand), rs and ks are the types of
 -- the expressions that stand together, which are the same, f is a function, e an expression, h a
 -- handle and x a type that is expected.
-use Rattle.std.proofs.Common.{◌≡◌, ℕ, Bool, true, false, ◌&&◌, List, [], ◌∷◌, Option, Some, None, refl, ap, ◌∙◌, map, slice_get}
+use Rattle.std.proofs.Common.{◌≡◌, ℕ, Bool, true, false, ◌&&◌, List, [], ◌∷◌, Option, Some, None}
+use Rattle.std.proofs.Common.{refl, ap, ◌∙◌, map, slice_get}
 use Rattle.std.specs.List.{enumerate_from, flat_map, list_all}
 use Rattle.std.specs.Option.{option_and_then, option_map, option_map_or, option_to_list}
 use Rattle.std.specs.Str.{bytes_eq}
 use Rattle.naga_ir.specs.Operands.{expression_operands}
 use Rattle.naga_ir.specs.StatementTree.{SimpleStatement, return, store, atomic, call}
 use Rattle.naga_ir.specs.StatementTree.{StatementTree, simple, block, branch, switch, loop}
-use Rattle.naga_ir.specs.StatementTree.{BlockTree, no_statements, statement, CaseTrees, no_cases, case}
+use Rattle.naga_ir.specs.StatementTree.{BlockTree, no_statements, statement, CaseTrees, no_cases}
+use Rattle.naga_ir.specs.StatementTree.{case}
 use Rattle.naga_ir.specs.StatementTree.{cooperative_store}
 use Rattle.naga_ir.specs.declared.expression.Expression.{Expression}
 use Rattle.naga_ir.specs.declared.expression.Expression.TheVariants as expression
@@ -22,25 +24,37 @@ use Rattle.naga_ir.specs.declared.types.TypeInner.{TypeInner}
 use Rattle.naga_info.specs.declared.info.TypeResolution.{TypeResolution}
 use Rattle.naga_info.specs.declared.info.TypeResolution.TheVariants.{Handle}
 use Rattle.module_semantics.specs.AlikeTypes.{type_identity}
-use Rattle.module_semantics.specs.TypeParts.{has_computed_parts, is_part_number, known_inner, pointee_type, points_to_atomic}
-use Rattle.module_semantics.specs.acceptance.AgreeingOperators.{conversion_key, expression_use, identity_at, operator_key, uses_of}
-use Rattle.module_semantics.specs.acceptance.ExpressionTypes.{ExpectedType, LikeThis, Anything, Nothing}
-use Rattle.module_semantics.specs.acceptance.ExpressionTypes.{expected_type, has_its_type, is_bool, is_expected}
+use Rattle.module_semantics.specs.TypeParts.{has_computed_parts, is_part_number, known_inner}
+use Rattle.module_semantics.specs.TypeParts.{pointee_type, points_to_atomic}
+use Rattle.module_semantics.specs.acceptance.AgreeingOperators.{conversion_key, expression_use}
+use Rattle.module_semantics.specs.acceptance.AgreeingOperators.{identity_at, operator_key, uses_of}
+use Rattle.module_semantics.specs.acceptance.ExpressionTypes.{ExpectedType, LikeThis, Anything}
+use Rattle.module_semantics.specs.acceptance.ExpressionTypes.{Nothing}
+use Rattle.module_semantics.specs.acceptance.ExpressionTypes.{expected_type, has_its_type, is_bool}
+use Rattle.module_semantics.specs.acceptance.ExpressionTypes.{is_expected}
 use Rattle.module_semantics.specs.acceptance.Initialisers.{initialiser_fits, initialisers_fit}
-use Rattle.module_semantics.specs.acceptance.OperandDemands.{is_integer, is_pointer, is_scalar_or_vector}
-use Rattle.module_semantics.specs.acceptance.OperandDemands.{is_swizzled, operand_is, operands_fit, points_to_components}
+use Rattle.module_semantics.specs.acceptance.OperandDemands.{is_integer, is_pointer}
+use Rattle.module_semantics.specs.acceptance.OperandDemands.{is_scalar_or_vector}
+use Rattle.module_semantics.specs.acceptance.OperandDemands.{is_swizzled, operand_is, operands_fit}
+use Rattle.module_semantics.specs.acceptance.OperandDemands.{points_to_components}
 use Rattle.module_semantics.specs.acceptance.Operations.{Operation}
-use Rattle.module_semantics.specs.acceptance.Soundness.{declarations_are_sound, expressions_are_sound, typed_function_is_sound}
-use Rattle.module_semantics.specs.acceptance.StatementsFit.{are_passed, block_is_sound, cases_are_sound}
+use Rattle.module_semantics.specs.acceptance.Soundness.{declarations_are_sound}
+use Rattle.module_semantics.specs.acceptance.Soundness.{expressions_are_sound}
+use Rattle.module_semantics.specs.acceptance.Soundness.{typed_function_is_sound}
+use Rattle.module_semantics.specs.acceptance.StatementsFit.{are_passed, block_is_sound}
+use Rattle.module_semantics.specs.acceptance.StatementsFit.{cases_are_sound}
 use Rattle.module_semantics.specs.acceptance.StatementsFit.{is_answered, is_atomic_result, is_call}
-use Rattle.module_semantics.specs.acceptance.StatementsFit.{is_result_if, is_returned, is_stored, selection_fits}
-use Rattle.module_semantics.specs.acceptance.StatementsFit.{simple_is_sound, statement_is_sound, value_has_type}
+use Rattle.module_semantics.specs.acceptance.StatementsFit.{is_result_if, is_returned, is_stored}
+use Rattle.module_semantics.specs.acceptance.StatementsFit.{selection_fits}
+use Rattle.module_semantics.specs.acceptance.StatementsFit.{simple_is_sound, statement_is_sound}
+use Rattle.module_semantics.specs.acceptance.StatementsFit.{value_has_type}
 use Rattle.naga_inference.specs.Following.{IsSameType}
 use Rattle.naga_inference.specs.Passes.{AllLike}
 use Rattle.naga_inference.proofs.SameIdentity.{PartsStand, same_identity}
 use Rattle.naga_inference.proofs.SameTypes.{AreSame, expected_same, got_same, same_known_inner}
 
-module _ (m : Module) (stand : PartsStand m.types) (rs ks : List TypeResolution) (all : AllLike (IsSameType m.types) rs ks) where
+module _ (m : Module) (stand : PartsStand m.types) (rs ks : List TypeResolution)
+    (all : AllLike (IsSameType m.types) rs ks) where
   -- ---- one type
   inner : (h : ℕ) → known_inner m.types rs h ≡ known_inner m.types ks h
   inner h = same_known_inner m.types rs ks h all
@@ -59,7 +73,8 @@ module _ (m : Module) (stand : PartsStand m.types) (rs ks : List TypeResolution)
 
   value : (h : ℕ) (x : TypeResolution) → value_has_type m.types rs h x ≡ value_has_type m.types ks h x
   value h x =
-      told (λ w. bytes_eq w (type_identity m.types x)) false (slice_get rs h) (slice_get ks h) (got_same m.types rs ks h all)
+      told (λ w. bytes_eq w (type_identity m.types x)) false (slice_get rs h) (slice_get ks h)
+      (got_same m.types rs ks h all)
 
   identified : (h : ℕ) → identity_at m.types rs h ≡ identity_at m.types ks h
   identified h = told (λ w. w) [] (slice_get rs h) (slice_get ks h) (got_same m.types rs ks h all)
@@ -183,9 +198,11 @@ module _ (m : Module) (stand : PartsStand m.types) (rs ks : List TypeResolution)
 
   used : (here : ℕ) (e : Expression) → expression_use m.types rs here e ≡ expression_use m.types ks here e
   used here e = λ i.
-      option_map (λ operator. operation operator (map (λ h. identified h i) (expression_operands e)) (identified here i))
+      option_map
+      (λ operator. operation operator (map (λ h. identified h i) (expression_operands e)) (identified here i))
       (keys e i)
 
   pub same_uses : (es : List Expression) →
-      uses_of m.types (record { expressions = es; known = rs }) ≡ uses_of m.types (record { expressions = es; known = ks })
+      uses_of m.types (record { expressions = es; known = rs })
+      ≡ uses_of m.types (record { expressions = es; known = ks })
   same_uses es = λ i. flat_map (λ p. option_to_list (used p.0 p.1 i)) (enumerate_from 0 es)

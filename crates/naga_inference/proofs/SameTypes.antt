@@ -2,7 +2,8 @@
 --
 -- Throughout, types are a module's types, rs and ks the types of the expressions that stand
 -- together, which are the same, h is a handle, e an expression, and it a type by itself.
-use Rattle.std.proofs.Common.{◌≡◌, ℕ, zero, suc, false, List, [], ◌∷◌, Option, Some, None, refl, sym, ap, ◌∙◌, subst, inl, inr}
+use Rattle.std.proofs.Common.{◌≡◌, ℕ, zero, suc, false, List, [], ◌∷◌, Option, Some, None, refl}
+use Rattle.std.proofs.Common.{sym, ap, ◌∙◌, subst, inl, inr}
 use Rattle.std.proofs.Common.{slice_get}
 use Rattle.std.specs.Option.{is_some, option_and_then, option_map}
 use Rattle.naga_ir.specs.declared.expression.Expression.{Expression}
@@ -23,14 +24,18 @@ use Rattle.naga_info.specs.declared.info.TypeResolution.TheVariants.{Handle, Val
 use Rattle.naga_spelling.specs.Spelling.{is_struct}
 use Rattle.module_semantics.specs.ExpressionOperators.{pointee_scalar}
 use Rattle.module_semantics.specs.TypeParts.{known_inner, part_type, pointee_type}
-use Rattle.module_semantics.specs.acceptance.ExpressionTypes.{ExpectedType, LikeThis, Anything, Nothing}
-use Rattle.module_semantics.specs.acceptance.ExpressionTypes.{binary_type, expected_type, if_any, only, splat_type, swizzle_type}
+use Rattle.module_semantics.specs.acceptance.ExpressionTypes.{ExpectedType, LikeThis, Anything}
+use Rattle.module_semantics.specs.acceptance.ExpressionTypes.{Nothing}
+use Rattle.module_semantics.specs.acceptance.ExpressionTypes.{binary_type, expected_type, if_any}
+use Rattle.module_semantics.specs.acceptance.ExpressionTypes.{only, splat_type, swizzle_type}
 use Rattle.naga_inference.specs.Following.{IsSameType}
 use Rattle.naga_inference.specs.Functions.{answered, math_answer}
 use Rattle.naga_inference.specs.Inferred.{by_demand, inferred_type}
 use Rattle.naga_inference.specs.Passes.{AllLike}
-use Rattle.naga_inference.specs.Rules.{binary_rule, conversion_type, image_type, loaded_matrix, query_type, relational_type, truth_type}
-use Rattle.naga_inference.specs.Rules.{matrix_product, product_of, product_type, rule_type, scaled, vector_product}
+use Rattle.naga_inference.specs.Rules.{binary_rule, conversion_type, image_type, loaded_matrix}
+use Rattle.naga_inference.specs.Rules.{query_type, relational_type, truth_type}
+use Rattle.naga_inference.specs.Rules.{matrix_product, product_of, product_type, rule_type, scaled}
+use Rattle.naga_inference.specs.Rules.{vector_product}
 use Rattle.naga_inference.specs.Types.{same, same_as, same_inner}
 use Rattle.naga_inference.specs.declared.functions.MathAnswer.{MathAnswer}
 use Rattle.naga_inference.specs.declared.functions.MathAnswer.TheVariants.{OfOperand, OfType}
@@ -187,7 +192,8 @@ demanded_same types o q alike Nothing = tt
 
 -- ---- rules, by the same types of what stands before
 module _ (m : Module) (rs ks : List TypeResolution) (all : AllLike (IsSameType m.types) rs ks) where
-  second_same : (arg1 : Option ℕ) → option_and_then (known_inner m.types rs) arg1 ≡ option_and_then (known_inner m.types ks) arg1
+  second_same : (arg1 : Option ℕ) →
+      option_and_then (known_inner m.types rs) arg1 ≡ option_and_then (known_inner m.types ks) arg1
   second_same None = refl
   second_same (Some h) = same_known_inner m.types rs ks h all
 

@@ -12,8 +12,10 @@ use Rattle.naga_ir.specs.declared.module.Module.{Module}
 use Rattle.naga_info.specs.declared.info.ExpressionInfo.{ExpressionInfo}
 use Rattle.naga_info.specs.declared.info.ModuleInfo.{ModuleInfo}
 use Rattle.naga_info.specs.declared.info.TypeResolution.{TypeResolution}
-use Rattle.naga_inference.specs.Following.{FollowsRules, FunctionFollows, FunctionsFollow, HasSameType, IsSameType}
-use Rattle.naga_inference.specs.Inferred.{IsTyped, entry_point_of_module, function_infos, function_of_module}
+use Rattle.naga_inference.specs.Following.{FollowsRules, FunctionFollows, FunctionsFollow}
+use Rattle.naga_inference.specs.Following.{HasSameType, IsSameType}
+use Rattle.naga_inference.specs.Inferred.{IsTyped, entry_point_of_module, function_infos}
+use Rattle.naga_inference.specs.Inferred.{function_of_module}
 use Rattle.naga_inference.specs.Inferred.{function_rule, of_function, own_rule, own_types}
 use Rattle.naga_inference.specs.Passes.{Follows}
 use Rattle.naga_inference.proofs.Passing.{pass_follows}
@@ -53,7 +55,8 @@ module _ (m : Module) where
       (loosened (function_rule m f) (λ a b. a ≡ b) (HasSameType m.types) (λ r k same. inl (ap (λ x. x.ty) same)) []
       items follow.0 follow.2)
 
-  functions_follow : (n : ℕ) (before : List (List ExpressionInfo)) (fs : List Function) (kss : List (List ExpressionInfo)) →
+  functions_follow : (n : ℕ) (before : List (List ExpressionInfo)) (fs : List Function)
+      (kss : List (List ExpressionInfo)) →
       Follows (function_of_module m) (λ a b. a ≡ b) before (enumerate_from n fs) kss → FunctionsFollow m fs kss
   functions_follow n before [] [] follow = tt
   functions_follow n before [] (ks ∷ kss) follow = absurd follow

@@ -9,7 +9,8 @@ use Rattle.naga_info.specs.declared.info.TypeResolution.{TypeResolution}
 use Rattle.naga_acceptance.specs.declared.faults.FaultPosition.{FaultPosition}
 use Rattle.naga_acceptance.specs.declared.faults.FaultPosition.TheVariants as item
 use Rattle.naga_acceptance.specs.declared.faults.FunctionPosition.TheVariants as part
-use Rattle.naga_inference.specs.Inferred.{entry_points_infos, first_untyped, functions_infos, own_types}
+use Rattle.naga_inference.specs.Inferred.{entry_points_infos, first_untyped, functions_infos}
+use Rattle.naga_inference.specs.Inferred.{own_types}
 
 abbrev first_of : Result (List TypeResolution) ℕ → Result (List (List ExpressionInfo)) (ℕ × ℕ) →
     Result (List (List ExpressionInfo)) (ℕ × ℕ) → Option FaultPosition

@@ -1,6 +1,7 @@
 //! The types of a module's expressions, for a module that comes without its `ModuleInfo`.
 //!
-//! [`infer`] takes no info on trust: what it answers `Ok` is made of the module alone, and accepted.
+//! [`infer`] takes no info on trust: what it answers `Ok` is made of the module alone, and is
+//! accepted.
 #![tactic(auto)]
 
 pub mod errors;

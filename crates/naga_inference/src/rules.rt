@@ -377,7 +377,8 @@ fn conversion_type(
     kind: ScalarKind,
     convert: Option<u8>,
 ) -> Option<TypeResolution>
-    ensures { result ≡ option_and_then (conversion_type kind convert) (option_copied operand.entry) }
+    ensures { result ≡ option_and_then (conversion_type kind convert)
+        (option_copied operand.entry) }
 {
     match operand {
         Some(TypeInner::Scalar(of)) => Some(scalar(converted_scalar(*of, kind, convert))),
@@ -551,8 +552,8 @@ fn resolution_of(ty: InferredType) -> TypeResolution
 ///   by their left operand, and a product of cooperative matrices by its summand.
 /// - A comparison is `bool`, or a vector of as many as its left operand has components; `all` and
 ///   `any` are `bool`.
-/// - `*` has the type of the operand that is no scalar; of a matrix and a vector it is a vector, and
-///   of two matrices a matrix.
+/// - `*` has the type of the operand that is no scalar; of a matrix and a vector it is a vector,
+///   and of two matrices a matrix.
 /// - A conversion has its operand's type over the scalar that it names.
 /// - A texel is a vector of four of its image's scalars, of a depth image one `f32`; a gather has
 ///   four in any case. Sizes and lengths are of `u32`.
@@ -560,9 +561,9 @@ fn resolution_of(ty: InferredType) -> TypeResolution
 ///   ([`SpecialTypes`](naga_ir::SpecialTypes)).
 ///
 /// It is `None` where an operand has no type that gives it one or is not known, where a declaration
-/// is not there, for `&&` and `||` after anything but a `bool`, for an `AccessIndex` without a part,
-/// for `modf` and `frexp` of which the module tells no struct, and for what a ray query found, since
-/// a module does not tell its struct.
+/// is not there, for `&&` and `||` after anything but a `bool`, for an `AccessIndex` without a
+/// part, for `modf` and `frexp` of which the module tells no struct, and for what a ray query
+/// found, since a module does not tell its struct.
 pub fn inferred_type(
     module: &Module,
     function: Option<&Function>,
