@@ -59,6 +59,7 @@ LAYERS = [
     ("the form", LAWS, [("naga_form", "which syntax tree is written for a module, and the laws of the square")]),
     ("what is asked", CODE, [
         ("naga_acceptance", "accepts, count"),
+        ("naga_inference", "inferred infos"),
         ("fault_details", "what was expected"),
         ("naga_tables", "what has a form"),
         ("naga_scope", "scope, plans"),
@@ -72,14 +73,15 @@ LAYERS = [
         ("module_positions", "where it is"),
         ("layout_texts", "layouts as text"),
         ("module_answers", "texts, refusals"),
+        ("sample_modules", "modules by name"),
     ]),
     ("tests", CODE, [
-        ("sample_modules", "modules by name"),
         ("wgsl_cases", "tests as data"),
         ("listing_cases", "listings as data"),
         ("word_cases", "words as data"),
         ("word_tests", "of words"),
         ("module_tests", "of modules"),
+        ("info_tests", "of infos"),
         ("wgsl_tests", "of texts"),
     ]),
     ("of programs", CODE, [

@@ -1,0 +1,10 @@
+pub mod Accepting
+pub mod Following
+pub mod Passing
+pub mod Refusals
+pub mod SameAcceptance
+pub mod SameIdentity
+pub mod SameSoundness
+pub mod SameTypes
+pub mod Typed
+pub mod Untyped

@@ -1,0 +1,111 @@
+-- The types of all expressions of a module, by the module alone: what acceptance gives an expression
+-- by its operands, and where it leaves the type open, what the rules of types do (Rules).
+--
+-- Throughout, m is a module, f a function (none for the module's own expressions), p an entry
+-- point, or an item with its handle or index, known are the types of the expressions that stand
+-- together, by handle, before is what is known of those before, e is an expression, r a type of one,
+-- k what is known of an expression, ks of those of a function, h a handle, u a position with a kind
+-- of fault, and info what is known of m.
+use Rattle.std.specs.Prelude.{◌≡◌, ℕ, List, [], map, Option, Some, None, ok_or}
+use Rattle.std.specs.Prelude.{Result, Ok}
+use Rattle.std.specs.List.{enumerate_from}
+use Rattle.std.specs.Option.{option_map, option_or}
+use Rattle.std.specs.Result.{result_err, result_map_both}
+use Rattle.naga_ir.specs.declared.expression.Expression.{Expression}
+use Rattle.naga_ir.specs.declared.module.EntryPoint.{EntryPoint}
+use Rattle.naga_ir.specs.declared.module.Function.{Function}
+use Rattle.naga_ir.specs.declared.module.Module.{Module}
+use Rattle.naga_info.specs.declared.info.ExpressionInfo.{ExpressionInfo}
+use Rattle.naga_info.specs.declared.info.ModuleInfo.{ModuleInfo}
+use Rattle.naga_info.specs.declared.info.TypeResolution.{TypeResolution}
+use Rattle.module_semantics.specs.acceptance.ExpressionTypes.{ExpectedType, LikeThis, Anything}
+use Rattle.module_semantics.specs.acceptance.ExpressionTypes.{Nothing, expected_type}
+use Rattle.naga_acceptance.specs.FirstFaults.{IsFirstFault}
+use Rattle.naga_acceptance.specs.declared.faults.FaultPosition.{FaultPosition}
+use Rattle.naga_acceptance.specs.declared.faults.FaultPosition.TheVariants as item
+use Rattle.naga_acceptance.specs.declared.faults.FunctionPosition.TheVariants as part
+use Rattle.naga_inference.specs.Passes.{answers_after}
+use Rattle.naga_inference.specs.Rules.{rule_type}
+use Rattle.naga_inference.specs.declared.errors.InferenceError.{InferenceError}
+use Rattle.naga_inference.specs.declared.errors.InferenceError.TheVariants as error
+
+-- ---- one expression
+
+-- the type that is asked for, or that of the rule where any is allowed
+abbrev pub by_demand : (rule : Option TypeResolution) → ExpectedType → Option TypeResolution
+by_demand rule (LikeThis r) = Some r
+by_demand rule Anything = rule
+by_demand rule Nothing = None
+
+-- the type of an expression by those known of its operands
+abbrev pub inferred_type :
+    Module → Option Function → (known : List TypeResolution) → Expression →
+    Option TypeResolution
+inferred_type m f known e = by_demand (rule_type m known e) (expected_type m f known e)
+
+-- ---- one after the other; the fault of one without a type is its handle
+
+-- its use is not counted
+abbrev pub uncounted : TypeResolution → ExpressionInfo
+uncounted r = record { ref_count = 0; ty = r }
+
+-- what is known of an expression of a function, by what is known of those before it
+abbrev pub function_rule : Module → Function → (before : List ExpressionInfo) → ℕ × Expression →
+    Result ExpressionInfo ℕ
+function_rule m f before p =
+    ok_or (option_map uncounted (inferred_type m (Some f) (map (λ k. k.ty) before) p.1)) p.0
+
+-- the same of one of the module's own
+abbrev pub own_rule : Module → (before : List TypeResolution) → ℕ × Expression →
+    Result TypeResolution ℕ
+own_rule m before p = ok_or (inferred_type m None before p.1) p.0
+
+abbrev pub own_types : Module → Result (List TypeResolution) ℕ
+own_types m = answers_after (own_rule m) [] (enumerate_from 0 m.global_expressions)
+
+abbrev pub function_infos : Module → Function → Result (List ExpressionInfo) ℕ
+function_infos m f = answers_after (function_rule m f) [] (enumerate_from 0 f.expressions)
+
+-- ---- functions one after the other; the fault is the function's handle with the expression's
+
+abbrev pub of_function : (h : ℕ) → Result (List ExpressionInfo) ℕ →
+    Result (List ExpressionInfo) (ℕ × ℕ)
+of_function h known = result_map_both (λ ks. ks) (λ e. (h, e)) known
+
+abbrev pub function_of_module : Module → (before : List (List ExpressionInfo)) → ℕ × Function →
+    Result (List ExpressionInfo) (ℕ × ℕ)
+function_of_module m before p = of_function p.0 (function_infos m p.1)
+
+abbrev pub entry_point_of_module : Module → (before : List (List ExpressionInfo)) →
+    ℕ × EntryPoint → Result (List ExpressionInfo) (ℕ × ℕ)
+entry_point_of_module m before p = of_function p.0 (function_infos m p.1.function)
+
+abbrev pub functions_infos : Module → Result (List (List ExpressionInfo)) (ℕ × ℕ)
+functions_infos m = answers_after (function_of_module m) [] (enumerate_from 0 m.functions)
+
+abbrev pub entry_points_infos : Module → Result (List (List ExpressionInfo)) (ℕ × ℕ)
+entry_points_infos m =
+    answers_after (entry_point_of_module m) [] (enumerate_from 0 m.entry_points.items)
+
+-- ---- a module
+
+-- What is known is what the passes find.
+pub record IsTyped (m : Module) (info : ModuleInfo) : Type 0 where
+  pub own : own_types m ≡ Ok info.const_expression_types.items
+  pub functions : functions_infos m ≡ Ok info.functions.items
+  pub entry_points : entry_points_infos m ≡ Ok info.entry_points.items
+
+-- the first expression without a type: of the module's own, of a function, of an entry point
+abbrev pub first_untyped : Module → Option FaultPosition
+first_untyped m =
+    option_or (option_map (λ h. item.GlobalExpression h) (result_err (own_types m)))
+    (option_or (option_map (λ p. item.Function p.0 (part.Expression p.1))
+    (result_err (functions_infos m)))
+    (option_map (λ p. item.EntryPoint p.0 (part.Expression p.1))
+    (result_err (entry_points_infos m))))
+
+-- Why a module has no such info that is accepted: an expression has no type; or the fault is the
+-- first, as acceptance tells it, of the module with the types that the passes find.
+abbrev pub IsRefused : Module → InferenceError → Type 0
+IsRefused m (error.Untyped position) = first_untyped m ≡ Some position
+IsRefused m (error.Unaccepted u) = (info : ModuleInfo) × IsTyped m info × IsFirstFault m info u

@@ -1,0 +1,181 @@
+//! The types of all expressions of a module.
+
+ghost use Rattle.std.specs.Prelude.{◌≡◌, IsTrue, IfOk, IfErr, MatchResult, OnErr, Some};
+ghost use Rattle.module_semantics.specs.acceptance.Accepted.{is_accepted};
+ghost use Rattle.naga_inference.specs.Following.{FollowsRules, NoneIsAccepted};
+ghost use Rattle.naga_inference.specs.Inferred.{IsTyped, IsRefused};
+ghost use Rattle.naga_inference.specs.Inferred.{entry_points_infos, function_infos};
+ghost use Rattle.naga_inference.specs.Inferred.{first_untyped, functions_infos, own_types};
+
+use crate::errors::InferenceError;
+use crate::rules::inferred_type;
+use naga_acceptance::parts::Known;
+use naga_acceptance::{FaultPosition, FunctionPosition, unaccepted};
+use naga_info::{ExpressionInfo, FunctionInfo, ModuleInfo, TypeResolution};
+use naga_ir::{Expression, Function, Handle, Module};
+use std::alloc::{AllocError, Global};
+
+/// The types of the module's own expressions, or the first of these that has none.
+#[tactic(auto, using(crate::proofs::Passing::goes_on, crate::proofs::Passing::stops, crate::proofs::Passing::ends))]
+fn own_types(
+    alloc: Global,
+    module: &Module,
+) -> Result<Result<Vec<TypeResolution>, Handle<Expression>>, AllocError>
+    ensures { IfOk result (λ found. MatchResult found
+        (λ types. own_types «module».now ≡ Ok types.items) (λ h. own_types «module».now ≡ Err h)) }
+{
+    let mut types = Vec::new(alloc);
+    for (handle, expression) in module.global_expressions.iter() {
+        match inferred_type(module, None, Known::Global(types.as_slice()), expression) {
+            Some(ty) => types.push(ty)?,
+            None => return Ok(Err(handle)),
+        }
+    }
+    Ok(Ok(types))
+}
+
+/// The types of a function's expressions, or the first of these that has none.
+#[tactic(auto, using(crate::proofs::Passing::goes_on, crate::proofs::Passing::stops, crate::proofs::Passing::ends))]
+fn function_infos(
+    alloc: Global,
+    module: &Module,
+    function: &Function,
+) -> Result<Result<FunctionInfo, Handle<Expression>>, AllocError>
+    ensures { IfOk result (λ found. function_infos «module».now function.now ≡ found) }
+{
+    let mut expressions: Vec<ExpressionInfo> = Vec::new(alloc);
+    for (handle, expression) in function.expressions.iter() {
+        let known = Known::Function(expressions.as_slice());
+        match inferred_type(module, Some(function), known, expression) {
+            Some(ty) => expressions.push(ExpressionInfo { ref_count: 0, ty })?,
+            None => return Ok(Err(handle)),
+        }
+    }
+    Ok(Ok(FunctionInfo { expressions }))
+}
+
+/// The types of the expressions of all functions, or the first of these that has none.
+#[tactic(auto, using(crate::proofs::Passing::goes_on, crate::proofs::Passing::stops, crate::proofs::Passing::ends))]
+fn functions_infos(
+    alloc: Global,
+    module: &Module,
+) -> Result<Result<Vec<FunctionInfo>, (Handle<Function>, Handle<Expression>)>, AllocError>
+    ensures { IfOk result (λ found. MatchResult found
+        (λ infos. functions_infos «module».now ≡ Ok infos.items)
+        (λ p. functions_infos «module».now ≡ Err p)) }
+{
+    let mut infos = Vec::new(alloc);
+    for (here, function) in module.functions.iter() {
+        match function_infos(alloc, module, function)? {
+            Ok(info) => infos.push(info)?,
+            Err(expression) => return Ok(Err((here, expression))),
+        }
+    }
+    Ok(Ok(infos))
+}
+
+/// The same of the entry points.
+#[tactic(auto, using(crate::proofs::Passing::goes_on, crate::proofs::Passing::stops, crate::proofs::Passing::ends))]
+fn entry_points_infos(
+    alloc: Global,
+    module: &Module,
+) -> Result<Result<Vec<FunctionInfo>, (usize, Handle<Expression>)>, AllocError>
+    ensures { IfOk result (λ found. MatchResult found
+        (λ infos. entry_points_infos «module».now ≡ Ok infos.items)
+        (λ p. entry_points_infos «module».now ≡ Err p)) }
+{
+    let mut infos = Vec::new(alloc);
+    for (index, entry_point) in module.entry_points.iter().enumerate() {
+        match function_infos(alloc, module, &entry_point.function)? {
+            Ok(info) => infos.push(info)?,
+            Err(expression) => return Ok(Err((index, expression))),
+        }
+    }
+    Ok(Ok(infos))
+}
+
+/// The types of all expressions, or the first expression that has none.
+#[tactic(auto, using(crate::proofs::Untyped::untyped_own, crate::proofs::Untyped::untyped_function, crate::proofs::Untyped::untyped_entry_point))]
+fn module_types(
+    alloc: Global,
+    module: &Module,
+) -> Result<Result<ModuleInfo, FaultPosition>, AllocError>
+    ensures typed { IfOk result (λ found. IfOk found (IsTyped «module».now)) }
+    ensures untyped { IfOk result (λ found. IfErr found
+        (λ position. first_untyped «module».now ≡ Some position)) }
+{
+    let const_expression_types = match own_types(alloc, module)? {
+        Ok(types) => types,
+        Err(handle) => return Ok(Err(FaultPosition::GlobalExpression(handle))),
+    };
+    let functions = match functions_infos(alloc, module)? {
+        Ok(infos) => infos,
+        Err((here, expression)) => {
+            let part = FunctionPosition::Expression(expression);
+            return Ok(Err(FaultPosition::Function(here, part)));
+        }
+    };
+    let entry_points = match entry_points_infos(alloc, module)? {
+        Ok(infos) => infos,
+        Err((index, expression)) => {
+            let part = FunctionPosition::Expression(expression);
+            return Ok(Err(FaultPosition::EntryPoint(index, part)));
+        }
+    };
+    Ok(Ok(ModuleInfo {
+        functions,
+        entry_points,
+        const_expression_types,
+    }))
+}
+
+/// What is known of a module, by the module alone: of each expression its type, as
+/// [`inferred_type`] gives it by those of the expressions before it. So a module that comes without
+/// an info can be counted and written, and one that comes with an info can be compared with what
+/// its types should be.
+///
+/// An `Ok(Ok(_))` has the types that the rules give, and the module is accepted with them. Nothing
+/// is counted in it: [`count`](naga_acceptance::count) does that.
+///
+/// An `Ok(Err(_))` comes only where no info is accepted that follows the rules, in whichever way it
+/// tells its types, by handle or by itself:
+///
+/// - [`InferenceError::Untyped`]: the rules give the expression there no type. It is the first: of
+///   the module's own expressions, of the functions and of the entry points, in this order.
+/// - [`InferenceError::Unaccepted`]: each expression has a type, and with these types the fault is
+///   the first that [`unaccepted`] finds.
+///
+/// The module stays as it is. An `Err` says that memory was refused, and what was found is let go.
+/// It takes memory for the lists of the info alone, and time as the module is long; to look for
+/// faults it takes what [`unaccepted`] takes.
+///
+/// ```text
+/// match infer(alloc, &module)? {
+///     Ok(mut info) => {
+///         count(&mut info, &module);
+///         let text = write_string(alloc, &module, &info, no_flags())?;
+///     }
+///     Err(error) => println!(rt; "{error}")?,
+/// }
+/// ```
+#[tactic(auto, using(crate::proofs::Following::untyped_unfollowed, crate::proofs::Refusals::none_accepted, crate::proofs::Typed::typed_follows))]
+pub fn infer(
+    alloc: Global,
+    module: &Module,
+) -> Result<Result<ModuleInfo, InferenceError>, AllocError>
+    ensures typed { IfOk result (λ found. IfOk found (IsTyped «module».now)) }
+    ensures accepted { IfOk result (λ found. IfOk found
+        (λ info. IsTrue (is_accepted «module».now info))) }
+    ensures follows { IfOk result (λ found. IfOk found (FollowsRules «module».now)) }
+    ensures refused { IfOk result (λ found. IfErr found (IsRefused «module».now)) }
+    ensures none { IfOk result (λ found. OnErr found (NoneIsAccepted «module».now)) }
+{
+    let info = match module_types(alloc, module)? {
+        Ok(info) => info,
+        Err(position) => return Ok(Err(InferenceError::Untyped(position))),
+    };
+    match unaccepted(module, &info) {
+        Some(fault) => Ok(Err(InferenceError::Unaccepted(fault))),
+        None => Ok(Ok(info)),
+    }
+}

@@ -1,0 +1,14 @@
+//! The types of a module's expressions, for a module that comes without its `ModuleInfo`.
+//!
+//! [`infer`] takes no info on trust: what it answers `Ok` is made of the module alone, and is
+//! accepted.
+#![tactic(auto)]
+
+pub mod errors;
+mod functions;
+pub mod inference;
+pub mod rules;
+
+pub use errors::InferenceError;
+pub use inference::infer;
+pub use rules::inferred_type;
