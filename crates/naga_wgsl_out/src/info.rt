@@ -1,10 +1,11 @@
-//! What is known of a module beside itself, whether it is accepted, and if not, where and why; how
-//! often its expressions are used.
+//! What is known of a module beside itself, also by the module alone; whether it is accepted, and if
+//! not, where and why; how often its expressions are used.
 
 pub use fault_details::{Counted, ListName, Mismatch, Need, TypeClass, explain};
 pub use naga_acceptance::{
     Fault, FaultPosition, FunctionPosition, Unaccepted, accepts, count, unaccepted,
 };
+pub use naga_inference::{InferenceError, infer};
 pub use naga_info::{
     Conclusion, ExpressionInfo, FunctionInfo, GlobalCtx, ModuleInfo, Rule, ToCtx, TypeResolution,
 };
