@@ -3,8 +3,8 @@
 use naga_acceptance::{Fault, FaultPosition, FunctionPosition, Unaccepted};
 use naga_inference::{InferenceError, infer};
 use naga_ir::{
-    BinaryOperator, Constant, Expression, Function, ItemIndex, Literal, Module, Scalar, Type_,
-    TypeInner,
+    BinaryOperator, Constant, Expression, Function, ItemIndex, Literal, MathFunction, Module,
+    Scalar, Type_, TypeInner,
 };
 use std::alloc::Global;
 use std::process::Abort;
@@ -43,6 +43,34 @@ fn the_first_without_a_type_is_told(rt: HostRuntime) {
     assert_eq!(rt;
         refusal(&rt, alloc, &module),
         InferenceError::Untyped(position)
+    );
+}
+
+/// `modf` of a number, in a module that tells no struct for it.
+#[test]
+fn a_missing_special_type_is_told(rt: HostRuntime) {
+    let alloc = rt.alloc();
+    let mut module = Module::new(alloc);
+    let number = Expression::Literal(Literal::F32(0.5));
+    let number = module
+        .global_expressions
+        .append(number)
+        .expect(&rt, "memory");
+    let parts = Expression::Math {
+        fun: MathFunction::Modf,
+        arg: number,
+        arg1: None,
+        arg2: None,
+        arg3: None,
+    };
+    let parts = module
+        .global_expressions
+        .append(parts)
+        .expect(&rt, "memory");
+    let position = FaultPosition::GlobalExpression(parts);
+    assert_eq!(rt;
+        refusal(&rt, alloc, &module),
+        InferenceError::Undeclared(position)
     );
 }
 

@@ -2,13 +2,12 @@
 --
 -- Throughout, m is a module, f a function (fs are several), p an entry point or an item with its
 -- handle, rs and ks are what is known of expressions that stand together, kss that of several
--- functions, h and n are handles, and info is what is known of m.
+-- functions, n is a handle, h a fault, q a fault with what lacks, and info what is known of m.
 use Rattle.std.proofs.Common.{◌≡◌, ℕ, ◌+◌, List, [], ◌∷◌, ◌++◌, map, Option, Some, None, refl, sym}
 use Rattle.std.proofs.Common.{ap, ◌∙◌, subst}
 use Rattle.std.specs.Prelude.{Result, Ok, Err, ok_or}
 use Rattle.std.specs.List.{enumerate_from}
-use Rattle.std.specs.Option.{option_map, option_or}
-use Rattle.std.specs.Result.{result_err}
+use Rattle.std.specs.Option.{option_map}
 use Rattle.naga_ir.specs.declared.expression.Expression.{Expression}
 use Rattle.naga_ir.specs.declared.module.EntryPoint.{EntryPoint}
 use Rattle.naga_ir.specs.declared.module.Function.{Function}
@@ -18,20 +17,20 @@ use Rattle.naga_info.specs.declared.info.ExpressionInfo.{ExpressionInfo}
 use Rattle.naga_info.specs.declared.info.ModuleInfo.{ModuleInfo}
 use Rattle.naga_info.specs.declared.info.TypeResolution.{TypeResolution}
 use Rattle.naga_acceptance.specs.declared.faults.FaultPosition.{FaultPosition}
-use Rattle.naga_acceptance.specs.declared.faults.FaultPosition.TheVariants as item
-use Rattle.naga_acceptance.specs.declared.faults.FunctionPosition.TheVariants as part
 use Rattle.naga_inference.specs.Following.{FollowsRules, FunctionFollows, FunctionsFollow}
 use Rattle.naga_inference.specs.Following.{HasSameType, IsSameType}
-use Rattle.naga_inference.specs.Inferred.{entry_point_of_module, entry_points_infos, first_untyped}
-use Rattle.naga_inference.specs.Inferred.{function_of_module, function_rule}
-use Rattle.naga_inference.specs.Inferred.{functions_infos, inferred_type, of_function, own_rule}
-use Rattle.naga_inference.specs.Inferred.{own_types, uncounted}
+use Rattle.naga_inference.specs.Inferred.{entry_point_of_module, entry_points_infos, first_of}
+use Rattle.naga_inference.specs.Inferred.{first_untyped, function_of_module, function_rule}
+use Rattle.naga_inference.specs.Inferred.{functions_infos, inferred_type, missing_of, of_function}
+use Rattle.naga_inference.specs.Inferred.{own_rule, own_types, uncounted}
 use Rattle.naga_inference.specs.Passes.{AllLike, answers_after}
+use Rattle.naga_inference.specs.declared.rules.Missing.{Missing}
 use Rattle.naga_inference.proofs.Passing.{Found, none_after, one_after, pass_finds, passed}
 use Rattle.naga_inference.proofs.SameTypes.{AreSame, inferred_same, same_through}
 
 -- ---- one expression
-given_same : (types : List Type_) (o q : Option TypeResolution) (h : ℕ) (k : TypeResolution) → AreSame types o q →
+given_same : {F : Type 0} (types : List Type_) (o q : Option TypeResolution) (h : F) (k : TypeResolution) →
+    AreSame types o q →
     ok_or q h ≡ Ok k → (r : TypeResolution) × (ok_or o h ≡ Ok r) × IsSameType types r k
 given_same types None None h k alike given = absurd cc
 given_same types None (Some j) h k alike given = absurd alike
@@ -39,7 +38,8 @@ given_same types (Some r) None h k alike given = absurd alike
 given_same types (Some r) (Some j) h k alike given =
     let equal : j ≡ k = cc in (r, refl, subst (λ x. IsSameType types r x) equal alike)
 
-given_info : (types : List Type_) (o q : Option TypeResolution) (h : ℕ) (k : ExpressionInfo) → AreSame types o q →
+given_info : {F : Type 0} (types : List Type_) (o q : Option TypeResolution) (h : F) (k : ExpressionInfo) →
+    AreSame types o q →
     ok_or (option_map uncounted q) h ≡ Ok k →
     (r : ExpressionInfo) × (ok_or (option_map uncounted o) h ≡ Ok r) × HasSameType types r k
 given_info types None None h k alike given = absurd cc
@@ -61,7 +61,8 @@ module _ (m : Module) where
       AllLike (IsSameType m.types) rs ks → own_rule m ks p ≡ Ok k →
       (r : TypeResolution) × (own_rule m rs p ≡ Ok r) × IsSameType m.types r k
   own_congruent rs ks p k all given =
-      given_same m.types (inferred_type m None rs p.1) (inferred_type m None ks p.1) p.0 k
+      given_same m.types (inferred_type m None rs p.1) (inferred_type m None ks p.1)
+      (p.0, missing_of p.1) k
       (inferred_same m rs ks all None p.1) given
 
   function_congruent : (f : Function) (rs ks : List ExpressionInfo) (p : ℕ × Expression) (k : ExpressionInfo) →
@@ -69,7 +70,7 @@ module _ (m : Module) where
       (r : ExpressionInfo) × (function_rule m f rs p ≡ Ok r) × HasSameType m.types r k
   function_congruent f rs ks p k all given =
       given_info m.types (inferred_type m (Some f) (map (λ k. k.ty) rs) p.1)
-      (inferred_type m (Some f) (map (λ k. k.ty) ks) p.1) p.0 k
+      (inferred_type m (Some f) (map (λ k. k.ty) ks) p.1) (p.0, missing_of p.1) k
       (inferred_same m (map (λ k. k.ty) rs) (map (λ k. k.ty) ks) (all_types m.types rs ks all) (Some f) p.1) given
 
   -- ---- those that stand together
@@ -134,23 +135,21 @@ module _ (m : Module) where
       )
 
   -- ---- the module: no expression is without a type
-  none_untyped : (a : Result (List TypeResolution) ℕ) (b c : Result (List (List ExpressionInfo)) (ℕ × ℕ))
-      (xs : List TypeResolution) (bs cs : List (List ExpressionInfo)) (position : FaultPosition) →
-      a ≡ Ok xs → b ≡ Ok bs → c ≡ Ok cs →
-      option_or (option_map (λ h. item.GlobalExpression h) (result_err a))
-      (option_or (option_map (λ p. item.Function p.0 (part.Expression p.1)) (result_err b))
-      (option_map (λ p. item.EntryPoint p.0 (part.Expression p.1)) (result_err c))) ≡ Some position → ⊥
-  none_untyped (Ok x) (Ok y) (Ok z) xs bs cs position one two three first = cc
-  none_untyped (Err h) b c xs bs cs position one two three first = cc
-  none_untyped (Ok x) (Err h) c xs bs cs position one two three first = cc
-  none_untyped (Ok x) (Ok y) (Err h) xs bs cs position one two three first = cc
+  none_untyped : (a : Result (List TypeResolution) (ℕ × Missing))
+      (b c : Result (List (List ExpressionInfo)) (ℕ × (ℕ × Missing))) (xs : List TypeResolution)
+      (bs cs : List (List ExpressionInfo)) (fault : FaultPosition × Missing) →
+      a ≡ Ok xs → b ≡ Ok bs → c ≡ Ok cs → first_of a b c ≡ Some fault → ⊥
+  none_untyped (Ok x) (Ok y) (Ok z) xs bs cs fault one two three first = cc
+  none_untyped (Err q) b c xs bs cs fault one two three first = cc
+  none_untyped (Ok x) (Err q) c xs bs cs fault one two three first = cc
+  none_untyped (Ok x) (Ok y) (Err q) xs bs cs fault one two three first = cc
 
   -- an expression without a type: no info follows the rules
-  pub untyped_unfollowed : (position : FaultPosition) → first_untyped m ≡ Some position →
+  pub untyped_unfollowed : (fault : FaultPosition × Missing) → first_untyped m ≡ Some fault →
       (info : ModuleInfo) → FollowsRules m info → ⊥
-  untyped_unfollowed position first info follows =
+  untyped_unfollowed fault first info follows =
       let functions = functions_found 0 [] m.functions info.functions.items follows.functions in
       let entry_points = entry_points_found 0 [] m.entry_points.items info.entry_points.items follows.entry_points in
       let own = own_found info follows in
       none_untyped (own_types m) (functions_infos m) (entry_points_infos m) own.answers functions.0 entry_points.0
-      position own.found functions.1 entry_points.1 first
+      fault own.found functions.1 entry_points.1 first

@@ -18,6 +18,7 @@ use Rattle.naga_inference.specs.Inferred.{IsTyped, entry_point_of_module, functi
 use Rattle.naga_inference.specs.Inferred.{function_of_module}
 use Rattle.naga_inference.specs.Inferred.{function_rule, of_function, own_rule, own_types}
 use Rattle.naga_inference.specs.Passes.{Follows}
+use Rattle.naga_inference.specs.declared.rules.Missing.{Missing}
 use Rattle.naga_inference.proofs.Passing.{pass_follows}
 
 -- what follows a rule follows it where more answers count as one
@@ -33,7 +34,7 @@ loosened rule Like More more before (p ∷ ps) (k ∷ ks) follows = (
 )
 
 -- what a function's pass finds, told without its handle
-unwrapped : (n : ℕ) (o : Result (List ExpressionInfo) ℕ) (r ks : List ExpressionInfo) → of_function n o ≡ Ok r →
+unwrapped : (n : ℕ) (o : Result (List ExpressionInfo) (ℕ × Missing)) (r ks : List ExpressionInfo) → of_function n o ≡ Ok r →
     r ≡ ks → o ≡ Ok ks
 unwrapped n (Ok x) r ks given same = let equal : x ≡ ks = cc in ap Ok equal
 unwrapped n (Err h) r ks given same = absurd cc

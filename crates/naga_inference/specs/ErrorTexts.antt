@@ -6,4 +6,6 @@ use Rattle.naga_inference.specs.declared.errors.InferenceError.TheVariants as er
 
 abbrev pub error_text : InferenceError → List ℕ
 error_text (error.Untyped position) = item_text position ++ codes ": it has no type"
+error_text (error.Undeclared position) =
+    item_text position ++ codes ": the module has no special type for it"
 error_text (error.Unaccepted unaccepted) = unaccepted_text unaccepted

@@ -22,6 +22,8 @@ use Rattle.naga_ir.specs.declared.image.StorageFormat.TheVariants as format
 use Rattle.naga_ir.specs.declared.module.Module.{Module}
 use Rattle.naga_ir.specs.declared.operators.BinaryOperator.{BinaryOperator}
 use Rattle.naga_ir.specs.declared.operators.BinaryOperator.TheVariants as binary
+use Rattle.naga_ir.specs.declared.operators.MathFunction.{MathFunction}
+use Rattle.naga_ir.specs.declared.operators.MathFunction.TheVariants as math
 use Rattle.naga_ir.specs.declared.operators.RelationalFunction.{RelationalFunction}
 use Rattle.naga_ir.specs.declared.operators.RelationalFunction.TheVariants as relational
 use Rattle.naga_ir.specs.declared.types.CooperativeRole.{CooperativeRole}
@@ -196,6 +198,22 @@ abbrev pub loaded_matrix : CooperativeSize → CooperativeSize → CooperativeRo
     Option TypeResolution
 loaded_matrix columns rows role s =
     option_map (λ own. Value (inner.CooperativeMatrix columns rows own role)) s
+
+-- ---- special types
+
+-- `modf` and `frexp` give structs that WGSL declares by itself
+abbrev pub gives_two : MathFunction → Bool
+gives_two math.Modf = true
+gives_two math.Frexp = true
+gives_two _ = false
+
+-- whether the type of an expression is one that a module tells, if it does, among its special types
+-- (naga's `SpecialTypes`): what those functions give, and what a ray query found
+abbrev pub has_special_type : Expression → Bool
+has_special_type (expression.Math fun arg arg1 arg2 arg3) = gives_two fun
+has_special_type (expression.RayQueryGetIntersection query committed) = true
+has_special_type (expression.RayQueryVertexPositions query committed) = true
+has_special_type _ = false
 
 -- ---- all kinds
 

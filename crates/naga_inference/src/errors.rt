@@ -11,6 +11,9 @@ use std::fmt;
 pub enum InferenceError {
     /// The expression at this position is the first to which the rules give no type.
     Untyped(FaultPosition),
+    /// The same, of an expression whose type is a special one of the module
+    /// ([`has_special_type`](crate::has_special_type)), which has none for it.
+    Undeclared(FaultPosition),
     /// All expressions have types, and with these the module is not accepted.
     Unaccepted(Unaccepted),
 }
@@ -21,6 +24,9 @@ impl fmt::Display for InferenceError {
     fn fmt<W: fmt::Write>(&self, f: &mut fmt::Formatter<W>) -> fmt::Result {
         match self {
             InferenceError::Untyped(position) => write!(f, "{}: it has no type", position),
+            InferenceError::Undeclared(position) => {
+                write!(f, "{}: the module has no special type for it", position)
+            }
             InferenceError::Unaccepted(unaccepted) => write!(f, "{}", unaccepted),
         }
     }

@@ -8,39 +8,40 @@ ghost use Rattle.naga_inference.specs.Inferred.{entry_points_infos, function_inf
 ghost use Rattle.naga_inference.specs.Inferred.{first_untyped, functions_infos, own_types};
 
 use crate::errors::InferenceError;
-use crate::rules::inferred_type;
+use crate::rules::{Missing, inferred_type, missing_of};
 use naga_acceptance::parts::Known;
 use naga_acceptance::{FaultPosition, FunctionPosition, unaccepted};
 use naga_info::{ExpressionInfo, FunctionInfo, ModuleInfo, TypeResolution};
 use naga_ir::{Expression, Function, Handle, Module};
 use std::alloc::{AllocError, Global};
 
-/// The types of the module's own expressions, or the first of these that has none.
+/// The types of the module's own expressions, or the first of these that has none, with what it
+/// lacks.
 #[tactic(auto, using(crate::proofs::Passing::goes_on, crate::proofs::Passing::stops, crate::proofs::Passing::ends))]
 fn own_types(
     alloc: Global,
     module: &Module,
-) -> Result<Result<Vec<TypeResolution>, Handle<Expression>>, AllocError>
+) -> Result<Result<Vec<TypeResolution>, (Handle<Expression>, Missing)>, AllocError>
     ensures { IfOk result (λ found. MatchResult found
-        (λ types. own_types «module».now ≡ Ok types.items) (λ h. own_types «module».now ≡ Err h)) }
+        (λ types. own_types «module».now ≡ Ok types.items) (λ q. own_types «module».now ≡ Err q)) }
 {
     let mut types = Vec::new(alloc);
     for (handle, expression) in module.global_expressions.iter() {
         match inferred_type(module, None, Known::Global(types.as_slice()), expression) {
             Some(ty) => types.push(ty)?,
-            None => return Ok(Err(handle)),
+            None => return Ok(Err((handle, missing_of(expression)))),
         }
     }
     Ok(Ok(types))
 }
 
-/// The types of a function's expressions, or the first of these that has none.
+/// The types of a function's expressions, or the first of these that has none, with what it lacks.
 #[tactic(auto, using(crate::proofs::Passing::goes_on, crate::proofs::Passing::stops, crate::proofs::Passing::ends))]
 fn function_infos(
     alloc: Global,
     module: &Module,
     function: &Function,
-) -> Result<Result<FunctionInfo, Handle<Expression>>, AllocError>
+) -> Result<Result<FunctionInfo, (Handle<Expression>, Missing)>, AllocError>
     ensures { IfOk result (λ found. function_infos «module».now function.now ≡ found) }
 {
     let mut expressions: Vec<ExpressionInfo> = Vec::new(alloc);
@@ -48,7 +49,7 @@ fn function_infos(
         let known = Known::Function(expressions.as_slice());
         match inferred_type(module, Some(function), known, expression) {
             Some(ty) => expressions.push(ExpressionInfo { ref_count: 0, ty })?,
-            None => return Ok(Err(handle)),
+            None => return Ok(Err((handle, missing_of(expression)))),
         }
     }
     Ok(Ok(FunctionInfo { expressions }))
@@ -59,16 +60,19 @@ fn function_infos(
 fn functions_infos(
     alloc: Global,
     module: &Module,
-) -> Result<Result<Vec<FunctionInfo>, (Handle<Function>, Handle<Expression>)>, AllocError>
+) -> Result<
+    Result<Vec<FunctionInfo>, (Handle<Function>, (Handle<Expression>, Missing))>,
+    AllocError,
+>
     ensures { IfOk result (λ found. MatchResult found
         (λ infos. functions_infos «module».now ≡ Ok infos.items)
-        (λ p. functions_infos «module».now ≡ Err p)) }
+        (λ q. functions_infos «module».now ≡ Err q)) }
 {
     let mut infos = Vec::new(alloc);
     for (here, function) in module.functions.iter() {
         match function_infos(alloc, module, function)? {
             Ok(info) => infos.push(info)?,
-            Err(expression) => return Ok(Err((here, expression))),
+            Err(fault) => return Ok(Err((here, fault))),
         }
     }
     Ok(Ok(infos))
@@ -79,47 +83,49 @@ fn functions_infos(
 fn entry_points_infos(
     alloc: Global,
     module: &Module,
-) -> Result<Result<Vec<FunctionInfo>, (usize, Handle<Expression>)>, AllocError>
+) -> Result<Result<Vec<FunctionInfo>, (usize, (Handle<Expression>, Missing))>, AllocError>
     ensures { IfOk result (λ found. MatchResult found
         (λ infos. entry_points_infos «module».now ≡ Ok infos.items)
-        (λ p. entry_points_infos «module».now ≡ Err p)) }
+        (λ q. entry_points_infos «module».now ≡ Err q)) }
 {
     let mut infos = Vec::new(alloc);
     for (index, entry_point) in module.entry_points.iter().enumerate() {
         match function_infos(alloc, module, &entry_point.function)? {
             Ok(info) => infos.push(info)?,
-            Err(expression) => return Ok(Err((index, expression))),
+            Err(fault) => return Ok(Err((index, fault))),
         }
     }
     Ok(Ok(infos))
 }
 
-/// The types of all expressions, or the first expression that has none.
+/// The types of all expressions, or the first expression that has none, with what it lacks.
 #[tactic(auto, using(crate::proofs::Untyped::untyped_own, crate::proofs::Untyped::untyped_function, crate::proofs::Untyped::untyped_entry_point))]
 fn module_types(
     alloc: Global,
     module: &Module,
-) -> Result<Result<ModuleInfo, FaultPosition>, AllocError>
+) -> Result<Result<ModuleInfo, (FaultPosition, Missing)>, AllocError>
     ensures typed { IfOk result (λ found. IfOk found (IsTyped «module».now)) }
     ensures untyped { IfOk result (λ found. IfErr found
-        (λ position. first_untyped «module».now ≡ Some position)) }
+        (λ fault. first_untyped «module».now ≡ Some fault)) }
 {
     let const_expression_types = match own_types(alloc, module)? {
         Ok(types) => types,
-        Err(handle) => return Ok(Err(FaultPosition::GlobalExpression(handle))),
+        Err((handle, missing)) => {
+            return Ok(Err((FaultPosition::GlobalExpression(handle), missing)));
+        }
     };
     let functions = match functions_infos(alloc, module)? {
         Ok(infos) => infos,
-        Err((here, expression)) => {
+        Err((here, (expression, missing))) => {
             let part = FunctionPosition::Expression(expression);
-            return Ok(Err(FaultPosition::Function(here, part)));
+            return Ok(Err((FaultPosition::Function(here, part), missing)));
         }
     };
     let entry_points = match entry_points_infos(alloc, module)? {
         Ok(infos) => infos,
-        Err((index, expression)) => {
+        Err((index, (expression, missing))) => {
             let part = FunctionPosition::Expression(expression);
-            return Ok(Err(FaultPosition::EntryPoint(index, part)));
+            return Ok(Err((FaultPosition::EntryPoint(index, part), missing)));
         }
     };
     Ok(Ok(ModuleInfo {
@@ -142,6 +148,7 @@ fn module_types(
 ///
 /// - [`InferenceError::Untyped`]: the rules give the expression there no type. It is the first: of
 ///   the module's own expressions, of the functions and of the entry points, in this order.
+/// - [`InferenceError::Undeclared`]: the same, where the type would be a special one of the module.
 /// - [`InferenceError::Unaccepted`]: each expression has a type, and with these types the fault is
 ///   the first that [`unaccepted`] finds.
 ///
@@ -172,7 +179,10 @@ pub fn infer(
 {
     let info = match module_types(alloc, module)? {
         Ok(info) => info,
-        Err(position) => return Ok(Err(InferenceError::Untyped(position))),
+        Err((position, Missing::Rule)) => return Ok(Err(InferenceError::Untyped(position))),
+        Err((position, Missing::SpecialType)) => {
+            return Ok(Err(InferenceError::Undeclared(position)));
+        }
     };
     match unaccepted(module, &info) {
         Some(fault) => Ok(Err(InferenceError::Unaccepted(fault))),

@@ -11,4 +11,4 @@ pub mod rules;
 
 pub use errors::InferenceError;
 pub use inference::infer;
-pub use rules::inferred_type;
+pub use rules::{has_special_type, inferred_type};

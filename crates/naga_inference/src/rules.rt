@@ -8,9 +8,10 @@ ghost use Rattle.module_semantics.specs.ExpressionOperators.{pointee_scalar, sca
 ghost use Rattle.module_semantics.specs.TypeParts.{known_inner};
 ghost use Rattle.module_semantics.specs.acceptance.ExpressionTypes.{vector_of};
 ghost use Rattle.naga_inference.specs.Functions.{answered, math_answer};
-ghost use Rattle.naga_inference.specs.Inferred.{inferred_type};
+ghost use Rattle.naga_inference.specs.Inferred.{inferred_type, missing_of};
 ghost use Rattle.naga_inference.specs.Rules.{binary_rule, class_type, conversion_type};
-ghost use Rattle.naga_inference.specs.Rules.{format_scalar, gathered_type, image_type};
+ghost use Rattle.naga_inference.specs.Rules.{format_scalar, gathered_type, has_special_type};
+ghost use Rattle.naga_inference.specs.Rules.{image_type};
 ghost use Rattle.naga_inference.specs.Rules.{loaded_matrix, matrix_product, product};
 ghost use Rattle.naga_inference.specs.Rules.{product_of, product_type, query_type};
 ghost use Rattle.naga_inference.specs.Rules.{relational_type, rule_type, scaled, size_type};
@@ -507,6 +508,41 @@ fn rule_type(module: &Module, known: Known<'_>, expression: &Expression) -> Opti
         }
         Expression::CooperativeMultiplyAdd { c, .. } => same_as(known, *c),
         _ => None,
+    }
+}
+
+/// What an expression lacks that has no type.
+#[derive(Debug, Clone, Copy)]
+pub(crate) enum Missing {
+    /// A rule that gives it one.
+    Rule,
+    /// A special type of the module.
+    SpecialType,
+}
+
+/// Whether an expression's type is one that a module tells among its special types
+/// ([`SpecialTypes`](naga_ir::SpecialTypes)): what `modf` and `frexp` give, and what a ray query
+/// found.
+pub fn has_special_type(expression: &Expression) -> bool
+    ensures { result ≡ has_special_type expression.now }
+{
+    match expression {
+        Expression::Math { fun, .. } => matches!(fun, MathFunction::Modf | MathFunction::Frexp),
+        Expression::RayQueryGetIntersection { .. } | Expression::RayQueryVertexPositions { .. } => {
+            true
+        }
+        _ => false,
+    }
+}
+
+/// What an expression without a type lacks.
+pub(crate) fn missing_of(expression: &Expression) -> Missing
+    ensures { result ≡ missing_of expression.now }
+{
+    if has_special_type(expression) {
+        Missing::SpecialType
+    } else {
+        Missing::Rule
     }
 }
 
