@@ -51,7 +51,7 @@ fn the_first_without_a_type_is_told(rt: HostRuntime) {
 fn a_missing_special_type_is_told(rt: HostRuntime) {
     let alloc = rt.alloc();
     let mut module = Module::new(alloc);
-    let number = Expression::Literal(Literal::F32(0.5));
+    let number = Expression::Literal(Literal::I32(1));
     let number = module
         .global_expressions
         .append(number)

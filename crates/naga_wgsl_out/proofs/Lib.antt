@@ -18,3 +18,4 @@ pub mod Positions
 pub mod Bounded
 pub mod FirstRefusals
 pub mod FirstParts
+pub mod Inferring

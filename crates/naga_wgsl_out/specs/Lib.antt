@@ -3,6 +3,7 @@ pub mod Writing
 pub mod ModuleRefusals
 pub mod Headline
 pub mod Checked
+pub mod Inferring
 pub mod Within
 pub mod Constants
 pub mod Declarations

@@ -14,6 +14,7 @@ mod declarations;
 pub mod diagnostics;
 mod enables;
 mod flags;
+mod inferred;
 pub mod info;
 pub mod laws;
 pub mod proc;

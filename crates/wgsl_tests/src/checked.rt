@@ -1,8 +1,10 @@
 //! A module is asked for, counted and written at once.
 use naga_json::read_known;
+use naga_wgsl_out::info::{FaultPosition, InferenceError};
+use naga_wgsl_out::ir::{Expression, Literal, MathFunction};
 use naga_wgsl_out::wgsl::{
-    CheckedError, LimitedError, Limits, Nested, nested_past, no_flags, write_checked,
-    write_checked_within,
+    CheckedError, InferredError, LimitedError, Limits, Nested, nested_past, no_flags,
+    write_checked, write_checked_within, write_inferred,
 };
 
 /// A function that returns what a local held before a store to it, whose uses are not counted.
@@ -41,6 +43,31 @@ fn a_module_is_asked_for_and_written(rt: HostRuntime) {
     known.info.functions.clear();
     let answer = write_checked(alloc, &known.module, &mut known.info, no_flags());
     assert!(rt; matches!(answer, Err(CheckedError::NotAccepted(_))));
+}
+
+/// The same of the module alone; and with a `modf`, of which the module tells no struct.
+#[test]
+fn a_module_alone_is_written(rt: HostRuntime) {
+    let alloc = rt.alloc();
+    let mut known = read_known(alloc, STORE).expect(&rt, "a module");
+    let text = write_inferred(alloc, &known.module, no_flags());
+    assert_eq!(rt; text.expect(&rt, "a text").as_str(), STORE_TEXT);
+    let expressions = &mut known.module.global_expressions;
+    let number = Expression::Literal(Literal::I32(1));
+    let number = expressions.append(number).expect(&rt, "memory");
+    let parts = Expression::Math {
+        fun: MathFunction::Modf,
+        arg: number,
+        arg1: None,
+        arg2: None,
+        arg3: None,
+    };
+    let parts = expressions.append(parts).expect(&rt, "memory");
+    let expected = InferenceError::Undeclared(FaultPosition::GlobalExpression(parts));
+    match write_inferred(alloc, &known.module, no_flags()) {
+        Err(InferredError::NotAccepted(error)) => assert_eq!(rt; error, expected),
+        _ => panic!(rt; "an error of inference"),
+    }
 }
 
 /// The same within limits: a text that is as long as it may be, and one that is longer; a module that
