@@ -64,8 +64,9 @@ fn a_module_alone_is_written(rt: HostRuntime) {
     };
     let parts = expressions.append(parts).expect(&rt, "memory");
     let expected = InferenceError::Undeclared(FaultPosition::GlobalExpression(parts));
-    match write_inferred(alloc, &known.module, no_flags()) {
-        Err(InferredError::NotAccepted(error)) => assert_eq!(rt; error, expected),
+    let answer = write_inferred(alloc, &known.module, no_flags());
+    match &answer {
+        Err(InferredError::NotAccepted(error)) => assert_eq!(rt; *error, expected),
         _ => panic!(rt; "an error of inference"),
     }
 }
