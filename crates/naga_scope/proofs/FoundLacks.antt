@@ -4,7 +4,7 @@ use Rattle.std.proofs.Common.{◌≡◌, ◌⊎◌, inl, inr, ⊎_elim, ℕ, zer
 use Rattle.std.proofs.Common.{Some, None, refl, sym, ap, ◌∙◌, arith, length, slice_get, subst}
 use Rattle.std.proofs.lemmas.Option.{same_Some, slice_get_within}
 use Rattle.std.specs.Option.{option_or}
-use Rattle.module_semantics.proofs.FunctionNumbers.{in_append}
+use Rattle.module_semantics.proofs.FunctionNumbers.{after_left, in_append, in_left}
 use Rattle.module_semantics.specs.ExpressionContexts.{declared, types_known}
 use Rattle.module_semantics.specs.ExpressionOperators.{ExpressionContext}
 use Rattle.module_semantics.specs.FunctionShapes.{cases_shape}
@@ -32,19 +32,9 @@ either_some None p x is = inr (refl, is)
 either_some (Some y) p x is = inl is
 
 -- ---- an item of a list that goes on
-at_left : {X : Type 0} (xs ys : List X) (i : ℕ) (x : X) → slice_get xs i ≡ Some x → slice_get (xs ++ ys) i ≡ Some x
-at_left [] ys i x at = absurd cc
-at_left (y ∷ xs) ys zero x at = at
-at_left (y ∷ xs) ys (suc i) x at = at_left xs ys i x at
-
 at_right : {X : Type 0} (xs ys : List X) (n i : ℕ) (x : X) → length xs ≡ n → slice_get ys i ≡ Some x →
     slice_get (xs ++ ys) (n + i) ≡ Some x
-at_right [] ys n i x long at =
-    let same : i ≡ n + i = omega (arith, long) in ap (slice_get ys) (sym same) ∙ at
-at_right (y ∷ xs) ys zero i x long at = absurd (omega (arith, long))
-at_right (y ∷ xs) ys (suc n) i x long at =
-    let more : suc n + i ≡ suc (n + i) = omega arith in
-    ap (slice_get (y ∷ (xs ++ ys))) more ∙ at_right xs ys n i x (omega (arith, long)) at
+at_right xs ys n i x long at = ap (λ k. slice_get (xs ++ ys) (k + i)) (sym long) ∙ after_left xs ys i x at
 
 module _ (w : WrittenFunction) (e : PlanError) where
   abbrev f : Naming
@@ -87,8 +77,8 @@ module _ (w : WrittenFunction) (e : PlanError) where
     index = x.index;
     statement = x.statement;
     at = x.at;
-    stands = at_left xs ys x.index x.statement x.stands;
-    placed = at_left ps qs x.index (record { at = x.at; statement = statement_in w x.statement }) x.placed;
+    stands = in_left xs ys x.index x.statement x.stands;
+    placed = in_left ps qs x.index (record { at = x.at; statement = statement_in w x.statement }) x.placed;
     formed = λ i st lt at. by i st lt (in_append xs ys i st at);
     lacks = x.lacks;
   }
