@@ -35,8 +35,8 @@ MARK = "\x01"
 # what must be refused
 NEVER_READ = ("cut off", "no module", "content after a name")
 # what is let be in a module, whatever stands in it
-LET_BE = re.compile(r"""\.(diagnostic_filters|diagnostic_filter_leaf|doc_comments|ray_desc|ray_intersection
-    |ray_vertex_return|mesh_info\.(?!output_variable)\w+|RayQuery\.fun)\b""", re.VERBOSE)
+LET_BE = re.compile(
+    r"\.(diagnostic_filters|diagnostic_filter_leaf|doc_comments|mesh_info\.(?!output_variable)\w+|RayQuery\.fun)\b")
 # what is told by its name alone is one of these
 VARIANTS = {name.split("::")[1] for name in EVERY if "::" in name}
 

@@ -48,7 +48,7 @@ use Rattle.module_semantics.specs.acceptance.Ranges.{names_fit, names_in_range, 
 use Rattle.module_semantics.specs.acceptance.StatementsFit.{calls, is_answered}
 use Rattle.module_semantics.specs.acceptance.StatementsFit.{is_call, is_condition}
 use Rattle.module_semantics.specs.acceptance.StatementsFit.{simple_is_sound}
-use Rattle.module_semantics.proofs.Lists.{list_all_at, numbered_at}
+use Rattle.module_semantics.proofs.Lists.{list_all_at, numbered_at, unmapped}
 use Rattle.naga_acceptance.specs.Faults.{FunctionPositionFails, UnfitStatement}
 use Rattle.naga_acceptance.specs.TextOrder.{is_in_range, is_sound, case_values_fit_32_bits}
 use Rattle.naga_acceptance.specs.TextOrder.{own_in_range, own_is_sound, text_order}
@@ -90,10 +90,6 @@ is_nothing Nothing = true
 only_none : (o : Option TypeResolution) → only o ≡ Nothing → o ≡ None
 only_none None nothing = refl
 only_none (Some r) nothing = absurd (true≢false (sym (ap is_nothing nothing)))
-
-map_none : {X Y : Type 0} (g : X → Y) (o : Option X) → option_map g o ≡ None → o ≡ None
-map_none g None none = refl
-map_none g (Some x) none = absurd (true≢false (ap is_some none))
 
 any_given : (o : Option TypeResolution) → is_nothing (if_any o) ≡ false
 any_given None = refl
@@ -140,13 +136,13 @@ module _ (m : Module) (f : Option Function) (known : List TypeResolution) (argum
       all_below h (expression_operands e) ≡ true →
       names_in_range m arguments locals e ≡ true → are_met m.types (typeless_demands known own e) ≡ false
   typeless_unmet own (expression.Constant handle) nothing below named =
-      absurd (not_absent m.constants handle (map_none _ _ (only_none _ nothing)) named)
+      absurd (not_absent m.constants handle (unmapped _ _ (only_none _ nothing)) named)
   typeless_unmet own (expression.Override handle) nothing below named =
-      absurd (not_absent m.overrides handle (map_none _ _ (only_none _ nothing)) named)
+      absurd (not_absent m.overrides handle (unmapped _ _ (only_none _ nothing)) named)
   typeless_unmet own (expression.FunctionArgument number) nothing below named =
       absurd (argument_there number named (only_none _ nothing))
   typeless_unmet own (expression.GlobalVariable handle) nothing below named =
-      absurd (not_absent m.global_variables handle (map_none _ _ (only_none _ nothing)) named)
+      absurd (not_absent m.global_variables handle (unmapped _ _ (only_none _ nothing)) named)
   typeless_unmet own (expression.LocalVariable handle) nothing below named =
       absurd (local_there handle named (only_none _ nothing))
   typeless_unmet own (expression.Access base index) nothing below named =
@@ -158,11 +154,11 @@ module _ (m : Module) (f : Option Function) (known : List TypeResolution) (argum
   typeless_unmet own (expression.Splat n value) nothing below named =
       no_class class.Components value (first_there value [] below)
       (none_is is_scalar_or_vector component_scalar components_same (known_inner m.types known value)
-      (map_none (vector_of n) _ (only_none _ nothing)))
+      (unmapped (vector_of n) _ (only_none _ nothing)))
   typeless_unmet own (expression.Swizzle n vector pattern) nothing below named =
       no_class class.Vector vector (first_there vector [] below)
       (none_is (λ it. is_some (vector_scalar it)) vector_scalar (λ it. refl) (known_inner m.types known vector)
-      (map_none (vector_of n) _ (only_none _ nothing)))
+      (unmapped (vector_of n) _ (only_none _ nothing)))
   typeless_unmet own (expression.Load pointer) nothing below named =
       no_class class.Pointer pointer (first_there pointer [] below)
       (none_is (is_in_class m.types class.Pointer) (pointee_type m.types) (λ it. refl)
@@ -353,10 +349,10 @@ module _ (m : Module) (f : Function) (known : List TypeResolution) (callees : �
 
   argument_there : (number : ℕ) → nat_lt number (length f.arguments.items) ≡ true →
       argument_type (Some f) number ≡ None → ⊥
-  argument_there number below none = not_absent f.arguments.items number (map_none _ _ none) below
+  argument_there number below none = not_absent f.arguments.items number (unmapped _ _ none) below
 
   local_there : (number : ℕ) → nat_lt number (length f.local_variables) ≡ true → local_type (Some f) number ≡ None → ⊥
-  local_there number below none = not_absent f.local_variables number (map_none _ _ none) below
+  local_there number below none = not_absent f.local_variables number (unmapped _ _ none) below
 
   expression_ranges : (h : ℕ) (e : Expression) → slice_get f.expressions h ≡ Some e →
       (all_below h (expression_operands e) ≡ true)

@@ -446,9 +446,28 @@ pub(crate) fn special_reason<'a>(module: &Module) -> Option<Reason<'a>>
     if params.is_some() {
         return params;
     }
-    absent_if(
+    let transfer = absent_if(
         ListName::Types,
         types,
         special.external_texture_transfer_function,
-    )
+    );
+    if transfer.is_some() {
+        return transfer;
+    }
+    ray_reason(types, special)
+}
+
+/// The first type of rays that is not there.
+fn ray_reason<'a>(types: usize, special: &SpecialTypes) -> Option<Reason<'a>>
+    ensures { option_map shown result ≡ unmet [] (ray_demands types special.now) }
+{
+    let desc = absent_if(ListName::Types, types, special.ray_desc);
+    if desc.is_some() {
+        return desc;
+    }
+    let intersection = absent_if(ListName::Types, types, special.ray_intersection);
+    if intersection.is_some() {
+        return intersection;
+    }
+    absent_if(ListName::Types, types, special.ray_vertex_return)
 }

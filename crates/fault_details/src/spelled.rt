@@ -189,39 +189,6 @@ fn told_types(
     })
 }
 
-fn resolution_of(ty: InferredType) -> TypeResolution
-    ensures { result ≡ inferred ty }
-{
-    match ty {
-        InferredType::Handle(handle) => TypeResolution::Handle(handle),
-        InferredType::Scalar(scalar) => TypeResolution::Value(TypeInner::Scalar(scalar)),
-        InferredType::Vector { size, scalar } => {
-            TypeResolution::Value(TypeInner::Vector { size, scalar })
-        }
-        InferredType::Matrix {
-            columns,
-            rows,
-            scalar,
-        } => TypeResolution::Value(TypeInner::Matrix {
-            columns,
-            rows,
-            scalar,
-        }),
-        InferredType::Pointer { base, space } => {
-            TypeResolution::Value(TypeInner::Pointer { base, space })
-        }
-        InferredType::ValuePointer {
-            size,
-            scalar,
-            space,
-        } => TypeResolution::Value(TypeInner::ValuePointer {
-            size,
-            scalar,
-            space,
-        }),
-    }
-}
-
 /// Two types.
 fn other_type(
     alloc: Global,
@@ -231,7 +198,7 @@ fn other_type(
 ) -> Result<Mismatch, AllocError>
     ensures { IfOk result (Tells «module».now (OtherType (inferred expected) got.now)) }
 {
-    let expected = resolution_of(expected);
+    let expected = expected.resolution();
     let TwoTypes { expected, got } = told_types(alloc, module, &expected, got)?;
     Ok(Mismatch::Type { expected, got })
 }
@@ -245,7 +212,7 @@ fn known_type(
 ) -> Result<Mismatch, AllocError>
     ensures { IfOk result (Tells «module».now (KnownType (inferred gives) known.now)) }
 {
-    let gives = resolution_of(gives);
+    let gives = gives.resolution();
     let TwoTypes { expected, got } = told_types(alloc, module, &gives, known)?;
     Ok(Mismatch::KnownType {
         gives: expected,
@@ -271,7 +238,7 @@ fn other_scalar(
 fn no_value(alloc: Global, module: &Module, expected: InferredType) -> Result<Mismatch, AllocError>
     ensures { IfOk result (Tells «module».now (NoValue (inferred expected))) }
 {
-    let expected = resolution_of(expected);
+    let expected = expected.resolution();
     Ok(Mismatch::Value {
         expected: told(alloc, module, &expected)?,
     })

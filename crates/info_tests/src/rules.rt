@@ -157,3 +157,30 @@ fn images_have_their_types(rt: HostRuntime) {
     };
     gives(&rt, &module, load, texel);
 }
+
+/// What a ray query found has the module's own types, if it tells them.
+#[test]
+fn rays_have_special_types(rt: HostRuntime) {
+    let mut module = Module::new(rt.alloc());
+    let found = Expression::RayQueryGetIntersection {
+        query: at(0),
+        committed: true,
+    };
+    let positions = Expression::RayQueryVertexPositions {
+        query: at(0),
+        committed: true,
+    };
+    let known = Known::Global([].as_slice());
+    assert!(rt; inferred_type(&module, None, known, &found).is_none());
+    assert!(rt; inferred_type(&module, None, known, &positions).is_none());
+    module.special_types.ray_intersection = Some(ItemIndex::from_index(3));
+    module.special_types.ray_vertex_return = Some(ItemIndex::from_index(4));
+    match inferred_type(&module, None, known, &found) {
+        Some(TypeResolution::Handle(ty)) => assert_eq!(rt; ty.index(), 3),
+        _ => panic!(rt; "the module's struct"),
+    }
+    match inferred_type(&module, None, known, &positions) {
+        Some(TypeResolution::Handle(ty)) => assert_eq!(rt; ty.index(), 4),
+        _ => panic!(rt; "the module's array"),
+    }
+}

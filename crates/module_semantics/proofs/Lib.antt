@@ -3,6 +3,7 @@ mod StatementExamples
 pub mod AgreementExamples
 pub mod AlikeExamples
 pub mod AlikeTypes
+pub mod KeyDepths
 pub mod LetCounts
 mod EnableExamples
 pub mod ExpressionShapes

@@ -1,7 +1,8 @@
--- Lists whose items all pass a test, and what stands in two lists in a row.
+-- Lists whose items all pass a test, what stands in two lists in a row, and an item that there may be.
 use Rattle.std.proofs.Common.{◌≡◌, ℕ, zero, suc, ◌+◌, Bool, true, List, [], ◌∷◌, refl, sym, ap, ◌∙◌}
-use Rattle.std.proofs.Common.{Some, slice_get, arith, ◌++◌, ◌⊎◌, inl, inr}
+use Rattle.std.proofs.Common.{Option, Some, None, slice_get, arith, ◌++◌, ◌⊎◌, inl, inr}
 use Rattle.std.specs.List.{list_all, enumerate_from}
+use Rattle.std.specs.Option.{option_map}
 use Rattle.std.proofs.lemmas.Bool.{and_from, and_parts}
 
 -- the item at an index passes
@@ -47,3 +48,10 @@ in_joined (y ∷ xs) ys (suc i) x there = go (in_joined xs ys i x there)
         ((k : ℕ) × (slice_get (y ∷ xs) k ≡ Some x)) ⊎ ((k : ℕ) × (slice_get ys k ≡ Some x))
     go (inl found) = inl (suc found.0, found.1)
     go (inr found) = inr found
+
+-- ---- an item that there may be
+
+-- there is none of what nothing came
+pub unmapped : {X Y : Type 0} (g : X → Y) (o : Option X) → option_map g o ≡ None → o ≡ None
+unmapped g None is = refl
+unmapped g (Some x) is = absurd cc

@@ -127,7 +127,10 @@ const LET_BE: &[(&str, &str, &str)] = &[
     (
         r#"{"special_types": {"ray_desc": 0, "ray_intersection": 1, "ray_vertex_return": 2}}"#,
         "{}",
-        "external_texture_params: None",
+        "external_texture_params: None, external_texture_transfer_function: None, \
+         ray_desc: Some(ItemIndex { index: 0, mark: PhantomData<_> }), \
+         ray_intersection: Some(ItemIndex { index: 1, mark: PhantomData<_> }), \
+         ray_vertex_return: Some(ItemIndex { index: 2, mark: PhantomData<_> }) }",
     ),
     (
         r#"{"functions": [{"body": [{"RayQuery": {"query": 3, "fun": "Terminate"}}]}]}"#,

@@ -60,6 +60,42 @@ pub enum InferredType {
     },
 }
 
+impl InferredType {
+    /// The same type as what is known of an expression.
+    pub fn resolution(self) -> TypeResolution
+        ensures { result ≡ inferred self }
+    {
+        match self {
+            InferredType::Handle(handle) => TypeResolution::Handle(handle),
+            InferredType::Scalar(scalar) => TypeResolution::Value(TypeInner::Scalar(scalar)),
+            InferredType::Vector { size, scalar } => {
+                TypeResolution::Value(TypeInner::Vector { size, scalar })
+            }
+            InferredType::Matrix {
+                columns,
+                rows,
+                scalar,
+            } => TypeResolution::Value(TypeInner::Matrix {
+                columns,
+                rows,
+                scalar,
+            }),
+            InferredType::Pointer { base, space } => {
+                TypeResolution::Value(TypeInner::Pointer { base, space })
+            }
+            InferredType::ValuePointer {
+                size,
+                scalar,
+                space,
+            } => TypeResolution::Value(TypeInner::ValuePointer {
+                size,
+                scalar,
+                space,
+            }),
+        }
+    }
+}
+
 /// The types of expressions that stand together, by handle.
 #[derive(Debug, Clone, Copy)]
 pub enum Known<'a> {

@@ -19,7 +19,8 @@ ghost use Rattle.module_semantics.specs.acceptance.Ranges.{local_in_range, modul
 ghost use Rattle.module_semantics.specs.acceptance.Ranges.{names_fit};
 ghost use Rattle.module_semantics.specs.acceptance.Ranges.{override_in_range, resolution_fits};
 ghost use Rattle.module_semantics.specs.acceptance.Ranges.{signature_fits};
-ghost use Rattle.module_semantics.specs.acceptance.Ranges.{signature_types_fit, special_types_fit};
+ghost use Rattle.module_semantics.specs.acceptance.Ranges.{ray_types_fit, signature_types_fit};
+ghost use Rattle.module_semantics.specs.acceptance.Ranges.{special_types_fit};
 
 pub(crate) mod expressions;
 pub(crate) mod numbers;
@@ -133,6 +134,15 @@ fn special_types_fit(type_count: usize, special_types: &SpecialTypes) -> bool
     predeclared_types_fit(type_count, special_types)
         && is_below(type_count, special_types.external_texture_params)
         && is_below(type_count, special_types.external_texture_transfer_function)
+        && ray_types_fit(type_count, special_types)
+}
+
+fn ray_types_fit(type_count: usize, special_types: &SpecialTypes) -> bool
+    ensures { result ≡ ray_types_fit type_count special_types.now }
+{
+    is_below(type_count, special_types.ray_desc)
+        && is_below(type_count, special_types.ray_intersection)
+        && is_below(type_count, special_types.ray_vertex_return)
 }
 
 fn predeclared_types_fit(type_count: usize, special_types: &SpecialTypes) -> bool

@@ -22,7 +22,8 @@ use Rattle.naga_info.specs.declared.info.ModuleInfo.{ModuleInfo}
 use Rattle.naga_info.specs.declared.info.TypeResolution.{TypeResolution}
 use Rattle.naga_info.specs.declared.info.TypeResolution.TheVariants.{Handle, Value}
 use Rattle.naga_spelling.specs.Spelling.{is_struct}
-use Rattle.module_semantics.proofs.Lists.{list_all_at, numbered_at}
+use Rattle.module_semantics.proofs.KeyDepths.{PartsStand, parts_stand}
+use Rattle.module_semantics.proofs.Lists.{list_all_at}
 use Rattle.module_semantics.specs.acceptance.Accepted.{is_accepted}
 use Rattle.module_semantics.specs.acceptance.AgreeingOperators.{Group, function_groups}
 use Rattle.module_semantics.specs.acceptance.AgreeingOperators.{module_operators_agree}
@@ -40,7 +41,6 @@ use Rattle.module_semantics.specs.acceptance.Soundness.{module_is_sound}
 use Rattle.naga_inference.specs.Following.{HasSameType, IsSameType}
 use Rattle.naga_inference.specs.Passes.{AllLike}
 use Rattle.naga_inference.proofs.Following.{all_types}
-use Rattle.naga_inference.proofs.SameIdentity.{PartsStand}
 use Rattle.naga_inference.proofs.SameSoundness.{same_declarations, same_function, same_uses}
 
 -- ---- lists
@@ -128,13 +128,6 @@ module _ (overrides : ℕ) (types : List Type_) (fit : list_all type_is_fit type
       let none : is_struct it ≡ false = cc in value_fits it none g (slice_get types g) refl told.1
   still_fits (Value it) (Value jt) (inr told) pass =
       let same : it ≡ jt = cc in ap (λ x. fits (Value x)) same ∙ pass
-
--- each type's parts stand before it
-parts_stand : (types : List Type_) → parts_stand_before types ≡ true → PartsStand types
-parts_stand types order h t at =
-    let from : 0 + h ≡ h = omega arith in
-    sym (ap (λ here. parts_before here t.inner) from)
-    ∙ numbered_at (λ here t. parts_before here t.inner) 0 types h t order at
 
 -- ---- a module, with two infos that tell the same types
 module _ (m : Module) (found other : ModuleInfo)

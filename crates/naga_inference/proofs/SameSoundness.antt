@@ -50,7 +50,8 @@ use Rattle.module_semantics.specs.acceptance.StatementsFit.{simple_is_sound, sta
 use Rattle.module_semantics.specs.acceptance.StatementsFit.{value_has_type}
 use Rattle.naga_inference.specs.Following.{IsSameType}
 use Rattle.naga_inference.specs.Passes.{AllLike}
-use Rattle.naga_inference.proofs.SameIdentity.{PartsStand, same_identity}
+use Rattle.module_semantics.proofs.KeyDepths.{PartsStand}
+use Rattle.naga_inference.proofs.SameIdentity.{same_identity}
 use Rattle.naga_inference.proofs.SameTypes.{AreSame, expected_same, got_same, same_known_inner}
 
 module _ (m : Module) (stand : PartsStand m.types) (rs ks : List TypeResolution)

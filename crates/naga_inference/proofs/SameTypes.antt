@@ -33,7 +33,7 @@ use Rattle.naga_inference.specs.Functions.{answered, math_answer}
 use Rattle.naga_inference.specs.Inferred.{by_demand, inferred_type}
 use Rattle.naga_inference.specs.Passes.{AllLike}
 use Rattle.naga_inference.specs.Rules.{binary_rule, conversion_type, image_type, loaded_matrix}
-use Rattle.naga_inference.specs.Rules.{query_type, relational_type, truth_type}
+use Rattle.naga_inference.specs.Rules.{query_type, relational_type, special_type, truth_type}
 use Rattle.naga_inference.specs.Rules.{matrix_product, product_of, product_type, rule_type, scaled}
 use Rattle.naga_inference.specs.Rules.{vector_product}
 use Rattle.naga_inference.specs.Types.{same, same_as, same_inner}
@@ -234,6 +234,10 @@ module _ (m : Module) (rs ks : List TypeResolution) (all : AllLike (IsSameType m
       (λ it. math_answer m.special_types fun it (option_and_then (known_inner m.types rs) arg1))
       (known_inner m.types rs arg)))
 
+  special_same : (told : Option ℕ) → AreSame m.types (special_type told) (special_type told)
+  special_same None = tt
+  special_same (Some h) = inl refl
+
   rule_same : (e : Expression) → AreSame m.types (rule_type m rs e) (rule_type m ks e)
   rule_same (expression.ImageSample image sampler gather at array offset level depth clamp) =
       by_inner (option_and_then (image_type (is_some gather))) image
@@ -249,6 +253,10 @@ module _ (m : Module) (rs ks : List TypeResolution) (all : AllLike (IsSameType m
   rule_same (expression.As operand kind convert) = by_inner (option_and_then (conversion_type kind convert)) operand
   rule_same (expression.ArrayLength array) = inl refl
   rule_same expression.RayQueryProceedResult = inl refl
+  rule_same (expression.RayQueryGetIntersection query committed) =
+      special_same m.special_types.ray_intersection
+  rule_same (expression.RayQueryVertexPositions query committed) =
+      special_same m.special_types.ray_vertex_return
   rule_same expression.SubgroupBallotResult = inl refl
   rule_same (expression.CooperativeLoad columns rows role data_) =
       by_inner (λ o. loaded_matrix columns rows role (option_and_then (pointee_scalar m.types) o)) data_.pointer

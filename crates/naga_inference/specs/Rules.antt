@@ -38,7 +38,7 @@ use Rattle.naga_ir.specs.declared.types.VectorSize.{VectorSize}
 use Rattle.naga_ir.specs.declared.types.VectorSize.TheVariants as size
 use Rattle.naga_info.specs.Resolution.{inner_of}
 use Rattle.naga_info.specs.declared.info.TypeResolution.{TypeResolution}
-use Rattle.naga_info.specs.declared.info.TypeResolution.TheVariants.{Value}
+use Rattle.naga_info.specs.declared.info.TypeResolution.TheVariants.{Handle, Value}
 use Rattle.module_semantics.specs.Conversions.{conversion_target}
 use Rattle.module_semantics.specs.ExpressionOperators.{pointee_scalar}
 use Rattle.module_semantics.specs.TypeParts.{known_inner}
@@ -201,6 +201,10 @@ loaded_matrix columns rows role s =
 
 -- ---- special types
 
+-- the type that the module tells, if it does
+abbrev pub special_type : (told : Option ℕ) → Option TypeResolution
+special_type told = option_map (λ h. Handle h) told
+
 -- `modf` and `frexp` give structs that WGSL declares by itself
 abbrev pub gives_two : MathFunction → Bool
 gives_two math.Modf = true
@@ -218,7 +222,7 @@ has_special_type _ = false
 -- ---- all kinds
 
 -- The type of an expression whose type acceptance leaves open, if its operands have types that give
--- it one. What a ray query found has none yet: a module does not say which of its types it has.
+-- it one, or the module's special types do.
 abbrev pub rule_type : Module → (known : List TypeResolution) → Expression → Option TypeResolution
 rule_type m known (expression.ImageSample image sampler gather at array offset level depth clamp) =
     option_and_then (image_type (is_some gather)) (known_inner m.types known image)
@@ -241,6 +245,10 @@ rule_type m known (expression.As operand kind convert) =
     option_and_then (conversion_type kind convert) (known_inner m.types known operand)
 rule_type m known (expression.ArrayLength array) = Some (scalar_type u32_scalar)
 rule_type m known expression.RayQueryProceedResult = Some (scalar_type bool_scalar)
+rule_type m known (expression.RayQueryGetIntersection query committed) =
+    special_type m.special_types.ray_intersection
+rule_type m known (expression.RayQueryVertexPositions query committed) =
+    special_type m.special_types.ray_vertex_return
 rule_type m known expression.SubgroupBallotResult = Some (vector_of size.Quad u32_scalar)
 rule_type m known (expression.CooperativeLoad columns rows role data_) =
     loaded_matrix columns rows role

@@ -15,13 +15,14 @@ ghost use Rattle.naga_inference.specs.Rules.{image_type};
 ghost use Rattle.naga_inference.specs.Rules.{loaded_matrix, matrix_product, product};
 ghost use Rattle.naga_inference.specs.Rules.{product_of, product_type, query_type};
 ghost use Rattle.naga_inference.specs.Rules.{relational_type, rule_type, scaled, size_type};
+ghost use Rattle.naga_inference.specs.Rules.{special_type};
 ghost use Rattle.naga_inference.specs.Rules.{texel_type, truth_type, vector_product};
 ghost use Rattle.naga_inference.specs.Types.{same, same_as, same_inner, scalar_type};
 
 use crate::functions::{MathAnswer, math_answer};
 use module_semantics::type_parts::{converted_scalar, inner_at, inner_of};
 use naga_acceptance::expression_types::{AllowedType, expected_type};
-use naga_acceptance::parts::{InferredType, Known, known_inner, known_type};
+use naga_acceptance::parts::{Known, known_inner, known_type};
 use naga_info::TypeResolution;
 use naga_ir::{
     BinaryOperator, CooperativeRole, CooperativeSize, Expression, Function, Handle, ImageClass,
@@ -467,6 +468,15 @@ fn loaded_matrix(
     }
 }
 
+fn special_type(told: Option<Handle<Type_>>) -> Option<TypeResolution>
+    ensures { result ≡ special_type told }
+{
+    match told {
+        Some(handle) => Some(TypeResolution::Handle(handle)),
+        None => None,
+    }
+}
+
 /// The type of an expression whose type acceptance leaves open.
 fn rule_type(module: &Module, known: Known<'_>, expression: &Expression) -> Option<TypeResolution>
     ensures { result ≡ rule_type «module».now (known_types known.entry) expression.now }
@@ -496,6 +506,12 @@ fn rule_type(module: &Module, known: Known<'_>, expression: &Expression) -> Opti
         } => conversion_type(known_inner(types, known, *expr), *kind, *convert),
         Expression::ArrayLength(_) => Some(scalar(Scalar::U32)),
         Expression::RayQueryProceedResult => Some(scalar(Scalar::BOOL)),
+        Expression::RayQueryGetIntersection { .. } => {
+            special_type(module.special_types.ray_intersection)
+        }
+        Expression::RayQueryVertexPositions { .. } => {
+            special_type(module.special_types.ray_vertex_return)
+        }
         Expression::SubgroupBallotResult => Some(vector(VectorSize::Quad, Scalar::U32)),
         Expression::CooperativeLoad {
             columns,
@@ -546,37 +562,6 @@ pub(crate) fn missing_of(expression: &Expression) -> Missing
     }
 }
 
-fn resolution_of(ty: InferredType) -> TypeResolution
-    ensures { result ≡ inferred ty }
-{
-    match ty {
-        InferredType::Handle(handle) => TypeResolution::Handle(handle),
-        InferredType::Scalar(of) => scalar(of),
-        InferredType::Vector { size, scalar } => vector(size, scalar),
-        InferredType::Matrix {
-            columns,
-            rows,
-            scalar,
-        } => TypeResolution::Value(TypeInner::Matrix {
-            columns,
-            rows,
-            scalar,
-        }),
-        InferredType::Pointer { base, space } => {
-            TypeResolution::Value(TypeInner::Pointer { base, space })
-        }
-        InferredType::ValuePointer {
-            size,
-            scalar,
-            space,
-        } => TypeResolution::Value(TypeInner::ValuePointer {
-            size,
-            scalar,
-            space,
-        }),
-    }
-}
-
 /// The type of an expression, by the module and the types of the expressions that stand before it.
 /// `function` is the one in which it stands, and `None` for the module's own expressions.
 ///
@@ -594,12 +579,12 @@ fn resolution_of(ty: InferredType) -> TypeResolution
 /// - A texel is a vector of four of its image's scalars, of a depth image one `f32`; a gather has
 ///   four in any case. Sizes and lengths are of `u32`.
 /// - `modf` and `frexp` have the struct that the module tells of them
-///   ([`SpecialTypes`](naga_ir::SpecialTypes)).
+///   ([`SpecialTypes`](naga_ir::SpecialTypes)), and so have what a ray query found and the positions
+///   of its vertices.
 ///
 /// It is `None` where an operand has no type that gives it one or is not known, where a declaration
 /// is not there, for `&&` and `||` after anything but a `bool`, for an `AccessIndex` without a
-/// part, for `modf` and `frexp` of which the module tells no struct, and for what a ray query
-/// found, since a module does not tell its struct.
+/// part, and where the module does not tell the special type.
 pub fn inferred_type(
     module: &Module,
     function: Option<&Function>,
@@ -610,7 +595,7 @@ pub fn inferred_type(
         (known_types known.entry) expression.now }
 {
     match expected_type(module, function, known, expression) {
-        AllowedType::LikeThis(ty) => Some(resolution_of(ty)),
+        AllowedType::LikeThis(ty) => Some(ty.resolution()),
         AllowedType::Anything => rule_type(module, known, expression),
         AllowedType::Nothing => None,
     }

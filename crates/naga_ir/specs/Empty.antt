@@ -19,6 +19,9 @@ pub record IsEmptySpecialTypes (s : SpecialTypes) : Type 0 where
   pub no_predeclared_types : IsEmpty s.predeclared_types
   pub no_params : s.external_texture_params ≡ None
   pub no_transfer_function : s.external_texture_transfer_function ≡ None
+  pub no_ray_desc : s.ray_desc ≡ None
+  pub no_ray_intersection : s.ray_intersection ≡ None
+  pub no_ray_vertex_return : s.ray_vertex_return ≡ None
 
 pub record IsEmptyModule (m : Module) : Type 0 where
   pub no_types : m.types ≡ []

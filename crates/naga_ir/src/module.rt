@@ -207,7 +207,8 @@ pub struct EntryPoint {
     pub incoming_ray_payload: Option<Handle<GlobalVariable>>,
 }
 
-/// The types of a module that WGSL knows without a declaration.
+/// The types of a module that have a meaning of their own. Those of rays are declared in a text as any
+/// struct is, the others are not.
 #[derive(Debug, Drop)]
 pub struct SpecialTypes {
     /// The structs that built-in functions give, with their types in the module.
@@ -216,6 +217,12 @@ pub struct SpecialTypes {
     pub external_texture_params: Option<Handle<Type_>>,
     /// The struct of an external texture's transfer function.
     pub external_texture_transfer_function: Option<Handle<Type_>>,
+    /// The struct that describes a ray: naga's `RayDesc`.
+    pub ray_desc: Option<Handle<Type_>>,
+    /// The struct of what a ray query found: naga's `RayIntersection`.
+    pub ray_intersection: Option<Handle<Type_>>,
+    /// The positions of a triangle's vertices, which a ray query gives of what it found.
+    pub ray_vertex_return: Option<Handle<Type_>>,
 }
 
 /// A shader: its types, its values and variables, its functions and its entry points.
@@ -223,7 +230,7 @@ pub struct SpecialTypes {
 pub struct Module {
     /// Its types. Each stands after its parts.
     pub types: UniqueArena<Type_>,
-    /// Which of the types WGSL knows without a declaration.
+    /// Which of the types have a meaning of their own.
     pub special_types: SpecialTypes,
     /// Its constants.
     pub constants: Arena<Constant>,
@@ -252,6 +259,9 @@ impl Module {
                 predeclared_types: IndexMap::new(alloc),
                 external_texture_params: None,
                 external_texture_transfer_function: None,
+                ray_desc: None,
+                ray_intersection: None,
+                ray_vertex_return: None,
             },
             constants: Arena::new(alloc),
             overrides: Arena::new(alloc),

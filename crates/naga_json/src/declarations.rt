@@ -298,16 +298,14 @@ const SPECIAL_TYPES_MEMBERS: &[&str] = &[
     "predeclared_types",
     "external_texture_params",
     "external_texture_transfer_function",
+    "ray_desc",
+    "ray_intersection",
+    "ray_vertex_return",
 ];
 
 impl FromJson for SpecialTypes {
     fn from_json(alloc: Global, payload: &Value) -> Result<SpecialTypes, ReadError> {
-        expect_members_beside(
-            alloc,
-            payload,
-            SPECIAL_TYPES_MEMBERS,
-            let_be::OF_SPECIAL_TYPES,
-        )?;
+        expect_members(alloc, payload, SPECIAL_TYPES_MEMBERS)?;
         let mut predeclared_types = IndexMap::new(alloc);
         fill(alloc, payload, "predeclared_types", &mut predeclared_types)?;
         Ok(SpecialTypes {
@@ -317,6 +315,9 @@ impl FromJson for SpecialTypes {
                 payload,
                 "external_texture_transfer_function",
             )?,
+            ray_desc: member(alloc, payload, "ray_desc")?,
+            ray_intersection: member(alloc, payload, "ray_intersection")?,
+            ray_vertex_return: member(alloc, payload, "ray_vertex_return")?,
             predeclared_types,
         })
     }

@@ -12,10 +12,6 @@ pub(crate) const OF_MODULE: &[&str] = &[
 /// Of a function: which rule for what a compiler warns of holds in it.
 pub(crate) const OF_FUNCTION: &[&str] = &["diagnostic_filter_leaf"];
 
-/// Of the special types: those of ray queries, which are structs as others are. What a ray query
-/// asks and finds is refused where it would be written.
-pub(crate) const OF_SPECIAL_TYPES: &[&str] = &["ray_desc", "ray_intersection", "ray_vertex_return"];
-
 /// Of a mesh stage: what the type of its output variable says too.
 pub(crate) const OF_MESH_INFO: &[&str] = &[
     "topology",

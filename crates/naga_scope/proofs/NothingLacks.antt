@@ -7,6 +7,7 @@ use Rattle.std.specs.Option.{option_map, option_or, option_to_list}
 use Rattle.std.specs.Prelude.{Err, IsTrue, Ok, if◌then◌else◌, slice_get}
 use Rattle.std.specs.Result.{is_ok}
 use Rattle.module_semantics.proofs.FunctionNumbers.{in_append}
+use Rattle.module_semantics.proofs.Lists.{unmapped}
 use Rattle.module_semantics.specs.ExpressionContexts.{declared, types_known}
 use Rattle.module_semantics.specs.ExpressionOperators.{ExpressionContext}
 use Rattle.module_semantics.specs.FunctionShapes.{cases_shape}
@@ -39,10 +40,6 @@ use Rattle.shader_runs.specs.Scope.{fits, fits_all, fits_cases, named_by, named_
 pub neither : {X : Type 0} (a b : Option X) → option_or a b ≡ None → (a ≡ None) × (b ≡ None)
 neither None b is = (refl, is)
 neither (Some x) b is = absurd cc
-
-pub unmapped : {X Y : Type 0} (g : X → Y) (o : Option X) → option_map g o ≡ None → o ≡ None
-unmapped g None is = refl
-unmapped g (Some x) is = absurd cc
 
 scope_none : (r : Checked) → scope_lack r ≡ None → is_ok r ≡ true
 scope_none (Ok passed) is = refl

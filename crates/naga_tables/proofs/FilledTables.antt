@@ -18,13 +18,14 @@ use Rattle.module_semantics.specs.AlikeTypes.{found_key_by, handle_key, inner_ke
 use Rattle.module_semantics.specs.AlikeTypes.{key_within, value_key}
 use Rattle.module_semantics.specs.LackingScalars.{base_type, wordless}
 use Rattle.module_semantics.specs.acceptance.Ranges.{is_below, parts_before, parts_stand_before}
-use Rattle.module_semantics.specs.acceptance.Ranges.{special_types_fit, types_in_range}
+use Rattle.module_semantics.specs.acceptance.Ranges.{ray_types_fit, special_types_fit}
+use Rattle.module_semantics.specs.acceptance.Ranges.{types_in_range}
 use Rattle.module_semantics.specs.TypeIdentity.{level}
 use Rattle.module_semantics.specs.Undeclared.{handle_names_undeclared, is_undeclared}
 use Rattle.module_semantics.specs.Undeclared.{names_undeclared, names_undeclared_by}
 use Rattle.module_semantics.specs.Undeclared.{names_undeclared_within}
 use Rattle.naga_form.proofs.declarations.AcceptedGroups.{types_range}
-use Rattle.naga_form.proofs.types.AlikeParts.{at_depth, parts_stand}
+use Rattle.module_semantics.proofs.KeyDepths.{at_depth, parts_stand}
 use Rattle.naga_form.proofs.declarations.OwnExpressions.{declared_in_range}
 use Rattle.naga_info.proofs.Options.{some_kept}
 use Rattle.naga_info.specs.declared.info.ModuleInfo.{ModuleInfo}
@@ -105,10 +106,12 @@ module _ (count h : ℕ) where
       let params = s.external_texture_params in
       let transfer = s.external_texture_transfer_function in
       let one = and_parts (list_all (λ x. nat_lt x count) known)
-      (is_below count params && is_below count transfer) fit in
-      let two = and_parts (is_below count params) (is_below count transfer) one.1 in
+      (is_below count params && (is_below count transfer && ray_types_fit count s)) fit in
+      let two =
+      and_parts (is_below count params) (is_below count transfer && ray_types_fit count s) one.1 in
+      let three = and_parts (is_below count transfer) (ray_types_fit count s) two.1 in
       by (list_any (nat_eq h) known) refl (option_map_or (nat_eq h) params false) refl
-      one.0 two.0 two.1 is
+      one.0 two.0 three.0 is
     where
       by : (a : Bool) → list_any (nat_eq h) (values s.predeclared_types) ≡ a → (b : Bool) →
           option_map_or (nat_eq h) s.external_texture_params false ≡ b →
@@ -156,7 +159,7 @@ over_before _ h base before is = absurd cc
 -- what a type is over stands before it
 base_before : (m : Module) → IsTrue (parts_stand_before m.types) → (h base : ℕ) (t : Type_) →
     slice_get m.types h ≡ Some t → base_type t.inner ≡ Some base → base < h
-base_before m stand h base t at is = over_before t.inner h base (parts_stand m stand h t at) is
+base_before m stand h base t at is = over_before t.inner h base (parts_stand m.types stand h t at) is
 
 -- ---- types that name one
 -- what is computed of a type over what is computed of those before it: enough levels give the same
@@ -297,7 +300,7 @@ module _ (m : Module) (stand : IsTrue (parts_stand_before m.types)) where
           below.cells base before
           ∙ sym
           (type_form_as_base (key_within h m.types) t.inner base is
-          ∙ ap is_some (at_depth m (parts_stand m stand) h base before))
+          ∙ ap is_some (at_depth m.types (parts_stand m.types stand) h base before))
 
 pub no_type_form_beyond : (m : Module) (h : ℕ) → length m.types ≤ h →
     has_type_form m.types (Handle h) ≡ false

@@ -227,9 +227,11 @@ ENTRY_POINT = Struct(
     nulls=("early_depth_test", "workgroup_size_overrides"))
 SPECIAL_TYPES = Struct(
     "SpecialTypes", ("predeclared_types", Paired(PREDECLARED_TYPE, HANDLE)), ("external_texture_params", Maybe(HANDLE)),
-    ("external_texture_transfer_function", Maybe(HANDLE)), others=("ray_desc", "ray_intersection", "ray_vertex_return"))
+    ("external_texture_transfer_function", Maybe(HANDLE)), ("ray_desc", Maybe(HANDLE)),
+    ("ray_intersection", Maybe(HANDLE)), ("ray_vertex_return", Maybe(HANDLE)))
 SPECIAL_TYPES.absent = (
-    "SpecialTypes { predeclared_types: {}, external_texture_params: None, external_texture_transfer_function: None }")
+    "SpecialTypes { predeclared_types: {}, external_texture_params: None, external_texture_transfer_function: None, "
+    "ray_desc: None, ray_intersection: None, ray_vertex_return: None }")
 MODULE = Struct(
     "Module", ("types", unique_arena(TYPE)), ("special_types", SPECIAL_TYPES), ("constants", arena(CONSTANT)),
     ("overrides", arena(OVERRIDE)), ("global_variables", arena(GLOBAL_VARIABLE)),

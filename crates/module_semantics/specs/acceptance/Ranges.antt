@@ -262,12 +262,18 @@ entry_point_in_range m p =
 
 -- ---- modules
 
+-- the types of rays lie in the types
+abbrev pub ray_types_fit : ℕ → SpecialTypes → Bool
+ray_types_fit count s =
+    is_below count s.ray_desc &&
+    (is_below count s.ray_intersection && is_below count s.ray_vertex_return)
+
 -- the types that have a meaning of their own lie in the types
 abbrev pub special_types_fit : ℕ → SpecialTypes → Bool
 special_types_fit count s =
     list_all (λ h. nat_lt h count) (values s.predeclared_types) &&
     (is_below count s.external_texture_params &&
-    is_below count s.external_texture_transfer_function)
+    (is_below count s.external_texture_transfer_function && ray_types_fit count s))
 
 -- what the module declares beside functions and entry points
 abbrev pub declarations_in_range : Module → Bool

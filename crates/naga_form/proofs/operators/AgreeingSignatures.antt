@@ -30,7 +30,7 @@ use Rattle.module_semantics.specs.acceptance.OperandDemands.{operands_fit, is_sw
 use Rattle.module_semantics.specs.TypeParts.{is_part_number}
 use Rattle.naga_form.proofs.declarations.AcceptedGroups.{types_range}
 use Rattle.naga_form.proofs.operators.AgreeingExpressions.{operands_are, same_operands, by_key}
-use Rattle.naga_form.proofs.types.AlikeParts.{PartsStand, parts_stand}
+use Rattle.module_semantics.proofs.KeyDepths.{PartsStand, parts_stand}
 use Rattle.naga_form.proofs.operators.AgreeingParts.{Named, part_named, one_number, no_part}
 use Rattle.naga_form.proofs.operators.AgreeingParts.{vector_is_none, struct_told, key_read}
 use Rattle.naga_form.proofs.operators.AgreeingParts.{swizzle_distinguished, letters_are_several}
@@ -45,8 +45,8 @@ use Rattle.naga_form.proofs.operators.Signatures.{IsOfExpression, IsOfZero, decl
 module _ (m : Module) (info : ModuleInfo) (accepted : IsTrue (is_accepted m info))
     (distinguished : ItemsAreDistinguished m) where
   -- a type's parts stand before it
-  pub types_stand : PartsStand m
-  types_stand = parts_stand m (and_parts _ _ (types_range m info accepted)).0
+  pub types_stand : PartsStand m.types
+  types_stand = parts_stand m.types (and_parts _ _ (types_range m info accepted)).0
 
   fit : (r : TypeResolution) → IsFit m r → resolution_is_fit r ≡ true
   fit (Handle h) is = refl

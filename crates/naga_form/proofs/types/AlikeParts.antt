@@ -41,8 +41,8 @@ use Rattle.module_semantics.specs.AlikeTypes.{array_key, image_key, access_numbe
 use Rattle.module_semantics.specs.acceptance.InfoSizes.{is_handle_space, is_handle_pointer}
 use Rattle.module_semantics.specs.acceptance.InfoSizes.{resolution_is_fit}
 use Rattle.naga_spelling.specs.Spelling.{is_struct}
-use Rattle.module_semantics.specs.acceptance.Ranges.{parts_before, parts_stand_before}
-use Rattle.module_semantics.proofs.Lists.{numbered_at}
+use Rattle.module_semantics.specs.acceptance.Ranges.{parts_before}
+use Rattle.module_semantics.proofs.KeyDepths.{PartsStand, at_depth}
 use Rattle.module_semantics.specs.TypeIdentity.{identity, identity_code, word_of_unspelled_type}
 use Rattle.module_semantics.specs.TypeIdentity.{level, kind_number, length_kind, length_number}
 use Rattle.module_semantics.specs.TypeIdentity.{component_count, space_number, truth_number}
@@ -118,43 +118,7 @@ part_key number access y =
     if nat_eq (get_or y 0 0) 6 then Some (level 5 number access 0 0 0 ++ drop 6 y) else (
     if nat_eq (get_or y 0 0) 7 then Some (level 5 number access 0 0 0 ++ drop 6 y) else None)))
 
--- each type's parts stand before it
-abbrev pub PartsStand : Module → Type 0
-PartsStand m = (h : ℕ) (t : Type_) → slice_get m.types h ≡ Some t → parts_before h t.inner ≡ true
-
-pub parts_stand : (m : Module) → IsTrue (parts_stand_before m.types) → PartsStand m
-parts_stand m stand h t at =
-    let from : 0 + h ≡ h = omega arith in
-    sym (ap (λ k. parts_before k t.inner) from)
-    ∙ numbered_at (λ here t. parts_before here t.inner) 0 m.types h t stand at
-
--- ---- forms at any depth that suffices
-same_found : (f g : ℕ → Option (List ℕ)) (h : ℕ) → ((b : ℕ) → b < h → f b ≡ g b) →
-    (o : Option Type_) → ((t : Type_) → o ≡ Some t → parts_before h t.inner ≡ true) →
-    found_key_by f h o ≡ found_key_by g h o
-same_found f g h same None before = refl
-same_found f g h same (Some t) before = by t.inner (before t refl)
-  where
-    by : (it : TypeInner) → parts_before h it ≡ true → named_key_by f h it ≡ named_key_by g h it
-    by (inner.Pointer base at) lt = ap (pointer_key at) (same base (ltb-true base h lt))
-    by (inner.Array base n stride) lt = ap (array_key 6 n) (same base (ltb-true base h lt))
-    by (inner.BindingArray base n) lt = ap (array_key 7 n) (same base (ltb-true base h lt))
-    by _ lt = refl
-
-levels_agree : (m : Module) → PartsStand m → (n k h : ℕ) → h < n → h < k → key_within n m.types h
-    ≡ key_within k m.types h
-levels_agree m stand zero k h p q = absurd (omega (arith, p))
-levels_agree m stand (suc n) zero h p q = absurd (omega (arith, q))
-levels_agree m stand (suc n) (suc k) h p q =
-    same_found (key_within n m.types) (key_within k m.types) h
-    (λ b lt. levels_agree m stand n k b (omega (arith, p, lt)) (omega (arith, q, lt)))
-    (slice_get m.types h) (stand h)
-
-pub at_depth : (m : Module) → PartsStand m → (n h : ℕ) → h < n → key_within n m.types h ≡ handle_key m.types h
-unfolding handle_key
-at_depth m stand n h lt = levels_agree m stand n (suc h) h lt (omega arith)
-
-module _ (m : Module) (are : TypesAreCounted m) (stand : PartsStand m) where
+module _ (m : Module) (are : TypesAreCounted m) (stand : PartsStand m.types) where
   -- both are missing, or both are there, fit and told by the same numbers
   abbrev pub PartsAlike : Option TypeResolution → Option TypeResolution → Type 0
   PartsAlike None None = Unit {0}
@@ -282,7 +246,7 @@ module _ (m : Module) (are : TypesAreCounted m) (stand : PartsStand m) where
           plain it is (size z) (other z)
           (λ index. subst (λ o. PartIs o (pointed_part at it index)) (sym (form z))
           (subst (PartIs (Some (following at z))) (sym (parts index))
-          (ap (pointer_key at) (sym (at_depth m stand n element (depth before deep)) ∙ f))))
+          (ap (pointer_key at) (sym (at_depth m.types stand n element (depth before deep)) ∙ f))))
           (kind z) (Some (size z)) refl x g
         where
           depth : element < base → base ≤ n → element < n

@@ -46,7 +46,8 @@ use Rattle.naga_form.proofs.declarations.AcceptedGroups.{IsSoundGroup, types_are
 use Rattle.naga_form.proofs.operators.AgreeingSignatures.{types_stand}
 use Rattle.naga_form.proofs.operators.AgreeingUses.{IsIn, in_flat_map}
 use Rattle.naga_form.proofs.ListIndices.{made_at, made_from}
-use Rattle.naga_form.proofs.types.AlikeParts.{is_pointer, PartsStand, PartsAlike, IsFree, is_free}
+use Rattle.module_semantics.proofs.KeyDepths.{PartsStand}
+use Rattle.naga_form.proofs.types.AlikeParts.{is_pointer, PartsAlike, IsFree, is_free}
 use Rattle.naga_form.proofs.types.AlikeParts.{part_fits, FitPart, PartKind, NoKind, ElementKind}
 use Rattle.naga_form.proofs.types.AlikeParts.{ComponentKind, MemberKind, kind_at, pointee_kind}
 use Rattle.naga_form.proofs.types.AlikeParts.{has_members, AlikePlaces, Same, OneKind, OneStruct}
@@ -112,7 +113,7 @@ module _ (m : ir_module.Module) (info : ModuleInfo) (accepted : IsTrue (is_accep
   abbrev are : TypesAreCounted m
   are = types_are_counted m info accepted distinguished.types
 
-  abbrev stand : PartsStand m
+  abbrev stand : PartsStand m.types
   stand = types_stand m info accepted distinguished
 
   -- ---- pointers

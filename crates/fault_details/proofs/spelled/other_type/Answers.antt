@@ -6,4 +6,4 @@ pub returns : goal.returns
 returns c =
     subst (λ r. TellsBoth c.args.«module».now r c.args.got.now (string_bytes c.in_ok-expected.field-0.expected)
     (string_bytes c.in_ok-expected.field-0.got))
-    c.resolution_of-expected.ensures c.in_ok-expected.ensures
+    c.resolution-expected.ensures c.in_ok-expected.ensures
