@@ -1,0 +1,4 @@
+pub mod Names
+pub mod Right
+pub mod Wrong
+pub mod SiblingNames

@@ -1,0 +1,3 @@
+pub mod Modules
+pub mod Promise
+pub mod SiblingNames

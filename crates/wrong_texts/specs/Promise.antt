@@ -1,0 +1,50 @@
+-- What the promise asks of a text that is written for a module, and what it is for a text to be
+-- refused: by the grammar, by what its names stand for, or by what it does.
+--
+-- Throughout, m is a module, info is what is known of it, and flags say how it is written.
+use Rattle.std.specs.Prelude.{◌≡◌, ℕ, Bool, false, List, map, Some, None, Option}
+use Rattle.naga_back.specs.Flags.{annotates_types}
+use Rattle.naga_back.specs.declared.flags.WriterFlags.{WriterFlags}
+use Rattle.naga_info.specs.declared.info.ModuleInfo.{ModuleInfo}
+use Rattle.naga_ir.specs.declared.module.Module.{Module}
+use Rattle.module_semantics.specs.Faithful.{HasInterfaceOf, RunsAs}
+use Rattle.module_semantics.specs.FunctionLets.{BindsAs}
+use Rattle.module_semantics.specs.Resolution.{ResolvesAs}
+use Rattle.shader_runs.specs.Resolution.{Target, text_targets}
+use Rattle.text_semantics.specs.Abstraction.{program_read}
+use Rattle.wgsl_text.specs.Declarations.{Program}
+use Rattle.wgsl_text.specs.NotInGrammar.{IsNoProgram}
+use Rattle.wgsl_text.specs.Reading.{HasOneReading, Reads}
+
+-- The text has exactly one reading: a program that has the module's interface and its `let`s, whose
+-- names stand for what they were written for, and which does what the module does.
+pub record KeepsPromise (m : Module) (info : ModuleInfo) (flags : WriterFlags) (text : List ℕ)
+    : Type 0 where
+  pub program : Program
+  pub reading : HasOneReading Reads text program
+  pub interface : HasInterfaceOf m info flags program
+  pub lets : BindsAs m info (annotates_types flags) program
+  pub resolution : ResolvesAs m info program
+  pub runs : RunsAs m info program
+
+-- The text has no reading.
+pub record IsRefusedByGrammar (m : Module) (info : ModuleInfo) (flags : WriterFlags)
+    (text : List ℕ) : Type 0 where
+  pub unread : IsNoProgram text
+  pub breaks : KeepsPromise m info flags text → ⊥
+
+-- The text is read as this program, whose names stand for these targets or for nothing. As one of
+-- them stands for nothing, no module means what they stand for.
+pub record IsRefusedByNames (m : Module) (info : ModuleInfo) (flags : WriterFlags)
+    (text : List ℕ) (program : Program) (stand_for : List (List (Option Target))) : Type 0 where
+  pub reading : HasOneReading Reads text program
+  pub targets : text_targets (program_read program) ≡ stand_for
+  pub unresolved : (other : Module) (known : ModuleInfo) → ResolvesAs other known program → ⊥
+  pub breaks : KeepsPromise m info flags text → ⊥
+
+-- The text is read as this program, which does something else than the module.
+pub record IsRefusedByRuns (m : Module) (info : ModuleInfo) (flags : WriterFlags)
+    (text : List ℕ) (program : Program) : Type 0 where
+  pub reading : HasOneReading Reads text program
+  pub runs : RunsAs m info program → ⊥
+  pub breaks : KeepsPromise m info flags text → ⊥
