@@ -1,4 +1,11 @@
 pub mod Names
 pub mod Right
+pub mod Unread
 pub mod Wrong
+pub mod BreakIfFirst
+pub mod ComponentOfNegation
+pub mod NamesAfterLoops
+pub mod PointerArguments
+pub mod SelectOperands
 pub mod SiblingNames
+pub mod SkippedNames

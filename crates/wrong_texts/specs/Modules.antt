@@ -11,7 +11,7 @@ use Rattle.indexmap.specs.IndexMap.{with_entries}
 use Rattle.naga_back.specs.declared.flags.WriterFlags.{WriterFlags}
 use Rattle.naga_info.specs.declared.info.ExpressionInfo.{ExpressionInfo}
 use Rattle.naga_info.specs.declared.info.ModuleInfo.{ModuleInfo}
-use Rattle.naga_info.specs.declared.info.TypeResolution.TheVariants.{Handle}
+use Rattle.naga_info.specs.declared.info.TypeResolution.TheVariants as resolution
 use Rattle.naga_ir.specs.StatementTree.{BlockTree, StatementTree, emit, no_statements, return, simple}
 use Rattle.naga_ir.specs.StatementTree.{statement}
 use Rattle.naga_ir.specs.declared.expression.Expression.{Expression}
@@ -20,6 +20,8 @@ use Rattle.naga_ir.specs.declared.module.FunctionArgument.{FunctionArgument}
 use Rattle.naga_ir.specs.declared.module.FunctionResult.{FunctionResult}
 use Rattle.naga_ir.specs.declared.module.LocalVariable.{LocalVariable}
 use Rattle.naga_ir.specs.declared.module.Module.{Module}
+use Rattle.naga_ir.specs.declared.types.AddressSpace.TheVariants as space
+use Rattle.naga_ir.specs.declared.types.Scalar.{Scalar}
 use Rattle.naga_ir.specs.declared.types.ScalarKind.TheVariants as kind
 use Rattle.naga_ir.specs.declared.types.TypeInner.{TypeInner}
 use Rattle.naga_ir.specs.declared.types.TypeInner.TheVariants as inner
@@ -83,26 +85,26 @@ abbrev pub label_of : Rest → (letter : ℕ) → IsUtf8 (letter ∷ []) → Opt
 label_of r letter is =
     Some (record { bytes = vector_of r.label.bytes (letter ∷ []) have_room.1; ok = ∣ is ∣₁ })
 
-abbrev pub f : Rest → Option (String Global)
-f r = label_of r 102 are_texts.0
+abbrev pub f_label : Rest → Option (String Global)
+f_label r = label_of r 102 are_texts.0
 
-abbrev pub c : Rest → Option (String Global)
-c r = label_of r 99 are_texts.1
+abbrev pub c_label : Rest → Option (String Global)
+c_label r = label_of r 99 are_texts.1
 
-abbrev pub x : Rest → Option (String Global)
-x r = label_of r 120 are_texts.2
+abbrev pub x_label : Rest → Option (String Global)
+x_label r = label_of r 120 are_texts.2
 
-abbrev pub y : Rest → Option (String Global)
-y r = label_of r 121 are_texts.3
+abbrev pub y_label : Rest → Option (String Global)
+y_label r = label_of r 121 are_texts.3
 
-abbrev pub p : Rest → Option (String Global)
-p r = label_of r 112 are_texts.4
+abbrev pub p_label : Rest → Option (String Global)
+p_label r = label_of r 112 are_texts.4
 
-abbrev pub v : Rest → Option (String Global)
-v r = label_of r 118 are_texts.5
+abbrev pub v_label : Rest → Option (String Global)
+v_label r = label_of r 118 are_texts.5
 
-abbrev pub a : Rest → Option (String Global)
-a r = label_of r 97 are_texts.6
+abbrev pub a_label : Rest → Option (String Global)
+a_label r = label_of r 97 are_texts.6
 
 -- ---- functions
 abbrev pub argument : Option (String Global) → (ty : ℕ) → FunctionArgument
@@ -132,7 +134,7 @@ abbrev pub function_of : Rest → Vec FunctionArgument Global → (result : Opti
     List LocalVariable → List Expression → List StatementTree → Function
 function_of r arguments ty locals expressions body =
     record {
-      name = f r;
+      name = f_label r;
       arguments = arguments;
       result = option_map result ty;
       local_variables = locals;
@@ -145,8 +147,11 @@ function_of r arguments ty locals expressions body =
 abbrev pub boolean : TypeInner
 boolean = inner.Scalar (record { kind = kind.Bool; width = 1 })
 
+abbrev pub scalar : Scalar
+scalar = record { kind = kind.Sint; width = 4 }
+
 abbrev pub integer : TypeInner
-integer = inner.Scalar (record { kind = kind.Sint; width = 4 })
+integer = inner.Scalar scalar
 
 abbrev pub unnamed : TypeInner → Type_
 unnamed it = record { name = None; inner = it }
@@ -174,7 +179,11 @@ module_of r types f =
 
 -- an expression is used so often, and has the type with this handle
 abbrev pub known : (count ty : ℕ) → ExpressionInfo
-known count ty = record { ref_count = count; ty = Handle ty }
+known count ty = record { ref_count = count; ty = resolution.Handle ty }
+
+-- so often, and is a pointer to a local of this type
+abbrev pub local_pointer : (count ty : ℕ) → ExpressionInfo
+local_pointer count ty = record { ref_count = count; ty = resolution.Value (inner.Pointer ty space.Function) }
 
 -- this is known of the function's expressions
 abbrev pub info_of : Rest → List ExpressionInfo → ModuleInfo

@@ -14,8 +14,9 @@ use Rattle.wgsl_text.specs.Expressions.{Add, Binary, Expression}
 use Rattle.wgsl_text.specs.Statements.{If, ReturnValue, SomeBlock}
 use Rattle.wgsl_text.specs.WorkedTrees.{function, gives, lines, name, named_type, of_functions}
 use Rattle.wgsl_text.specs.WorkedTrees.{let_statement, parameter, statements}
-use Rattle.wrong_texts.specs.Modules.{Rest, argument, block_of, boolean, emits, function_of, info_of}
-use Rattle.wrong_texts.specs.Modules.{integer, known, module_of, no_flags, returns, two, c, x}
+use Rattle.wrong_texts.specs.Modules.{Rest, argument, block_of, boolean, c_label, emits}
+use Rattle.wrong_texts.specs.Modules.{function_of, info_of, x_label}
+use Rattle.wrong_texts.specs.Modules.{integer, known, module_of, no_flags, returns, two}
 use Rattle.wrong_texts.specs.Promise.{IsRefusedByNames, KeepsPromise}
 
 -- each branch emits the sum and returns it
@@ -24,7 +25,7 @@ sum_returned = block_of (emits 2 1 ∷ returns 2 ∷ [])
 
 abbrev pub sibling_function : Rest → Function
 sibling_function r =
-    function_of r (two r.function.arguments (argument (c r) 0) (argument (x r) 1)) (Some 1) []
+    function_of r (two r.function.arguments (argument (c_label r) 0) (argument (x_label r) 1)) (Some 1) []
     (expression.FunctionArgument 0 ∷ expression.FunctionArgument 1 ∷
     expression.Binary operator.Add 1 1 ∷ [])
     (branch 0 sum_returned sum_returned ∷ [])
