@@ -56,7 +56,10 @@ LAYERS = [
         ("decimal_floats", "floats get numerals"),
         ("decimal_semantics", "and mean the same"),
     ]),
-    ("the form", LAWS, [("naga_form", "which syntax tree is written for a module, and the laws of the square")]),
+    ("the form", LAWS, [
+        ("naga_form", "which syntax tree is written for a module, and the laws of the square"),
+        ("wrong_texts", "wrong texts, refused"),
+    ]),
     ("what is asked", CODE, [
         ("naga_acceptance", "accepts, count"),
         ("naga_inference", "inferred infos"),

@@ -1,5 +1,5 @@
 -- A `break if` in front of another statement is refused, and the right text is not.
-use Rattle.std.proofs.Common.{◌≡◌, ℕ, List, [], ◌∷◌, ◌∙◌, codes, refl}
+use Rattle.std.proofs.Common.{◌≡◌, ℕ, true, List, [], ◌∷◌, ◌∙◌, codes, refl}
 use Rattle.std.specs.Fmt.{digits}
 use Rattle.std.specs.Str.{chars}
 use Rattle.ucd_category.proofs.Computing.{ucd_category}
@@ -24,7 +24,7 @@ use Rattle.wrong_texts.specs.BreakIfFirst.{BreakIfFirst, barrier_function, barri
 use Rattle.wrong_texts.specs.BreakIfFirst.{barrier_module, expressions_known, right_text, wrong_text}
 use Rattle.wrong_texts.specs.Modules.{Rest, boolean, no_flags}
 use Rattle.wrong_texts.proofs.Names.{c_stays, f_stays}
-use Rattle.wrong_texts.proofs.Right.{IsComputed, keeps}
+use Rattle.wrong_texts.proofs.Right.{all_hold, checks, keeps}
 use Rattle.wrong_texts.proofs.Unread.{stops}
 use Rattle.wrong_texts.proofs.Wrong.{breaks_unread}
 
@@ -55,21 +55,9 @@ module _ (r : Rest) where
   unfolding module_names wgsl_names stem_of ascii_of hexadecimal digits is_numeric ucd_category chars
   c_is = c_stays
 
-  is_computed : IsComputed r (boolean ∷ []) (barrier_function r) expressions_known
+  all : all_hold (checks r (boolean ∷ []) (barrier_function r) expressions_known) ≡ true
   unfolding is_accepted module_ranges_fit module_is_sound type_segments handle_key digits
-  is_computed = record {
-    accepted = refl;
-    scope = refl;
-    counted = refl;
-    structs = refl;
-    bindings = refl;
-    binding = refl;
-    expressions = refl;
-    statements = refl;
-    arguments = refl;
-    result = refl;
-    locals = refl;
-  }
+  all = refl
 
   under_names : written_program (barrier_module r) (barrier_info r) no_flags
       ≡ program_of (name_in (module_names (barrier_module r)) (key.Function 0))
@@ -80,7 +68,7 @@ module _ (r : Rest) where
   pub refused : BreakIfFirst r
   refused = record {
     right =
-        keeps r (boolean ∷ []) (barrier_function r) expressions_known is_computed (program_of (codes "f") (codes "c"))
+        keeps r (boolean ∷ []) (barrier_function r) expressions_known all (program_of (codes "f") (codes "c"))
         (under_names ∙ λ i. program_of (f_is i) (c_is i)) right_text refl;
     wrong = record { unread = unread; breaks = breaks_unread unread };
   }

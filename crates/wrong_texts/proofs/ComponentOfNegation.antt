@@ -1,5 +1,5 @@
 -- The component of a negation without parentheses is refused, and the right text is not.
-use Rattle.std.proofs.Common.{◌≡◌, ℕ, List, [], ◌∷◌, ◌∙◌, ap, codes, length, refl}
+use Rattle.std.proofs.Common.{◌≡◌, ℕ, true, List, [], ◌∷◌, ◌∙◌, ap, codes, length, refl}
 use Rattle.std.proofs.lemmas.Bool.{false≢true}
 use Rattle.std.specs.Prelude.{◌==◌}
 use Rattle.std.specs.Fmt.{digits}
@@ -27,7 +27,7 @@ use Rattle.wrong_texts.specs.ComponentOfNegation.{negation_function, negation_in
 use Rattle.wrong_texts.specs.ComponentOfNegation.{right_text, types, wrong_text}
 use Rattle.wrong_texts.specs.Modules.{Rest, no_flags}
 use Rattle.wrong_texts.proofs.Names.{f_stays, v_stays}
-use Rattle.wrong_texts.proofs.Right.{IsComputed, keeps}
+use Rattle.wrong_texts.proofs.Right.{all_hold, checks, keeps}
 use Rattle.wrong_texts.proofs.Unread.{finds}
 use Rattle.wrong_texts.proofs.Wrong.{breaks_unread}
 
@@ -63,21 +63,9 @@ module _ (r : Rest) where
   unfolding module_names wgsl_names stem_of ascii_of hexadecimal digits is_numeric ucd_category chars
   v_is = v_stays
 
-  is_computed : IsComputed r types (negation_function r) expressions_known
+  all : all_hold (checks r types (negation_function r) expressions_known) ≡ true
   unfolding is_accepted module_ranges_fit module_is_sound type_segments handle_key digits
-  is_computed = record {
-    accepted = refl;
-    scope = refl;
-    counted = refl;
-    structs = refl;
-    bindings = refl;
-    binding = refl;
-    expressions = refl;
-    statements = refl;
-    arguments = refl;
-    result = refl;
-    locals = refl;
-  }
+  all = refl
 
   under_names : written_program (negation_module r) (negation_info r) no_flags
       ≡ program_of (name_in (module_names (negation_module r)) (key.Function 0))
@@ -88,7 +76,7 @@ module _ (r : Rest) where
   pub refused : ComponentOfNegation r
   refused = record {
     right =
-        keeps r types (negation_function r) expressions_known is_computed (program_of (codes "f") (codes "v"))
+        keeps r types (negation_function r) expressions_known all (program_of (codes "f") (codes "v"))
         (under_names ∙ λ i. program_of (f_is i) (v_is i)) right_text refl;
     wrong = record { unread = unread; breaks = breaks_unread unread };
   }

@@ -1,5 +1,5 @@
 -- A name used after its loop is refused, and the right text is not.
-use Rattle.std.proofs.Common.{◌≡◌, ℕ, List, [], ◌∷◌, ◌∙◌, codes, refl, rules}
+use Rattle.std.proofs.Common.{◌≡◌, ℕ, true, List, [], ◌∷◌, ◌∙◌, codes, refl, rules}
 use Rattle.std.specs.Fmt.{digits}
 use Rattle.std.specs.Str.{chars}
 use Rattle.ucd_category.proofs.Computing.{ucd_category}
@@ -24,7 +24,7 @@ use Rattle.wrong_texts.specs.Modules.{Rest, boolean, integer, no_flags}
 use Rattle.wrong_texts.specs.NamesAfterLoops.{NamesAfterLoops, expressions_known, loop_function}
 use Rattle.wrong_texts.specs.NamesAfterLoops.{loop_info, loop_module, right_text, wrong, wrong_text}
 use Rattle.wrong_texts.proofs.Names.{c_stays, f_stays, x_stays}
-use Rattle.wrong_texts.proofs.Right.{IsComputed, keeps}
+use Rattle.wrong_texts.proofs.Right.{all_hold, checks, keeps}
 use Rattle.wrong_texts.proofs.Wrong.{breaks_names, unresolved}
 
 -- the right program, where the function and its arguments have these names
@@ -65,21 +65,9 @@ module _ (r : Rest) where
   unfolding module_names wgsl_names stem_of ascii_of hexadecimal digits is_numeric ucd_category chars
   x_is = x_stays
 
-  is_computed : IsComputed r (boolean ∷ integer ∷ []) (loop_function r) expressions_known
+  all : all_hold (checks r (boolean ∷ integer ∷ []) (loop_function r) expressions_known) ≡ true
   unfolding is_accepted module_ranges_fit module_is_sound type_segments handle_key digits
-  is_computed = record {
-    accepted = refl;
-    scope = refl;
-    counted = refl;
-    structs = refl;
-    bindings = refl;
-    binding = refl;
-    expressions = refl;
-    statements = refl;
-    arguments = refl;
-    result = refl;
-    locals = refl;
-  }
+  all = refl
 
   under_names : written_program (loop_module r) (loop_info r) no_flags
       ≡ program_of (name_in (module_names (loop_module r)) (key.Function 0))
@@ -91,12 +79,12 @@ module _ (r : Rest) where
   pub refused : NamesAfterLoops r
   refused = record {
     right =
-        keeps r (boolean ∷ integer ∷ []) (loop_function r) expressions_known is_computed (program_of (codes "f") (codes "c") (codes "x"))
+        keeps r (boolean ∷ integer ∷ []) (loop_function r) expressions_known all (program_of (codes "f") (codes "c") (codes "x"))
         (under_names ∙ λ i. program_of (f_is i) (c_is i) (x_is i)) right_text refl;
     wrong = record {
       reading = reading;
       targets = refl;
       unresolved = unresolved wrong refl;
-      breaks = breaks_names wrong reading (unresolved wrong refl (loop_module r) (loop_info r));
+      breaks = breaks_names wrong reading (unresolved wrong refl);
     };
   }

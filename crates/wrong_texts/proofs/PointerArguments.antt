@@ -45,7 +45,7 @@ use Rattle.wrong_texts.specs.PointerArguments.{expressions_known, pointee, point
 use Rattle.wrong_texts.specs.PointerArguments.{pointer_info, pointer_module, right_text, types, wrong}
 use Rattle.wrong_texts.specs.PointerArguments.{wrong_text}
 use Rattle.wrong_texts.proofs.Names.{f_stays, p_stays}
-use Rattle.wrong_texts.proofs.Right.{IsComputed, keeps}
+use Rattle.wrong_texts.proofs.Right.{accepted, all_hold, checks, keeps}
 use Rattle.wrong_texts.proofs.Wrong.{breaks_runs}
 
 -- the right program, where the function and its argument have these names
@@ -86,21 +86,9 @@ module _ (r : Rest) where
   unfolding module_names wgsl_names stem_of ascii_of hexadecimal digits is_numeric ucd_category chars
   p_is = p_stays
 
-  is_computed : IsComputed r types (pointer_function r) expressions_known
+  all : all_hold (checks r types (pointer_function r) expressions_known) ≡ true
   unfolding is_accepted module_ranges_fit module_is_sound type_segments handle_key
-  is_computed = record {
-    accepted = refl;
-    scope = refl;
-    counted = refl;
-    structs = refl;
-    bindings = refl;
-    binding = refl;
-    expressions = refl;
-    statements = refl;
-    arguments = refl;
-    result = refl;
-    locals = refl;
-  }
+  all = refl
 
   under_names : written_program (pointer_module r) (pointer_info r) no_flags
       ≡ program_of (name_in (module_names (pointer_module r)) (key.Function 0))
@@ -135,7 +123,7 @@ module _ (r : Rest) where
   differ : RunsAs (pointer_module r) (pointer_info r) wrong → ⊥
   differ runs =
       let typed : HasTypedMeaning (pointer_module r) (pointer_info r) =
-      has_meaning (pointer_module r) (pointer_info r) is_computed.accepted
+      has_meaning (pointer_module r) (pointer_info r) (accepted r types (pointer_function r) expressions_known all)
       (items_are_distinguished (pointer_module r)) in
       let goes_on = run.module_run typed.0 0 [] in
       let same : text_run typed.0 (name_in (module_names (pointer_module r)) (key.Function 0))
@@ -150,7 +138,7 @@ module _ (r : Rest) where
   pub refused : PointerArguments r
   refused = record {
     right =
-        keeps r types (pointer_function r) expressions_known is_computed
+        keeps r types (pointer_function r) expressions_known all
         (program_of (codes "f") (codes "p")) (under_names ∙ λ i. program_of (f_is i) (p_is i))
         right_text refl;
     run = run;

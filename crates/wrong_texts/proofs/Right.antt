@@ -54,36 +54,47 @@ no_entry_point : (b : Bool) (p : EntryPoint) → (if b then None else None) ≡ 
 no_entry_point true p at = absurd cc
 no_entry_point false p at = absurd cc
 
--- What is computed of a module of these types and this function, of whose expressions this is
--- known.
-pub record IsComputed (r : Rest) (types : List TypeInner) (f : Function) (es : List ExpressionInfo)
-    : Type 0 where
-  pub accepted : is_accepted (module_of r types f) (info_of r es) ≡ true
-  pub scope : scope_holds (module_of r types f) (info_of r es) ≡ true
-  pub counted : handles_are_counted (module_of r types f) ≡ true
-  -- no type is a struct, and what the function takes and gives has no binding
-  pub structs : list_all (λ t. not (is_struct t.inner)) (module_of r types f).types ≡ true
-  pub bindings : list_all (λ a. is_none a.binding) f.arguments.items ≡ true
-  pub binding : option_map_or (λ t. is_none t.binding) f.result true ≡ true
-  -- forms
-  pub expressions : list_all (expression_has_form (module_of r types f) es f.expressions) f.expressions ≡ true
-  pub statements : block_has_forms f.body ≡ true
-  pub arguments : list_all (λ a. is_spellable (module_of r types f) (Handle a.ty)) f.arguments.items ≡ true
-  pub result : option_map_or (λ t. is_spellable (module_of r types f) (Handle t.ty)) f.result true ≡ true
-  pub locals : list_all (λ l. is_spellable (module_of r types f) (Handle l.ty)) f.local_variables ≡ true
+-- What holds of a module of these types and this function, of whose expressions this is known: it is
+-- accepted, and its handles are in scope; no type is a struct, and what the function takes and gives
+-- has no binding; what is written has forms.
+abbrev pub checks : Rest → List TypeInner → Function → List ExpressionInfo → List Bool
+checks r types f es =
+    let m = module_of r types f in
+    let is_written = λ (ty : ℕ). is_spellable m (Handle ty) in
+    is_accepted m (info_of r es) ∷
+    scope_holds m (info_of r es) ∷
+    handles_are_counted m ∷
+    list_all (λ t. not (is_struct t.inner)) m.types ∷
+    list_all (λ a. is_none a.binding) f.arguments.items ∷
+    option_map_or (λ t. is_none t.binding) f.result true ∷
+    list_all (expression_has_form m es f.expressions) f.expressions ∷
+    block_has_forms f.body ∷
+    list_all (λ a. is_written a.ty) f.arguments.items ∷
+    option_map_or (λ t. is_written t.ty) f.result true ∷
+    list_all (λ l. is_written l.ty) f.local_variables ∷ []
+
+abbrev pub all_hold : List Bool → Bool
+all_hold checks = list_all (λ b. b) checks
 
 module _ (r : Rest) (types : List TypeInner) (f : Function) (es : List ExpressionInfo)
-    (is : IsComputed r types f es) where
+    (all : all_hold (checks r types f es) ≡ true) where
   abbrev m : Module
   m = module_of r types f
 
   abbrev info : ModuleInfo
   info = info_of r es
 
+  -- each of the checks, by its place
+  holds : (i : ℕ) (b : Bool) → slice_get (checks r types f es) i ≡ Some b → b ≡ true
+  holds i b at = list_all_at (λ b. b) (checks r types f es) i b all at
+
+  pub accepted : is_accepted m info ≡ true
+  accepted = holds 0 _ refl
+
   -- ---- declarations
   no_struct : (h : ℕ) (t : Type_) → slice_get m.types h ≡ Some t → is_struct t.inner ≡ false
   no_struct h t at =
-      negated (is_struct t.inner) (list_all_at (λ t. not (is_struct t.inner)) m.types h t is.structs at)
+      negated (is_struct t.inner) (list_all_at (λ t. not (is_struct t.inner)) m.types h t (holds 3 _ refl) at)
     where
       negated : (b : Bool) → not b ≡ true → b ≡ false
       negated true e = absurd cc
@@ -112,9 +123,9 @@ module _ (r : Rest) (types : List TypeInner) (f : Function) (es : List Expressio
 
   io_binding : (b : Binding) → IsIoBinding f b → ⊥
   io_binding _ (IsIoBinding.OfArgument i a b at has) =
-      false≢true (sym (ap is_none has) ∙ list_all_at (λ a. is_none a.binding) f.arguments.items i a is.bindings at)
+      false≢true (sym (ap is_none has) ∙ list_all_at (λ a. is_none a.binding) f.arguments.items i a (holds 4 _ refl) at)
   io_binding _ (IsIoBinding.OfResult t b at has) =
-      false≢true (sym (ap is_none has) ∙ sym (ap (λ o. option_map_or (λ t. is_none t.binding) o true) at) ∙ is.binding)
+      false≢true (sym (ap is_none has) ∙ sym (ap (λ o. option_map_or (λ t. is_none t.binding) o true) at) ∙ holds 5 _ refl)
 
   unconcerned : (h : ℕ) (members : List Placed) → concerned_members m h ≡ Some members → ⊥
   unconcerned h members concerned = by (slice_get m.types h) refl concerned
@@ -143,18 +154,18 @@ module _ (r : Rest) (types : List TypeInner) (f : Function) (es : List Expressio
   -- ---- what is written
   spelled : (t : TypeResolution) → IsSpelledIn false m info f es t → IsTrue (is_spellable m t)
   spelled _ (IsSpelledIn.OfArgument n a at) =
-      list_all_at (λ a. is_spellable m (Handle a.ty)) f.arguments.items n a is.arguments at
+      list_all_at (λ a. is_spellable m (Handle a.ty)) f.arguments.items n a (holds 8 _ refl) at
   spelled _ (IsSpelledIn.OfResult t at) =
-      sym (ap (λ o. option_map_or (λ t. is_spellable m (Handle t.ty)) o true) at) ∙ is.result
+      sym (ap (λ o. option_map_or (λ t. is_spellable m (Handle t.ty)) o true) at) ∙ holds 9 _ refl
   spelled _ (IsSpelledIn.OfLocal n l at) =
-      list_all_at (λ l. is_spellable m (Handle l.ty)) f.local_variables n l is.locals at
+      list_all_at (λ l. is_spellable m (Handle l.ty)) f.local_variables n l (holds 10 _ refl) at
   spelled _ (IsSpelledIn.OfLet h k explicit among at declared) = absurd (false≢true explicit)
 
   written : WrittenHaveForms false m info f es
   written = record {
     expressions = λ h e at of.
-        list_all_at (expression_has_form m es f.expressions) f.expressions h e is.expressions at;
-    statements = is.statements;
+        list_all_at (expression_has_form m es f.expressions) f.expressions h e (holds 6 _ refl) at;
+    statements = holds 7 _ refl;
     types = spelled;
   }
 
@@ -167,14 +178,14 @@ module _ (r : Rest) (types : List TypeInner) (f : Function) (es : List Expressio
   pub keeps : (program : Program) → written_program m info no_flags ≡ program → (text : List ℕ) →
       printed_program program ≡ text → KeepsPromise m info no_flags text
   keeps program same text prints =
-      let in_scope : ScopesHold m info = (scopes_are_checked m info is.accepted).0 is.scope in
+      let in_scope : ScopesHold m info = (scopes_are_checked m info accepted).0 (holds 1 _ refl) in
       subst (KeepsPromise m info no_flags) (ap printed_program same ∙ prints) (record {
         program = written_program m info no_flags;
         reading =
             program_has_one_reading (written_program m info no_flags)
-            (is_program m info no_flags is.accepted declarations all_written is.counted);
-        interface = has_interface m info no_flags is.accepted declarations all_written;
-        lets = binds_as m info no_flags is.accepted declarations all_written;
-        resolution = resolves m info no_flags is.accepted declarations all_written in_scope;
-        runs = runs_as m info no_flags is.accepted declarations all_written in_scope;
+            (is_program m info no_flags accepted declarations all_written (holds 2 _ refl));
+        interface = has_interface m info no_flags accepted declarations all_written;
+        lets = binds_as m info no_flags accepted declarations all_written;
+        resolution = resolves m info no_flags accepted declarations all_written in_scope;
+        runs = runs_as m info no_flags accepted declarations all_written in_scope;
       })

@@ -45,7 +45,7 @@ use Rattle.wrong_texts.specs.SelectOperands.{expressions_known}
 use Rattle.wrong_texts.specs.SelectOperands.{right_text, select_function, select_info, select_module}
 use Rattle.wrong_texts.specs.SelectOperands.{wrong, wrong_text}
 use Rattle.wrong_texts.proofs.Names.{c_stays, f_stays, x_stays, y_stays}
-use Rattle.wrong_texts.proofs.Right.{IsComputed, keeps}
+use Rattle.wrong_texts.proofs.Right.{all_hold, checks, keeps}
 use Rattle.wrong_texts.proofs.Wrong.{breaks_runs}
 
 -- the right program, where the function and its arguments have these names
@@ -96,22 +96,9 @@ module _ (r : Rest) where
   unfolding module_names wgsl_names stem_of ascii_of hexadecimal digits is_numeric ucd_category chars
   y_is = y_stays
 
-  is_computed : IsComputed r (boolean ∷ integer ∷ []) (select_function r)
-      expressions_known
+  all : all_hold (checks r (boolean ∷ integer ∷ []) (select_function r) expressions_known) ≡ true
   unfolding is_accepted module_ranges_fit module_is_sound type_segments handle_key
-  is_computed = record {
-    accepted = refl;
-    scope = refl;
-    counted = refl;
-    structs = refl;
-    bindings = refl;
-    binding = refl;
-    expressions = refl;
-    statements = refl;
-    arguments = refl;
-    result = refl;
-    locals = refl;
-  }
+  all = refl
 
   under_names : written_program (select_module r) (select_info r) no_flags
       ≡ program_of (name_in (module_names (select_module r)) (key.Function 0))
@@ -185,7 +172,7 @@ module _ (r : Rest) where
   refused = record {
     right =
         keeps r (boolean ∷ integer ∷ []) (select_function r)
-        expressions_known is_computed
+        expressions_known all
         (program_of (codes "f") (codes "c") (codes "x") (codes "y"))
         (under_names ∙ λ i. program_of (f_is i) (c_is i) (x_is i) (y_is i)) right_text refl;
     run = run;

@@ -1,5 +1,5 @@
 -- The sibling's name is refused, and the right text is not.
-use Rattle.std.proofs.Common.{◌≡◌, ℕ, List, [], ◌∷◌, ◌∙◌, codes, refl, rules}
+use Rattle.std.proofs.Common.{◌≡◌, ℕ, true, List, [], ◌∷◌, ◌∙◌, codes, refl, rules}
 use Rattle.std.specs.Fmt.{digits}
 use Rattle.std.specs.Str.{chars}
 use Rattle.ucd_category.proofs.Computing.{ucd_category}
@@ -25,7 +25,7 @@ use Rattle.wrong_texts.specs.Modules.{Rest, boolean, integer, known, no_flags}
 use Rattle.wrong_texts.specs.SiblingNames.{SiblingNames, binding, sibling_function, sibling_info}
 use Rattle.wrong_texts.specs.SiblingNames.{right_text, sibling_module, wrong_text}
 use Rattle.wrong_texts.proofs.Names.{c_stays, f_stays, x_stays}
-use Rattle.wrong_texts.proofs.Right.{IsComputed, keeps}
+use Rattle.wrong_texts.proofs.Right.{all_hold, checks, keeps}
 use Rattle.wrong_texts.proofs.Wrong.{breaks_names, unresolved}
 
 -- the right program, where the function and its arguments have these names
@@ -59,22 +59,9 @@ module _ (r : Rest) where
   unfolding module_names wgsl_names stem_of ascii_of hexadecimal digits is_numeric ucd_category chars
   x_is = x_stays
 
-  is_computed : IsComputed r (boolean ∷ integer ∷ []) (sibling_function r)
-      (known 1 0 ∷ known 2 1 ∷ known 2 1 ∷ [])
+  all : all_hold (checks r (boolean ∷ integer ∷ []) (sibling_function r) (known 1 0 ∷ known 2 1 ∷ known 2 1 ∷ [])) ≡ true
   unfolding is_accepted module_ranges_fit module_is_sound type_segments handle_key
-  is_computed = record {
-    accepted = refl;
-    scope = refl;
-    counted = refl;
-    structs = refl;
-    bindings = refl;
-    binding = refl;
-    expressions = refl;
-    statements = refl;
-    arguments = refl;
-    result = refl;
-    locals = refl;
-  }
+  all = refl
 
   under_names : written_program (sibling_module r) (sibling_info r) no_flags
       ≡ program_of (name_in (module_names (sibling_module r)) (key.Function 0))
@@ -94,15 +81,13 @@ module _ (r : Rest) where
   refused = record {
     right =
         keeps r (boolean ∷ integer ∷ []) (sibling_function r)
-        (known 1 0 ∷ known 2 1 ∷ known 2 1 ∷ []) is_computed
+        (known 1 0 ∷ known 2 1 ∷ known 2 1 ∷ []) all
         (program_of (codes "f") (codes "c") (codes "x"))
         (under_names ∙ λ i. program_of (f_is i) (c_is i) (x_is i)) right_text refl;
     wrong = record {
       reading = reading;
       targets = refl;
       unresolved = unresolved (binding (name "_e2")) refl;
-      breaks =
-          breaks_names (binding (name "_e2")) reading
-          (unresolved (binding (name "_e2")) refl (sibling_module r) (sibling_info r));
+      breaks = breaks_names (binding (name "_e2")) reading (unresolved (binding (name "_e2")) refl);
     };
   }

@@ -1,5 +1,5 @@
 -- A name that a `continue` skips is refused in `continuing`, and the right text is not.
-use Rattle.std.proofs.Common.{◌≡◌, ℕ, List, [], ◌∷◌, ◌∙◌, None, codes, refl, rules}
+use Rattle.std.proofs.Common.{◌≡◌, ℕ, true, List, [], ◌∷◌, ◌∙◌, None, codes, refl, rules}
 use Rattle.std.specs.Fmt.{digits}
 use Rattle.std.specs.Str.{chars}
 use Rattle.ucd_category.proofs.Computing.{ucd_category}
@@ -26,7 +26,7 @@ use Rattle.wrong_texts.specs.SkippedNames.{SkippedNames, constant_sum, expressio
 use Rattle.wrong_texts.specs.SkippedNames.{skipping_function, skipping_info, skipping_module, wrong}
 use Rattle.wrong_texts.specs.SkippedNames.{wrong_text}
 use Rattle.wrong_texts.proofs.Names.{a_stays, c_stays, f_stays}
-use Rattle.wrong_texts.proofs.Right.{IsComputed, keeps}
+use Rattle.wrong_texts.proofs.Right.{all_hold, checks, keeps}
 use Rattle.wrong_texts.proofs.Wrong.{breaks_names, unresolved}
 
 -- the right program, where the function, its argument and its local have these names
@@ -67,21 +67,9 @@ module _ (r : Rest) where
   unfolding module_names wgsl_names stem_of ascii_of hexadecimal digits is_numeric ucd_category chars
   a_is = a_stays
 
-  is_computed : IsComputed r (boolean ∷ integer ∷ []) (skipping_function r) expressions_known
+  all : all_hold (checks r (boolean ∷ integer ∷ []) (skipping_function r) expressions_known) ≡ true
   unfolding is_accepted module_ranges_fit module_is_sound type_segments handle_key digits
-  is_computed = record {
-    accepted = refl;
-    scope = refl;
-    counted = refl;
-    structs = refl;
-    bindings = refl;
-    binding = refl;
-    expressions = refl;
-    statements = refl;
-    arguments = refl;
-    result = refl;
-    locals = refl;
-  }
+  all = refl
 
   under_names : written_program (skipping_module r) (skipping_info r) no_flags
       ≡ program_of (name_in (module_names (skipping_module r)) (key.Function 0))
@@ -94,12 +82,12 @@ module _ (r : Rest) where
   unfolding digits
   refused = record {
     right =
-        keeps r (boolean ∷ integer ∷ []) (skipping_function r) expressions_known is_computed (program_of (codes "f") (codes "c") (codes "a"))
+        keeps r (boolean ∷ integer ∷ []) (skipping_function r) expressions_known all (program_of (codes "f") (codes "c") (codes "a"))
         (under_names ∙ λ i. program_of (f_is i) (c_is i) (a_is i)) right_text refl;
     wrong = record {
       reading = reading;
       targets = refl;
       unresolved = unresolved wrong refl;
-      breaks = breaks_names wrong reading (unresolved wrong refl (skipping_module r) (skipping_info r));
+      breaks = breaks_names wrong reading (unresolved wrong refl);
     };
   }

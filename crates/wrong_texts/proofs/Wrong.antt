@@ -18,7 +18,7 @@ use Rattle.text_semantics.specs.Abstraction.{program_read}
 use Rattle.wgsl_text.specs.Declarations.{Program}
 use Rattle.wgsl_text.specs.NotInGrammar.{IsNoProgram}
 use Rattle.wgsl_text.specs.Reading.{HasOneReading, Reads}
-use Rattle.wrong_texts.specs.Promise.{KeepsPromise}
+use Rattle.wrong_texts.specs.Promise.{BreaksPromise, KeepsPromise}
 
 -- ---- names
 -- what a module means is something
@@ -40,16 +40,16 @@ unresolved program nothing m info resolves =
     false≢true (sym nothing ∙ ap (list_all (list_all is_some)) resolves.bodies ∙ mean all)
 
 -- ---- the promise
-module _ {m : Module} {info : ModuleInfo} {flags : WriterFlags} {text : List ℕ} where
-  pub breaks_unread : IsNoProgram text → KeepsPromise m info flags text → ⊥
-  breaks_unread unread kept = unread kept.program kept.reading.read
+pub breaks_unread : {text : List ℕ} → IsNoProgram text → BreaksPromise text
+breaks_unread unread m info flags kept = unread kept.program kept.reading.read
 
-  module _ (program : Program) (reading : HasOneReading Reads text program) where
-    same : (kept : KeepsPromise m info flags text) → kept.program ≡ program
-    same kept = reading.only kept.program kept.reading.read
+module _ {text : List ℕ} (program : Program) (reading : HasOneReading Reads text program) where
+  pub breaks_names : ((m : Module) (info : ModuleInfo) → ResolvesAs m info program → ⊥) → BreaksPromise text
+  breaks_names unresolved m info flags kept =
+      let same = reading.only kept.program kept.reading.read in
+      unresolved m info (subst (ResolvesAs m info) same kept.resolution)
 
-    pub breaks_names : (ResolvesAs m info program → ⊥) → KeepsPromise m info flags text → ⊥
-    breaks_names unresolved kept = unresolved (subst (ResolvesAs m info) (same kept) kept.resolution)
-
-    pub breaks_runs : (RunsAs m info program → ⊥) → KeepsPromise m info flags text → ⊥
-    breaks_runs differ kept = differ (subst (RunsAs m info) (same kept) kept.runs)
+  pub breaks_runs : {m : Module} {info : ModuleInfo} → (RunsAs m info program → ⊥) → (flags : WriterFlags) →
+      KeepsPromise m info flags text → ⊥
+  breaks_runs {m = m} {info = info} differ flags kept =
+      let same = reading.only kept.program kept.reading.read in differ (subst (RunsAs m info) same kept.runs)

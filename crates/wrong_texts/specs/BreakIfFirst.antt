@@ -60,4 +60,4 @@ wrong_text = lines (
 
 pub record BreakIfFirst (r : Rest) : Type 0 where
   pub right : KeepsPromise (barrier_module r) (barrier_info r) no_flags right_text
-  pub wrong : IsRefusedByGrammar (barrier_module r) (barrier_info r) no_flags wrong_text
+  pub wrong : IsRefusedByGrammar wrong_text

@@ -52,4 +52,4 @@ wrong_text = lines (
 
 pub record ComponentOfNegation (r : Rest) : Type 0 where
   pub right : KeepsPromise (negation_module r) (negation_info r) no_flags right_text
-  pub wrong : IsRefusedByGrammar (negation_module r) (negation_info r) no_flags wrong_text
+  pub wrong : IsRefusedByGrammar wrong_text

@@ -77,7 +77,7 @@ wrong = of_functions (
 pub record NamesAfterLoops (r : Rest) : Type 0 where
   pub right : KeepsPromise (loop_module r) (loop_info r) no_flags right_text
   -- both operands of the last sum stand for nothing
-  pub wrong : IsRefusedByNames (loop_module r) (loop_info r) no_flags wrong_text wrong
+  pub wrong : IsRefusedByNames wrong_text wrong
       ((Some (LetTarget 0) ∷ Some (WordTarget (codes "+")) ∷ Some (ArgumentTarget 1) ∷
       Some (ArgumentTarget 1) ∷ Some OperandsEnd ∷
       Some (ArgumentTarget 0) ∷

@@ -97,4 +97,4 @@ pub record IsStuckAtPointer (shape : shapes.Module) : Type 0 where
 pub record PointerArguments (r : Rest) : Type 0 where
   pub right : KeepsPromise (pointer_module r) (pointer_info r) no_flags right_text
   pub run : IsStuckAtPointer (module_shape (pointer_module r) (pointer_info r))
-  pub wrong : IsRefusedByRuns (pointer_module r) (pointer_info r) no_flags wrong_text wrong
+  pub wrong : IsRefusedByRuns (pointer_module r) (pointer_info r) wrong_text wrong

@@ -1,8 +1,9 @@
 -- What the promise asks of a text that is written for a module, and what it is for a text to be
--- refused: by the grammar, by what its names stand for, or by what it does.
+-- refused: by the grammar, by what its names stand for, or by what it does. `FaithfulWriting` and
+-- `MatchesModule` of `naga_wgsl_out` promise the five parts of each text that is written.
 --
 -- Throughout, m is a module, info is what is known of it, and flags say how it is written.
-use Rattle.std.specs.Prelude.{◌≡◌, ℕ, Bool, false, List, map, Some, None, Option}
+use Rattle.std.specs.Prelude.{◌≡◌, ℕ, List, Option}
 use Rattle.naga_back.specs.Flags.{annotates_types}
 use Rattle.naga_back.specs.declared.flags.WriterFlags.{WriterFlags}
 use Rattle.naga_info.specs.declared.info.ModuleInfo.{ModuleInfo}
@@ -27,24 +28,28 @@ pub record KeepsPromise (m : Module) (info : ModuleInfo) (flags : WriterFlags) (
   pub resolution : ResolvesAs m info program
   pub runs : RunsAs m info program
 
--- The text has no reading.
-pub record IsRefusedByGrammar (m : Module) (info : ModuleInfo) (flags : WriterFlags)
-    (text : List ℕ) : Type 0 where
-  pub unread : IsNoProgram text
-  pub breaks : KeepsPromise m info flags text → ⊥
+-- The text keeps the promise of no module.
+abbrev pub BreaksPromise : (text : List ℕ) → Type 0
+BreaksPromise text =
+    (m : Module) (info : ModuleInfo) (flags : WriterFlags) → KeepsPromise m info flags text → ⊥
 
--- The text is read as this program, whose names stand for these targets or for nothing. As one of
--- them stands for nothing, no module means what they stand for.
-pub record IsRefusedByNames (m : Module) (info : ModuleInfo) (flags : WriterFlags)
-    (text : List ℕ) (program : Program) (stand_for : List (List (Option Target))) : Type 0 where
+-- The text has no reading.
+pub record IsRefusedByGrammar (text : List ℕ) : Type 0 where
+  pub unread : IsNoProgram text
+  pub breaks : BreaksPromise text
+
+-- The text is read as this program, whose names stand for these targets or for nothing. One of them
+-- stands for nothing, which no module means.
+pub record IsRefusedByNames (text : List ℕ) (program : Program)
+    (stand_for : List (List (Option Target))) : Type 0 where
   pub reading : HasOneReading Reads text program
   pub targets : text_targets (program_read program) ≡ stand_for
-  pub unresolved : (other : Module) (known : ModuleInfo) → ResolvesAs other known program → ⊥
-  pub breaks : KeepsPromise m info flags text → ⊥
+  pub unresolved : (m : Module) (info : ModuleInfo) → ResolvesAs m info program → ⊥
+  pub breaks : BreaksPromise text
 
--- The text is read as this program, which does something else than the module.
-pub record IsRefusedByRuns (m : Module) (info : ModuleInfo) (flags : WriterFlags)
-    (text : List ℕ) (program : Program) : Type 0 where
+-- The text is read as this program, which does something else than this module.
+pub record IsRefusedByRuns (m : Module) (info : ModuleInfo) (text : List ℕ) (program : Program)
+    : Type 0 where
   pub reading : HasOneReading Reads text program
   pub runs : RunsAs m info program → ⊥
-  pub breaks : KeepsPromise m info flags text → ⊥
+  pub breaks : (flags : WriterFlags) → KeepsPromise m info flags text → ⊥

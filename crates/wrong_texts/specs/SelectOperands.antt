@@ -92,4 +92,4 @@ pub record ChoosesAnother (shape : shapes.Module) : Type 0 where
 pub record SelectOperands (r : Rest) : Type 0 where
   pub right : KeepsPromise (select_module r) (select_info r) no_flags right_text
   pub run : ChoosesAnother (module_shape (select_module r) (select_info r))
-  pub wrong : IsRefusedByRuns (select_module r) (select_info r) no_flags wrong_text wrong
+  pub wrong : IsRefusedByRuns (select_module r) (select_info r) wrong_text wrong

@@ -79,8 +79,7 @@ binding e = of_functions (
 pub record SiblingNames (r : Rest) : Type 0 where
   pub right : KeepsPromise (sibling_module r) (sibling_info r) no_flags right_text
   -- the name after the second `let` stands for nothing
-  pub wrong : IsRefusedByNames (sibling_module r) (sibling_info r) no_flags wrong_text
-      (binding (name "_e2"))
+  pub wrong : IsRefusedByNames wrong_text (binding (name "_e2"))
       ((Some (ArgumentTarget 0) ∷
       Some (LetTarget 0) ∷ Some (WordTarget (codes "+")) ∷ Some (ArgumentTarget 1) ∷
       Some (ArgumentTarget 1) ∷ Some OperandsEnd ∷

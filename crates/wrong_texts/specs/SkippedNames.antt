@@ -102,7 +102,7 @@ wrong = of_functions (
 pub record SkippedNames (r : Rest) : Type 0 where
   pub right : KeepsPromise (skipping_module r) (skipping_info r) no_flags right_text
   -- what `continuing` stores stands for nothing
-  pub wrong : IsRefusedByNames (skipping_module r) (skipping_info r) no_flags wrong_text wrong
+  pub wrong : IsRefusedByNames wrong_text wrong
       ((Some (ArgumentTarget 0) ∷
       Some (LetTarget 0) ∷ Some (WordTarget (codes "+")) ∷ Some (LiteralTarget (number 1)) ∷
       Some (LiteralTarget (number 1)) ∷ Some OperandsEnd ∷
