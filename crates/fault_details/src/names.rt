@@ -444,14 +444,10 @@ pub(crate) fn special_reason<'a>(module: &Module) -> Option<Reason<'a>>
     if predeclared.is_some() {
         return predeclared;
     }
-    let textures = texture_reason(types, special);
-    if textures.is_some() {
-        return textures;
-    }
-    ray_reason(types, special)
+    texture_reason(types, special)
 }
 
-/// The first type of external textures that is not there.
+/// The first type of external textures that is not there, and else of rays.
 fn texture_reason<'a>(types: usize, special: &SpecialTypes) -> Option<Reason<'a>>
     ensures { option_map shown result ≡ unmet [] (texture_demands types special.now) }
 {
@@ -459,11 +455,15 @@ fn texture_reason<'a>(types: usize, special: &SpecialTypes) -> Option<Reason<'a>
     if params.is_some() {
         return params;
     }
-    absent_if(
+    let transfer = absent_if(
         ListName::Types,
         types,
         special.external_texture_transfer_function,
-    )
+    );
+    if transfer.is_some() {
+        return transfer;
+    }
+    ray_reason(types, special)
 }
 
 /// The first type of rays that is not there.
