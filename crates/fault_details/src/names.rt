@@ -9,8 +9,10 @@ ghost use Rattle.fault_details.specs.Demands.{OfEach, OfSome, before, there, unm
 ghost use Rattle.fault_details.specs.Reasons.{emitted_demands, initialiser_demands, known_demands};
 ghost use Rattle.fault_details.specs.Reasons.{length_demands, name_demands, names_demands};
 ghost use Rattle.fault_details.specs.Reasons.{order_demands, own_name_demands, part_demands};
-ghost use Rattle.fault_details.specs.Reasons.{signature_demands, size_demands, special_demands};
-ghost use Rattle.fault_details.specs.Reasons.{statement_name_demands, variables_demands};
+ghost use Rattle.fault_details.specs.Reasons.{ray_demands, signature_demands, size_demands};
+ghost use Rattle.fault_details.specs.Reasons.{special_demands};
+ghost use Rattle.fault_details.specs.Reasons.{statement_name_demands, texture_demands};
+ghost use Rattle.fault_details.specs.Reasons.{variables_demands};
 ghost use Rattle.fault_details.specs.Shown.{shown};
 
 use crate::reasons::{Reason, absent, not_before};
@@ -19,7 +21,7 @@ use indexmap::IndexMap;
 use naga_info::TypeResolution;
 use naga_ir::{
     ArraySize, EntryPoint, Expression, Function, FunctionArgument, FunctionResult, Handle,
-    ItemIndex, Module, PredeclaredType, Statement, StructMember, Type_, TypeInner,
+    ItemIndex, Module, PredeclaredType, SpecialTypes, Statement, StructMember, Type_, TypeInner,
 };
 
 /// An item that is not there, if one is named.
@@ -442,6 +444,13 @@ pub(crate) fn special_reason<'a>(module: &Module) -> Option<Reason<'a>>
     if predeclared.is_some() {
         return predeclared;
     }
+    texture_reason(types, special)
+}
+
+/// The first type of external textures that is not there, and else of rays.
+fn texture_reason<'a>(types: usize, special: &SpecialTypes) -> Option<Reason<'a>>
+    ensures { option_map shown result ≡ unmet [] (texture_demands types special.now) }
+{
     let params = absent_if(ListName::Types, types, special.external_texture_params);
     if params.is_some() {
         return params;
