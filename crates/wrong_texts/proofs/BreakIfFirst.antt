@@ -19,28 +19,22 @@ use Rattle.wgsl_text.specs.Functions.{NoResult}
 use Rattle.wgsl_text.specs.NotInGrammar.{IsNoProgram}
 use Rattle.wgsl_text.specs.Statements.{CallStatement, LoopBreakIf}
 use Rattle.wgsl_text.specs.Words.{is_builtin, is_reserved}
-use Rattle.wgsl_text.specs.WorkedTrees.{named_type, of_functions, statements}
+use Rattle.wgsl_text.specs.WorkedTrees.{named_type, statements}
 use Rattle.wrong_texts.specs.BreakIfFirst.{BreakIfFirst, barrier_function, barrier_info}
 use Rattle.wrong_texts.specs.BreakIfFirst.{barrier_module, expressions_known, right_text, wrong_text}
 use Rattle.wrong_texts.specs.Modules.{Rest, boolean, no_flags}
 use Rattle.wrong_texts.proofs.Names.{c_stays, f_stays}
 use Rattle.wrong_texts.proofs.Right.{all_hold, checks, keeps}
 use Rattle.wrong_texts.proofs.Unread.{stops}
+use Rattle.wrong_texts.proofs.Trees.{parameter_named, program_named}
 use Rattle.wrong_texts.proofs.Wrong.{breaks_unread}
 
 -- the right program, where the function and its argument have these names
 abbrev program_of : (f c : List ℕ) → Program
 program_of f c =
-    of_functions (
-    record {
-      name = f;
-      parameters = record { attributes = []; name = c; type = named_type "bool" } ∷ [];
-      result = NoResult;
-      locals = [];
-      body = statements (
-          LoopBreakIf (statements [])
-          (statements (CallStatement (named_type "storageBarrier") NoArguments ∷ [])) (Name c) ∷ []);
-    } ∷ [])
+    program_named f (parameter_named c (named_type "bool") ∷ []) NoResult [] (
+    LoopBreakIf (statements [])
+    (statements (CallStatement (named_type "storageBarrier") NoArguments ∷ [])) (Name c) ∷ [])
 
 unread : IsNoProgram wrong_text
 unfolding is_reserved is_builtin

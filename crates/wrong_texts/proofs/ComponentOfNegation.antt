@@ -21,7 +21,7 @@ use Rattle.wgsl_text.specs.NotInGrammar.{IsNoProgram}
 use Rattle.wgsl_text.specs.Statements.{ReturnValue}
 use Rattle.wgsl_text.specs.Text.{tokens_in}
 use Rattle.wgsl_text.specs.Words.{is_builtin, is_reserved}
-use Rattle.wgsl_text.specs.WorkedTrees.{gives, of_functions, statements, template_of}
+use Rattle.wgsl_text.specs.WorkedTrees.{gives, template_of}
 use Rattle.wrong_texts.specs.ComponentOfNegation.{ComponentOfNegation, expressions_known}
 use Rattle.wrong_texts.specs.ComponentOfNegation.{negation_function, negation_info, negation_module}
 use Rattle.wrong_texts.specs.ComponentOfNegation.{right_text, types, wrong_text}
@@ -29,20 +29,14 @@ use Rattle.wrong_texts.specs.Modules.{Rest, no_flags}
 use Rattle.wrong_texts.proofs.Names.{f_stays, v_stays}
 use Rattle.wrong_texts.proofs.Right.{all_hold, checks, keeps}
 use Rattle.wrong_texts.proofs.Unread.{finds}
+use Rattle.wrong_texts.proofs.Trees.{parameter_named, program_named}
 use Rattle.wrong_texts.proofs.Wrong.{breaks_unread}
 
 -- the right program, where the function and its argument have these names
 abbrev program_of : (f v : List ℕ) → Program
 program_of f v =
-    of_functions (
-    record {
-      name = f;
-      parameters =
-          record { attributes = []; name = v; type = template_of "vec3" ("i32" ∷ []) } ∷ [];
-      result = gives "i32";
-      locals = [];
-      body = statements (ReturnValue (Member (Unary Negate (Name v)) (codes "x")) ∷ []);
-    } ∷ [])
+    program_named f (parameter_named v (template_of "vec3" ("i32" ∷ [])) ∷ []) (gives "i32") [] (
+    ReturnValue (Member (Unary Negate (Name v)) (codes "x")) ∷ [])
 
 -- the machine finds the right program, which has two tokens more
 abbrev right : Program

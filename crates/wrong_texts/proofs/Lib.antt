@@ -1,5 +1,6 @@
 pub mod Names
 pub mod Right
+pub mod Trees
 pub mod Unread
 pub mod Wrong
 pub mod BreakIfFirst

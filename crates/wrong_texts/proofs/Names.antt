@@ -1,8 +1,7 @@
 -- A label that is no word of WGSL's own, and the first of its stem, is its own name.
-use Rattle.std.proofs.Common.{◌≡◌, ℕ, Bool, false, List, [], ◌∷◌, ◌∙◌, ap, codes, refl}
+use Rattle.std.proofs.Common.{◌≡◌, ℕ, Bool, false, List, ◌∙◌, codes, refl}
 use Rattle.std.specs.Prelude.{◌||◌, ◌++◌, if◌then◌else◌}
 use Rattle.std.specs.Cmp.Lexicographic.{nat_list_cmp_total, slice_cmp}
-use Rattle.std.specs.FinSet as set
 use Rattle.std.specs.FinSet.{contains-empty, contains-from_list}
 use Rattle.std.specs.List.{list_any}
 use Rattle.std.specs.Ordering.{eq_by_cmp, nat_cmp}

@@ -18,32 +18,25 @@ use Rattle.wgsl_text.specs.Expressions.{Add, Binary, Expression, Name}
 use Rattle.wgsl_text.specs.Reading.{HasOneReading, Reads}
 use Rattle.wgsl_text.specs.Statements.{Let, LoopBreakIf, ReturnValue}
 use Rattle.wgsl_text.specs.Words.{is_builtin, is_reserved}
-use Rattle.wgsl_text.specs.WorkedTrees.{gives, name, named_type, of_functions, statements}
+use Rattle.wgsl_text.specs.WorkedTrees.{gives, name, named_type, statements}
 use Rattle.wgsl_text.proofs.Reading.{program_has_one_reading}
 use Rattle.wrong_texts.specs.Modules.{Rest, boolean, integer, no_flags}
 use Rattle.wrong_texts.specs.NamesAfterLoops.{NamesAfterLoops, expressions_known, loop_function}
 use Rattle.wrong_texts.specs.NamesAfterLoops.{loop_info, loop_module, right_text, wrong, wrong_text}
 use Rattle.wrong_texts.proofs.Names.{c_stays, f_stays, x_stays}
 use Rattle.wrong_texts.proofs.Right.{all_hold, checks, keeps}
+use Rattle.wrong_texts.proofs.Trees.{parameter_named, program_named}
 use Rattle.wrong_texts.proofs.Wrong.{breaks_names, unresolved}
 
 -- the right program, where the function and its arguments have these names
 abbrev program_of : (f c x : List ℕ) → Program
 program_of f c x =
     let sum : Expression = Binary (Name x) Add (Name x) in
-    of_functions (
-    record {
-      name = f;
-      parameters =
-          record { attributes = []; name = c; type = named_type "bool" } ∷
-          record { attributes = []; name = x; type = named_type "i32" } ∷ [];
-      result = gives "i32";
-      locals = [];
-      body = statements (
-          LoopBreakIf (statements (Let (codes "_e2") sum ∷ [])) (statements []) (Name c) ∷
-          Let (codes "_e2") sum ∷
-          ReturnValue (Binary (name "_e2") Add (name "_e2")) ∷ []);
-    } ∷ [])
+    program_named f (parameter_named c (named_type "bool") ∷ parameter_named x (named_type "i32") ∷ [])
+    (gives "i32") [] (
+    LoopBreakIf (statements (Let (codes "_e2") sum ∷ [])) (statements []) (Name c) ∷
+    Let (codes "_e2") sum ∷
+    ReturnValue (Binary (name "_e2") Add (name "_e2")) ∷ [])
 
 form : IsProgram wrong
 unfolding is_reserved is_builtin
@@ -79,7 +72,8 @@ module _ (r : Rest) where
   pub refused : NamesAfterLoops r
   refused = record {
     right =
-        keeps r (boolean ∷ integer ∷ []) (loop_function r) expressions_known all (program_of (codes "f") (codes "c") (codes "x"))
+        keeps r (boolean ∷ integer ∷ []) (loop_function r) expressions_known all
+        (program_of (codes "f") (codes "c") (codes "x"))
         (under_names ∙ λ i. program_of (f_is i) (c_is i) (x_is i)) right_text refl;
     wrong = record {
       reading = reading;

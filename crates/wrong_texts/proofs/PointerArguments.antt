@@ -31,13 +31,11 @@ use Rattle.text_semantics.specs.Abstraction.{program_read}
 use Rattle.text_semantics.specs.Vocabulary.{vocabulary_read}
 use Rattle.wgsl_text.specs.Declarations.{IsProgram, Program}
 use Rattle.wgsl_text.specs.Expressions.{Dereference, Member, Name}
-use Rattle.wgsl_text.specs.Operators.{is_built_in}
 use Rattle.wgsl_text.specs.Reading.{HasOneReading, Reads}
-use Rattle.wgsl_text.specs.Requests.{is_request}
 use Rattle.wgsl_text.specs.Statements.{Let, ReturnValue}
 use Rattle.wgsl_text.specs.Types.{pointer_tree}
 use Rattle.wgsl_text.specs.Words.{is_builtin, is_reserved}
-use Rattle.wgsl_text.specs.WorkedTrees.{gives, name, of_functions, statements, template_of}
+use Rattle.wgsl_text.specs.WorkedTrees.{gives, name, template_of}
 use Rattle.wgsl_text.proofs.Reading.{program_has_one_reading}
 use Rattle.wrong_texts.specs.Modules.{Rest, always_seven, no_flags, no_settings, number}
 use Rattle.wrong_texts.specs.PointerArguments.{IsStuckAtPointer, PointerArguments, arguments}
@@ -46,26 +44,17 @@ use Rattle.wrong_texts.specs.PointerArguments.{pointer_info, pointer_module, rig
 use Rattle.wrong_texts.specs.PointerArguments.{wrong_text}
 use Rattle.wrong_texts.proofs.Names.{f_stays, p_stays}
 use Rattle.wrong_texts.proofs.Right.{accepted, all_hold, checks, keeps}
+use Rattle.wrong_texts.proofs.Trees.{parameter_named, program_named}
 use Rattle.wrong_texts.proofs.Wrong.{breaks_runs}
 
 -- the right program, where the function and its argument have these names
 abbrev program_of : (f p : List ℕ) → Program
 program_of f p =
-    of_functions (
-    record {
-      name = f;
-      parameters =
-          record {
-            attributes = [];
-            name = p;
-            type = pointer_tree (codes "function") None (template_of "vec2" ("i32" ∷ []));
-          } ∷ [];
-      result = gives "i32";
-      locals = [];
-      body = statements (
-          Let (codes "_e2") (Member (Dereference (Name p)) (codes "x")) ∷
-          ReturnValue (name "_e2") ∷ []);
-    } ∷ [])
+    program_named f
+    (parameter_named p (pointer_tree (codes "function") None (template_of "vec2" ("i32" ∷ []))) ∷ [])
+    (gives "i32") [] (
+    Let (codes "_e2") (Member (Dereference (Name p)) (codes "x")) ∷
+    ReturnValue (name "_e2") ∷ [])
 
 form : IsProgram wrong
 unfolding is_reserved is_builtin

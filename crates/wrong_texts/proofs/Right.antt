@@ -6,8 +6,6 @@ use Rattle.std.proofs.lemmas.Bool.{false≢true}
 use Rattle.std.specs.Prelude.{◌&&◌, not, IsTrue, if◌then◌else◌, nat_lt}
 use Rattle.std.specs.List.{list_all}
 use Rattle.std.specs.Option.{is_none, option_and_then, option_map_or}
-use Rattle.naga_back.specs.Flags.{annotates_types}
-use Rattle.naga_back.specs.declared.flags.WriterFlags.{WriterFlags}
 use Rattle.naga_info.specs.declared.info.ExpressionInfo.{ExpressionInfo}
 use Rattle.naga_info.specs.declared.info.ModuleInfo.{ModuleInfo}
 use Rattle.naga_info.specs.declared.info.TypeResolution.{TypeResolution}
@@ -19,11 +17,10 @@ use Rattle.naga_ir.specs.declared.module.Module.{Module}
 use Rattle.naga_ir.specs.declared.types.TypeInner.{TypeInner}
 use Rattle.naga_ir.specs.declared.types.Type_.{Type_}
 use Rattle.naga_naming.specs.Reset.{is_struct}
-use Rattle.module_semantics.specs.DeclarationForms.{binding_has_form, DeclarationsHaveForms}
-use Rattle.module_semantics.specs.DeclarationForms.{entry_point_numbered, IsDeclaredType}
+use Rattle.module_semantics.specs.DeclarationForms.{DeclarationsHaveForms}
+use Rattle.module_semantics.specs.DeclarationForms.{IsDeclaredType}
 use Rattle.module_semantics.specs.DeclarationForms.{IsInitialiser, IsIoBinding, IsMemberBinding}
 use Rattle.module_semantics.specs.ExpressionForms.{expression_has_form}
-use Rattle.module_semantics.specs.FunctionNumbers.{all_functions}
 use Rattle.module_semantics.specs.Layouts.{concerned_members, concerned_of}
 use Rattle.module_semantics.specs.Premises.{handles_are_counted, scope_holds, ScopesHold}
 use Rattle.module_semantics.specs.StatementForms.{block_has_forms}
@@ -125,7 +122,8 @@ module _ (r : Rest) (types : List TypeInner) (f : Function) (es : List Expressio
   io_binding _ (IsIoBinding.OfArgument i a b at has) =
       false≢true (sym (ap is_none has) ∙ list_all_at (λ a. is_none a.binding) f.arguments.items i a (holds 4 _ refl) at)
   io_binding _ (IsIoBinding.OfResult t b at has) =
-      false≢true (sym (ap is_none has) ∙ sym (ap (λ o. option_map_or (λ t. is_none t.binding) o true) at) ∙ holds 5 _ refl)
+      false≢true (sym (ap is_none has) ∙ sym (ap (λ o. option_map_or (λ t. is_none t.binding) o true) at)
+      ∙ holds 5 _ refl)
 
   unconcerned : (h : ℕ) (members : List Placed) → concerned_members m h ≡ Some members → ⊥
   unconcerned h members concerned = by (slice_get m.types h) refl concerned

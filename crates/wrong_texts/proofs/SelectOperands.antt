@@ -37,7 +37,7 @@ use Rattle.wgsl_text.specs.Reading.{HasOneReading, Reads}
 use Rattle.wgsl_text.specs.Requests.{is_request}
 use Rattle.wgsl_text.specs.Statements.{ReturnValue}
 use Rattle.wgsl_text.specs.Words.{is_builtin, is_reserved}
-use Rattle.wgsl_text.specs.WorkedTrees.{gives, named_type, of_functions, statements}
+use Rattle.wgsl_text.specs.WorkedTrees.{gives, named_type}
 use Rattle.wgsl_text.proofs.Reading.{program_has_one_reading}
 use Rattle.wrong_texts.specs.Modules.{Rest, always_seven, boolean, integer, no_flags, no_settings, number}
 use Rattle.wrong_texts.specs.SelectOperands.{ChoosesAnother, SelectOperands, arguments, choosing}
@@ -46,23 +46,16 @@ use Rattle.wrong_texts.specs.SelectOperands.{right_text, select_function, select
 use Rattle.wrong_texts.specs.SelectOperands.{wrong, wrong_text}
 use Rattle.wrong_texts.proofs.Names.{c_stays, f_stays, x_stays, y_stays}
 use Rattle.wrong_texts.proofs.Right.{all_hold, checks, keeps}
+use Rattle.wrong_texts.proofs.Trees.{parameter_named, program_named}
 use Rattle.wrong_texts.proofs.Wrong.{breaks_runs}
 
 -- the right program, where the function and its arguments have these names
 abbrev program_of : (f c x y : List ℕ) → Program
 program_of f c x y =
-    of_functions (
-    record {
-      name = f;
-      parameters =
-          record { attributes = []; name = c; type = named_type "bool" } ∷
-          record { attributes = []; name = x; type = named_type "i32" } ∷
-          record { attributes = []; name = y; type = named_type "i32" } ∷ [];
-      result = gives "i32";
-      locals = [];
-      body = statements (
-          ReturnValue (Call (named_type "select") (operands (Name y ∷ Name x ∷ Name c ∷ []))) ∷ []);
-    } ∷ [])
+    program_named f
+    (parameter_named c (named_type "bool") ∷ parameter_named x (named_type "i32") ∷
+    parameter_named y (named_type "i32") ∷ []) (gives "i32") [] (
+    ReturnValue (Call (named_type "select") (operands (Name y ∷ Name x ∷ Name c ∷ []))) ∷ [])
 
 -- a call returned 2
 abbrev is_two : ReachedOrHalted (Option Value) → Bool
@@ -171,8 +164,7 @@ module _ (r : Rest) where
   pub refused : SelectOperands r
   refused = record {
     right =
-        keeps r (boolean ∷ integer ∷ []) (select_function r)
-        expressions_known all
+        keeps r (boolean ∷ integer ∷ []) (select_function r) expressions_known all
         (program_of (codes "f") (codes "c") (codes "x") (codes "y"))
         (under_names ∙ λ i. program_of (f_is i) (c_is i) (x_is i) (y_is i)) right_text refl;
     run = run;

@@ -3,7 +3,6 @@ use Rattle.std.proofs.Common.{◌≡◌, ℕ, true, List, [], ◌∷◌, ◌∙�
 use Rattle.std.specs.Fmt.{digits}
 use Rattle.std.specs.Str.{chars}
 use Rattle.ucd_category.proofs.Computing.{ucd_category}
-use Rattle.naga_ir.specs.declared.module.Function.{Function}
 use Rattle.naga_naming.specs.Label.{ascii_of, hexadecimal, is_numeric, stem_of}
 use Rattle.naga_naming.specs.declared.key.NameKey.TheVariants as key
 use Rattle.naga_spelling.specs.Spelling.{type_segments}
@@ -19,32 +18,25 @@ use Rattle.wgsl_text.specs.Expressions.{Add, Binary, Expression, Name}
 use Rattle.wgsl_text.specs.Reading.{HasOneReading, Reads}
 use Rattle.wgsl_text.specs.Statements.{If, Let, ReturnValue, SomeBlock}
 use Rattle.wgsl_text.specs.Words.{is_builtin, is_reserved}
-use Rattle.wgsl_text.specs.WorkedTrees.{gives, name, named_type, of_functions, statements}
+use Rattle.wgsl_text.specs.WorkedTrees.{gives, name, named_type, statements}
 use Rattle.wgsl_text.proofs.Reading.{program_has_one_reading}
-use Rattle.wrong_texts.specs.Modules.{Rest, boolean, integer, known, no_flags}
-use Rattle.wrong_texts.specs.SiblingNames.{SiblingNames, binding, sibling_function, sibling_info}
-use Rattle.wrong_texts.specs.SiblingNames.{right_text, sibling_module, wrong_text}
+use Rattle.wrong_texts.specs.Modules.{Rest, boolean, integer, no_flags}
+use Rattle.wrong_texts.specs.SiblingNames.{SiblingNames, binding, expressions_known, right_text}
+use Rattle.wrong_texts.specs.SiblingNames.{sibling_function, sibling_info, sibling_module, wrong_text}
 use Rattle.wrong_texts.proofs.Names.{c_stays, f_stays, x_stays}
 use Rattle.wrong_texts.proofs.Right.{all_hold, checks, keeps}
+use Rattle.wrong_texts.proofs.Trees.{parameter_named, program_named}
 use Rattle.wrong_texts.proofs.Wrong.{breaks_names, unresolved}
 
 -- the right program, where the function and its arguments have these names
 abbrev program_of : (f c x : List ℕ) → Program
 program_of f c x =
     let sum : Expression = Binary (Name x) Add (Name x) in
-    of_functions (
-    record {
-      name = f;
-      parameters =
-          record { attributes = []; name = c; type = named_type "bool" } ∷
-          record { attributes = []; name = x; type = named_type "i32" } ∷ [];
-      result = gives "i32";
-      locals = [];
-      body = statements (
-          If (Name c)
-          (statements (Let (codes "_e2") sum ∷ ReturnValue (name "_e2") ∷ []))
-          (SomeBlock (statements (Let (codes "_e2") sum ∷ ReturnValue (name "_e2") ∷ []))) ∷ []);
-    } ∷ [])
+    program_named f (parameter_named c (named_type "bool") ∷ parameter_named x (named_type "i32") ∷ [])
+    (gives "i32") [] (
+    If (Name c)
+    (statements (Let (codes "_e2") sum ∷ ReturnValue (name "_e2") ∷ []))
+    (SomeBlock (statements (Let (codes "_e2") sum ∷ ReturnValue (name "_e2") ∷ []))) ∷ [])
 
 module _ (r : Rest) where
   f_is : name_in (module_names (sibling_module r)) (key.Function 0) ≡ codes "f"
@@ -59,7 +51,7 @@ module _ (r : Rest) where
   unfolding module_names wgsl_names stem_of ascii_of hexadecimal digits is_numeric ucd_category chars
   x_is = x_stays
 
-  all : all_hold (checks r (boolean ∷ integer ∷ []) (sibling_function r) (known 1 0 ∷ known 2 1 ∷ known 2 1 ∷ [])) ≡ true
+  all : all_hold (checks r (boolean ∷ integer ∷ []) (sibling_function r) expressions_known) ≡ true
   unfolding is_accepted module_ranges_fit module_is_sound type_segments handle_key
   all = refl
 
@@ -80,8 +72,7 @@ module _ (r : Rest) where
   pub refused : SiblingNames r
   refused = record {
     right =
-        keeps r (boolean ∷ integer ∷ []) (sibling_function r)
-        (known 1 0 ∷ known 2 1 ∷ known 2 1 ∷ []) all
+        keeps r (boolean ∷ integer ∷ []) (sibling_function r) expressions_known all
         (program_of (codes "f") (codes "c") (codes "x"))
         (under_names ∙ λ i. program_of (f_is i) (c_is i) (x_is i)) right_text refl;
     wrong = record {

@@ -19,7 +19,7 @@ use Rattle.wgsl_text.specs.Functions.{NoResult}
 use Rattle.wgsl_text.specs.Reading.{HasOneReading, Reads}
 use Rattle.wgsl_text.specs.Statements.{Assign, Continue, If, Let, LoopBreakIf, NoBlock}
 use Rattle.wgsl_text.specs.Words.{is_builtin, is_reserved}
-use Rattle.wgsl_text.specs.WorkedTrees.{name, named_type, of_functions, statements}
+use Rattle.wgsl_text.specs.WorkedTrees.{name, named_type, statements}
 use Rattle.wgsl_text.proofs.Reading.{program_has_one_reading}
 use Rattle.wrong_texts.specs.Modules.{Rest, boolean, integer, no_flags}
 use Rattle.wrong_texts.specs.SkippedNames.{SkippedNames, constant_sum, expressions_known, right_text}
@@ -27,24 +27,19 @@ use Rattle.wrong_texts.specs.SkippedNames.{skipping_function, skipping_info, ski
 use Rattle.wrong_texts.specs.SkippedNames.{wrong_text}
 use Rattle.wrong_texts.proofs.Names.{a_stays, c_stays, f_stays}
 use Rattle.wrong_texts.proofs.Right.{all_hold, checks, keeps}
+use Rattle.wrong_texts.proofs.Trees.{parameter_named, program_named}
 use Rattle.wrong_texts.proofs.Wrong.{breaks_names, unresolved}
 
 -- the right program, where the function, its argument and its local have these names
 abbrev program_of : (f c a : List ℕ) → Program
 program_of f c a =
-    of_functions (
-    record {
-      name = f;
-      parameters = record { attributes = []; name = c; type = named_type "bool" } ∷ [];
-      result = NoResult;
-      locals = record { name = a; type = named_type "i32"; value = None } ∷ [];
-      body = statements (
-          LoopBreakIf (statements (
-          If (Name c) (statements (Continue ∷ [])) NoBlock ∷
-          Let (codes "_e3") constant_sum ∷
-          Assign (Name a) (name "_e3") ∷ []))
-          (statements (Assign (Name a) constant_sum ∷ [])) (Name c) ∷ []);
-    } ∷ [])
+    program_named f (parameter_named c (named_type "bool") ∷ []) NoResult
+    (record { name = a; type = named_type "i32"; value = None } ∷ []) (
+    LoopBreakIf (statements (
+    If (Name c) (statements (Continue ∷ [])) NoBlock ∷
+    Let (codes "_e3") constant_sum ∷
+    Assign (Name a) (name "_e3") ∷ []))
+    (statements (Assign (Name a) constant_sum ∷ [])) (Name c) ∷ [])
 
 form : IsProgram wrong
 unfolding is_reserved is_builtin
@@ -82,7 +77,8 @@ module _ (r : Rest) where
   unfolding digits
   refused = record {
     right =
-        keeps r (boolean ∷ integer ∷ []) (skipping_function r) expressions_known all (program_of (codes "f") (codes "c") (codes "a"))
+        keeps r (boolean ∷ integer ∷ []) (skipping_function r) expressions_known all
+        (program_of (codes "f") (codes "c") (codes "a"))
         (under_names ∙ λ i. program_of (f_is i) (c_is i) (a_is i)) right_text refl;
     wrong = record {
       reading = reading;

@@ -1,9 +1,10 @@
 -- Short words for small modules: a module by its types and its one function, which has a table of
 -- expressions and a list of statements. Labels have one letter.
 --
--- Throughout, r is what modules have beside what is told of them, v a vector and w a word.
-use Rattle.std.specs.Prelude.{ℕ, ◌+◌, ◌<◌, ◌^◌, List, [], ◌∷◌, map, length, codes, Vec, IsUtf8, refl}
-use Rattle.std.specs.Prelude.{Option, None, Some, pos}
+-- Throughout, r is what modules have beside what is told of them, v a vector, and x, y and z are
+-- its items.
+use Rattle.std.specs.Prelude.{ℕ, ◌+◌, ◌<◌, ◌^◌, List, [], ◌∷◌, map, length, codes, Vec, IsUtf8}
+use Rattle.std.specs.Prelude.{Option, None, Some, pos, refl}
 use Rattle.std.specs.Global.{Global}
 use Rattle.std.specs.Option.{option_map}
 use Rattle.std.specs.declared.string.String.{String}
@@ -12,8 +13,8 @@ use Rattle.naga_back.specs.declared.flags.WriterFlags.{WriterFlags}
 use Rattle.naga_info.specs.declared.info.ExpressionInfo.{ExpressionInfo}
 use Rattle.naga_info.specs.declared.info.ModuleInfo.{ModuleInfo}
 use Rattle.naga_info.specs.declared.info.TypeResolution.TheVariants as resolution
-use Rattle.naga_ir.specs.StatementTree.{BlockTree, StatementTree, emit, no_statements, return, simple}
-use Rattle.naga_ir.specs.StatementTree.{statement}
+use Rattle.naga_ir.specs.StatementTree.{BlockTree, StatementTree, emit, no_statements, return}
+use Rattle.naga_ir.specs.StatementTree.{simple, statement}
 use Rattle.naga_ir.specs.declared.expression.Expression.{Expression}
 use Rattle.naga_ir.specs.declared.module.Function.{Function}
 use Rattle.naga_ir.specs.declared.module.FunctionArgument.{FunctionArgument}
@@ -42,9 +43,12 @@ pub record Rest : Type 0 where
 -- none to three items have room in memory
 pub have_room : (0 < 2 ^ 63) × (1 < 2 ^ 63) × (2 < 2 ^ 63) × (3 < 2 ^ 63)
 unfolding native.Mathlib.Bridge.IsLe
-have_room =
-    (le_by_compare 1 (2 ^ 63) tt, le_by_compare 2 (2 ^ 63) tt, le_by_compare 3 (2 ^ 63) tt,
-    le_by_compare 4 (2 ^ 63) tt)
+have_room = (
+  le_by_compare 1 (2 ^ 63) tt,
+  le_by_compare 2 (2 ^ 63) tt,
+  le_by_compare 3 (2 ^ 63) tt,
+  le_by_compare 4 (2 ^ 63) tt,
+)
 
 -- a vector of these items
 abbrev pub vector_of : {X : Type 0} → Vec X Global → (items : List X) → length items < 2 ^ 63 →
@@ -75,10 +79,15 @@ three v x y z = vector_of v (x ∷ y ∷ z ∷ []) have_room.3
 pub are_texts : IsUtf8 (codes "f") × IsUtf8 (codes "c") × IsUtf8 (codes "x") × IsUtf8 (codes "y")
     × IsUtf8 (codes "p") × IsUtf8 (codes "v") × IsUtf8 (codes "a")
 unfolding lib.Utf8.encode
-are_texts =
-    ((codes "f", (refl, refl)), (codes "c", (refl, refl)), (codes "x", (refl, refl)),
-    (codes "y", (refl, refl)), (codes "p", (refl, refl)), (codes "v", (refl, refl)),
-    (codes "a", (refl, refl)))
+are_texts = (
+  (codes "f", (refl, refl)),
+  (codes "c", (refl, refl)),
+  (codes "x", (refl, refl)),
+  (codes "y", (refl, refl)),
+  (codes "p", (refl, refl)),
+  (codes "v", (refl, refl)),
+  (codes "a", (refl, refl)),
+)
 
 -- a label of one letter
 abbrev pub label_of : Rest → (letter : ℕ) → IsUtf8 (letter ∷ []) → Option (String Global)
@@ -183,7 +192,8 @@ known count ty = record { ref_count = count; ty = resolution.Handle ty }
 
 -- so often, and is a pointer to a local of this type
 abbrev pub local_pointer : (count ty : ℕ) → ExpressionInfo
-local_pointer count ty = record { ref_count = count; ty = resolution.Value (inner.Pointer ty space.Function) }
+local_pointer count ty =
+    record { ref_count = count; ty = resolution.Value (inner.Pointer ty space.Function) }
 
 -- this is known of the function's expressions
 abbrev pub info_of : Rest → List ExpressionInfo → ModuleInfo

@@ -15,9 +15,9 @@ use Rattle.wgsl_text.specs.Expressions.{Add, Binary}
 use Rattle.wgsl_text.specs.Statements.{LoopBreakIf, ReturnValue}
 use Rattle.wgsl_text.specs.WorkedTrees.{function, gives, let_statement, lines, name, named_type}
 use Rattle.wgsl_text.specs.WorkedTrees.{of_functions, parameter, statements}
-use Rattle.wrong_texts.specs.Modules.{Rest, argument, block_of, boolean, c_label, emits, function_of}
-use Rattle.wrong_texts.specs.Modules.{info_of, integer, known, module_of, no_flags, returns, two}
-use Rattle.wrong_texts.specs.Modules.{x_label}
+use Rattle.wrong_texts.specs.Modules.{Rest, argument, block_of, boolean, c_label, emits}
+use Rattle.wrong_texts.specs.Modules.{function_of, info_of, integer, known, module_of, no_flags}
+use Rattle.wrong_texts.specs.Modules.{returns, two, x_label}
 use Rattle.wrong_texts.specs.Promise.{IsRefusedByNames, KeepsPromise}
 
 -- the sum is emitted in the loop and again after it, and there doubled

@@ -45,9 +45,8 @@ pointer_module r = module_of r types (pointer_function r)
 
 abbrev pub expressions_known : List ExpressionInfo
 expressions_known =
-    known 1 2 ∷
-    record { ref_count = 1; ty = resolution.Value (inner.ValuePointer None scalar space.Function) } ∷
-    known 1 0 ∷ []
+    let to_component = inner.ValuePointer None scalar space.Function in
+    known 1 2 ∷ record { ref_count = 1; ty = resolution.Value to_component } ∷ known 1 0 ∷ []
 
 abbrev pub pointer_info : Rest → ModuleInfo
 pointer_info r = info_of r expressions_known

@@ -19,18 +19,19 @@ use Rattle.text_semantics.specs.Abstraction.{program_read}
 use Rattle.text_semantics.specs.Vocabulary.{vocabulary_read}
 use Rattle.wgsl_text.specs.Declarations.{Program}
 use Rattle.wgsl_text.specs.Statements.{ReturnValue}
-use Rattle.wgsl_text.specs.WorkedTrees.{call, function, gives, lines, named_type, names, of_functions}
-use Rattle.wgsl_text.specs.WorkedTrees.{parameter}
+use Rattle.wgsl_text.specs.WorkedTrees.{call, function, gives, lines, named_type, names}
+use Rattle.wgsl_text.specs.WorkedTrees.{of_functions, parameter}
 use Rattle.wrong_texts.specs.Modules.{Rest, argument, boolean, emits, function_of, info_of, integer}
-use Rattle.wrong_texts.specs.Modules.{known, module_of, no_flags, no_settings, number, returns, three}
-use Rattle.wrong_texts.specs.Modules.{c_label, x_label, y_label}
+use Rattle.wrong_texts.specs.Modules.{c_label, known, module_of, no_flags, no_settings, number}
+use Rattle.wrong_texts.specs.Modules.{returns, three, x_label, y_label}
 use Rattle.wrong_texts.specs.Promise.{IsRefusedByRuns, KeepsPromise}
 
 -- x where c holds, and else y
 abbrev pub select_function : Rest → Function
 select_function r =
     function_of r
-    (three r.function.arguments (argument (c_label r) 0) (argument (x_label r) 1) (argument (y_label r) 1)) (Some 1) []
+    (three r.function.arguments (argument (c_label r) 0) (argument (x_label r) 1)
+    (argument (y_label r) 1)) (Some 1) []
     (expression.FunctionArgument 0 ∷ expression.FunctionArgument 1 ∷
     expression.FunctionArgument 2 ∷ expression.Select 0 1 2 ∷ [])
     (emits 3 1 ∷ returns 3 ∷ [])

@@ -1,14 +1,15 @@
 -- A branch binds what the other branch bound: in the `else` the name `_e2` stands for nothing yet.
 --
 -- Throughout, r is what the module has beside what is told of it.
-use Rattle.std.specs.Prelude.{ℕ, List, [], ◌∷◌, Option, None, Some, codes}
+use Rattle.std.specs.Prelude.{ℕ, List, [], ◌∷◌, None, Some, codes}
+use Rattle.naga_info.specs.declared.info.ExpressionInfo.{ExpressionInfo}
 use Rattle.naga_info.specs.declared.info.ModuleInfo.{ModuleInfo}
 use Rattle.naga_ir.specs.StatementTree.{BlockTree, branch}
 use Rattle.naga_ir.specs.declared.expression.Expression.TheVariants as expression
 use Rattle.naga_ir.specs.declared.module.Function.{Function}
 use Rattle.naga_ir.specs.declared.module.Module.{Module}
 use Rattle.naga_ir.specs.declared.operators.BinaryOperator.TheVariants as operator
-use Rattle.shader_runs.specs.Resolution.{ArgumentTarget, LetTarget, OperandsEnd, Target, WordTarget}
+use Rattle.shader_runs.specs.Resolution.{ArgumentTarget, LetTarget, OperandsEnd, WordTarget}
 use Rattle.wgsl_text.specs.Declarations.{Program}
 use Rattle.wgsl_text.specs.Expressions.{Add, Binary, Expression}
 use Rattle.wgsl_text.specs.Statements.{If, ReturnValue, SomeBlock}
@@ -25,7 +26,8 @@ sum_returned = block_of (emits 2 1 ∷ returns 2 ∷ [])
 
 abbrev pub sibling_function : Rest → Function
 sibling_function r =
-    function_of r (two r.function.arguments (argument (c_label r) 0) (argument (x_label r) 1)) (Some 1) []
+    function_of r (two r.function.arguments (argument (c_label r) 0) (argument (x_label r) 1))
+    (Some 1) []
     (expression.FunctionArgument 0 ∷ expression.FunctionArgument 1 ∷
     expression.Binary operator.Add 1 1 ∷ [])
     (branch 0 sum_returned sum_returned ∷ [])
@@ -33,8 +35,11 @@ sibling_function r =
 abbrev pub sibling_module : Rest → Module
 sibling_module r = module_of r (boolean ∷ integer ∷ []) (sibling_function r)
 
+abbrev pub expressions_known : List ExpressionInfo
+expressions_known = known 1 0 ∷ known 2 1 ∷ known 2 1 ∷ []
+
 abbrev pub sibling_info : Rest → ModuleInfo
-sibling_info r = info_of r (known 1 0 ∷ known 2 1 ∷ known 2 1 ∷ [])
+sibling_info r = info_of r expressions_known
 
 abbrev pub right_text : List ℕ
 right_text = lines (

@@ -1,7 +1,7 @@
 //! Wrong texts that the promise of the writer refuses by its own definitions: the grammar has no
-//! tree for them, a name in them stands for nothing, or they do something else than the module. Each
-//! stands beside the right text of its module, which keeps the whole promise. The public functions
-//! are laws.
+//! tree for them, a name in them stands for nothing, or they do something else than the module.
+//! Each stands beside the right text of its module, which keeps the whole promise. The public
+//! functions are laws.
 #![tactic(auto)]
 
 ghost use Rattle.wrong_texts.specs.BreakIfFirst.{BreakIfFirst};
@@ -46,7 +46,7 @@ pub fn names_after_loops_are_refused()
     ensures { (r : Rest) → NamesAfterLoops r }
 {}
 
-/// In `continuing` the name of a `let` of constants is used that stands after a `continue`: the name
+/// In `continuing` the name of a `let` of constants is used that stands after a `continue`: it
 /// stands for nothing there.
 pub fn skipped_names_are_refused()
     ensures { (r : Rest) → SkippedNames r }
