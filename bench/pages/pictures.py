@@ -56,10 +56,7 @@ LAYERS = [
         ("decimal_floats", "floats get numerals"),
         ("decimal_semantics", "and mean the same"),
     ]),
-    ("the form", LAWS, [
-        ("naga_form", "which syntax tree is written for a module, and the laws of the square"),
-        ("wrong_texts", "wrong texts, refused"),
-    ]),
+    ("the form", LAWS, [("naga_form", "which syntax tree is written for a module, and the laws of the square")]),
     ("what is asked", CODE, [
         ("naga_acceptance", "accepts, count"),
         ("naga_inference", "inferred infos"),
@@ -71,6 +68,7 @@ LAYERS = [
         ("naga_wgsl_shared", "parts of texts, errors"),
         ("naga_wgsl_fns", "texts of functions"),
         ("naga_wgsl_out", "texts of modules"),
+        ("wrong_texts", "wrong texts, refused"),
     ]),
     ("answers", CODE, [
         ("module_positions", "where it is"),

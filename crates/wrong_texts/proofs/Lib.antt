@@ -2,6 +2,7 @@ pub mod Names
 pub mod Right
 pub mod Trees
 pub mod Unread
+pub mod Written
 pub mod Wrong
 pub mod BreakIfFirst
 pub mod ComponentOfNegation

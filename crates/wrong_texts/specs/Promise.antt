@@ -1,9 +1,8 @@
 -- What the promise asks of a text that is written for a module, and what it is for a text to be
--- refused: by the grammar, by what its names stand for, or by what it does. `FaithfulWriting` and
--- `MatchesModule` of `naga_wgsl_out` promise the five parts of each text that is written.
+-- refused: by the grammar, by what its names stand for, or by what it does.
 --
 -- Throughout, m is a module, info is what is known of it, and flags say how it is written.
-use Rattle.std.specs.Prelude.{◌≡◌, ℕ, List, Option}
+use Rattle.std.specs.Prelude.{◌≡◌, ℕ, List, ◌++◌, Option, Ok}
 use Rattle.naga_back.specs.Flags.{annotates_types}
 use Rattle.naga_back.specs.declared.flags.WriterFlags.{WriterFlags}
 use Rattle.naga_info.specs.declared.info.ModuleInfo.{ModuleInfo}
@@ -11,6 +10,7 @@ use Rattle.naga_ir.specs.declared.module.Module.{Module}
 use Rattle.module_semantics.specs.Faithful.{HasInterfaceOf, RunsAs}
 use Rattle.module_semantics.specs.FunctionLets.{BindsAs}
 use Rattle.module_semantics.specs.Resolution.{ResolvesAs}
+use Rattle.naga_wgsl_out.specs.Headline.{EachReading, FaithfulWriting, MatchesModule}
 use Rattle.shader_runs.specs.Resolution.{Target, text_targets}
 use Rattle.text_semantics.specs.Abstraction.{program_read}
 use Rattle.wgsl_text.specs.Declarations.{Program}
@@ -27,6 +27,15 @@ pub record KeepsPromise (m : Module) (info : ModuleInfo) (flags : WriterFlags) (
   pub lets : BindsAs m info (annotates_types flags) program
   pub resolution : ResolvesAs m info program
   pub runs : RunsAs m info program
+
+-- So does each text that a call appended which promises faithful writing and answered `Ok`.
+abbrev pub WritingKeepsPromise : Type 0
+WritingKeepsPromise =
+    (m : Module) (info : ModuleInfo) (flags : WriterFlags) (content text : List ℕ)
+    (before after : ℕ) →
+    FaithfulWriting flags m info (Ok tt) content (content ++ text) before after →
+    EachReading content (content ++ text) (MatchesModule (annotates_types flags) m info) →
+    KeepsPromise m info flags text
 
 -- The text keeps the promise of no module.
 abbrev pub BreaksPromise : (text : List ℕ) → Type 0

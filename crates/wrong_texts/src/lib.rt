@@ -9,9 +9,16 @@ ghost use Rattle.wrong_texts.specs.ComponentOfNegation.{ComponentOfNegation};
 ghost use Rattle.wrong_texts.specs.Modules.{Rest};
 ghost use Rattle.wrong_texts.specs.NamesAfterLoops.{NamesAfterLoops};
 ghost use Rattle.wrong_texts.specs.PointerArguments.{PointerArguments};
+ghost use Rattle.wrong_texts.specs.Promise.{WritingKeepsPromise};
 ghost use Rattle.wrong_texts.specs.SelectOperands.{SelectOperands};
 ghost use Rattle.wrong_texts.specs.SiblingNames.{SiblingNames};
 ghost use Rattle.wrong_texts.specs.SkippedNames.{SkippedNames};
+
+/// What a call of the writer appends that promises faithful writing, as `write` does, and answers
+/// `Ok` keeps the promise. So no such call appends one of the wrong texts here for its module.
+pub fn writing_keeps_the_promise()
+    ensures { WritingKeepsPromise }
+{}
 
 /// A `break if` stands in front of another statement of `continuing`: the text has no reading.
 pub fn break_if_first_is_refused()
