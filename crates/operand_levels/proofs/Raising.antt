@@ -102,9 +102,6 @@ are_through (x ∷ xs) (y ∷ ys) [] first next = absurd next
 are_through (x ∷ xs) (y ∷ ys) (z ∷ zs) first next =
     (raised_through x y z first.0 next.0, are_through xs ys zs first.1 next.1)
 
-pub raised_at : (first ks : List ExpressionInfo) (h : ℕ) → AreRaised first ks → AreRaised first (with_raised ks h)
-raised_at first ks h so_far = are_through first ks (with_raised ks h) so_far (with_raised_are ks h)
-
 pub all_raised_still : (kss : List (List ExpressionInfo)) → AllRaised kss kss
 all_raised_still [] = tt
 all_raised_still (ks ∷ kss) = (are_raised_still ks, all_raised_still kss)
