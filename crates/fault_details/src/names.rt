@@ -440,11 +440,10 @@ pub(crate) fn special_reason<'a>(module: &Module) -> Option<Reason<'a>>
 {
     let types = module.types.len();
     let special = &module.special_types;
-    let predeclared = predeclared_reason(types, &special.predeclared_types);
-    if predeclared.is_some() {
-        return predeclared;
+    match predeclared_reason(types, &special.predeclared_types) {
+        Some(reason) => Some(reason),
+        None => texture_reason(types, special),
     }
-    texture_reason(types, special)
 }
 
 /// The first type of external textures that is not there, and else of rays.
