@@ -4,6 +4,7 @@ import json
 import re
 
 from shape import EXPRESSION, STATEMENT, TOLD, TYPE_INNER, ShapeError, check, name_of
+from inference import expression_type
 
 
 class CaseError(Exception):
@@ -90,6 +91,10 @@ class Reader:
             return False
         self.at = end
         return True
+
+    def has(self, mark):
+        """Whether this mark stands somewhere in the line."""
+        return ("mark", mark) in self.tokens
 
     def want(self, *words):
         for word in words:
@@ -450,6 +455,16 @@ class Types:
         return None
 
 
+class Scope:
+    """The expressions of a function, or the module's own, with what is known of each, and their lines."""
+
+    def __init__(self, function):
+        self.function = function
+        self.expressions = []
+        self.known = []
+        self.lines = []
+
+
 class Module:
     """A module that is made line by line, with what is known of it."""
 
@@ -459,6 +474,8 @@ class Module:
         self.module = {}
         self.info = {}
         self.settings = []
+        self.scopes = []
+        self.own = None
         self.is_counted = False
         self.kinds = set()
 
@@ -471,6 +488,8 @@ class Module:
             made.add(line, children)
         if made.types.items:
             made.module = {"types": made.types.items, **made.module}
+        for scope in made.scopes:
+            made.infer(scope)
         told = {"module": made.module, "info": made.info}
         if made.is_counted:
             told = {"counted": True, **told}
@@ -479,6 +498,17 @@ class Module:
             made.set(told, line, path, value)
             made.check(TOLD, told, line)
         return told, made.kinds
+
+    def infer(self, scope):
+        """Gives each expression of which no type is told the one by the rules."""
+        types = [ty["ty"] if isinstance(ty, dict) and "ty" in ty else ty for ty in scope.known]
+        for handle, ty in enumerate(types):
+            if ty is None:
+                before, expression = types[:handle], scope.expressions[handle]
+                ty = expression_type(self.module, scope.function, before, expression)
+                if ty is None:
+                    raise self.case.error("the rules give it no type: tell one", scope.lines[handle])
+                types[handle] = scope.known[handle] = ty
 
     def check(self, form, value, line=None):
         """The value has this form of the IR."""
@@ -597,10 +627,13 @@ class Module:
         self.append("global_variables", item)
 
     def add_global_expression(self, reader, line):
-        """`global 0: TYPE = EXPRESSION`."""
-        expressions = self.module.setdefault("global_expressions", [])
-        known = self.info.setdefault("const_expression_types", [])
-        self.expression(reader, line, expressions, known, None)
+        """`global 0: EXPRESSION`, `global 0: TYPE = EXPRESSION`."""
+        if self.own is None:
+            self.own = Scope(None)
+            self.scopes.append(self.own)
+            self.module["global_expressions"] = self.own.expressions
+            self.info["const_expression_types"] = self.own.known
+        self.expression(reader, line, self.own, None)
 
     def add_predeclared(self, reader, line):
         """`predeclared KEY = TYPE`."""
@@ -650,14 +683,15 @@ class Module:
             function = {"name": inner} if inner is not None else {}
         self.signature(reader, function)
         reader.end()
-        known = []
-        self.fill(function, known, children)
+        scope = Scope(function)
+        self.scopes.append(scope)
+        self.fill(scope, children)
         if point is None:
             self.append("functions", function)
-            self.info.setdefault("functions", []).append(known)
+            self.info.setdefault("functions", []).append(scope.known)
         else:
             self.append("entry_points", {**point, "function": function})
-            self.info.setdefault("entry_points", []).append(known)
+            self.info.setdefault("entry_points", []).append(scope.known)
 
     def attributes(self, reader):
         """What an entry point has in front of `fn`: none for a function."""
@@ -700,12 +734,12 @@ class Module:
                 result["binding"] = binding
             function["result"] = result
 
-    def fill(self, function, known, children):
-        statements, expressions, names = [], [], {}
+    def fill(self, scope, children):
+        function, statements, names = scope.function, [], {}
         for line, below in children:
             if re.match(r"\d+( |:)", line.text):
                 self.has_nothing_below(below)
-                self.expression(self.reader(line), line, expressions, known, names)
+                self.expression(self.reader(line), line, scope, names)
             elif line.text.startswith("var "):
                 self.has_nothing_below(below)
                 reader = self.reader(line)
@@ -716,38 +750,51 @@ class Module:
                 function.setdefault("local_variables", []).append(item)
             else:
                 statements.append((line, below))
-        if expressions:
-            function["expressions"] = expressions
+        if scope.expressions:
+            function["expressions"] = scope.expressions
         if names:
             function["named_expressions"] = names
         if statements:
             function["body"] = self.block(statements)
 
-    def expression(self, reader, line, expressions, known, names):
-        """`3: TYPE = EXPRESSION`, `3 LABEL: TYPE used 2 = EXPRESSION`; `?` is no known type. The
-        module's own expressions have no names, which are None, and aren't counted."""
+    def expression(self, reader, line, scope, names):
+        """`3: EXPRESSION`, `3 LABEL: EXPRESSION`, and with what is known of its type: `3: TYPE = EXPRESSION`,
+        `3: TYPE used 2 = EXPRESSION`; `?` is no known type. The module's own expressions have no names, which are
+        None, and aren't counted."""
         number = reader.number()
-        if number != len(expressions):
-            reader.fail(f"the expression {len(expressions)} comes next")
+        if number != len(scope.expressions):
+            reader.fail(f"the expression {len(scope.expressions)} comes next")
         if reader.peek() != ":":
             self.add_label(reader, str(number), names)
         reader.want(":")
-        is_known = not reader.takes("?")
-        if is_known:
-            if len(known) < len(expressions):
-                reader.fail("nothing is known of the expression before")
-            known.append(reader.resolution())
-        if reader.takes("used"):
-            if names is None or not is_known:
-                reader.fail("the uses are told of an expression of a function, with its type")
-            known[-1] = {"ref_count": reader.number(), "ty": known[-1]}
-            self.is_counted = True
-        reader.want("=")
+        if reader.has("="):
+            self.told_type(reader, scope, names is not None)
+            reader.want("=")
+        else:
+            self.know(reader, scope, None)
         self.has_kind(reader.peek(), EXPRESSIONS, line)
         expression = reader.value()
         reader.end()
         self.check(EXPRESSION, expression, line)
-        expressions.append(expression)
+        scope.expressions.append(expression)
+        scope.lines.append(line)
+
+    def told_type(self, reader, scope, is_in_function):
+        """What is told of the type of the next expression: `TYPE`, `TYPE used 2`, or `?` where nothing is known."""
+        is_known = not reader.takes("?")
+        if is_known:
+            self.know(reader, scope, reader.resolution())
+        if reader.takes("used"):
+            if not is_in_function or not is_known:
+                reader.fail("the uses are told of an expression of a function, with its type")
+            scope.known[-1] = {"ref_count": reader.number(), "ty": scope.known[-1]}
+            self.is_counted = True
+
+    def know(self, reader, scope, ty):
+        """Adds what is known of the next expression: a type, or None, which is one by the rules."""
+        if len(scope.known) < len(scope.expressions):
+            reader.fail("nothing is known of the expression before")
+        scope.known.append(ty)
 
     def add_label(self, reader, number, names):
         """The label of an expression, which stands after its number."""
