@@ -25,7 +25,6 @@ LAYERS = [
         ("naga_ir", "modules as data"),
         ("naga_info", "types and counts"),
         ("naga_fields", "names of fields"),
-        ("naga_builder", "builders"),
         ("naga_json", "modules from JSON"),
     ]),
     ("words", CODE, [
@@ -60,6 +59,7 @@ LAYERS = [
     ("what is asked", CODE, [
         ("naga_acceptance", "accepts, count"),
         ("naga_inference", "inferred infos"),
+        ("naga_builder", "builders"),
         ("fault_details", "what was expected"),
         ("naga_tables", "what has a form"),
         ("naga_scope", "scope, plans"),
