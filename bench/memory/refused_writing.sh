@@ -16,7 +16,7 @@ printf '%s\n' "$@" > "$asked"
 whole=$(mktemp)
 grep '^{"name":"each kind of declaration and of statement",' crates/wgsl_cases/stdin > "$whole"
 set -- refused_writing bench/memory/refused_writing/main.rt.txt bench/times/writing_times/layouts.rt.txt \
-    bench/times/writing_times/mixed.rt.txt
+    bench/times/writing_times/mixed.rt.txt bench/times/writing_times/sample.rt.txt
 . bench/memory/count_runs.sh
 . bench/on_a_whole_copy.sh
 trap 'rm -rf "$copy" "$asked" "$whole"' EXIT
