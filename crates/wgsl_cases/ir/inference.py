@@ -425,3 +425,25 @@ def is_same_type(module, one, other):
         return None if found is None or named(found)[0] == "Struct" else plain_inner(found)
 
     return inner(one) is not None and inner(one) == inner(other)
+
+
+def types_in(info):
+    """The types of all lists of an info, one list after another, in the order of functions, entry points and the module."""
+    for known in (*info.get("functions", []), *info.get("entry_points", []), info.get("const_expression_types", [])):
+        yield [ty["ty"] if isinstance(ty, dict) and "ty" in ty else told(ty) for ty in known]
+
+
+def follows_rules(module, info):
+    """Whether each type that is told is the one that the rules give, and none is missing."""
+    try:
+        found = list(types_in(module_types(module)))
+    except Untyped:
+        return False
+    given = list(types_in(info))
+    return [len(types) for types in given] == [len(types) for types in found] and all(
+        is_same_type(module, one, other) for types in zip(given, found) for one, other in zip(*types))
+
+
+def with_info(known):
+    """A module with what is known of it, which is found where nothing is told."""
+    return known if "info" in known else {**known, "info": module_types(known["module"])}
