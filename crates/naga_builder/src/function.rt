@@ -175,7 +175,7 @@ impl<'a> FunctionBuilder<'a> {
 
     /// The function, which no longer looks at the module.
     pub fn finish(self) -> BuiltFunction
-        ensures { HasPartsOf self result }
+        ensures { HasPartsOf self.entry result }
     {
         let FunctionBuilder {
             alloc,
