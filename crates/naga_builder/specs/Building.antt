@@ -110,21 +110,22 @@ pub record AddsArgument (a : FunctionArgument) (old new : FunctionBuilder) : Typ
   pub known : new.known.items ≡ old.known.items ++ uncounted (Handle a.ty) ∷ []
   pub body : new.body ≡ old.body
 
--- a local variable is added
-pub record AddsLocal (l : LocalVariable) (old new : FunctionBuilder) : Type 0 where
+-- the function is this one now, and nothing else is another
+pub record GetsFunction (f : Function) (old new : FunctionBuilder) : Type 0 where
   pub looks_at : new.«module» ≡ old.«module»
-  pub function : new.function ≡
-      record old.function { local_variables = old.function.local_variables ++ l ∷ [] }
+  pub function : new.function ≡ f
   pub known : new.known ≡ old.known
   pub body : new.body ≡ old.body
 
+-- a local variable is added
+abbrev pub AddsLocal : LocalVariable → (old new : FunctionBuilder) → Type 0
+AddsLocal l old new = GetsFunction
+    (record old.function { local_variables = old.function.local_variables ++ l ∷ [] }) old new
+
 -- the labels of expressions, and nothing else, are others
-pub record IsBesideNames (old new : FunctionBuilder) : Type 0 where
-  pub looks_at : new.«module» ≡ old.«module»
-  pub function : new.function ≡
-      record old.function { named_expressions = new.function.named_expressions }
-  pub known : new.known ≡ old.known
-  pub body : new.body ≡ old.body
+abbrev pub IsBesideNames : (old new : FunctionBuilder) → Type 0
+IsBesideNames old new = GetsFunction
+    (record old.function { named_expressions = new.function.named_expressions }) old new
 
 -- An expression has this label, in the place of one that it had or after the others.
 pub record NamesExpression (handle : ℕ) (label : List ℕ) (old new : FunctionBuilder) : Type 0 where

@@ -139,7 +139,8 @@ impl<'a> FunctionBuilder<'a> {
     ghost use Rattle.naga_ir.specs.declared.module.LocalVariable.{LocalVariable};
     ghost use Rattle.naga_info.specs.declared.info.TypeResolution.TheVariants as type_of;
     ghost use Rattle.naga_builder.specs.Building.{AddsArgument, AddsExpression, AddsInferred};
-    ghost use Rattle.naga_builder.specs.Building.{AddsLocal, HasPartsOf, IsLabel, IsNew};
+    ghost use Rattle.naga_builder.specs.Building.{AddsLocal, GetsFunction, HasPartsOf};
+    ghost use Rattle.naga_builder.specs.Building.{IsLabel, IsNew};
     ghost use Rattle.naga_builder.specs.Building.{IsUnlabelled, Keeps, KeepsNames};
     ghost use Rattle.naga_builder.specs.Building.{NamesExpression, next_type};
     ghost use Rattle.naga_ir.specs.declared.types.TypeInner.TheVariants as inner;
@@ -195,9 +196,8 @@ impl<'a> FunctionBuilder<'a> {
     /// Gives the function this label, in place of one that it has.
     pub fn label(&mut self, label: &str) -> Result<(), AllocError>
         ensures labelled { OnOk result (IsLabel label.now self.new.function.name) }
-        ensures rest { OnOk result (self.new ≡ record self.old {
-          function = record self.old.function { name = self.new.function.name };
-        }) }
+        ensures rest { OnOk result (GetsFunction
+            (record self.old.function { name = self.new.function.name }) self.old self.new) }
         ensures err { OnErr result (self.new ≡ self.old) }
     {
         let name = String::from_str(self.alloc, label)?;
@@ -249,22 +249,18 @@ impl<'a> FunctionBuilder<'a> {
 
     /// Gives the function a result of this type, which is not bound.
     pub fn returns(&mut self, ty: Handle<Type_>)
-        ensures { self.new ≡ record self.old {
-          function = record self.old.function {
-            result = Some (record { ty = ty; binding = None });
-          };
-        } }
+        ensures { GetsFunction (record self.old.function {
+          result = Some (record { ty = ty; binding = None });
+        }) self.old self.new }
     {
         self.function.result = Some(FunctionResult { ty, binding: None });
     }
 
     /// Gives the function a result of this type, bound so.
     pub fn returns_with_binding(&mut self, ty: Handle<Type_>, binding: Binding)
-        ensures { self.new ≡ record self.old {
-          function = record self.old.function {
-            result = Some (record { ty = ty; binding = Some binding });
-          };
-        } }
+        ensures { GetsFunction (record self.old.function {
+          result = Some (record { ty = ty; binding = Some binding });
+        }) self.old self.new }
     {
         self.function.result = Some(FunctionResult {
             ty,
@@ -367,10 +363,7 @@ impl<'a> FunctionBuilder<'a> {
     }
 
     /// Adds the value of one of the module's constants.
-    pub fn constant(
-        &mut self,
-        constant: Handle<Constant>,
-    ) -> Result<Handle<Expression>, BuildError>
+    pub fn constant(&mut self, constant: Handle<Constant>) -> Result<Handle<Expression>, BuildError>
         ensures handle { IfOk result (λ h. h ≡ length self.old.function.expressions) }
         ensures ok { OnOk result (AddsInferred (expression.Constant constant) self.old self.new) }
         ensures err { OnErr result (Keeps self.old self.new) }

@@ -279,10 +279,7 @@ impl ModuleBuilder {
     }
 
     /// Adds a function after the others. Where memory is refused, the function is dropped.
-    pub fn add_function(
-        &mut self,
-        function: BuiltFunction,
-    ) -> Result<Handle<Function>, AllocError>
+    pub fn add_function(&mut self, function: BuiltFunction) -> Result<Handle<Function>, AllocError>
         ensures handle { IfOk result (λ h. h ≡ length self.old.«module».functions) }
         ensures ok { OnOk result (AddsFunction function self.old self.new) }
         ensures err { OnErr result (KeepsModule self.old self.new) }

@@ -36,10 +36,7 @@ fn answer_case<W: Write>(alloc: Global, case: &Value<'_>, out: &mut W) -> io::Re
 
 /// The module of a case with what is known of it, which is found by the module where the case tells
 /// nothing.
-fn known_in(
-    alloc: Global,
-    case: &Value<'_>,
-) -> Result<Result<Known, InferenceError>, ReadError> {
+fn known_in(alloc: Global, case: &Value<'_>) -> Result<Result<Known, InferenceError>, ReadError> {
     match (case.get("module"), case.get("info")) {
         (Some(module), None) => inferred(alloc, module_of(alloc, module)?),
         _ => Ok(Ok(known_of(alloc, case)?)),
