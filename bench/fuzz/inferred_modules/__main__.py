@@ -1,13 +1,13 @@
 """Generates modules, takes away what is known of them, and compares what is found by the modules alone with
 `crates/wgsl_cases/ir/inference.py`, which was written apart from the code, and with what was taken away.
 
-`types` compares types: a program prints what the crate naga_inference gives each expression (`main.rt.txt`), by the types
-that were generated of those before it, and by the module alone. Half of the modules are spoiled: one of their expressions
-has another operand.
+`types` compares types: a program prints what the crate naga_inference gives each expression (`main.rt.txt`), by the
+types that were generated of those before it, and by the module alone. Half of the modules are spoiled: one of their
+expressions has another operand.
 
-`texts` compares what a program answers, as `yorwethul --lines` does: to a module alone, to the same with the types that the
-rules in Python give, and to the same with those that were generated. An expression to which the rules give another type
-than was generated is replaced by the zero value of that type, so that what was generated follows the rules.
+`texts` compares what a program answers, as `yorwethul --lines` does: to a module alone, to the same with the types that
+the rules in Python give, and to the same with those that were generated. An expression to which the rules give another
+type than was generated is replaced by the zero value of that type, so that what was generated follows the rules.
 
 Usage: inferred_modules types PROGRAM MODULES SEED
        inferred_modules texts PROGRAM MODULES SEED
@@ -33,7 +33,8 @@ BATCH = 1000
 # the handle that stands for no type
 NONE = 2**32 - 1
 # fields of one operand, by which most types go
-OPERANDS = ("base", "value", "vector", "pointer", "image", "expr", "left", "right", "accept", "argument", "arg", "arg1", "c")
+OPERANDS = (
+    "base", "value", "vector", "pointer", "image", "expr", "left", "right", "accept", "argument", "arg", "arg1", "c")
 
 
 def main():

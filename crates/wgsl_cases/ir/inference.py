@@ -1,9 +1,9 @@
-"""The types of a module's expressions, by the module alone: what WGSL and naga's typifier say of each kind, written apart
-from the crate naga_inference, so that each of the two tests the other.
+"""The types of a module's expressions, by the module alone: what WGSL and naga's typifier say of each kind, written
+apart from the crate naga_inference, so that each of the two tests the other.
 
-A module is naga's JSON. The type of an expression is the handle of one of the module's types, or `{"Value": inner}`, a type
-by itself. `module_types` gives those of a whole module, and `expression_type` that of one expression by the types of those
-before it, or None if it has none.
+A module is naga's JSON. The type of an expression is the handle of one of the module's types, or `{"Value": inner}`, a
+type by itself. `module_types` gives those of a whole module, and `expression_type` that of one expression by the types
+of those before it, or None if it has none.
 """
 
 BOOL, I32, U32, F32 = (
@@ -12,18 +12,21 @@ BOOL, I32, U32, F32 = (
 LITERALS = {
     "F64": ("Float", 8), "F32": ("Float", 4), "F16": ("Float", 2),
     "DecimalF64": ("Float", 8), "DecimalF32": ("Float", 4), "DecimalF16": ("Float", 2),
-    "U64": ("Uint", 8), "U32": ("Uint", 4), "U16": ("Uint", 2), "I64": ("Sint", 8), "I32": ("Sint", 4), "I16": ("Sint", 2),
+    "U64": ("Uint", 8), "U32": ("Uint", 4), "U16": ("Uint", 2),
+    "I64": ("Sint", 8), "I32": ("Sint", 4), "I16": ("Sint", 2),
     "Bool": ("Bool", 1), "AbstractInt": ("AbstractInt", 8), "AbstractFloat": ("AbstractFloat", 8),
 }
 COMPARISONS = {"Equal", "NotEqual", "Less", "LessEqual", "Greater", "GreaterEqual"}
 # What is packed into the bits of one number, and what is unpacked out of them.
 PACKED = {
     "Dot4I8Packed": I32, "Dot4U8Packed": U32, "Pack4x8snorm": U32, "Pack4x8unorm": U32, "Pack2x16snorm": U32,
-    "Pack2x16unorm": U32, "Pack2x16float": U32, "Pack4xI8": U32, "Pack4xU8": U32, "Pack4xI8Clamp": U32, "Pack4xU8Clamp": U32,
+    "Pack2x16unorm": U32, "Pack2x16float": U32, "Pack4xI8": U32, "Pack4xU8": U32, "Pack4xI8Clamp": U32,
+    "Pack4xU8Clamp": U32,
 }
 UNPACKED = {
     "Unpack4x8snorm": ("Quad", F32), "Unpack4x8unorm": ("Quad", F32), "Unpack2x16snorm": ("Bi", F32),
-    "Unpack2x16unorm": ("Bi", F32), "Unpack2x16float": ("Bi", F32), "Unpack4xI8": ("Quad", I32), "Unpack4xU8": ("Quad", U32),
+    "Unpack2x16unorm": ("Bi", F32), "Unpack2x16float": ("Bi", F32), "Unpack4xI8": ("Quad", I32),
+    "Unpack4xU8": ("Quad", U32),
 }
 
 
@@ -62,8 +65,8 @@ def told(ty):
 
 
 class Scope:
-    """Expressions that stand together: the module, the function in which they stand, or None for the module's own, and the
-    types of those that are known, by handle."""
+    """Expressions that stand together: the module, the function in which they stand, or None for the module's own, and
+    the types of those that are known, by handle."""
 
     def __init__(self, module, function, known):
         self.module = module
@@ -196,6 +199,10 @@ def binary_type(scope, it):
     return scope.same(it["left"])
 
 
+def relational_type(scope, it):
+    return scalar_type(BOOL) if it["fun"] in ("All", "Any") else truth_type(scope.inner(it["argument"]))
+
+
 def conversion_type(scope, it):
     name, operand = scope.inner(it["expr"])
     if name not in ("Scalar", "Vector", "Matrix"):
@@ -272,9 +279,8 @@ def query_type(scope, it):
     name, image = scope.inner(it["image"])
     if name != "Image":
         return None
-    return {
-        "D1": scalar_type(U32), "D2": vector_type("Bi", U32), "Cube": vector_type("Bi", U32), "D3": vector_type("Tri", U32),
-    }[image["dim"]]
+    size = {"D1": None, "D2": "Bi", "Cube": "Bi", "D3": "Tri"}[image["dim"]]
+    return scalar_type(U32) if size is None else vector_type(size, U32)
 
 
 # ---- all kinds
@@ -344,7 +350,7 @@ RULES = {
     "Binary": binary_type,
     "Select": lambda s, it: s.same(it["accept"]),
     "Derivative": lambda s, it: s.same(it["expr"]),
-    "Relational": lambda s, it: scalar_type(BOOL) if it["fun"] in ("All", "Any") else truth_type(s.inner(it["argument"])),
+    "Relational": relational_type,
     "Math": math_type,
     "As": conversion_type,
     "ArrayLength": lambda s, it: scalar_type(U32),
@@ -428,7 +434,7 @@ def is_same_type(module, one, other):
 
 
 def types_in(info):
-    """The types of all lists of an info, one list after another, in the order of functions, entry points and the module."""
+    """The types of all lists of an info, one list after another: of functions, of entry points and of the module."""
     for known in (*info.get("functions", []), *info.get("entry_points", []), info.get("const_expression_types", [])):
         yield [ty["ty"] if isinstance(ty, dict) and "ty" in ty else told(ty) for ty in known]
 
