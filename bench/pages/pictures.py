@@ -60,6 +60,7 @@ LAYERS = [
         ("naga_acceptance", "accepts, count"),
         ("naga_inference", "inferred infos"),
         ("naga_builder", "builders"),
+        ("operand_levels", "deep operands"),
         ("fault_details", "what was expected"),
         ("naga_tables", "what has a form"),
         ("naga_scope", "scope, plans"),
