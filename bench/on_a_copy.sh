@@ -12,6 +12,7 @@ cp HANDLES "$copy"
 mkdir -p "$copy/crates/$name/src" "$copy/crates/$name/specs" "$copy/crates/$name/proofs"
 for library in decimal_numerals naga_ir naga_keywords naga_naming naga_names "$@"; do
     [ -d "$copy/crates/$library" ] && continue # the program uses one of the first five itself
+    [ -d "crates/$library" ] || continue # it is the kit's
     tar cf - --exclude=out "crates/$library" | tar xf - -C "$copy"
     grep "^$library:" crates.txt >> "$copy/crates.txt"
 done

@@ -14,9 +14,16 @@
 asked=$(mktemp)
 printf '%s\n' "$@" > "$asked"
 whole=$(mktemp)
-grep '^{"name":"each kind of declaration and of statement",' crates/wgsl_cases/stdin > "$whole"
+python3 - "each kind of declaration and of statement" > "$whole" << 'END'
+import json
+import sys
+sys.path.append("crates/wgsl_cases/ir")
+from inference import with_info
+cases = map(json.loads, open("crates/wgsl_cases/stdin", encoding="utf-8"))
+print(*(json.dumps(with_info(case)) for case in cases if case["name"] == sys.argv[1]))
+END
 set -- refused_writing bench/memory/refused_writing/main.rt.txt bench/times/writing_times/layouts.rt.txt \
-    bench/times/writing_times/mixed.rt.txt
+    bench/times/writing_times/mixed.rt.txt bench/times/writing_times/sample.rt.txt
 . bench/memory/count_runs.sh
 . bench/on_a_whole_copy.sh
 trap 'rm -rf "$copy" "$asked" "$whole"' EXIT

@@ -25,7 +25,6 @@ LAYERS = [
         ("naga_ir", "modules as data"),
         ("naga_info", "types and counts"),
         ("naga_fields", "names of fields"),
-        ("naga_builder", "builders"),
         ("naga_json", "modules from JSON"),
     ]),
     ("words", CODE, [
@@ -59,11 +58,14 @@ LAYERS = [
     ("the form", LAWS, [("naga_form", "which syntax tree is written for a module, and the laws of the square")]),
     ("what is asked", CODE, [
         ("naga_acceptance", "accepts, count"),
-        ("naga_inference", "inferred infos"),
-        ("operand_levels", "deep operands"),
         ("fault_details", "what was expected"),
         ("naga_tables", "what has a form"),
         ("naga_scope", "scope, plans"),
+    ]),
+    ("what is found", CODE, [
+        ("naga_inference", "inferred infos"),
+        ("naga_builder", "builders"),
+        ("operand_levels", "deep operands"),
     ]),
     ("the writer", CODE, [
         ("naga_wgsl_shared", "parts of texts, errors"),

@@ -170,7 +170,8 @@ fn rays_have_special_types(rt: HostRuntime) {
         query: at(0),
         committed: true,
     };
-    let known = Known::Global([].as_slice());
+    let none: Vec<TypeResolution> = Vec::new(rt.alloc());
+    let known = Known::Global(none.as_slice());
     assert!(rt; inferred_type(&module, None, known, &found).is_none());
     assert!(rt; inferred_type(&module, None, known, &positions).is_none());
     module.special_types.ray_intersection = Some(ItemIndex::from_index(3));

@@ -68,8 +68,14 @@ fn inferred(rt: &impl Abort, alloc: Global, module: &Module) -> Result<ModuleInf
     }
 }
 
+/// An info as `Debug` shows it.
+fn shown(rt: &impl Abort, alloc: Global, info: &ModuleInfo) -> String {
+    format!(in alloc; "{info:?}").expect(rt, "memory")
+}
+
+/// The info that is found is the one that the builder made.
 #[test]
-fn each_sample_gets_an_info(rt: HostRuntime) {
+fn each_sample_gets_its_info(rt: HostRuntime) {
     let alloc = rt.alloc();
     for name in SAMPLES {
         let sample = SampleModule::from_name(name).expect(&rt, "a sample");
@@ -77,7 +83,11 @@ fn each_sample_gets_an_info(rt: HostRuntime) {
         sample.build(alloc, &mut shader).expect(&rt, "memory");
         let found = inferred(&rt, alloc, &shader.module);
         match found {
-            Ok(_) => {}
+            Ok(info) => {
+                let built = shown(&rt, alloc, &shader.info);
+                let found = shown(&rt, alloc, &info);
+                assert!(rt; found.as_str() == built.as_str(), "{name}");
+            }
             Err(error) => panic!(rt; "{name}: {error}"),
         }
         drop(shader);

@@ -1,6 +1,6 @@
 //! Switches with many cases, in any order: they are accepted where no value stands twice.
 use naga_acceptance::accepts;
-use naga_builder::{FunctionBuilder, ModuleBuilder};
+use naga_builder::ModuleBuilder;
 use naga_ir::{Block, Literal, SwitchCase, SwitchValue};
 use std::alloc::Global;
 use std::process::Abort;
@@ -66,12 +66,13 @@ fn cases(rt: &impl Abort, alloc: Global, case_values: &[SwitchValue]) -> Vec<Swi
 
 /// Whether a module is accepted whose function's body is a switch over a number.
 fn is_accepted(rt: &impl Abort, alloc: Global, case_values: &[SwitchValue]) -> bool {
-    let mut function = FunctionBuilder::unlabelled(alloc);
+    let mut shader = ModuleBuilder::new(alloc);
+    let mut function = shader.unlabelled_function();
     let selector = function.literal(Literal::U32(1)).expect(rt, "memory");
     let cases = cases(rt, alloc, case_values);
     function.body.switch(selector, cases).expect(rt, "memory");
-    let mut shader = ModuleBuilder::new(alloc);
-    shader.add_function(function).expect(rt, "memory");
+    let built = function.finish();
+    shader.add_function(built).expect(rt, "memory");
     accepts(&shader.module, &shader.info)
 }
 

@@ -1,8 +1,8 @@
 -- What functions and modules that are being built hold after a call.
 --
--- Throughout, old and new are such a function or module before and after a call.
+-- Throughout, old and new are such a function or module before and after a call, and b is one.
 use Rattle.std.specs.Prelude.{◌≡◌, ℕ, List, [], ◌∷◌, ◌++◌, length, nat_eq, string_bytes}
-use Rattle.std.specs.Prelude.{Bool, IsSomeAnd, Option, None, String}
+use Rattle.std.specs.Prelude.{Bool, IsSomeAnd, Option, None, Some, String, map}
 use Rattle.std.specs.List.{position_or_len}
 use Rattle.std.specs.declared.alloc.Global.{Global}
 use Rattle.indexmap.specs.IndexMap.{IsUnchanged, insert_entry}
@@ -20,6 +20,7 @@ use Rattle.naga_ir.specs.declared.types.Type_.{Type_}
 use Rattle.naga_ir.specs.declared.module.EntryPoint.{EntryPoint}
 use Rattle.naga_ir.specs.declared.module.ShaderStage.{ShaderStage}
 use Rattle.naga_ir.specs.declared.module.Function.{Function}
+use Rattle.naga_ir.specs.declared.module.Module.{Module}
 use Rattle.naga_ir.specs.declared.module.FunctionArgument.{FunctionArgument}
 use Rattle.naga_ir.specs.declared.module.LocalVariable.{LocalVariable}
 use Rattle.naga_ir.specs.declared.expression.Expression.{Expression}
@@ -28,6 +29,8 @@ use Rattle.naga_info.specs.declared.info.ExpressionInfo.{ExpressionInfo}
 use Rattle.naga_info.specs.declared.info.ModuleInfo.{ModuleInfo}
 use Rattle.naga_info.specs.declared.info.TypeResolution.{TypeResolution}
 use Rattle.naga_info.specs.declared.info.TypeResolution.TheVariants.{Handle}
+use Rattle.naga_inference.specs.Inferred.{inferred_type}
+use Rattle.naga_builder.specs.declared.function.BuiltFunction.{BuiltFunction}
 use Rattle.naga_builder.specs.declared.function.FunctionBuilder.{FunctionBuilder}
 use Rattle.naga_builder.specs.declared.«module».ModuleBuilder.{ModuleBuilder}
 use Rattle.naga_builder.specs.declared.«module».StageExtras.{StageExtras}
@@ -46,21 +49,35 @@ uncounted ty = record { ref_count = 0; ty = ty }
 abbrev pub IsLabel : {Y : Type 0} → List ℕ → Option (String Y) → Type 0
 IsLabel label name = IsSomeAnd name (λ s. string_bytes s ≡ label)
 
--- a function with this label and nothing else
-pub record IsNew (label : List ℕ) (new : FunctionBuilder) : Type 0 where
+-- a function for this module with this label and nothing else
+pub record IsNew (m : Module) (label : List ℕ) (new : FunctionBuilder) : Type 0 where
+  pub looks_at : new.«module».now ≡ m
   pub labelled : IsLabel label new.function.name
   pub empty : IsEmptyFunction (record new.function { name = None })
   pub known : new.known.items ≡ []
   pub body : new.body ≡ new.function.body
 
--- a function with nothing, not even a label
-pub record IsUnlabelled (new : FunctionBuilder) : Type 0 where
+-- a function for this module with nothing, not even a label
+pub record IsUnlabelled (m : Module) (new : FunctionBuilder) : Type 0 where
+  pub looks_at : new.«module».now ≡ m
   pub empty : IsEmptyFunction new.function
   pub known : new.known.items ≡ []
   pub body : new.body ≡ new.function.body
 
+-- one function, before or after it looks at a module
+pub record HasPartsOf (b : FunctionBuilder) (built : BuiltFunction) : Type 0 where
+  pub function : b.function ≡ built.function
+  pub known : b.known ≡ built.known
+  pub body : b.body ≡ built.body
+
+-- the type that the rules give an expression after those of a function: by its module, by what the
+-- function has and by the types known in it
+abbrev pub next_type : FunctionBuilder → Expression → Option TypeResolution
+next_type b e = inferred_type b.«module».now (Some b.function) (map (λ k. k.ty) b.known.items) e
+
 -- nothing is added
 pub record Keeps (old new : FunctionBuilder) : Type 0 where
+  pub looks_at : new.«module» ≡ old.«module»
   pub arguments : new.function.arguments.items ≡ old.function.arguments.items
   pub rest : new.function ≡ record old.function { arguments = new.function.arguments }
   pub known : new.known.items ≡ old.known.items
@@ -69,13 +86,21 @@ pub record Keeps (old new : FunctionBuilder) : Type 0 where
 -- one expression is added, of this type
 pub record AddsExpression (e : Expression) (ty : TypeResolution) (old new : FunctionBuilder) :
     Type 0 where
+  pub looks_at : new.«module» ≡ old.«module»
   pub function : new.function ≡
       record old.function { expressions = old.function.expressions ++ e ∷ [] }
   pub known : new.known.items ≡ old.known.items ++ uncounted ty ∷ []
   pub body : new.body ≡ old.body
 
+-- one expression is added, of the type that the rules give it
+pub record AddsInferred (e : Expression) (old new : FunctionBuilder) : Type 0 where
+  pub ty : TypeResolution
+  pub rule : next_type old e ≡ Some ty
+  pub added : AddsExpression e ty old new
+
 -- an argument is added, and the expression that is its value
 pub record AddsArgument (a : FunctionArgument) (old new : FunctionBuilder) : Type 0 where
+  pub looks_at : new.«module» ≡ old.«module»
   pub arguments : new.function.arguments.items ≡ old.function.arguments.items ++ a ∷ []
   pub rest : new.function ≡ record old.function {
     arguments = new.function.arguments;
@@ -85,19 +110,22 @@ pub record AddsArgument (a : FunctionArgument) (old new : FunctionBuilder) : Typ
   pub known : new.known.items ≡ old.known.items ++ uncounted (Handle a.ty) ∷ []
   pub body : new.body ≡ old.body
 
--- a local variable is added
-pub record AddsLocal (l : LocalVariable) (old new : FunctionBuilder) : Type 0 where
-  pub function : new.function ≡
-      record old.function { local_variables = old.function.local_variables ++ l ∷ [] }
+-- the function is this one now, and nothing else is another
+pub record GetsFunction (f : Function) (old new : FunctionBuilder) : Type 0 where
+  pub looks_at : new.«module» ≡ old.«module»
+  pub function : new.function ≡ f
   pub known : new.known ≡ old.known
   pub body : new.body ≡ old.body
 
+-- a local variable is added
+abbrev pub AddsLocal : LocalVariable → (old new : FunctionBuilder) → Type 0
+AddsLocal l old new = GetsFunction
+    (record old.function { local_variables = old.function.local_variables ++ l ∷ [] }) old new
+
 -- the labels of expressions, and nothing else, are others
-pub record IsBesideNames (old new : FunctionBuilder) : Type 0 where
-  pub function : new.function ≡
-      record old.function { named_expressions = new.function.named_expressions }
-  pub known : new.known ≡ old.known
-  pub body : new.body ≡ old.body
+abbrev pub IsBesideNames : (old new : FunctionBuilder) → Type 0
+IsBesideNames old new = GetsFunction
+    (record old.function { named_expressions = new.function.named_expressions }) old new
 
 -- An expression has this label, in the place of one that it had or after the others.
 pub record NamesExpression (handle : ℕ) (label : List ℕ) (old new : FunctionBuilder) : Type 0 where
@@ -113,7 +141,7 @@ pub record KeepsNames (old new : FunctionBuilder) : Type 0 where
   pub rest : IsBesideNames old new
 
 -- what is built, with its statements
-abbrev pub function_of : FunctionBuilder → Function
+abbrev pub function_of : BuiltFunction → Function
 function_of b = record b.function { body = b.body }
 
 -- ---- modules
@@ -181,6 +209,10 @@ pub record KeepsModule (old new : ModuleBuilder) : Type 0 where
       record old.«module» { entry_points = new.«module».entry_points }
   pub known : KnowsAsBefore old.info new.info
 
+-- the type that the rules give an expression after the module's own
+abbrev pub next_own_type : ModuleBuilder → Expression → Option TypeResolution
+next_own_type b e = inferred_type b.«module» None b.info.const_expression_types.items e
+
 -- one of the module's own expressions is added, of this type
 pub record AddsGlobalExpression (e : Expression) (ty : TypeResolution) (old new : ModuleBuilder) :
     Type 0 where
@@ -192,8 +224,14 @@ pub record AddsGlobalExpression (e : Expression) (ty : TypeResolution) (old new 
   pub rest : new.info ≡
       record old.info { const_expression_types = new.info.const_expression_types }
 
+-- the same, of the type that the rules give it
+pub record AddsInferredOwn (e : Expression) (old new : ModuleBuilder) : Type 0 where
+  pub ty : TypeResolution
+  pub rule : next_own_type old e ≡ Some ty
+  pub added : AddsGlobalExpression e ty old new
+
 -- a function is added, with what is known of it
-pub record AddsFunction (b : FunctionBuilder) (old new : ModuleBuilder) : Type 0 where
+pub record AddsFunction (b : BuiltFunction) (old new : ModuleBuilder) : Type 0 where
   pub functions : new.«module» ≡
       record old.«module» { functions = old.«module».functions ++ function_of b ∷ [] }
   pub known : new.info.functions.items ≡ old.info.functions.items ++ b.known.items ∷ []
@@ -205,7 +243,7 @@ no_extras = record { mesh_info = None; task_payload = None; incoming_ray_payload
 
 -- An entry point is added, with what is known of its function. It has this label, stage, size of
 -- workgroups and function, and these parts of its stage.
-pub record AddsEntryPoint (b : FunctionBuilder) (label : List ℕ) (stage : ShaderStage)
+pub record AddsEntryPoint (b : BuiltFunction) (label : List ℕ) (stage : ShaderStage)
     (workgroup_size : List ℕ) (parts : StageExtras) (old new : ModuleBuilder) : Type 0 where
   pub entry_point_added : EntryPoint
   pub entry_points : new.«module».entry_points.items

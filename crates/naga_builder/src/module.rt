@@ -1,16 +1,21 @@
 //! Modules.
 
 ghost use Rattle.std.specs.Prelude.{◌≡◌, ◌++◌, ◌∷◌, [], IfOk, OnErr, OnOk, None, length};
+ghost use Rattle.std.specs.Option.{is_none};
 ghost use Rattle.naga_ir.specs.Empty.{IsEmptyModule};
-ghost use Rattle.naga_info.specs.declared.info.TypeResolution.TheVariants as type_of;
 ghost use Rattle.naga_builder.specs.Building.{AddsEntryPoint, AddsFunction, AddsGlobalExpression};
-ghost use Rattle.naga_builder.specs.Building.{FindsType, IsLabel, IsTypeOf};
-ghost use Rattle.naga_builder.specs.Building.{KeepsModule, KnowsNothing, no_extras};
+ghost use Rattle.naga_builder.specs.Building.{AddsInferredOwn, FindsType, HasPartsOf};
+ghost use Rattle.naga_builder.specs.Building.{IsLabel, IsNew, IsTypeOf, IsUnlabelled};
+ghost use Rattle.naga_builder.specs.Building.{KeepsModule, KnowsNothing, next_own_type, no_extras};
 ghost use Rattle.naga_builder.specs.Building.{KeepsPredeclared, TellsPredeclared};
+ghost use Rattle.naga_builder.specs.Errors.{is_untyped};
 ghost use Rattle.naga_ir.specs.declared.types.Type_.{Type_};
 ghost use Rattle.naga_ir.specs.declared.types.TypeInner.TheVariants as inner;
 
-use crate::function::FunctionBuilder;
+use crate::error::BuildError;
+use crate::function::{BuiltFunction, FunctionBuilder};
+use naga_acceptance::parts::Known;
+use naga_inference::inferred_type;
 use naga_info::{FunctionInfo, ModuleInfo, TypeResolution};
 use naga_ir::{
     Constant, EntryPoint, Expression, Function, GlobalVariable, Handle, MeshStageInfo, Module,
@@ -42,8 +47,7 @@ impl StageExtras {
     }
 }
 
-/// A module that is being built, with what is known of it. Where memory is refused, a call adds
-/// nothing.
+/// A module that is being built, with what is known of it. A call that answers an `Err` adds nothing.
 ///
 /// Its fields are what it has made. Each call keeps them in step: what is known is known of the
 /// functions, entry points and expressions that are there, in their order.
@@ -53,11 +57,14 @@ impl StageExtras {
 /// ```text
 /// let mut shader = ModuleBuilder::new(alloc);
 /// let i32_type = shader.scalar(Scalar::I32)?;
-/// let mut same = FunctionBuilder::new(alloc, "same")?;
-/// let x = same.argument("x", i32_type)?;
-/// same.returns(i32_type);
-/// same.body.return_value(x)?;
-/// shader.add_function(same)?;
+/// let mut double = shader.function("double")?;
+/// let x = double.argument("x", i32_type)?;
+/// double.returns(i32_type);
+/// let sum = double.binary(BinaryOperator::Add, x, x)?;
+/// double.body.emit(sum, sum)?;
+/// double.body.return_value(sum)?;
+/// let double = double.finish();
+/// shader.add_function(double)?;
 /// ```
 pub struct ModuleBuilder {
     alloc: Global,
@@ -172,7 +179,8 @@ impl ModuleBuilder {
         Ok(())
     }
 
-    /// Adds one of the module's own expressions, of a type that may be none of the module's.
+    /// Adds one of the module's own expressions, of this type, which may be none of the module's. It
+    /// is the caller's own, and need not be the one that the expression has.
     pub fn typed_global_expression(
         &mut self,
         expression: Expression,
@@ -188,18 +196,22 @@ impl ModuleBuilder {
         Ok(handle)
     }
 
-    /// Adds one of the module's own expressions, of this type.
+    /// Adds one of the module's own expressions, with the type that [`inferred_type`] gives it, or
+    /// answers [`BuildError::Untyped`] where that is none.
     pub fn global_expression(
         &mut self,
         expression: Expression,
-        ty: Handle<Type_>,
-    ) -> Result<Handle<Expression>, AllocError>
+    ) -> Result<Handle<Expression>, BuildError>
         ensures handle { IfOk result (λ h. h ≡ length self.old.«module».global_expressions) }
-        ensures ok { OnOk result
-            (AddsGlobalExpression expression (type_of.Handle ty) self.old self.new) }
+        ensures ok { OnOk result (AddsInferredOwn expression self.old self.new) }
         ensures err { OnErr result (KeepsModule self.old self.new) }
+        ensures untyped { is_untyped result ≡ is_none (next_own_type self.old expression) }
     {
-        self.typed_global_expression(expression, TypeResolution::Handle(ty))
+        let known = Known::Global(self.info.const_expression_types.as_slice());
+        match inferred_type(&self.module, None, known, &expression) {
+            Some(ty) => Ok(self.typed_global_expression(expression, ty)?),
+            None => Err(BuildError::Untyped),
+        }
     }
 
     /// Adds a constant.
@@ -244,11 +256,30 @@ impl ModuleBuilder {
         self.module.global_variables.append(variable)
     }
 
+    /// Begins a function of this label, with nothing else, for this module as it is now.
+    pub fn function(&self, label: &str) -> Result<FunctionBuilder<'_>, AllocError>
+        ensures { IfOk result (IsNew self.now.«module» label.now) }
+    {
+        FunctionBuilder::new(self.alloc, &self.module, label)
+    }
+
+    /// The same without a label. It takes no memory.
+    pub fn unlabelled_function(&self) -> FunctionBuilder<'_>
+        ensures { IsUnlabelled self.now.«module» result }
+    {
+        FunctionBuilder::unlabelled(self.alloc, &self.module)
+    }
+
+    /// Goes on with a function, for this module as it is now.
+    pub fn resume(&self, function: BuiltFunction) -> FunctionBuilder<'_>
+        ensures looks_at { result.«module».now ≡ self.now.«module» }
+        ensures parts { HasPartsOf result function }
+    {
+        function.resumed(&self.module)
+    }
+
     /// Adds a function after the others. Where memory is refused, the function is dropped.
-    pub fn add_function(
-        &mut self,
-        function: FunctionBuilder,
-    ) -> Result<Handle<Function>, AllocError>
+    pub fn add_function(&mut self, function: BuiltFunction) -> Result<Handle<Function>, AllocError>
         ensures handle { IfOk result (λ h. h ≡ length self.old.«module».functions) }
         ensures ok { OnOk result (AddsFunction function self.old self.new) }
         ensures err { OnErr result (KeepsModule self.old self.new) }
@@ -270,7 +301,7 @@ impl ModuleBuilder {
         label: &str,
         stage: ShaderStage,
         workgroup_size: [u32; 3],
-        function: FunctionBuilder,
+        function: BuiltFunction,
     ) -> Result<(), AllocError>
         ensures ok { OnOk result
             (AddsEntryPoint function label.now stage workgroup_size no_extras self.old self.new) }
@@ -287,7 +318,7 @@ impl ModuleBuilder {
         stage: ShaderStage,
         workgroup_size: [u32; 3],
         parts: StageExtras,
-        function: FunctionBuilder,
+        function: BuiltFunction,
     ) -> Result<(), AllocError>
         ensures ok { OnOk result
             (AddsEntryPoint function label.now stage workgroup_size parts self.old self.new) }

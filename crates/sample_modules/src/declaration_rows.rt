@@ -2,25 +2,26 @@
 
 use crate::structs::add_placed_struct;
 use bitflags::Flags;
-use naga_builder::{FunctionBuilder, ModuleBuilder};
+use naga_builder::{BuildError, ModuleBuilder};
 use naga_ir::{
     AddressSpace, ArraySize, AtomicFunction, BinaryOperator, Binding, BuiltIn, Constant,
     Expression, FunctionArgument, GlobalVariable, Handle, Interpolation, Literal,
     MemoryDecorations, Override, ResourceBinding, Scalar, ShaderStage, Statement, StorageAccess,
     StructMember, Type_, TypeInner, VectorSize,
 };
-use std::alloc::{AllocError, Global};
+use std::alloc::Global;
 
 // ---- entry points
 
 /// A compute stage of 64 invocations that does nothing.
-pub fn build_compute(alloc: Global, shader: &mut ModuleBuilder) -> Result<(), AllocError> {
-    let function = FunctionBuilder::unlabelled(alloc);
-    shader.add_entry_point("main", ShaderStage::Compute, [64, 1, 1], function)
+pub fn build_compute(shader: &mut ModuleBuilder) -> Result<(), BuildError> {
+    let built = shader.unlabelled_function().finish();
+    shader.add_entry_point("main", ShaderStage::Compute, [64, 1, 1], built)?;
+    Ok(())
 }
 
 /// A vertex stage that gives the zero value of a struct without a label.
-pub fn build_vertex(alloc: Global, shader: &mut ModuleBuilder) -> Result<(), AllocError> {
+pub fn build_vertex(alloc: Global, shader: &mut ModuleBuilder) -> Result<(), BuildError> {
     let position = shader.vector(VectorSize::Quad, Scalar::F32)?;
     let mut members = Vec::new(alloc);
     members.push(StructMember {
@@ -30,17 +31,19 @@ pub fn build_vertex(alloc: Global, shader: &mut ModuleBuilder) -> Result<(), All
         offset: 0,
     })?;
     let output = shader.type_of(TypeInner::Struct { members, span: 16 })?;
-    let mut function = FunctionBuilder::unlabelled(alloc);
+    let mut function = shader.unlabelled_function();
     function.returns(output);
     let zero = function.zero(output)?;
     function.body.return_value(zero)?;
-    shader.add_entry_point("main", ShaderStage::Vertex, [0, 0, 0], function)
+    let built = function.finish();
+    shader.add_entry_point("main", ShaderStage::Vertex, [0, 0, 0], built)?;
+    Ok(())
 }
 
 /// A fragment stage that takes an integer at a location, not interpolated.
-pub fn build_flat(alloc: Global, shader: &mut ModuleBuilder) -> Result<(), AllocError> {
+pub fn build_flat(alloc: Global, shader: &mut ModuleBuilder) -> Result<(), BuildError> {
     let u32_type = shader.scalar(Scalar::U32)?;
-    let mut function = FunctionBuilder::unlabelled(alloc);
+    let mut function = shader.unlabelled_function();
     function.add_argument(FunctionArgument {
         name: Some(String::from_str(alloc, "i")?),
         ty: u32_type,
@@ -52,11 +55,13 @@ pub fn build_flat(alloc: Global, shader: &mut ModuleBuilder) -> Result<(), Alloc
             per_primitive: false,
         }),
     })?;
-    shader.add_entry_point("main", ShaderStage::Fragment, [0, 0, 0], function)
+    let built = function.finish();
+    shader.add_entry_point("main", ShaderStage::Fragment, [0, 0, 0], built)?;
+    Ok(())
 }
 
 /// A compute stage that counts its invocations in a variable of its workgroup.
-pub fn build_atomic(alloc: Global, shader: &mut ModuleBuilder) -> Result<(), AllocError> {
+pub fn build_atomic(alloc: Global, shader: &mut ModuleBuilder) -> Result<(), BuildError> {
     let u32_type = shader.scalar(Scalar::U32)?;
     let counter = shader.type_of(TypeInner::Atomic(Scalar::U32))?;
     let variable = shader.add_global(GlobalVariable {
@@ -67,29 +72,28 @@ pub fn build_atomic(alloc: Global, shader: &mut ModuleBuilder) -> Result<(), All
         init: None,
         memory_decorations: MemoryDecorations::empty(),
     })?;
-    let mut function = FunctionBuilder::unlabelled(alloc);
-    let pointer = function.pointer_to_global(variable, counter, AddressSpace::WorkGroup)?;
+    let mut function = shader.unlabelled_function();
+    let pointer = function.global(variable)?;
     let one = function.literal(Literal::U32(1))?;
-    let result = function.expression(
-        Expression::AtomicResult {
-            ty: u32_type,
-            comparison: false,
-        },
-        u32_type,
-    )?;
+    let result = function.expression(Expression::AtomicResult {
+        ty: u32_type,
+        comparison: false,
+    })?;
     function.body.push(Statement::Atomic {
         pointer,
         fun: AtomicFunction::Add,
         value: one,
         result: Some(result),
     })?;
-    shader.add_entry_point("main", ShaderStage::Compute, [1, 1, 1], function)
+    let built = function.finish();
+    shader.add_entry_point("main", ShaderStage::Compute, [1, 1, 1], built)?;
+    Ok(())
 }
 
 // ---- structs, constants, overrides and variables
 
 /// A struct with two members, of which one has the label of a keyword.
-pub fn build_struct(alloc: Global, shader: &mut ModuleBuilder) -> Result<(), AllocError> {
+pub fn build_struct(alloc: Global, shader: &mut ModuleBuilder) -> Result<(), BuildError> {
     let i32_type = shader.scalar(Scalar::I32)?;
     let members = [("fract", i32_type, 0), ("fn", i32_type, 4)];
     add_placed_struct(alloc, shader, "S", &members, 8)?;
@@ -97,9 +101,9 @@ pub fn build_struct(alloc: Global, shader: &mut ModuleBuilder) -> Result<(), All
 }
 
 /// A constant with a label.
-pub fn build_constant(alloc: Global, shader: &mut ModuleBuilder) -> Result<(), AllocError> {
+pub fn build_constant(alloc: Global, shader: &mut ModuleBuilder) -> Result<(), BuildError> {
     let i32_type = shader.scalar(Scalar::I32)?;
-    let init = shader.global_expression(Expression::Literal(Literal::I32(7)), i32_type)?;
+    let init = shader.global_expression(Expression::Literal(Literal::I32(7)))?;
     let name = Some(String::from_str(alloc, "N")?);
     shader.add_constant(Constant {
         name,
@@ -110,7 +114,7 @@ pub fn build_constant(alloc: Global, shader: &mut ModuleBuilder) -> Result<(), A
 }
 
 /// An override without a label, which has a number.
-pub fn build_override(shader: &mut ModuleBuilder) -> Result<(), AllocError> {
+pub fn build_override(shader: &mut ModuleBuilder) -> Result<(), BuildError> {
     let u32_type = shader.scalar(Scalar::U32)?;
     shader.add_override(Override {
         name: None,
@@ -122,7 +126,7 @@ pub fn build_override(shader: &mut ModuleBuilder) -> Result<(), AllocError> {
 }
 
 /// An override whose value is a sum, which is refused.
-pub fn build_operator(alloc: Global, shader: &mut ModuleBuilder) -> Result<(), AllocError> {
+pub fn build_operator(alloc: Global, shader: &mut ModuleBuilder) -> Result<(), BuildError> {
     let i32_type = shader.scalar(Scalar::I32)?;
     let m = shader.add_override(Override {
         name: Some(String::from_str(alloc, "m")?),
@@ -130,10 +134,10 @@ pub fn build_operator(alloc: Global, shader: &mut ModuleBuilder) -> Result<(), A
         ty: i32_type,
         init: None,
     })?;
-    let left = shader.global_expression(Expression::Override(m), i32_type)?;
-    let right = shader.global_expression(Expression::Literal(Literal::I32(1)), i32_type)?;
+    let left = shader.global_expression(Expression::Override(m))?;
+    let right = shader.global_expression(Expression::Literal(Literal::I32(1)))?;
     let op = BinaryOperator::Add;
-    let sum = shader.global_expression(Expression::Binary { op, left, right }, i32_type)?;
+    let sum = shader.global_expression(Expression::Binary { op, left, right })?;
     shader.add_override(Override {
         name: Some(String::from_str(alloc, "n")?),
         id: None,
@@ -144,7 +148,7 @@ pub fn build_operator(alloc: Global, shader: &mut ModuleBuilder) -> Result<(), A
 }
 
 /// A buffer of integers that may be read and written.
-pub fn build_global(alloc: Global, shader: &mut ModuleBuilder) -> Result<(), AllocError> {
+pub fn build_global(alloc: Global, shader: &mut ModuleBuilder) -> Result<(), BuildError> {
     let u32_type = shader.scalar(Scalar::U32)?;
     let integers = shader.type_of(TypeInner::Array {
         base: u32_type,

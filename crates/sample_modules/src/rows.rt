@@ -15,7 +15,7 @@ use crate::statement_rows::{
     build_barriers, build_call, build_continue, build_deep, build_default, build_folded,
     build_loop, build_sibling, build_switch, build_tail, build_through, build_twice,
 };
-use naga_builder::{FunctionBuilder, ModuleBuilder};
+use naga_builder::{BuildError, BuiltFunction, FunctionBuilder, ModuleBuilder};
 use naga_ir::{BinaryOperator, Expression, Handle, Literal, Scalar, Type_};
 use std::alloc::{AllocError, Global};
 
@@ -179,34 +179,34 @@ impl SampleModule {
     }
 
     /// Adds what the row has to an empty module, with what is known of them.
-    pub fn build(self, alloc: Global, shader: &mut ModuleBuilder) -> Result<(), AllocError> {
+    pub fn build(self, alloc: Global, shader: &mut ModuleBuilder) -> Result<(), BuildError> {
         match self {
             SampleModule::Empty => Ok(()),
-            SampleModule::Identity => build_argument(alloc, shader, "f", &["x"]),
-            SampleModule::Negative => build_negative(alloc, shader),
-            SampleModule::Same => build_argument(alloc, shader, "f", &["x", "x"]),
-            SampleModule::Type_ => build_argument(alloc, shader, "type", &["1x"]),
-            SampleModule::Hostile => build_argument(alloc, shader, "_naga", &["\u{e9}"]),
-            SampleModule::Store => build_store(alloc, shader, true),
-            SampleModule::Unused => build_store(alloc, shader, false),
-            SampleModule::Late => build_late(alloc, shader),
-            SampleModule::Inline => build_inline(alloc, shader),
-            SampleModule::Twofold => build_twofold(alloc, shader),
-            SampleModule::Named => build_named(alloc, shader),
-            SampleModule::Pointer => build_pointer(alloc, shader),
-            SampleModule::Select => build_select(alloc, shader),
-            SampleModule::Negate => build_negate(alloc, shader),
-            SampleModule::Double => build_double(alloc, shader),
-            SampleModule::Numeral => build_numeral(alloc, shader),
-            SampleModule::Float => build_float(alloc, shader),
-            SampleModule::Idle => build_idle(alloc, shader),
-            SampleModule::Sampled => build_image_sample(alloc, shader),
+            SampleModule::Identity => build_argument(shader, "f", &["x"]),
+            SampleModule::Negative => build_negative(shader),
+            SampleModule::Same => build_argument(shader, "f", &["x", "x"]),
+            SampleModule::Type_ => build_argument(shader, "type", &["1x"]),
+            SampleModule::Hostile => build_argument(shader, "_naga", &["\u{e9}"]),
+            SampleModule::Store => build_store(shader, true),
+            SampleModule::Unused => build_store(shader, false),
+            SampleModule::Late => build_late(shader),
+            SampleModule::Inline => build_inline(shader),
+            SampleModule::Twofold => build_twofold(shader),
+            SampleModule::Named => build_named(shader),
+            SampleModule::Pointer => build_pointer(shader),
+            SampleModule::Select => build_select(shader),
+            SampleModule::Negate => build_negate(shader),
+            SampleModule::Double => build_double(shader),
+            SampleModule::Numeral => build_numeral(shader),
+            SampleModule::Float => build_float(shader),
+            SampleModule::Idle => build_idle(shader),
+            SampleModule::Sampled => build_image_sample(shader),
             SampleModule::Modf => build_modf(alloc, shader),
             SampleModule::F16 => build_f16(shader),
             SampleModule::Switch => build_switch(alloc, shader),
             SampleModule::Through => build_through(alloc, shader),
             SampleModule::Default => build_default(alloc, shader),
-            SampleModule::Barriers => build_barriers(alloc, shader),
+            SampleModule::Barriers => build_barriers(shader),
             SampleModule::Call => build_call(alloc, shader),
             SampleModule::Sibling => build_sibling(alloc, shader),
             SampleModule::Twice => build_twice(alloc, shader),
@@ -215,7 +215,7 @@ impl SampleModule {
             SampleModule::Tail => build_tail(alloc, shader),
             SampleModule::Folded => build_folded(alloc, shader),
             SampleModule::Continue => build_continue(alloc, shader),
-            SampleModule::Compute => build_compute(alloc, shader),
+            SampleModule::Compute => build_compute(shader),
             SampleModule::Struct => build_struct(alloc, shader),
             SampleModule::Override => build_override(shader),
             SampleModule::Global => build_global(alloc, shader),
@@ -233,20 +233,18 @@ impl SampleModule {
     }
 }
 
-/// Ends the function with the return of a value, and adds it to the module.
-pub(crate) fn end_with(
-    shader: &mut ModuleBuilder,
-    mut function: FunctionBuilder,
+/// The function, with the return of a value as its end.
+pub(crate) fn returning(
+    mut function: FunctionBuilder<'_>,
     value: Handle<Expression>,
-) -> Result<(), AllocError> {
+) -> Result<BuiltFunction, AllocError> {
     function.body.return_value(value)?;
-    shader.add_function(function)?;
-    Ok(())
+    Ok(function.finish())
 }
 
 /// Adds arguments of these labels and this type, and gives the value of the last.
 fn add_arguments(
-    function: &mut FunctionBuilder,
+    function: &mut FunctionBuilder<'_>,
     labels: &[&str],
     ty: Handle<Type_>,
 ) -> Result<Option<Handle<Expression>>, AllocError> {
@@ -259,68 +257,73 @@ fn add_arguments(
 
 /// A function of this label that has arguments of these labels and returns the last of them.
 pub fn build_argument(
-    alloc: Global,
     shader: &mut ModuleBuilder,
     label: &str,
     arguments: &[&str],
-) -> Result<(), AllocError> {
+) -> Result<(), BuildError> {
     let i32_type = shader.scalar(Scalar::I32)?;
-    let mut function = FunctionBuilder::new(alloc, label)?;
+    let mut function = shader.function(label)?;
     function.returns(i32_type);
     if let Some(value) = add_arguments(&mut function, arguments, i32_type)? {
         function.body.return_value(value)?;
     }
-    shader.add_function(function)?;
+    let built = function.finish();
+    shader.add_function(built)?;
     Ok(())
 }
 
-fn build_negative(alloc: Global, shader: &mut ModuleBuilder) -> Result<(), AllocError> {
+fn build_negative(shader: &mut ModuleBuilder) -> Result<(), BuildError> {
     let bool_type = shader.scalar(Scalar::BOOL)?;
     let i64_type = shader.scalar(Scalar::I64)?;
-    let mut function = FunctionBuilder::new(alloc, "r")?;
+    let mut function = shader.function("r")?;
     function.argument("b", bool_type)?;
     function.returns(i64_type);
     let minus_seven = function.literal(Literal::I64(-7))?;
-    end_with(shader, function, minus_seven)
+    let built = returning(function, minus_seven)?;
+    shader.add_function(built)?;
+    Ok(())
 }
 
-fn build_f16(shader: &mut ModuleBuilder) -> Result<(), AllocError> {
+fn build_f16(shader: &mut ModuleBuilder) -> Result<(), BuildError> {
     shader.scalar(Scalar::F16)?;
     Ok(())
 }
 
-fn build_named(alloc: Global, shader: &mut ModuleBuilder) -> Result<(), AllocError> {
+fn build_named(shader: &mut ModuleBuilder) -> Result<(), BuildError> {
     let i32_type = shader.scalar(Scalar::I32)?;
-    let mut function = FunctionBuilder::new(alloc, "e")?;
+    let mut function = shader.function("e")?;
     function.returns(i32_type);
     let x = function.argument("x", i32_type)?;
-    let sum = function.binary(BinaryOperator::Add, x, x, i32_type)?;
+    let sum = function.binary(BinaryOperator::Add, x, x)?;
     function.name(sum, "x")?;
     function.body.emit(sum, sum)?;
-    end_with(shader, function, sum)
+    let built = returning(function, sum)?;
+    shader.add_function(built)?;
+    Ok(())
 }
 
 /// A function with a local, a literal 1 that is its first value, and a read of it.
 #[derive(Drop)]
-struct Held {
-    function: FunctionBuilder,
-    i32_type: Handle<Type_>,
+struct Held<'a> {
+    function: FunctionBuilder<'a>,
     one: Handle<Expression>,
     pointer: Handle<Expression>,
     held: Handle<Expression>,
 }
 
-fn begin_held(alloc: Global, shader: &mut ModuleBuilder, label: &str) -> Result<Held, AllocError> {
-    let i32_type = shader.scalar(Scalar::I32)?;
-    let mut function = FunctionBuilder::new(alloc, label)?;
+fn begin_held<'a>(
+    shader: &'a ModuleBuilder,
+    i32_type: Handle<Type_>,
+    label: &str,
+) -> Result<Held<'a>, BuildError> {
+    let mut function = shader.function(label)?;
     function.returns(i32_type);
     let one = function.literal(Literal::I32(1))?;
     let a = function.local("a", i32_type, Some(one))?;
-    let pointer = function.pointer_to(a, i32_type)?;
-    let held = function.load(pointer, i32_type)?;
+    let pointer = function.pointer_to(a)?;
+    let held = function.load(pointer)?;
     Ok(Held {
         function,
-        i32_type,
         one,
         pointer,
         held,
@@ -328,82 +331,90 @@ fn begin_held(alloc: Global, shader: &mut ModuleBuilder, label: &str) -> Result<
 }
 
 /// Stores 2 to a local that holds 1, and returns what it held, or 2.
-fn build_store(alloc: Global, shader: &mut ModuleBuilder, is_used: bool) -> Result<(), AllocError> {
+fn build_store(shader: &mut ModuleBuilder, is_used: bool) -> Result<(), BuildError> {
+    let i32_type = shader.scalar(Scalar::I32)?;
     let Held {
         mut function,
-        i32_type: _,
         one: _,
         pointer,
         held,
-    } = begin_held(alloc, shader, "g")?;
+    } = begin_held(shader, i32_type, "g")?;
     let two = function.literal(Literal::I32(2))?;
     function.body.emit(held, held)?;
     function.body.store(pointer, two)?;
-    end_with(shader, function, if is_used { held } else { two })
+    let built = returning(function, if is_used { held } else { two })?;
+    shader.add_function(built)?;
+    Ok(())
 }
 
-fn build_late(alloc: Global, shader: &mut ModuleBuilder) -> Result<(), AllocError> {
+fn build_late(shader: &mut ModuleBuilder) -> Result<(), BuildError> {
+    let i32_type = shader.scalar(Scalar::I32)?;
     let Held {
         mut function,
-        i32_type,
         one,
         pointer,
         held,
-    } = begin_held(alloc, shader, "p")?;
-    let sum = function.binary(BinaryOperator::Add, held, one, i32_type)?;
+    } = begin_held(shader, i32_type, "p")?;
+    let sum = function.binary(BinaryOperator::Add, held, one)?;
     let two = function.literal(Literal::I32(2))?;
     function.body.emit(held, sum)?;
     function.body.store(pointer, two)?;
-    end_with(shader, function, sum)
+    let built = returning(function, sum)?;
+    shader.add_function(built)?;
+    Ok(())
 }
 
 /// A function with its argument's double, and what the local to which it was stored holds.
 #[derive(Drop)]
-struct Doubled {
-    function: FunctionBuilder,
-    i32_type: Handle<Type_>,
+struct Doubled<'a> {
+    function: FunctionBuilder<'a>,
     sum: Handle<Expression>,
     held: Handle<Expression>,
 }
 
-fn begin_doubled(alloc: Global, shader: &mut ModuleBuilder) -> Result<Doubled, AllocError> {
-    let i32_type = shader.scalar(Scalar::I32)?;
-    let mut function = FunctionBuilder::new(alloc, "q")?;
+fn begin_doubled<'a>(
+    shader: &'a ModuleBuilder,
+    i32_type: Handle<Type_>,
+) -> Result<Doubled<'a>, BuildError> {
+    let mut function = shader.function("q")?;
     function.returns(i32_type);
     let x = function.argument("x", i32_type)?;
     let a = function.local("a", i32_type, None)?;
-    let pointer = function.pointer_to(a, i32_type)?;
-    let sum = function.binary(BinaryOperator::Add, x, x, i32_type)?;
-    let held = function.load(pointer, i32_type)?;
+    let pointer = function.pointer_to(a)?;
+    let sum = function.binary(BinaryOperator::Add, x, x)?;
+    let held = function.load(pointer)?;
     function.body.emit(sum, sum)?;
     function.body.store(pointer, sum)?;
     Ok(Doubled {
         function,
-        i32_type,
         sum,
         held,
     })
 }
 
-fn build_inline(alloc: Global, shader: &mut ModuleBuilder) -> Result<(), AllocError> {
+fn build_inline(shader: &mut ModuleBuilder) -> Result<(), BuildError> {
+    let i32_type = shader.scalar(Scalar::I32)?;
     let Doubled {
         mut function,
-        i32_type: _,
         sum: _,
         held,
-    } = begin_doubled(alloc, shader)?;
+    } = begin_doubled(shader, i32_type)?;
     function.body.emit(held, held)?;
-    end_with(shader, function, held)
+    let built = returning(function, held)?;
+    shader.add_function(built)?;
+    Ok(())
 }
 
-fn build_twofold(alloc: Global, shader: &mut ModuleBuilder) -> Result<(), AllocError> {
+fn build_twofold(shader: &mut ModuleBuilder) -> Result<(), BuildError> {
+    let i32_type = shader.scalar(Scalar::I32)?;
     let Doubled {
         mut function,
-        i32_type,
         sum,
         held,
-    } = begin_doubled(alloc, shader)?;
-    let product = function.binary(BinaryOperator::Multiply, sum, held, i32_type)?;
+    } = begin_doubled(shader, i32_type)?;
+    let product = function.binary(BinaryOperator::Multiply, sum, held)?;
     function.body.emit(held, product)?;
-    end_with(shader, function, product)
+    let built = returning(function, product)?;
+    shader.add_function(built)?;
+    Ok(())
 }

@@ -1,7 +1,7 @@
 //! The rows of statements: each is a function with the statements that it is about.
 
 use bitflags::Flags;
-use naga_builder::{BlockBuilder, FunctionBuilder, ModuleBuilder};
+use naga_builder::{BlockBuilder, BuildError, ModuleBuilder};
 use naga_ir::{
     AddressSpace, Barrier, BinaryOperator, Expression, Function, Handle, Literal, Scalar,
     Statement, SwitchCase, SwitchValue, TypeInner,
@@ -30,16 +30,16 @@ fn push_case(
 
 /// A function of this label whose body is a switch over its argument.
 fn add_switch(
-    alloc: Global,
     shader: &mut ModuleBuilder,
     label: &str,
     cases: Vec<SwitchCase>,
 ) -> Result<(), AllocError> {
     let i32_type = shader.scalar(Scalar::I32)?;
-    let mut function = FunctionBuilder::new(alloc, label)?;
+    let mut function = shader.function(label)?;
     let x = function.argument("x", i32_type)?;
     function.body.switch(x, cases)?;
-    shader.add_function(function)?;
+    let built = function.finish();
+    shader.add_function(built)?;
     Ok(())
 }
 
@@ -55,75 +55,77 @@ fn add_joined(
     push_case(&mut cases, SwitchValue::I32(2), second, true)?;
     let last = BlockBuilder::new(alloc);
     push_case(&mut cases, SwitchValue::Default, last, false)?;
-    add_switch(alloc, shader, "s", cases)
+    add_switch(shader, "s", cases)
 }
 
 /// A switch whose empty cases 1 and 2 fall through to an empty default.
-pub fn build_switch(alloc: Global, shader: &mut ModuleBuilder) -> Result<(), AllocError> {
-    add_joined(alloc, shader, BlockBuilder::new(alloc))
+pub fn build_switch(alloc: Global, shader: &mut ModuleBuilder) -> Result<(), BuildError> {
+    add_joined(alloc, shader, BlockBuilder::new(alloc))?;
+    Ok(())
 }
 
 /// The same with a return in case 1, which still falls through.
-pub fn build_through(alloc: Global, shader: &mut ModuleBuilder) -> Result<(), AllocError> {
+pub fn build_through(alloc: Global, shader: &mut ModuleBuilder) -> Result<(), BuildError> {
     let mut first = BlockBuilder::new(alloc);
     first.return_nothing()?;
-    add_joined(alloc, shader, first)
+    add_joined(alloc, shader, first)?;
+    Ok(())
 }
 
 /// A switch whose empty default falls through to an empty case.
-pub fn build_default(alloc: Global, shader: &mut ModuleBuilder) -> Result<(), AllocError> {
+pub fn build_default(alloc: Global, shader: &mut ModuleBuilder) -> Result<(), BuildError> {
     let mut cases = Vec::new(alloc);
     let first = BlockBuilder::new(alloc);
     push_case(&mut cases, SwitchValue::Default, first, true)?;
     let last = BlockBuilder::new(alloc);
     push_case(&mut cases, SwitchValue::I32(3), last, false)?;
-    add_switch(alloc, shader, "dflt", cases)
+    add_switch(shader, "dflt", cases)?;
+    Ok(())
 }
 
 // ---- barriers and calls
 
 /// A barrier for all memories, and one for none.
-pub fn build_barriers(alloc: Global, shader: &mut ModuleBuilder) -> Result<(), AllocError> {
-    let mut function = FunctionBuilder::new(alloc, "b")?;
+pub fn build_barriers(shader: &mut ModuleBuilder) -> Result<(), BuildError> {
+    let mut function = shader.function("b")?;
     function
         .body
         .push(Statement::ControlBarrier(Barrier::all()))?;
     function
         .body
         .push(Statement::ControlBarrier(Barrier::empty()))?;
-    shader.add_function(function)?;
+    let built = function.finish();
+    shader.add_function(built)?;
     Ok(())
 }
 
 /// Adds a function that adds 1 to what its argument points to.
-fn add_increment(
-    alloc: Global,
-    shader: &mut ModuleBuilder,
-) -> Result<Handle<Function>, AllocError> {
+fn add_increment(shader: &mut ModuleBuilder) -> Result<Handle<Function>, BuildError> {
     let i32_type = shader.scalar(Scalar::I32)?;
     let pointer_type = shader.type_of(TypeInner::Pointer {
         base: i32_type,
         space: AddressSpace::Function,
     })?;
-    let mut function = FunctionBuilder::new(alloc, "inc")?;
+    let mut function = shader.function("inc")?;
     let pointer = function.argument("p", pointer_type)?;
     let one = function.literal(Literal::I32(1))?;
-    let held = function.load(pointer, i32_type)?;
-    let sum = function.binary(BinaryOperator::Add, held, one, i32_type)?;
+    let held = function.load(pointer)?;
+    let sum = function.binary(BinaryOperator::Add, held, one)?;
     function.body.emit(held, sum)?;
     function.body.store(pointer, sum)?;
-    shader.add_function(function)
+    let built = function.finish();
+    Ok(shader.add_function(built)?)
 }
 
 /// A call of a function with a pointer to a local, which is returned then.
-pub fn build_call(alloc: Global, shader: &mut ModuleBuilder) -> Result<(), AllocError> {
-    let increment = add_increment(alloc, shader)?;
+pub fn build_call(alloc: Global, shader: &mut ModuleBuilder) -> Result<(), BuildError> {
+    let increment = add_increment(shader)?;
     let i32_type = shader.scalar(Scalar::I32)?;
-    let mut function = FunctionBuilder::new(alloc, "run")?;
+    let mut function = shader.function("run")?;
     function.returns(i32_type);
     let a = function.local("a", i32_type, None)?;
-    let pointer = function.pointer_to(a, i32_type)?;
-    let held = function.load(pointer, i32_type)?;
+    let pointer = function.pointer_to(a)?;
+    let held = function.load(pointer)?;
     let arguments = vec![in alloc; pointer]?;
     function.body.push(Statement::Call {
         function: increment,
@@ -132,7 +134,8 @@ pub fn build_call(alloc: Global, shader: &mut ModuleBuilder) -> Result<(), Alloc
     })?;
     function.body.emit(held, held)?;
     function.body.return_value(held)?;
-    shader.add_function(function)?;
+    let built = function.finish();
+    shader.add_function(built)?;
     Ok(())
 }
 
@@ -151,31 +154,32 @@ fn add_sibling(
     alloc: Global,
     shader: &mut ModuleBuilder,
     label: Option<&str>,
-) -> Result<(), AllocError> {
+) -> Result<(), BuildError> {
     let bool_type = shader.scalar(Scalar::BOOL)?;
     let i32_type = shader.scalar(Scalar::I32)?;
-    let mut function = FunctionBuilder::new(alloc, "k")?;
+    let mut function = shader.function("k")?;
     function.returns(i32_type);
     let condition = function.argument("c", bool_type)?;
     let x = function.argument("x", i32_type)?;
-    let sum = function.binary(BinaryOperator::Add, x, x, i32_type)?;
+    let sum = function.binary(BinaryOperator::Add, x, x)?;
     if let Some(label) = label {
         function.name(sum, label)?;
     }
     let accept = returned(alloc, sum)?;
     let reject = returned(alloc, sum)?;
     function.body.if_else(condition, accept, reject)?;
-    shader.add_function(function)?;
+    let built = function.finish();
+    shader.add_function(built)?;
     Ok(())
 }
 
 /// A sum that each of two branches gives and returns.
-pub fn build_sibling(alloc: Global, shader: &mut ModuleBuilder) -> Result<(), AllocError> {
+pub fn build_sibling(alloc: Global, shader: &mut ModuleBuilder) -> Result<(), BuildError> {
     add_sibling(alloc, shader, None)
 }
 
 /// The same sum, which a front end named.
-pub fn build_twice(alloc: Global, shader: &mut ModuleBuilder) -> Result<(), AllocError> {
+pub fn build_twice(alloc: Global, shader: &mut ModuleBuilder) -> Result<(), BuildError> {
     add_sibling(alloc, shader, Some("y"))
 }
 
@@ -190,24 +194,26 @@ pub fn nest(alloc: Global, block: &mut BlockBuilder, depth: u32) -> Result<(), A
 }
 
 /// Blocks each inside the one before.
-pub fn build_deep(alloc: Global, shader: &mut ModuleBuilder) -> Result<(), AllocError> {
-    let mut function = FunctionBuilder::new(alloc, "deep")?;
+pub fn build_deep(alloc: Global, shader: &mut ModuleBuilder) -> Result<(), BuildError> {
+    let mut function = shader.function("deep")?;
     nest(alloc, &mut function.body, DEPTH)?;
-    shader.add_function(function)?;
+    let built = function.finish();
+    shader.add_function(built)?;
     Ok(())
 }
 
 // ---- loops
 
 /// A loop that does nothing until its argument is true.
-pub fn build_loop(alloc: Global, shader: &mut ModuleBuilder) -> Result<(), AllocError> {
+pub fn build_loop(alloc: Global, shader: &mut ModuleBuilder) -> Result<(), BuildError> {
     let bool_type = shader.scalar(Scalar::BOOL)?;
-    let mut function = FunctionBuilder::new(alloc, "l")?;
+    let mut function = shader.function("l")?;
     let condition = function.argument("c", bool_type)?;
     let body = BlockBuilder::new(alloc);
     let continuing = BlockBuilder::new(alloc);
     function.body.loop_(body, continuing, Some(condition))?;
-    shader.add_function(function)?;
+    let built = function.finish();
+    shader.add_function(built)?;
     Ok(())
 }
 
@@ -223,20 +229,21 @@ fn stored(
 }
 
 /// A sum that a loop's body gives, and its `continuing` uses too.
-pub fn build_tail(alloc: Global, shader: &mut ModuleBuilder) -> Result<(), AllocError> {
+pub fn build_tail(alloc: Global, shader: &mut ModuleBuilder) -> Result<(), BuildError> {
     let i32_type = shader.scalar(Scalar::I32)?;
-    let mut function = FunctionBuilder::new(alloc, "lp")?;
+    let mut function = shader.function("lp")?;
     let x = function.argument("x", i32_type)?;
     let a = function.local("a", i32_type, None)?;
-    let pointer = function.pointer_to(a, i32_type)?;
-    let sum = function.binary(BinaryOperator::Add, x, x, i32_type)?;
+    let pointer = function.pointer_to(a)?;
+    let sum = function.binary(BinaryOperator::Add, x, x)?;
     let always = function.literal(Literal::Bool(true))?;
     let mut body = BlockBuilder::new(alloc);
     body.emit(sum, sum)?;
     body.store(pointer, sum)?;
     let continuing = stored(alloc, pointer, sum)?;
     function.body.loop_(body, continuing, Some(always))?;
-    shader.add_function(function)?;
+    let built = function.finish();
+    shader.add_function(built)?;
     Ok(())
 }
 
@@ -255,37 +262,39 @@ fn skipping(
 }
 
 /// A sum of literals that a loop's body gives after a `continue`, and its `continuing` uses too.
-pub fn build_folded(alloc: Global, shader: &mut ModuleBuilder) -> Result<(), AllocError> {
+pub fn build_folded(alloc: Global, shader: &mut ModuleBuilder) -> Result<(), BuildError> {
     let bool_type = shader.scalar(Scalar::BOOL)?;
     let i32_type = shader.scalar(Scalar::I32)?;
-    let mut function = FunctionBuilder::new(alloc, "cf")?;
+    let mut function = shader.function("cf")?;
     let condition = function.argument("c", bool_type)?;
     let a = function.local("a", i32_type, None)?;
-    let pointer = function.pointer_to(a, i32_type)?;
+    let pointer = function.pointer_to(a)?;
     let one = function.literal(Literal::I32(1))?;
-    let sum = function.binary(BinaryOperator::Add, one, one, i32_type)?;
+    let sum = function.binary(BinaryOperator::Add, one, one)?;
     let mut body = skipping(alloc, condition, sum)?;
     body.store(pointer, sum)?;
     let continuing = stored(alloc, pointer, sum)?;
     function.body.loop_(body, continuing, Some(condition))?;
-    shader.add_function(function)?;
+    let built = function.finish();
+    shader.add_function(built)?;
     Ok(())
 }
 
 /// A sum of arguments that a loop's body gives after a `continue`. Its `continuing` may not use
 /// it, so that no text is written.
-pub fn build_continue(alloc: Global, shader: &mut ModuleBuilder) -> Result<(), AllocError> {
+pub fn build_continue(alloc: Global, shader: &mut ModuleBuilder) -> Result<(), BuildError> {
     let bool_type = shader.scalar(Scalar::BOOL)?;
     let i32_type = shader.scalar(Scalar::I32)?;
-    let mut function = FunctionBuilder::new(alloc, "n")?;
+    let mut function = shader.function("n")?;
     let condition = function.argument("c", bool_type)?;
     let x = function.argument("x", i32_type)?;
     let a = function.local("a", i32_type, None)?;
-    let pointer = function.pointer_to(a, i32_type)?;
-    let sum = function.binary(BinaryOperator::Add, x, x, i32_type)?;
+    let pointer = function.pointer_to(a)?;
+    let sum = function.binary(BinaryOperator::Add, x, x)?;
     let body = skipping(alloc, condition, sum)?;
     let continuing = stored(alloc, pointer, sum)?;
     function.body.loop_(body, continuing, Some(condition))?;
-    shader.add_function(function)?;
+    let built = function.finish();
+    shader.add_function(built)?;
     Ok(())
 }

@@ -13,6 +13,7 @@ from pathlib import Path
 sys.dont_write_bytecode = True
 from made import check_or_write  # noqa: E402
 from notation import EXPRESSIONS, STATEMENTS, CaseError, Module  # noqa: E402
+from inference import follows_rules  # noqa: E402
 
 HERE = Path(__file__).resolve().parent
 CRATE = HERE.parent
@@ -394,6 +395,9 @@ class Joined:
         expected.check(case)
         if expected.only is None:
             self.accepted_kinds |= kinds
+        if expected.only is None and "counted" not in told and follows_rules(told["module"], told["info"]):
+            # the program finds it
+            del told["info"]
         told = {"name": case.name, **told}
         if expected.portable is not None:
             told["portable"] = True

@@ -5,6 +5,7 @@ gets or the answers that are wanted.
 `test_notation.py` prints nothing and ends with 0 where each row gets what it has.
 """
 
+import json
 import sys
 import tempfile
 from pathlib import Path
@@ -125,6 +126,11 @@ REFUSED = [
      "5: Compose.components: missing"),
     (FUNCTION + "    1: i32 = Literal(I32(0.5))\n  gives nothing\n",
      "5: Literal.I32: no whole number"),
+    # types by the rules
+    (FUNCTION + "    1: Binary { op: LogicalAnd, left: 0, right: 0 }\n  gives nothing\n",
+     "5: the rules give it no type: tell one"),
+    (FUNCTION + "    1: ? = Literal(I32(1))\n    2: Literal(I32(1))\n  gives nothing\n",
+     "6: nothing is known of the expression before"),
     # entry points
     ("case a\n  @output(0) @mesh(1, 1, 1) fn f()\n  gives nothing\n",
      "2: the stage stands in front of `@output`"),
@@ -159,6 +165,22 @@ ALIKE = [
     (FUNCTION + "    If 0\n      Kill\n  gives nothing\ncase b\n  like a\n  gives nothing\n",
      FUNCTION + "    If 0\n      Kill\n  gives nothing\ncase b\n  like a\n"
      "  Kill =>\n  If 0 => If 0 ;; > Kill\n  gives nothing\n"),
+]
+
+# Which modules come with what is known of them: with what is told, or what is found where an expression has no type told.
+INFOS = [
+    # the types that the rules give, told or not
+    (FUNCTION + "    1: Binary { op: Add, left: 0, right: 0 }\n  gives nothing\n", None),
+    (FUNCTION + "    1: i32 = Binary { op: Add, left: 0, right: 0 }\n  gives nothing\n", None),
+    (FUNCTION + "    1: ~i32 = Binary { op: Add, left: 0, right: 0 }\n  gives nothing\n", None),
+    # another type, and what follows from it
+    (FUNCTION + "    1: u32 = Binary { op: Add, left: 0, right: 0 }\n    2: Unary { op: Negate, expr: 1 }\n  gives nothing\n",
+     [[0, 1, 1]]),
+    # uses that are told, and a module that is not accepted
+    (FUNCTION + "    1: i32 used 2 = Binary { op: Add, left: 0, right: 0 }\n  gives nothing\n",
+     [[0, {"ref_count": 2, "ty": 0}]]),
+    (FUNCTION + "    1: Literal(U32(1))\n  not accepted: module: it is not\n",
+     [[0, {"Value": {"Scalar": {"kind": "Uint", "width": 4}}}]]),
 ]
 
 POINT = """
@@ -213,6 +235,10 @@ def main():
         for first, second in ALIKE:
             if joined(folder, first) != joined(folder, second):
                 wrong.append(f"{first}\nis read otherwise than\n{second}\n")
+        for text, wanted in INFOS:
+            found = json.loads(joined(folder, text)[0][0]).get("info", {}).get("functions")
+            if found != wanted:
+                wrong.append(f"{text}\nwants {wanted}\nbut gets {found}\n")
         for text, *wanted in ANSWERS:
             found = joined(folder, text)[1]
             if found != wanted:

@@ -10,6 +10,7 @@ from pathlib import Path
 from integer_values import Meaning, held, is_over
 
 sys.path.append(str(Path(__file__).resolve().parents[1] / "ir"))
+from inference import with_info  # noqa: E402
 from ir import COMPONENT, STORAGE_ACCESS  # noqa: E402
 from tables import (  # noqa: E402
     BINARY_SIGNS, BLOCKS, COOPERATIVE_SIZES, OPERANDS, SPACE_WORDS, UNARY_SIGNS, VECTOR_SIZES)
@@ -81,7 +82,7 @@ class Module:
     """A module: its types, what its operators mean, and its functions, of which entry points are the last."""
 
     def __init__(self, told):
-        self.json, info = told["module"], told["info"]
+        self.json, info = told["module"], with_info(told)["info"]
         self.is_counted = told.get("counted", False)
         special = self.json.get("special_types", {})
         self.undeclared = [place for _, place in special.get("predeclared_types", [])]

@@ -6,8 +6,9 @@ ghost use Rattle.module_semantics.specs.acceptance.Accepted.{is_accepted};
 use bitflags::Flags;
 use json::{Scratch, Value};
 use module_positions::{JsonHolder, JsonRefusalPosition, labelled_position, role_at, root_at};
-use naga_json::{Known, known_of, parse};
-use naga_wgsl_out::info::{Unaccepted, count, explain, unaccepted};
+use naga_json::{Known, ReadError, known_of, module_of, parse};
+use naga_wgsl_out::info::{InferenceError, Unaccepted, count, explain, infer, unaccepted};
+use naga_wgsl_out::ir::Module;
 use naga_wgsl_out::wgsl::{Writer, WriterFlags, unwritable};
 use std::alloc::{AllocError, Global};
 use std::io;
@@ -26,9 +27,27 @@ fn answer_case<W: Write>(alloc: Global, case: &Value<'_>, out: &mut W) -> io::Re
     let Some(name) = case.get("name").and_then(Value::as_str) else {
         return writeln!(out, "no name");
     };
-    match known_of(alloc, case) {
-        Ok(mut known) => answer_known(alloc, name, &mut known, case, out),
+    match known_in(alloc, case) {
+        Ok(Ok(mut known)) => answer_known(alloc, name, &mut known, case, out),
+        Ok(Err(error)) => writeln!(out, "== {name}\nnot inferred: {error}"),
         Err(error) => writeln!(out, "== {name}\nnot read: {error}"),
+    }
+}
+
+/// The module of a case with what is known of it, which is found by the module where the case tells
+/// nothing.
+fn known_in(alloc: Global, case: &Value<'_>) -> Result<Result<Known, InferenceError>, ReadError> {
+    match (case.get("module"), case.get("info")) {
+        (Some(module), None) => inferred(alloc, module_of(alloc, module)?),
+        _ => Ok(Ok(known_of(alloc, case)?)),
+    }
+}
+
+/// The module with the types that are found.
+fn inferred(alloc: Global, module: Module) -> Result<Result<Known, InferenceError>, ReadError> {
+    match infer(alloc, &module)? {
+        Ok(info) => Ok(Ok(Known { module, info })),
+        Err(error) => Ok(Err(error)),
     }
 }
 

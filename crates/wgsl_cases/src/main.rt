@@ -1,7 +1,7 @@
 //! Reads cases, one in each line of the input, and tells of each what becomes of its module.
 //!
-//! A line is a JSON object with the members `name`, `module` and `info`; uses are counted, unless a
-//! member `counted` is `true`. After a line `== NAME` comes the text of the module, and after it, if
+//! A line is a JSON object with the members `name`, `module` and `info`, of which the last may be left out: what is
+//! known of the module is found by the module alone then. Uses are counted, unless a member `counted` is `true`. After a line `== NAME` comes the text of the module, and after it, if
 //! the module is refused, a line `refused: WHY`; after a line `== NAME, with types` the same where
 //! each `let` states its type, if that differs. Where a member `positions` is `true`, a line `at:
 //! POSITION` comes after a refusal, the position being that in the JSON. Where a member `portable` is `true`, what

@@ -1,6 +1,6 @@
 //! How many entry points a module may have.
 use crate::modules::built_text;
-use naga_wgsl_out::builder::{FunctionBuilder, ModuleBuilder};
+use naga_wgsl_out::builder::ModuleBuilder;
 use naga_wgsl_out::info::accepts;
 use naga_wgsl_out::ir::ShaderStage;
 use naga_wgsl_out::wgsl::{Error, Writer, no_flags};
@@ -20,7 +20,7 @@ fn add_entry_points(
 ) {
     for index in first..end {
         let label = format!(in alloc; "p{index}_").expect(rt, "memory");
-        let function = FunctionBuilder::unlabelled(alloc);
+        let function = shader.unlabelled_function().finish();
         shader
             .add_entry_point(label.as_str(), ShaderStage::Compute, [1, 1, 1], function)
             .expect(rt, "memory");

@@ -1,6 +1,6 @@
 //! Statements and operands that stand in one another, many times over.
 use crate::modules::{built_text, written};
-use naga_wgsl_out::builder::{BlockBuilder, FunctionBuilder, ModuleBuilder};
+use naga_wgsl_out::builder::{BlockBuilder, ModuleBuilder};
 use std::alloc::Global;
 use std::mem;
 use std::process::Abort;
@@ -55,10 +55,11 @@ fn nested_text(rt: &impl Abort, alloc: Global, depth: usize) -> String {
 #[test]
 fn blocks_and_loops_stand_in_one_another(rt: HostRuntime) {
     let alloc = rt.alloc();
-    let mut function = FunctionBuilder::new(alloc, "nested").expect(&rt, "memory");
-    nest(&rt, alloc, &mut function.body, BLOCKS);
     let mut shader = ModuleBuilder::new(alloc);
-    shader.add_function(function).expect(&rt, "memory");
+    let mut function = shader.function("nested").expect(&rt, "memory");
+    nest(&rt, alloc, &mut function.body, BLOCKS);
+    let built = function.finish();
+    shader.add_function(built).expect(&rt, "memory");
     let text = built_text(&rt, alloc, &shader);
     assert!(rt; text.as_str() == nested_text(&rt, alloc, BLOCKS).as_str());
 }

@@ -14,6 +14,8 @@ use naga_wgsl_out::back::RayIntersectionType;
 use naga_wgsl_out::back::binary_operation_str;
 use naga_wgsl_out::back::wgsl::write_string as _;
 use naga_wgsl_out::builder::BlockBuilder;
+use naga_wgsl_out::builder::BuildError;
+use naga_wgsl_out::builder::BuiltFunction;
 use naga_wgsl_out::builder::FunctionBuilder;
 use naga_wgsl_out::builder::ModuleBuilder;
 use naga_wgsl_out::builder::StageExtras;

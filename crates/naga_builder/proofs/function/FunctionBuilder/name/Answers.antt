@@ -8,5 +8,5 @@ returns-clause-ok c = record {
   labelled = c.in_ok-label.ensures.ok;
   names = c.in_ok-insert.ensures.entries
       ∙ by_index c.args.self.now.function.named_expressions.entries c.args.handle c.in_ok-label.label;
-  rest = record { function = refl; known = refl; body = refl };
+  rest = record { looks_at = refl; function = refl; known = refl; body = refl };
 }
