@@ -19,7 +19,7 @@ use indexmap::IndexMap;
 use naga_info::TypeResolution;
 use naga_ir::{
     ArraySize, EntryPoint, Expression, Function, FunctionArgument, FunctionResult, Handle,
-    ItemIndex, Module, PredeclaredType, Statement, StructMember, Type_, TypeInner,
+    ItemIndex, Module, PredeclaredType, SpecialTypes, Statement, StructMember, Type_, TypeInner,
 };
 
 /// An item that is not there, if one is named.

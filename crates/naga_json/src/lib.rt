@@ -48,5 +48,8 @@ mod text;
 mod types;
 
 pub use error::{JsonKind, Problem, ReadError};
-pub use modules::{Known, info_of, known_of, module_of, read_info, read_known, read_module};
+pub use modules::{
+    Given, Known, given_of, info_of, known_of, module_of, read_given, read_info, read_known,
+    read_module,
+};
 pub use text::{parse, parse_bytes};

@@ -5,6 +5,7 @@ ghost use Rattle.module_semantics.specs.acceptance.Accepted.{is_accepted};
 ghost use Rattle.naga_inference.specs.Inferred.{IsTyped};
 ghost use Rattle.naga_wgsl_out.specs.Inferring.{AnswersInferred, IsWritten};
 
+use crate::checked::CheckedError;
 use crate::writer::write_string;
 use naga_acceptance::count;
 use naga_back::WriterFlags;
@@ -13,26 +14,14 @@ use naga_info::ModuleInfo;
 use naga_ir::Module;
 use naga_wgsl_shared::Error;
 use std::alloc::Global;
-use thiserror::Error as DisplayedError;
-
-/// Why [`write_inferred`] gives no text.
-#[derive(Debug, Drop, DisplayedError)]
-pub enum InferredError {
-    /// The module is accepted with no info that follows the rules of types.
-    #[error("not accepted: {0}")]
-    NotAccepted(InferenceError),
-    /// The module is accepted, and the writer refuses it; or memory was wanting.
-    #[error("{0}")]
-    Refused(Error),
-}
 
 /// Finds the types of the module's expressions, counts how often each is used, and gives the
 /// module's WGSL text.
 ///
-/// [`InferredError::NotAccepted`] comes only where no info that follows the rules of types is
+/// [`CheckedError::NotAccepted`] comes only where no info that follows the rules of types is
 /// accepted; it tells where and why, as [`infer`] does. Otherwise the text and the refusals are
 /// those of [`write_string`] with the info that [`infer`] gives; and
-/// [`InferredError::Refused`] of [`Error::Memory`] may say that memory was refused before. The
+/// [`CheckedError::Refused`] of [`Error::Memory`] may say that memory was refused before. The
 /// module stays as it is.
 ///
 /// ```text
@@ -46,16 +35,16 @@ pub fn write_inferred(
     alloc: Global,
     module: &Module,
     flags: WriterFlags,
-) -> Result<String, InferredError>
+) -> Result<String, CheckedError<InferenceError>>
     ensures { AnswersInferred flags «module».now result }
 {
     match infer(alloc, module) {
         Ok(Ok(info)) => match write_typed(alloc, module, info, flags) {
             Ok(text) => Ok(text),
-            Err(error) => Err(InferredError::Refused(error)),
+            Err(error) => Err(CheckedError::Refused(error)),
         },
-        Ok(Err(error)) => Err(InferredError::NotAccepted(error)),
-        Err(error) => Err(InferredError::Refused(Error::Memory(error))),
+        Ok(Err(error)) => Err(CheckedError::NotAccepted(error)),
+        Err(error) => Err(CheckedError::Refused(Error::Memory(error))),
     }
 }
 
