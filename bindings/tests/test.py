@@ -353,6 +353,17 @@ def test_lines(folder, _):
     must(told == (UNKNOWN_FLAG, "a bit is set that no flag has"), f"{told} of an unknown flag")
 
 
+def test_alone(folder, _):
+    """The examples without their infos are answered as with them: as a member, beside an info that is null, and as all of the JSON."""
+    library = Library(folder / "libyorwethul.so")
+    for example in EXAMPLES:
+        module = json.loads(example.read_bytes())["module"]
+        wanted = library.call("write", example.read_bytes(), ALL_FLAGS)
+        for alone in ({"module": module}, {"module": module, "info": None}, module):
+            told = library.call("write", json.dumps(alone).encode(), ALL_FLAGS)
+            must(told == wanted, f"{told} of {example.name} without its info, with it {wanted}")
+
+
 def in_function(answer):
     """The label of an answer as a text has it after the position, of labels without what Rust escapes in another way than JSON."""
     return ", in " + json.dumps(answer["function"], ensure_ascii=False) if "function" in answer else ""
@@ -545,6 +556,7 @@ def library_tests(is_whole):
     yield "programs in C, C++ and Python", test_programs, ["cc"]
     yield "each call", test_calls, []
     yield "the program's lines", test_lines, []
+    yield "the examples without their infos", test_alone, []
     yield "the cases of wgsl_cases", test_cases, []
     yield "the caller's memory", test_memory, []
     yield "depth", test_depth, []

@@ -83,7 +83,10 @@ fn a_module_is_written() {
 fn a_module_alone_is_written() {
     let module = double();
     let flags = Flags::EXPLICIT_TYPES;
-    assert_eq!(write_module(&module, flags), write(&module, &known(&module), flags));
+    assert_eq!(
+        write_module(&module, flags),
+        write(&module, &known(&module), flags)
+    );
     assert_eq!(layout_module(&module).as_deref(), Ok(""));
     let told = module_json(&module).unwrap();
     assert!(told.starts_with("{\"module\":{"), "{told}");

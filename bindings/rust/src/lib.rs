@@ -306,7 +306,11 @@ const BEGINNINGS: [&str; 7] = [
 /// Where the colon in front of a position stands, if there is a position.
 fn position_in(text: &str) -> Option<usize> {
     let mut colons = text.match_indices(": ").map(|(at, _)| at);
-    colons.find(|at| BEGINNINGS.iter().any(|beginning| text[at + 2..].starts_with(beginning)))
+    colons.find(|at| {
+        BEGINNINGS
+            .iter()
+            .any(|beginning| text[at + 2..].starts_with(beginning))
+    })
 }
 
 /// The position of a fault, the label there, and the fault.

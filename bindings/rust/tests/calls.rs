@@ -72,7 +72,10 @@ fn a_module_alone_is_written() {
         let odd = json.replace("\"left\": 0", "\"left\": 1");
         let error = write_json(&odd, Flags::empty()).unwrap_err();
         let position = error.position().unwrap();
-        assert!(position.ends_with("functions[0].expressions[1]"), "{position}");
+        assert!(
+            position.ends_with("functions[0].expressions[1]"),
+            "{position}"
+        );
         assert_eq!(error.function(), Some("double"));
         assert!(matches!(error, Error::NotAccepted { fault, .. } if fault == "it has no type"));
     }
@@ -147,12 +150,23 @@ fn a_module_that_is_not_accepted_tells_the_position() {
 fn what_is_no_module_tells_why() {
     for (json, position, shown) in [
         ("", None, "no module: no JSON at line 1, column 0"),
-        (r#"{"info": {}}"#, Some("module"), "no module: module: missing"),
-        (r#"{"module": {}, "info": 7}"#, Some("info"), "no module: info: no object"),
+        (
+            r#"{"info": {}}"#,
+            Some("module"),
+            "no module: module: missing",
+        ),
+        (
+            r#"{"module": {}, "info": 7}"#,
+            Some("info"),
+            "no module: info: no object",
+        ),
         ("[]", None, "no module: no object"),
     ] {
         let error = write_json(json, Flags::empty()).unwrap_err();
-        assert_eq!((error.position(), error.to_string().as_str()), (position, shown));
+        assert_eq!(
+            (error.position(), error.to_string().as_str()),
+            (position, shown)
+        );
     }
     let odd = DOUBLE.replace("\"left\": 0", "\"left\": true");
     let error = write_json(&odd, Flags::empty()).unwrap_err();

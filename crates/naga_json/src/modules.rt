@@ -101,7 +101,7 @@ pub fn given_of(alloc: Global, value: &Value) -> Result<Given, ReadError>
         });
     }
     let module = member(alloc, value, "module")?;
-    let info = member(alloc, value, "info")?;
+    let info: Option<ModuleInfo> = member(alloc, value, "info")?;
     Ok(Given {
         module,
         info,

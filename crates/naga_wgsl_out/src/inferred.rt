@@ -1,12 +1,16 @@
 //! Writes a module that comes without an info.
 
-ghost use Rattle.std.specs.Prelude.{IsTrue};
+ghost use Rattle.std.specs.Prelude.{◌≡◌, IsTrue, None};
+ghost use Rattle.module_limits.specs.Nesting.{nested_past};
 ghost use Rattle.module_semantics.specs.acceptance.Accepted.{is_accepted};
 ghost use Rattle.naga_inference.specs.Inferred.{IsTyped};
-ghost use Rattle.naga_wgsl_out.specs.Inferring.{AnswersInferred, IsWritten};
+ghost use Rattle.naga_wgsl_out.specs.Inferring.{AnswersInferred, AnswersInferredWithin};
+ghost use Rattle.naga_wgsl_out.specs.Inferring.{IsInferred, IsWritten};
 
 use crate::checked::CheckedError;
+use crate::within::{LimitedError, write_bounded};
 use crate::writer::write_string;
+use module_limits::{Limits, nested_past};
 use naga_acceptance::count;
 use naga_back::WriterFlags;
 use naga_inference::{InferenceError, infer};
@@ -48,7 +52,7 @@ pub fn write_inferred(
     }
 }
 
-/// Writes a module with the info that was inferred.
+/// Counts the uses, and writes a module with the info that was inferred.
 fn write_typed(
     alloc: Global,
     module: &Module,
@@ -59,7 +63,79 @@ fn write_typed(
     requires accepted { IsTrue (is_accepted «module».now info) }
     ensures { IsWritten flags «module».now result }
 {
+    let info = counted(module, info);
+    write_string(alloc, module, &info, flags)
+}
+
+/// The info that was inferred, with the uses counted.
+fn counted(module: &Module, info: ModuleInfo) -> ModuleInfo
+    requires typed { IsTyped «module».now info }
+    requires accepted { IsTrue (is_accepted «module».now info) }
+    ensures inferred { IsInferred «module».now result }
+    ensures accepted { IsTrue (is_accepted «module».now result) }
+{
     let mut info = info;
     count(&mut info, module);
-    write_string(alloc, module, &info, flags)
+    info
+}
+
+/// Does with a module what [`write_inferred`] does, within limits, as
+/// [`write_checked_within`](crate::wgsl::write_checked_within) does what
+/// [`write_checked`](crate::wgsl::write_checked) does: how deep it is nested is asked before its types
+/// are.
+///
+/// ```text
+/// let limits = Limits { nesting: 4_000, text: 16_777_216 };
+/// match write_inferred_within(alloc, &module, no_flags(), limits) {
+///     Ok(text) => println!(rt; "{text}")?,
+///     Err(error) => println!(rt; "no text: {error}")?,
+/// }
+/// ```
+pub fn write_inferred_within(
+    alloc: Global,
+    module: &Module,
+    flags: WriterFlags,
+    limits: Limits,
+) -> Result<String, LimitedError<InferenceError>>
+    ensures { AnswersInferredWithin flags limits «module».now result }
+{
+    match nested_past(alloc, module, limits.nesting) {
+        Ok(None) => write_flat(alloc, module, flags, limits),
+        Ok(Some(nested)) => Err(LimitedError::TooDeep(nested)),
+        Err(error) => Err(LimitedError::Refused(Error::Memory(error))),
+    }
+}
+
+/// The answer of [`write_inferred_within`] for a module that is nested no deeper than it may be.
+fn write_flat(
+    alloc: Global,
+    module: &Module,
+    flags: WriterFlags,
+    limits: Limits,
+) -> Result<String, LimitedError<InferenceError>>
+    requires flat { nested_past limits.nesting «module».now ≡ None }
+    ensures { AnswersInferredWithin flags limits «module».now result }
+{
+    match infer(alloc, module) {
+        Ok(Ok(info)) => write_typed_within(alloc, module, info, flags, limits),
+        Ok(Err(error)) => Err(LimitedError::NotAccepted(error)),
+        Err(error) => Err(LimitedError::Refused(Error::Memory(error))),
+    }
+}
+
+/// Counts the uses, and writes a module with the info that was inferred, within the limits.
+fn write_typed_within(
+    alloc: Global,
+    module: &Module,
+    info: ModuleInfo,
+    flags: WriterFlags,
+    limits: Limits,
+) -> Result<String, LimitedError<InferenceError>>
+    requires flat { nested_past limits.nesting «module».now ≡ None }
+    requires typed { IsTyped «module».now info }
+    requires accepted { IsTrue (is_accepted «module».now info) }
+    ensures { AnswersInferredWithin flags limits «module».now result }
+{
+    let info = counted(module, info);
+    write_bounded(alloc, module, &info, flags, limits.text)
 }

@@ -3,8 +3,6 @@
 ghost use Rattle.std.specs.Prelude.{◌≡◌, IsTrue, None};
 ghost use Rattle.module_limits.specs.Nesting.{nested_past};
 ghost use Rattle.module_semantics.specs.acceptance.Accepted.{is_accepted};
-ghost use Rattle.naga_inference.specs.Inferred.{IsTyped};
-ghost use Rattle.naga_wgsl_out.specs.Inferring.{AnswersInferredWithin};
 ghost use Rattle.naga_wgsl_out.specs.Within.{AnswersBounded, AnswersWithin, TellsBounded, unfailed};
 ghost use Rattle.naga_wgsl_out.specs.Within.{unfailed_error};
 
@@ -12,7 +10,6 @@ use crate::writer::Writer;
 use module_limits::{BoundedText, Limits, Nested, nested_past};
 use naga_acceptance::{Unaccepted, count, unaccepted};
 use naga_back::WriterFlags;
-use naga_inference::{InferenceError, infer};
 use naga_info::ModuleInfo;
 use naga_ir::Module;
 use naga_wgsl_shared::Error;
@@ -20,7 +17,8 @@ use std::alloc::{AllocError, Global};
 use std::fmt::Display;
 use thiserror::Error as DisplayedError;
 
-/// Why [`write_checked_within`] gives no text; [`write_inferred_within`] has another `Fault`.
+/// Why [`write_checked_within`] gives no text;
+/// [`write_inferred_within`](crate::wgsl::write_inferred_within) has another `Fault`.
 #[derive(Debug, Drop, DisplayedError)]
 #[error_bound(Fault: Display)]
 pub enum LimitedError<Fault = Unaccepted> {
@@ -93,69 +91,8 @@ fn write_flat(
     write_bounded(alloc, module, info, flags, limits.text)
 }
 
-/// Does with a module what [`write_inferred`](crate::wgsl::write_inferred) does, within limits, as
-/// [`write_checked_within`] does what [`write_checked`](crate::wgsl::write_checked) does: how deep
-/// it is nested is asked before its types are.
-///
-/// ```text
-/// let limits = Limits { nesting: 4_000, text: 16_777_216 };
-/// match write_inferred_within(alloc, &module, no_flags(), limits) {
-///     Ok(text) => println!(rt; "{text}")?,
-///     Err(error) => println!(rt; "no text: {error}")?,
-/// }
-/// ```
-pub fn write_inferred_within(
-    alloc: Global,
-    module: &Module,
-    flags: WriterFlags,
-    limits: Limits,
-) -> Result<String, LimitedError<InferenceError>>
-    ensures { AnswersInferredWithin flags limits «module».now result }
-{
-    match nested_past(alloc, module, limits.nesting) {
-        Ok(None) => write_flat_inferred(alloc, module, flags, limits),
-        Ok(Some(nested)) => Err(LimitedError::TooDeep(nested)),
-        Err(error) => Err(LimitedError::Refused(Error::Memory(error))),
-    }
-}
-
-/// The answer of [`write_inferred_within`] for a module that is nested no deeper than it may be.
-fn write_flat_inferred(
-    alloc: Global,
-    module: &Module,
-    flags: WriterFlags,
-    limits: Limits,
-) -> Result<String, LimitedError<InferenceError>>
-    requires flat { nested_past limits.nesting «module».now ≡ None }
-    ensures { AnswersInferredWithin flags limits «module».now result }
-{
-    match infer(alloc, module) {
-        Ok(Ok(info)) => write_typed_within(alloc, module, info, flags, limits),
-        Ok(Err(error)) => Err(LimitedError::NotAccepted(error)),
-        Err(error) => Err(LimitedError::Refused(Error::Memory(error))),
-    }
-}
-
-/// Counts the uses, and writes a module with the info that was inferred.
-fn write_typed_within(
-    alloc: Global,
-    module: &Module,
-    info: ModuleInfo,
-    flags: WriterFlags,
-    limits: Limits,
-) -> Result<String, LimitedError<InferenceError>>
-    requires flat { nested_past limits.nesting «module».now ≡ None }
-    requires typed { IsTyped «module».now info }
-    requires accepted { IsTrue (is_accepted «module».now info) }
-    ensures { AnswersInferredWithin flags limits «module».now result }
-{
-    let mut info = info;
-    count(&mut info, module);
-    write_bounded(alloc, module, &info, flags, limits.text)
-}
-
 /// Writes an accepted module, up to so many bytes and a chunk more.
-fn write_bounded<Fault: Drop>(
+pub(crate) fn write_bounded<Fault: Drop>(
     alloc: Global,
     module: &Module,
     info: &ModuleInfo,

@@ -1,6 +1,7 @@
 //! Why a module has no text, with the lines around its position.
 
 use crate::texts::write_in;
+use crate::untyped::types_before;
 use module_answers::{NoOutcome, Shader, Unasked, WriteOutcome, refusal_line, untyped_line};
 use module_positions::{
     JsonHolder, MarkedRoot, fault_text, labelled_position, listed_position, refused_position,
@@ -8,7 +9,6 @@ use module_positions::{
 };
 use naga_acceptance::Unaccepted;
 use naga_inference::Untyped;
-use naga_info::ModuleInfo;
 use naga_ir::Module;
 use naga_listing::{ListingPosition, Spot, explain, explain_with};
 use naga_wgsl_out::wgsl::Refusal;
@@ -54,7 +54,7 @@ pub fn unasked_explained(
     }
 }
 
-/// Tells which expression has no type, and shows the lines around, of which no type is shader.
+/// Tells which expression has no type, and shows the lines around, with the types of those before it.
 fn of_untyped(
     alloc: Global,
     module: &Module,
@@ -63,11 +63,7 @@ fn of_untyped(
 ) -> Result<Explanation, AllocError> {
     let line = untyped_line(alloc, module, untyped, holder)?;
     let item = listed_position(untyped.position);
-    let info = ModuleInfo {
-        functions: Vec::new(alloc),
-        entry_points: Vec::new(alloc),
-        const_expression_types: Vec::new(alloc),
-    };
+    let info = types_before(alloc, module, untyped.position)?;
     let message = format!(in alloc; "{}", untyped.missing)?;
     let listing = explain(alloc, module, &info, &item, message.as_str())?;
     not_written(format!(in alloc; "not accepted: {line}\n\n{listing}"))
