@@ -92,11 +92,7 @@ fn of_written(
 
 /// Tells what a module is refused for and where, and shows the lines around: of an operand that is
 /// out of scope those around the expression that it has no value for.
-fn of_refusal(
-    alloc: Global,
-    shader: &Shader,
-    refusal: Refusal,
-) -> Result<Explanation, AllocError> {
+fn of_refusal(alloc: Global, shader: &Shader, refusal: Refusal) -> Result<Explanation, AllocError> {
     let position = refused_position(refusal.position);
     let (spot, message) = match root_at(alloc, &shader.module, &refusal.position)? {
         Some(root) => (
