@@ -196,18 +196,10 @@ pub fn infer(
 {
     let info = match inferred_types(alloc, module)? {
         Ok(info) => info,
-        Err(
-            Untyped {
-                position,
-                missing: Missing::Rule,
-            },
-        ) => return Ok(Err(InferenceError::Untyped(position))),
-        Err(
-            Untyped {
-                position,
-                missing: Missing::SpecialType,
-            },
-        ) => return Ok(Err(InferenceError::Undeclared(position))),
+        Err(Untyped { position, missing }) => match missing {
+            Missing::Rule => return Ok(Err(InferenceError::Untyped(position))),
+            Missing::SpecialType => return Ok(Err(InferenceError::Undeclared(position))),
+        },
     };
     match unaccepted(module, &info) {
         Some(fault) => Ok(Err(InferenceError::Unaccepted(fault))),
