@@ -2,9 +2,9 @@
 
 pub use crate::checked::{CheckedError, write_checked};
 pub use crate::flags::no_flags;
-pub use crate::inferred::write_inferred;
+pub use crate::inferred::{write_inferred, write_inferred_within};
 pub use crate::unwritable::{Refusal, unwritable};
-pub use crate::within::{LimitedError, write_checked_within, write_inferred_within};
+pub use crate::within::{LimitedError, write_checked_within};
 pub use crate::writer::{Writer, names_of, write_string};
 pub use module_limits::{Limits, Nested, nested_past};
 pub use naga_back::WriterFlags;
