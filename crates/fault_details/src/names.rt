@@ -9,7 +9,8 @@ ghost use Rattle.fault_details.specs.Demands.{OfEach, OfSome, before, there, unm
 ghost use Rattle.fault_details.specs.Reasons.{emitted_demands, initialiser_demands, known_demands};
 ghost use Rattle.fault_details.specs.Reasons.{length_demands, name_demands, names_demands};
 ghost use Rattle.fault_details.specs.Reasons.{order_demands, own_name_demands, part_demands};
-ghost use Rattle.fault_details.specs.Reasons.{signature_demands, size_demands, special_demands};
+ghost use Rattle.fault_details.specs.Reasons.{ray_demands, signature_demands, size_demands};
+ghost use Rattle.fault_details.specs.Reasons.{special_demands};
 ghost use Rattle.fault_details.specs.Reasons.{statement_name_demands, variables_demands};
 ghost use Rattle.fault_details.specs.Shown.{shown};
 
