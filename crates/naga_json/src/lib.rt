@@ -26,6 +26,9 @@
 //! What is known of a function may be given short, by the list of its expressions' types, and a
 //! type by its handle alone. Each `ref_count` is 0 then.
 //!
+//! [`read_given`] takes a module with what is known of it, or without: the member `info` may be left
+//! out, and the module may be all of the JSON.
+//!
 //! Where nothing is read, a [`ReadError`] tells why, and at which position:
 //!
 //! ```text
