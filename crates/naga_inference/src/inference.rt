@@ -114,7 +114,7 @@ fn entry_points_infos(
 ///     Err(untyped) => println!(rt; "{untyped}")?, // function 3, expression 41: it has no type
 /// }
 /// ```
-#[tactic(auto, using(crate::proofs::Untyped::untyped_own, crate::proofs::Untyped::untyped_function, crate::proofs::Untyped::untyped_entry_point, crate::proofs::Following::untyped_unfollowed))]
+#[tactic(auto, using(crate::proofs::FirstUntyped::untyped_own, crate::proofs::FirstUntyped::untyped_function, crate::proofs::FirstUntyped::untyped_entry_point, crate::proofs::Following::untyped_unfollowed))]
 pub fn inferred_types(
     alloc: Global,
     module: &Module,
