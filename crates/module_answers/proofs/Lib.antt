@@ -1,2 +1,3 @@
 pub mod Bounded
+mod Shaders
 mod Wants
