@@ -1,6 +1,6 @@
 -- What is told of a module that is not written.
 use Rattle.std.proofs.Common.{◌≡◌, ℕ, ◌<◌, List, [], Result, length, refl, subst, sym}
-use Rattle.std.specs.Prelude.{Bool, Err, IfErr, IsErrAnd, IsTrue, None, Ok, Option, Some}
+use Rattle.std.specs.Prelude.{Bool, Err, IsTrue, None, Ok, Option, Some}
 use Rattle.naga_ir.specs.declared.module.Module.{Module}
 use Rattle.naga_info.specs.declared.info.ModuleInfo.{ModuleInfo}
 use Rattle.naga_back.specs.Flags.{annotates_types}

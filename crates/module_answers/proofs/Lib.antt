@@ -1,3 +1,3 @@
+mod Alone
 pub mod Bounded
-mod Shaders
 mod Wants

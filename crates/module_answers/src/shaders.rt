@@ -64,7 +64,7 @@ pub fn info_within(
 }
 
 /// The types of a module that came without an info.
-#[tactic(auto, using(crate::proofs::Shaders::untyped_unasked))]
+#[tactic(auto, using(crate::proofs::Alone::untyped_unasked))]
 fn types_of(alloc: Global, module: &Module, levels: usize) -> Result<ModuleInfo, Unasked>
     requires nested { nested_past levels «module».now ≡ None }
     ensures info { IfOk result (IsInfoOf «module».now None) }
