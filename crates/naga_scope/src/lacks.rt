@@ -23,7 +23,7 @@ use naga_info::FunctionInfo;
 use naga_ir::{Expression, Function, Handle, ItemIndex, Module};
 use naga_naming::NameKey;
 use naga_tables::ModuleTables;
-use naga_tables::forms::has_own_form;
+use naga_tables::forms::own_refusal;
 use naga_tables::marks::{are_marked, is_marked, no_marks};
 use std::alloc::{AllocError, Global};
 use std::collections::HashMap;
@@ -85,7 +85,10 @@ fn expression_has_form(
     ensures { (es : List Expression) → MarksConstants es constants.now →
         result ≡ expression_has_form «module».now info.now es expression.now }
 {
-    has_own_form(module, tables, names, info, expression) && offset_has_form(constants, expression)
+    match own_refusal(module, tables, names, info, expression) {
+        Some(_) => false,
+        None => offset_has_form(constants, expression),
+    }
 }
 
 /// The lower of two handles, if there are any.

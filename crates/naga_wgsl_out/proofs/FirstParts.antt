@@ -20,12 +20,12 @@ use Rattle.naga_scope.specs.Plans.{IsFirstToPlan}
 use Rattle.naga_scope.specs.declared.plan.PlanError.{PlanError}
 use Rattle.naga_scope.specs.declared.plan.PlanError.TheVariants as reason
 use Rattle.naga_wgsl_shared.specs.Carried.{CarriesOfExpression}
-use Rattle.naga_wgsl_shared.specs.Constructs.{Tells}
+use Rattle.naga_refusals.specs.Constructs.{Tells}
 use Rattle.naga_wgsl_shared.specs.Refusals.{NamesExpression}
 use Rattle.naga_wgsl_fns.specs.Unplanned.{function_position}
 use Rattle.naga_scope.specs.declared.positions.FunctionRefusalPosition.{FunctionRefusalPosition}
 use Rattle.naga_scope.specs.declared.positions.FunctionRefusalPosition.TheVariants as part
-use Rattle.naga_wgsl_shared.specs.declared.refusals.construct.Construct.{Construct}
+use Rattle.naga_refusals.specs.declared.construct.Construct.{Construct}
 use Rattle.naga_wgsl_out.specs.Unwritable.{IsUnspellable, LabelsGetNamesIn, StandsAtPart}
 use Rattle.shader_runs.proofs.ScopeFaults.{fault_is_no_rule}
 use Rattle.shader_runs.specs.Program.{binds}

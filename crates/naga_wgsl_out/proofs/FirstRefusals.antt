@@ -50,7 +50,7 @@ use Rattle.naga_tables.specs.declared.declarations.UnsupportedDeclaration.TheVar
 use Rattle.naga_tables.specs.declared.declarations.UnsupportedHead.{UnsupportedHead}
 use Rattle.naga_tables.specs.declared.declarations.UnsupportedHead.TheVariants as head
 use Rattle.naga_scope.specs.declared.positions.FunctionRefusalPosition.{FunctionRefusalPosition}
-use Rattle.naga_wgsl_shared.specs.declared.refusals.construct.Construct.{Construct}
+use Rattle.naga_refusals.specs.declared.construct.Construct.{Construct}
 use Rattle.naga_wgsl_out.proofs.FirstParts.{lowest, one_part, part_refuses}
 use Rattle.naga_wgsl_out.proofs.ModuleScopes.{each_writable}
 use Rattle.naga_wgsl_out.specs.ModuleRefusals.{ItemsAreFull, KeyIsOutOfRange, NothingIsRefused}

@@ -2,8 +2,8 @@
 use Rattle.std.proofs.Common.{Err}
 use Rattle.naga_back.specs.declared.flags.WriterFlags.{WriterFlags}
 use Rattle.naga_ir.specs.declared.module.Module.{Module}
-use Rattle.naga_wgsl_shared.specs.declared.refusals.error.Error.{Error}
-use Rattle.naga_wgsl_shared.specs.declared.refusals.error.Error.TheVariants as error
+use Rattle.naga_refusals.specs.declared.error.Error.{Error}
+use Rattle.naga_refusals.specs.declared.error.Error.TheVariants as error
 use Rattle.naga_wgsl_out.specs.Inferring.{AnswersInferred, IsWritten}
 use Rattle.naga_wgsl_out.specs.declared.inferred.InferredError.TheVariants.{Refused}
 

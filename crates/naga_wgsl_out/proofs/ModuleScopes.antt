@@ -20,15 +20,15 @@ use Rattle.module_semantics.specs.FunctionShapes.{function_shapes}
 use Rattle.naga_form.proofs.statements.AcceptedFunctions.{all_counted}
 use Rattle.naga_naming.proofs.Refusal.{element}
 use Rattle.module_semantics.specs.Names.{labels_before}
-use Rattle.naga_wgsl_shared.specs.declared.refusals.error.Error.{Error}
-use Rattle.naga_wgsl_shared.specs.declared.refusals.error.Error.TheVariants.{Custom, FmtError}
-use Rattle.naga_wgsl_shared.specs.declared.refusals.error.Error.TheVariants.{Memory}
-use Rattle.naga_wgsl_shared.specs.declared.refusals.error.Error.TheVariants.{Unimplemented}
-use Rattle.naga_wgsl_shared.specs.declared.refusals.error.Error.TheVariants.{Unsupported}
-use Rattle.naga_wgsl_shared.specs.declared.refusals.error.Error.TheVariants.{UnsupportedRelationalFunction}
+use Rattle.naga_refusals.specs.declared.error.Error.{Error}
+use Rattle.naga_refusals.specs.declared.error.Error.TheVariants.{Custom, FmtError}
+use Rattle.naga_refusals.specs.declared.error.Error.TheVariants.{Memory}
+use Rattle.naga_refusals.specs.declared.error.Error.TheVariants.{Unimplemented}
+use Rattle.naga_refusals.specs.declared.error.Error.TheVariants.{Unsupported}
+use Rattle.naga_refusals.specs.declared.error.Error.TheVariants.{UnsupportedRelationalFunction}
 use Rattle.naga_wgsl_fns.specs.PlanRefusals.{IsReasonForNoPlan, IsWritableAt, HasUnsupportedIn}
 use Rattle.naga_wgsl_fns.specs.PlanRefusals.{NamesUnsupported}
-use Rattle.naga_wgsl_shared.specs.Refusals.{TellsOfModule}
+use Rattle.naga_refusals.specs.Errors.{TellsOfModule}
 use Rattle.naga_wgsl_fns.specs.PlanRefusals.{TellsOfScope}
 use Rattle.naga_wgsl_shared.specs.DeclarationRefusals.{NamesDeclaration}
 use Rattle.naga_wgsl_shared.specs.DeclarationRefusals.NamesDeclaration.{OfHead, OfInitialiser}

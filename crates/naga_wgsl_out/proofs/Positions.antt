@@ -31,18 +31,19 @@ use Rattle.naga_wgsl_fns.proofs.PlanRefusals.{full_is, is_full}
 use Rattle.naga_wgsl_shared.specs.Appends.{Appends, StoppedWithin}
 use Rattle.naga_wgsl_shared.specs.Carried.{CarriesOfExpression, CarriesOfType}
 use Rattle.naga_wgsl_fns.specs.PlanRefusals.{CarriesOfPlan}
-use Rattle.naga_wgsl_shared.specs.Constructs.{Tells}
-use Rattle.naga_wgsl_shared.specs.Refusals.{IsErrorOfNames, NamesExpression, NamesType}
-use Rattle.naga_wgsl_shared.specs.Refusals.{TellsOfModule}
+use Rattle.naga_refusals.specs.Constructs.{Tells}
+use Rattle.naga_wgsl_shared.specs.Refusals.{NamesExpression, NamesType}
+use Rattle.naga_refusals.specs.Errors.{IsErrorOfNames}
+use Rattle.naga_refusals.specs.Errors.{TellsOfModule}
 use Rattle.naga_wgsl_fns.specs.PlanRefusals.{TellsPlanError}
 use Rattle.naga_wgsl_fns.specs.Unplanned.{IsRefusedFor, IsToldOfUnplanned, IsUnplanned}
 use Rattle.naga_wgsl_fns.specs.Unplanned.{namer_lacks_memory, plan_lacks_memory, function_position}
-use Rattle.naga_wgsl_shared.specs.declared.refusals.error.Error.{Error}
-use Rattle.naga_wgsl_shared.specs.declared.refusals.error.Error.TheVariants.{Custom, Memory}
+use Rattle.naga_refusals.specs.declared.error.Error.{Error}
+use Rattle.naga_refusals.specs.declared.error.Error.TheVariants.{Custom, Memory}
 use Rattle.naga_wgsl_fns.specs.declared.plans.Unplanned.{Unplanned}
 use Rattle.naga_wgsl_fns.specs.declared.plans.Unplanned.TheVariants as unplanned
-use Rattle.naga_wgsl_shared.specs.declared.refusals.construct.Construct.{Construct}
-use Rattle.naga_wgsl_shared.specs.declared.refusals.construct.Construct.TheVariants as construct
+use Rattle.naga_refusals.specs.declared.construct.Construct.{Construct}
+use Rattle.naga_refusals.specs.declared.construct.Construct.TheVariants as construct
 use Rattle.naga_scope.specs.declared.positions.FunctionRefusalPosition.{FunctionRefusalPosition}
 use Rattle.naga_wgsl_out.proofs.ExpressionNames.{none_past}
 use Rattle.naga_wgsl_out.proofs.ModuleScopes.{all_planned_formed, all_planned_hold}

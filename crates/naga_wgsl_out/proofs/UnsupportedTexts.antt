@@ -20,20 +20,21 @@ use Rattle.naga_ir.specs.declared.types.Scalar.{Scalar}
 use Rattle.naga_ir.specs.declared.types.TypeInner.{TypeInner}
 use Rattle.naga_scope.specs.declared.statements.UnsupportedStatement.{UnsupportedStatement}
 use Rattle.naga_scope.specs.declared.statements.UnsupportedStatement.TheVariants as unsupported
-use Rattle.naga_wgsl_shared.specs.Errors.{IsCustom, IsUnimplemented, IsUnsupported}
+use Rattle.naga_refusals.specs.Errors.{IsCustom, IsUnimplemented, IsUnsupported}
 use Rattle.naga_wgsl_shared.specs.Refusals.{NamesConversion, NamesExpression, NamesFunction}
 use Rattle.naga_wgsl_shared.specs.Refusals.{NamesGlobal, NamesLiteral, NamesMatrix, NamesPart}
 use Rattle.naga_wgsl_shared.specs.Refusals.{NamesScalar, NamesType, NamesUnspelled}
 use Rattle.naga_wgsl_fns.specs.PlanRefusals.{NamesStatement}
 use Rattle.naga_wgsl_shared.specs.Refusals.{OfConstant, OfLiteral, OfOperand, OfOperation, OfType}
 use Rattle.naga_wgsl_fns.specs.PlanRefusals.{TellsOfForm, custom_texts}
-use Rattle.naga_wgsl_shared.specs.Refusals.{TellsOfModule, converted}
+use Rattle.naga_wgsl_shared.specs.Refusals.{converted}
+use Rattle.naga_refusals.specs.Errors.{TellsOfModule}
 use Rattle.naga_wgsl_shared.specs.Refusals.{pointed_scalar}
 use Rattle.naga_wgsl_fns.specs.PlanRefusals.{unimplemented_texts, unsupported_kinds}
-use Rattle.naga_wgsl_shared.specs.declared.refusals.error.Error.{Error}
-use Rattle.naga_wgsl_shared.specs.declared.refusals.error.Error.TheVariants.{Custom, Memory}
-use Rattle.naga_wgsl_shared.specs.declared.refusals.error.Error.TheVariants.{Unimplemented}
-use Rattle.naga_wgsl_shared.specs.declared.refusals.error.Error.TheVariants.{Unsupported}
+use Rattle.naga_refusals.specs.declared.error.Error.{Error}
+use Rattle.naga_refusals.specs.declared.error.Error.TheVariants.{Custom, Memory}
+use Rattle.naga_refusals.specs.declared.error.Error.TheVariants.{Unimplemented}
+use Rattle.naga_refusals.specs.declared.error.Error.TheVariants.{Unsupported}
 
 -- ---- listed texts
 by_custom : (error : Error) (text : List ℕ) → IsAmong custom_texts text → IsCustom text error →

@@ -33,15 +33,15 @@ use Rattle.naga_scope.specs.declared.plan.PlanError.{PlanError}
 use Rattle.naga_scope.specs.declared.statements.UnsupportedStatement.{UnsupportedStatement}
 use Rattle.shader_runs.specs.Program.{binds}
 use Rattle.naga_wgsl_shared.specs.Carried.{CarriesOfDeclaration, CarriesOfExpression, CarriesOfType}
-use Rattle.naga_wgsl_shared.specs.Constructs.{IsToldAs, Tells}
+use Rattle.naga_refusals.specs.Constructs.{IsToldAs, Tells}
 use Rattle.naga_wgsl_shared.specs.DeclarationRefusals.{NamesUnsupportedDeclaration}
-use Rattle.naga_wgsl_shared.specs.Errors.{IsCustom}
+use Rattle.naga_refusals.specs.Errors.{IsCustom}
 use Rattle.naga_wgsl_fns.specs.PlanRefusals.{ExpressionNamesAreFullIn, NamesStatement}
 use Rattle.naga_wgsl_shared.specs.Refusals.{NamesExpression}
 use Rattle.naga_wgsl_shared.specs.Refusals.{NamesType}
 use Rattle.naga_wgsl_fns.specs.Unplanned.{function_position}
-use Rattle.naga_wgsl_shared.specs.declared.refusals.construct.Construct.{Construct}
-use Rattle.naga_wgsl_shared.specs.declared.refusals.error.Error.{Error}
+use Rattle.naga_refusals.specs.declared.construct.Construct.{Construct}
+use Rattle.naga_refusals.specs.declared.error.Error.{Error}
 use Rattle.naga_scope.specs.declared.positions.FunctionRefusalPosition.{FunctionRefusalPosition}
 use Rattle.naga_scope.specs.declared.positions.FunctionRefusalPosition.TheVariants as part
 use Rattle.naga_wgsl_fns.specs.declared.plans.Unplanned.{Unplanned}

@@ -17,7 +17,7 @@ ghost use Rattle.naga_wgsl_out.specs.Headline.{answer_of, text_of};
 ghost use Rattle.naga_wgsl_out.specs.Leaving.{Leaves};
 ghost use Rattle.naga_wgsl_fns.specs.Items.{HasNamedItemsOf};
 ghost use Rattle.naga_wgsl_shared.specs.ModuleText.{CanWriteOf};
-ghost use Rattle.naga_wgsl_shared.specs.Refusals.{TellsOfModule};
+ghost use Rattle.naga_refusals.specs.Errors.{TellsOfModule};
 ghost use Rattle.naga_wgsl_out.specs.ModuleRefusals.{HasAllNames, HasNamedBefore};
 ghost use Rattle.naga_wgsl_out.specs.ModuleRefusals.{IsNamesRefusal};
 ghost use Rattle.naga_wgsl_out.specs.Unwritable.{TellsFirst, TellsRefusalOf};

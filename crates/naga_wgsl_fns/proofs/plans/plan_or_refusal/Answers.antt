@@ -8,7 +8,7 @@ use Rattle.naga_tables.proofs.WrittenConstants.{globals_in_order}
 use Rattle.naga_scope.specs.Plans.{IsPlanOf}
 use Rattle.naga_wgsl_fns.proofs.PlanRefusals.{is_of_plan, items_there}
 use Rattle.naga_wgsl_fns.specs.PlanRefusals.{CarriesOfPlan}
-use Rattle.naga_wgsl_shared.specs.Constructs.{Tells}
+use Rattle.naga_refusals.specs.Constructs.{Tells}
 use Rattle.naga_wgsl_fns.specs.PlanRefusals.{TellsPlanError}
 use Rattle.naga_wgsl_fns.specs.Unplanned.{IsRefusedFor}
 use Rattle.naga_wgsl_fns.proofs.plans.plan_or_refusal.Goals as goal
