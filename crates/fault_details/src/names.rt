@@ -9,7 +9,8 @@ ghost use Rattle.fault_details.specs.Demands.{OfEach, OfSome, before, there, unm
 ghost use Rattle.fault_details.specs.Reasons.{emitted_demands, initialiser_demands, known_demands};
 ghost use Rattle.fault_details.specs.Reasons.{length_demands, name_demands, names_demands};
 ghost use Rattle.fault_details.specs.Reasons.{order_demands, own_name_demands, part_demands};
-ghost use Rattle.fault_details.specs.Reasons.{signature_demands, size_demands, special_demands};
+ghost use Rattle.fault_details.specs.Reasons.{ray_demands, signature_demands, size_demands};
+ghost use Rattle.fault_details.specs.Reasons.{special_demands};
 ghost use Rattle.fault_details.specs.Reasons.{statement_name_demands, variables_demands};
 ghost use Rattle.fault_details.specs.Shown.{shown};
 
@@ -19,7 +20,7 @@ use indexmap::IndexMap;
 use naga_info::TypeResolution;
 use naga_ir::{
     ArraySize, EntryPoint, Expression, Function, FunctionArgument, FunctionResult, Handle,
-    ItemIndex, Module, PredeclaredType, Statement, StructMember, Type_, TypeInner,
+    ItemIndex, Module, PredeclaredType, SpecialTypes, Statement, StructMember, Type_, TypeInner,
 };
 
 /// An item that is not there, if one is named.
