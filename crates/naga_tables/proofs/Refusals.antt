@@ -12,6 +12,8 @@ use Rattle.std.specs.Prelude.{IsFalse, if◌then◌else◌}
 use Rattle.module_semantics.specs.ExpressionForms.{constant_has_form, expression_has_form}
 use Rattle.module_semantics.specs.ExpressionForms.{expression_has_own_form, global_has_form}
 use Rattle.module_semantics.specs.ExpressionForms.{global_has_form_over, global_has_form_within}
+use Rattle.module_semantics.specs.ExpressionOperators.{own_operator}
+use Rattle.module_semantics.specs.OperatorTable.{has_word}
 use Rattle.module_semantics.specs.Sampling.{own_offset_has_form}
 use Rattle.module_semantics.specs.Undeclared.{is_spellable}
 use Rattle.naga_info.specs.declared.info.ExpressionInfo.{ExpressionInfo}
@@ -27,6 +29,7 @@ use Rattle.naga_tables.specs.Refusals.{constant_refusal, constant_refusal_over, 
 use Rattle.naga_tables.specs.Refusals.{first_refusal, global_refusal, global_refusal_over}
 use Rattle.naga_tables.specs.Refusals.{global_refusal_within, offset_refusal, own_refusal}
 use Rattle.naga_tables.specs.Refusals.{type_refusal, unless, unspelled}
+use Rattle.naga_tables.specs.Refusals.{wordless_operator}
 
 -- ---- one answer
 pub unless_is : (b : Bool) (it : Construct) → is_none (unless b it) ≡ b
@@ -119,7 +122,8 @@ own_refusal_is m known
     (expression.ImageSample
     image sampler gather coordinate array_index offset level depth_ref clamp) = unless_is _ _
 own_refusal_is m known (expression.CooperativeLoad columns rows role place) = unless_is _ _
-own_refusal_is m known e = unless_is _ _
+own_refusal_is m known e =
+    unless_is (option_map_or has_word (own_operator e) true) (wordless_operator e)
 
 pub expression_refusal_is : (m : Module) (known : List ExpressionInfo) (es : List Expression)
     (e : Expression) → is_none (expression_refusal m known es e) ≡ expression_has_form m known es e

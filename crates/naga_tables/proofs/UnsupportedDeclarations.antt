@@ -418,7 +418,7 @@ module _ (m : Module) where
     types_formed : (ty : ℕ) → IsDeclaredType m ty → IsTrue (is_spellable m (Handle ty))
     types_formed _ (MemberType h i t s at declared there) =
         member_typed m s ((in_types h t at declared).each i s there)
-    types_formed _ (ConstantType i k at is_named) = value_typed m k.ty _ (constant_formed i k at is_named)
+    types_formed _ (ConstantType i k at is_named) = value_typed m k.ty (Some k.init) (constant_formed i k at is_named)
     types_formed _ (OverrideType i o at) = value_typed m o.ty o.init (in_overrides i o at)
     types_formed _ (VariableType i g at) = value_typed m g.ty g.init (in_variables i g at)
 
