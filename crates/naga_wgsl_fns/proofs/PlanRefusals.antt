@@ -3,33 +3,23 @@ use Rattle.naga_scope.specs.declared.plan.PlanError.TheVariants.{StatementWithou
 use Rattle.naga_scope.specs.declared.plan.PlanError.TheVariants.{LetWithoutForm, OutOfScope}
 use Rattle.naga_scope.specs.declared.plan.PlanError.TheVariants.{TypeWithoutForm, Unnamed}
 use Rattle.naga_scope.specs.declared.plan.PlanError.TheVariants.{WithoutForm}
-use Rattle.naga_wgsl_fns.specs.PlanRefusals.{NamesStatement, ExpressionNamesAreFullIn}
-use Rattle.naga_refusals.specs.Errors.{IsErrorOfNames}
+use Rattle.naga_wgsl_fns.specs.PlanRefusals.{ExpressionNamesAreFullIn, IsConstructOf}
+use Rattle.naga_wgsl_fns.specs.PlanRefusals.{IsConstructOfNames}
 use Rattle.naga_wgsl_fns.specs.PlanRefusals.{IsReasonForNoPlan, IsWritableAt, IsOfPlan}
 use Rattle.naga_wgsl_fns.specs.PlanRefusals.{IsPlanRefusal}
 use Rattle.naga_wgsl_fns.specs.PlanRefusals.{HasUnsupportedIn}
 use Rattle.naga_wgsl_shared.specs.Refusals.{NamesExpression}
 use Rattle.naga_wgsl_fns.specs.PlanRefusals.{NamesUnsupportedType}
-use Rattle.naga_wgsl_shared.specs.Refusals.{NamesType}
 use Rattle.naga_wgsl_fns.specs.PlanRefusals.{NamesUnsupported}
-use Rattle.naga_wgsl_shared.specs.Refusals.{NamesItemsOf}
-use Rattle.naga_wgsl_fns.specs.PlanRefusals.{TellsPlanError}
-use Rattle.naga_scope.specs.declared.statements.UnsupportedStatement.TheVariants as unsupported_statement
-use Rattle.naga_scope.specs.declared.statements.UnsupportedStatement.{UnsupportedStatement}
 use Rattle.naga_scope.proofs.FormedStatements.{some_unsupported}
-use Rattle.naga_form.proofs.statements.AcceptedFunctions.{accepted_at, function_there}
-use Rattle.naga_form.proofs.statements.AcceptedFunctions.{names_are_in_range, all_counted}
-use Rattle.module_semantics.specs.acceptance.Ranges.{names_in_range}
-use Rattle.std.proofs.lemmas.Bool.{ltb-true}
-use Rattle.std.proofs.Common.{◌≡◌, ◌<◌, ◌∙◌, ℕ, Bool, true, zero, suc, List, [], ◌∷◌, None}
+use Rattle.naga_form.proofs.statements.AcceptedFunctions.{all_counted}
+use Rattle.std.proofs.Common.{◌≡◌, ◌<◌, ◌∙◌, ℕ, Bool, zero, suc, List, [], ◌∷◌, None}
 use Rattle.std.proofs.Common.{Option, Some, ap, arith, inl, inr, length, refl, subst, codes, sym}
 use Rattle.std.proofs.Common.{◌++◌}
 use Rattle.std.specs.Prelude.{IfSome, IsFalse, IsSomeAnd, IsTrue, slice_get}
 use Rattle.std.specs.Option.{option_map_or}
 use Rattle.std.proofs.lemmas.Option.{slice_get_within}
 use Rattle.naga_ir.specs.declared.expression.Expression.{Expression}
-use Rattle.naga_ir.specs.declared.expression.Expression.TheVariants.{Constant}
-use Rattle.naga_ir.specs.declared.expression.Expression.TheVariants.{GlobalVariable}
 use Rattle.naga_ir.specs.declared.module.Function as ir_function
 use Rattle.naga_ir.specs.declared.module.Module.{Module}
 use Rattle.naga_info.specs.declared.info.ExpressionInfo.{ExpressionInfo}
@@ -65,10 +55,11 @@ use Rattle.naga_scope.proofs.WrittenLines.{in_the_function}
 use Rattle.naga_refusals.specs.declared.error.Error.{Error}
 use Rattle.naga_refusals.specs.declared.error.Error.TheVariants.{Custom, FmtError}
 use Rattle.naga_refusals.specs.declared.error.Error.TheVariants.{Memory}
-use Rattle.naga_words.specs.declared.sink.SinkError.{SinkError}
 use Rattle.naga_refusals.specs.Errors.{IsCustom}
-use Rattle.naga_wgsl_shared.proofs.Wants.{no_type_sink, names_no_sink}
-use Rattle.naga_refusals.specs.Constructs.{IsToldAs}
+use Rattle.naga_wgsl_shared.proofs.Wants.{named_no_sink, told_no_sink}
+use Rattle.naga_tables.proofs.Refusals.{type_refused}
+use Rattle.naga_tables.specs.Refusals.{expression_refusal, type_refusal, unspelled}
+use Rattle.naga_refusals.specs.Constructs.{IsToldAs, IsToldOf}
 use Rattle.naga_wgsl_fns.specs.Unplanned.{IsRefusedFor, IsUnplanned, TellsUnplanned}
 use Rattle.naga_wgsl_fns.specs.declared.plans.Unplanned.{Unplanned}
 use Rattle.naga_wgsl_fns.specs.declared.plans.Unplanned.TheVariants as unplanned

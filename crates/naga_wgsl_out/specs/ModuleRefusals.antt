@@ -13,7 +13,7 @@ use Rattle.naga_naming.specs.Naming.{Names}
 use Rattle.naga_naming.specs.Refusal.{SomeNameIsFull, SomeKeyIsFull}
 use Rattle.naga_naming.specs.Reset.{labelled_items}
 use Rattle.naga_scope.specs.Plans.{HasScopeFaultIn}
-use Rattle.naga_wgsl_shared.specs.DeclarationRefusals.{NamesDeclaration}
+use Rattle.naga_wgsl_shared.specs.Refusals.{NamesDeclaration}
 use Rattle.naga_refusals.specs.Errors.{IsSinkWant}
 use Rattle.naga_wgsl_fns.specs.PlanRefusals.{ExpressionNamesAreFullIn, HasUnsupportedIn}
 use Rattle.naga_wgsl_fns.specs.PlanRefusals.{HasNamedLabels}
