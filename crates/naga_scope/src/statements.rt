@@ -47,9 +47,7 @@ fn unsupported_change(fun: AtomicFunction) -> Option<Construct>
         ≡ unless (is_some (texel_change_word (change_of fun))) construct.ImageCompareExchange }
 {
     match fun {
-        AtomicFunction::Exchange { compare: Some(_) } => {
-            Some(Construct::ImageCompareExchange)
-        }
+        AtomicFunction::Exchange { compare: Some(_) } => { Some(Construct::ImageCompareExchange) }
         _ => None,
     }
 }

@@ -175,15 +175,15 @@ pub record StructHasForm (m : Module) (members : List StructMember) : Type 0 whe
 -- A member is refused; or none is, and a member can't stay where it is; or all can, and one has an
 -- array of another stride. Of each the first is told.
 pub data IsUnsupportedStruct (m : Module) (members : List StructMember) (it : Construct) : Type 0
-    where
-  OfFirst : FindsMember m members (Some it) → IsUnsupportedStruct m members it
-  OfPlace : (ks : List Placed) (fault : Misplaced) → FindsMember m members None →
-      concerned_among m members ≡ Some ks → StandsAmong fault ks →
-      FindsMisplaced ks (Some fault) → it ≡ misplaced_construct fault →
-      IsUnsupportedStruct m members it
-  OfArray : (ks : List Placed) (ty : ℕ) → FindsMember m members None →
-      concerned_among m members ≡ Some ks → ((fault : Misplaced) → StandsAmong fault ks → ⊥) →
-      FindsStride m members (Some ty) → it ≡ construct.ArrayStride → IsUnsupportedStruct m members it
+  where
+    OfFirst : FindsMember m members (Some it) → IsUnsupportedStruct m members it
+    OfPlace : (ks : List Placed) (fault : Misplaced) → FindsMember m members None →
+        concerned_among m members ≡ Some ks → StandsAmong fault ks →
+        FindsMisplaced ks (Some fault) → it ≡ misplaced_construct fault →
+        IsUnsupportedStruct m members it
+    OfArray : (ks : List Placed) (ty : ℕ) → FindsMember m members None →
+        concerned_among m members ≡ Some ks → ((fault : Misplaced) → StandsAmong fault ks → ⊥) →
+        FindsStride m members (Some ty) → it ≡ construct.ArrayStride → IsUnsupportedStruct m members it
 
 -- so it is with a struct that a text declares
 abbrev pub TypeHasForm : Module → (ty : ℕ) → Type_ → Type 0

@@ -319,9 +319,7 @@ fn unsupported_value(
 }
 
 /// The first value without a word that a function takes or gives.
-fn unsupported_in_functions(
-    module: &Module,
-) -> Option<(DeclarationPosition, Construct)>
+fn unsupported_in_functions(module: &Module) -> Option<(DeclarationPosition, Construct)>
     ensures { FindsFirst «module».now.functions (λ i. IoHasForm)
         (λ h. DeclarationPosition.Function h) (λ i. IsUnsupportedIo) result }
 {

@@ -3,9 +3,9 @@
 ghost use Rattle.std.specs.Prelude.{◌≡◌};
 ghost use Rattle.module_semantics.specs.LackingScalars.{handle_lacks, lacking_scalar};
 
+use crate::single_types::{base_type, own_unwritable_scalar};
 use naga_info::TypeResolution;
 use naga_ir::{Handle, Scalar, Type_, UniqueArena};
-use crate::single_types::{base_type, own_unwritable_scalar};
 
 /// What the type with this handle lacks, by the types before it that it is over.
 fn handle_lacks(types: &UniqueArena<Type_>, handle: Handle<Type_>) -> Option<Scalar>

@@ -575,10 +575,7 @@ fn constant_refusal_over(
 }
 
 /// By what the first of these is refused that is refused.
-fn first_refusal(
-    cells: &[Option<Construct>],
-    handles: &[Handle<Expression>],
-) -> Option<Construct>
+fn first_refusal(cells: &[Option<Construct>], handles: &[Handle<Expression>]) -> Option<Construct>
     ensures { result ≡ first_refusal (refusal_at cells.now) handles.now }
 {
     for handle in handles {

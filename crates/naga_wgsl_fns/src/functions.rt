@@ -38,11 +38,11 @@ use naga_ir::{
     Module,
 };
 use naga_naming::NameKey;
+use naga_refusals::error::error_of_want;
 use naga_scope::{Plan, Scope, function_of};
 use naga_tables::ModuleTables;
 use naga_wgsl_shared::Error;
 use naga_wgsl_shared::bindings::write_optional_binding;
-use naga_refusals::error::error_of_want;
 use naga_words::{Output, TextSink};
 use std::alloc::Global;
 use std::collections::HashMap;
