@@ -19,7 +19,6 @@ use Rattle.module_semantics.specs.FunctionNumbers.{all_functions, all_infos}
 use Rattle.module_semantics.specs.Layouts.{concerned_members, concerned_of, module_rule}
 use Rattle.module_semantics.specs.ExpressionForms.{global_has_form}
 use Rattle.naga_info.specs.declared.info.ModuleInfo.{ModuleInfo}
-use Rattle.naga_info.specs.declared.info.TypeResolution.TheVariants.{Handle}
 use Rattle.naga_ir.specs.declared.module.Constant.{Constant}
 use Rattle.naga_ir.specs.declared.module.EntryPoint.{EntryPoint}
 use Rattle.naga_ir.specs.declared.module.Function.{Function}
