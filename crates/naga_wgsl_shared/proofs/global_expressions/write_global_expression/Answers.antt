@@ -38,8 +38,8 @@ write_written_global-requires g c = record {
   has_form = has_form_there c.args.«module».now c.args.handle c.in-None.ensures;
 }
 
-pub returns-in-None : goal.returns-in-None
-returns-in-None g c =
+pub returns : goal.returns
+returns g c =
     global_writes c.args.«module».now c.args.handle c.requires.accepted.0 c.requires.accepted.1
     (has_form_there c.args.«module».now c.args.handle c.in-None.ensures)
     c.write_written_global.result (g.W.TextSink.text c.args.out.now)
