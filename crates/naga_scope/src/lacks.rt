@@ -1,7 +1,7 @@
 //! Which expressions may be written out as constants, and the lowest expression without a form that each
 //! expression of a function is made of.
 
-ghost use Rattle.std.specs.Prelude.{◌≡◌, List, None, get_or, if◌then◌else◌, length, replicate};
+ghost use Rattle.std.specs.Prelude.{◌≡◌, List, None, get_or, length, replicate};
 ghost use Rattle.std.specs.Prelude.{IfOk, Some};
 ghost use Rattle.naga_ir.specs.Operands.{expression_operands};
 ghost use Rattle.naga_ir.specs.declared.expression.Expression.{Expression};
@@ -142,15 +142,9 @@ fn operands_lack(
     found
 }
 
-/// This handle where its expression has no form.
-fn handle_unless_formed(handle: Handle<Expression>, has_form: bool) -> Option<Handle<Expression>>
-    ensures { result ≡ (if has_form then None else Some handle) }
-{
-    if has_form { None } else { Some(handle) }
-}
-
 /// The lowest that the expression with this handle is made of, itself among them, where those before
 /// it stand in the table.
+#[tactic(auto, using(crate::proofs::Lowest::lower_none))]
 fn lowest_at(
     lacks: &[Option<Handle<Expression>>],
     constants: &[bool],
@@ -174,10 +168,12 @@ fn lowest_at(
         known.info,
         expression,
     );
-    lower(
-        operands_lack(lacks, expression),
-        handle_unless_formed(handle, has_form),
-    )
+    let found = operands_lack(lacks, expression);
+    if has_form {
+        found
+    } else {
+        lower(found, Some(handle))
+    }
 }
 
 /// Notes the lowest of each expression, from the first to the last, since operands stand before what

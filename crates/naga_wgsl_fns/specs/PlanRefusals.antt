@@ -1,7 +1,8 @@
 -- Why a function is refused, each reason with what it says.
 --
 -- Throughout, m is the module, e an error of memory, and explicit says whether `let`s tell types.
-use Rattle.std.specs.Prelude.{◌≡◌, ⊤, ℕ, ◌<◌, List, [], ◌∷◌, ◌⊎◌, AllocError, codes, string_bytes}
+use Rattle.std.specs.Prelude.{◌≡◌, ⊤, ℕ, ◌<◌, List, [], ◌∷◌, ◌⊎◌, codes, string_bytes}
+use Rattle.std.specs.declared.alloc.AllocError.{AllocError}
 use Rattle.std.specs.Prelude.{IsSomeAnd, Some, length, slice_get, Bool}
 use Rattle.std.specs.Prelude.{IsFalse}
 use Rattle.std.specs.List.{IsAmong}

@@ -1,6 +1,6 @@
 //! The plan of a function, or why there is none.
 
-ghost use Rattle.std.specs.Prelude.{◌≡◌, [], List, IfErr, IfOk, IsTrue, OnErr};
+ghost use Rattle.std.specs.Prelude.{◌≡◌, [], ℕ, List, IfErr, IfOk, IsTrue, OnErr};
 ghost use Rattle.module_semantics.specs.acceptance.Accepted.{is_accepted};
 ghost use Rattle.module_semantics.specs.FunctionNumbers.{IsFunctionOf, function_number};
 ghost use Rattle.module_semantics.specs.Names.{HasNamesOf, labels_named_in, wgsl_names};
