@@ -59,7 +59,8 @@ LAYERS = [
     ("what is asked", CODE, [
         ("naga_acceptance", "accepts, count"),
         ("fault_details", "what was expected"),
-        ("naga_tables", "what has a form"),
+        ("naga_refusals", "constructs, errors"),
+        ("naga_tables", "what is refused"),
         ("naga_scope", "scope, plans"),
     ]),
     ("what is found", CODE, [
@@ -68,7 +69,7 @@ LAYERS = [
         ("operand_levels", "deep operands"),
     ]),
     ("the writer", CODE, [
-        ("naga_wgsl_shared", "parts of texts, errors"),
+        ("naga_wgsl_shared", "parts of texts"),
         ("naga_wgsl_fns", "texts of functions"),
         ("naga_wgsl_out", "texts of modules"),
         ("wrong_texts", "wrong texts, refused"),

@@ -4,7 +4,7 @@
 -- which the position is told.
 use Rattle.std.specs.Prelude.{◌≡◌, ℕ, List, ◌++◌, codes}
 use Rattle.naga_ir.specs.declared.module.Module.{Module}
-use Rattle.naga_wgsl_shared.specs.Constructs.{construct_text}
+use Rattle.naga_refusals.specs.Constructs.{construct_text}
 use Rattle.naga_wgsl_out.specs.declared.unwritable.Refusal.{Refusal}
 use Rattle.module_positions.specs.Labels.{label_at}
 use Rattle.module_positions.specs.Positions.{IsKnownText, IsLabelled, json_refusal_position}

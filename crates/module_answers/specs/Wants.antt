@@ -1,8 +1,8 @@
 -- Want of memory in the place of an answer.
 use Rattle.std.specs.Prelude.{◌≡◌, ◌⊎◌, Err, IsErrAnd, Result, alloc_error}
-use Rattle.naga_wgsl_shared.specs.Refusals.{TellsOfModule}
-use Rattle.naga_wgsl_shared.specs.declared.refusals.error.Error.{Error}
-use Rattle.naga_wgsl_shared.specs.declared.refusals.error.Error.TheVariants.{Memory}
+use Rattle.naga_refusals.specs.Errors.{TellsOfModule}
+use Rattle.naga_refusals.specs.declared.error.Error.{Error}
+use Rattle.naga_refusals.specs.declared.error.Error.TheVariants.{Memory}
 
 -- the answer, or where that is an error that tells of the module, that memory was wanting
 abbrev pub IsAnswerOrMemory : (answer told : Result Unit Error) → Type 0

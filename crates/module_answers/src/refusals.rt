@@ -3,7 +3,7 @@
 ghost use Rattle.std.specs.Prelude.{IfOk, string_bytes};
 ghost use Rattle.module_positions.specs.Positions.{IsKnownText};
 ghost use Rattle.module_answers.specs.Refusals.{TellsConstructAt, TellsRefusalAt};
-ghost use Rattle.naga_wgsl_shared.specs.Constructs.{construct_text};
+ghost use Rattle.naga_refusals.specs.Constructs.{construct_text};
 
 use module_positions::{
     JsonHolder, JsonRefusalPosition, label_at, label_text, root_after, root_at,

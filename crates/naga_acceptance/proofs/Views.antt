@@ -9,18 +9,18 @@ use Rattle.std.specs.Bool.{nat_eq}
 use Rattle.naga_ir.specs.declared.types.Type_.{Type_}
 use Rattle.naga_info.specs.declared.info.TypeResolution.{TypeResolution}
 use Rattle.naga_info.specs.declared.info.TypeResolution.TheVariants.{Handle}
-use Rattle.module_semantics.specs.AlikeTypes.{type_key, type_identity}
+use Rattle.module_semantics.specs.AlikeTypes.{type_key}
 use Rattle.module_semantics.specs.TypeIdentity.{identity, identity_at, identity_code, inner_code}
 use Rattle.module_semantics.specs.TypeIdentity.{StructAt, Itself}
 use Rattle.module_semantics.proofs.AlikeTypes.{begins_plain, key_plain, unsupported_at}
 use Rattle.naga_acceptance.specs.declared.type_numbers.Level.{Level}
-use Rattle.naga_acceptance.specs.declared.alike.Identity.TheVariants.{Formed, Unsupported}
+use Rattle.naga_acceptance.specs.declared.alike.Identity.TheVariants.{Formed}
 use Rattle.naga_acceptance.specs.declared.alike.Over.{Over}
 use Rattle.naga_acceptance.specs.declared.alike.Over.TheVariants.{Nothing, Type_ as TypeAt}
 use Rattle.naga_acceptance.specs.declared.alike.Over.TheVariants.{Value as ValueOver}
 use Rattle.naga_acceptance.specs.declared.alike.Top.{Top}
 use Rattle.naga_acceptance.specs.Views.{numbers, over_key, top_key, next_key, rank}
-use Rattle.naga_acceptance.specs.Views.{unsupported_code, is_whole, identity_numbers}
+use Rattle.naga_acceptance.specs.Views.{unsupported_code, is_whole}
 
 -- ---- levels
 six : (a b c d e f r : Bool) → (a && (b && (c && (d && (e && (f && r))))))
@@ -110,15 +110,6 @@ module _ (types : List Type_) where
       ∙ ap (λ w. bytes_eq [] (unwrap_or w [])) (over_ends p ep sp)
 
   -- ---- whole types
-
-  pub distinguished_by : (r : TypeResolution) → type_key types r ≡ None → type_identity types r
-      ≡ 32 ∷ identity_code (identity types r)
-  distinguished_by r none = ap (λ o. unwrap_or o (32 ∷ identity_code (identity types r))) none
-
-  pub unsupported_is : (r : TypeResolution) (l : Option Level) → type_key types r ≡ None →
-      unsupported_code (option_map numbers l) ≡ identity_code (identity types r) →
-      identity_numbers types (Unsupported l) ≡ type_identity types r
-  unsupported_is r l none same = ap (λ w. 32 ∷ w) same ∙ sym (distinguished_by r none)
 
   -- a type with a form is told apart from those without
   pub formed_whole : (r : TypeResolution) (x : Top) → top_key types (Some x) ≡ type_key types r →

@@ -15,17 +15,10 @@ use Rattle.naga_scope.proofs.InOrder.{all_of, gathered}
 use Rattle.naga_scope.specs.UnsupportedStatements.{LacksForm, SomeCaseFalls, falls_unsupported}
 use Rattle.naga_scope.specs.UnsupportedStatements.{first_unsupported, unsupported_case}
 use Rattle.naga_scope.specs.UnsupportedStatements.{unsupported_statement, own_unsupported}
-use Rattle.naga_scope.specs.UnsupportedStatements.{simple_unsupported, unless}
-use Rattle.naga_scope.specs.declared.statements.UnsupportedStatement.{UnsupportedStatement}
+use Rattle.naga_scope.specs.UnsupportedStatements.{simple_unsupported}
+use Rattle.naga_refusals.specs.declared.construct.Construct.{Construct}
+use Rattle.naga_tables.proofs.Refusals.{either_is, unless_is}
 use Rattle.naga_tables.specs.Declarations.{Each, EachBefore}
-
-unless_none : (b : Bool) (it : UnsupportedStatement) → is_none (unless b it) ≡ b
-unless_none true it = refl
-unless_none false it = refl
-
-both_none : (x y : Option UnsupportedStatement) → is_none (option_or x y) ≡ (is_none x && is_none y)
-both_none None y = refl
-both_none (Some it) y = refl
 
 falls_none : (falls is_empty : Bool) → is_none (falls_unsupported falls is_empty) ≡ (not falls || is_empty)
 falls_none true true = refl
@@ -34,10 +27,10 @@ falls_none false is_empty = refl
 
 simple_formed : (st : SimpleStatement) → simple_has_form st ≡ is_none (simple_unsupported st)
 simple_formed (image_atomic image coordinate array_index fun value) =
-    sym (unless_none (is_some (texel_change_word (change_of fun))) _)
+    sym (unless_is (is_some (texel_change_word (change_of fun))) _)
 simple_formed (ray_query query) = refl
 simple_formed (subgroup_collective_operation op collective argument outcome) =
-    sym (unless_none (is_some (collective_word op collective)) _)
+    sym (unless_is (is_some (collective_word op collective)) _)
 simple_formed _ = refl
 
 -- the statements of cases have forms
@@ -60,7 +53,7 @@ cases_formed (case v b falls cs) =
     ap (λ x. stays && (block_has_forms b && x)) (cases_formed cs)
     ∙ third_second stays (block_has_forms b) none (bodies_have_forms cs)
     ∙ ap (λ x. x && (block_has_forms b && bodies_have_forms cs))
-    (sym (both_none (falls_unsupported falls (has_no_statements b)) (unsupported_case cs)
+    (sym (either_is (falls_unsupported falls (has_no_statements b)) (unsupported_case cs)
     ∙ ap (λ x. x && none) (falls_none falls (has_no_statements b))))
 
 block_formed : (b : BlockTree) → is_none (unsupported_statement b) ≡ block_has_forms b
@@ -68,7 +61,7 @@ block_formed =
     gathered all_of (λ sts. is_none (first_unsupported sts)) (λ st. is_none (own_unsupported st))
     statement_has_form block_has_forms bodies_have_forms (record {
       none = refl;
-      next = λ st sts. both_none (own_unsupported st) (first_unsupported sts);
+      next = λ st sts. either_is (own_unsupported st) (first_unsupported sts);
       simple_is = simple_formed;
       block_is = λ b. refl;
       branch_is = λ c x y. refl;
@@ -84,7 +77,7 @@ block_formed =
 pub none_unsupported : (b : BlockTree) → unsupported_statement b ≡ None → IsTrue (block_has_forms b)
 none_unsupported b none = sym (block_formed b) ∙ ap is_none none
 
-pub some_unsupported : (b : BlockTree) (it : UnsupportedStatement) → unsupported_statement b ≡ Some it →
+pub some_unsupported : (b : BlockTree) (it : Construct) → unsupported_statement b ≡ Some it →
     IsFalse (block_has_forms b)
 some_unsupported b it is = sym (block_formed b) ∙ ap is_none is
 
@@ -94,7 +87,7 @@ all_formed [] each = refl
 all_formed (st ∷ sts) each =
     ap (λ o. option_or o (first_unsupported sts)) (each 0 st refl) ∙ all_formed sts (λ i x at. each (suc i) x at)
 
-pub first_is : (sts : List StatementTree) (i : ℕ) (st : StatementTree) (it : UnsupportedStatement) → slice_get sts i
+pub first_is : (sts : List StatementTree) (i : ℕ) (st : StatementTree) (it : Construct) → slice_get sts i
     ≡ Some st →
     EachBefore sts i (λ i st. own_unsupported st ≡ None) → own_unsupported st ≡ Some it →
     first_unsupported sts ≡ Some it
@@ -105,17 +98,17 @@ first_is (x ∷ sts) (suc i) st it at before is =
     ap (λ o. option_or o (first_unsupported sts)) (before 0 x (omega arith) refl)
     ∙ first_is sts i st it at (λ j y lt there. before (suc j) y (omega (arith, lt)) there) is
 
-case_falls : (cs : CaseTrees) (it : UnsupportedStatement) → unsupported_case cs ≡ Some it → SomeCaseFalls cs it
+case_falls : (cs : CaseTrees) (it : Construct) → unsupported_case cs ≡ Some it → SomeCaseFalls cs it
 case_falls no_cases it is = absurd cc
 case_falls (case v b falls cs) it is = by (falls_unsupported falls (has_no_statements b)) is (case_falls cs it)
   where
-    by : (o : Option UnsupportedStatement) → option_or o (unsupported_case cs) ≡ Some it →
+    by : (o : Option Construct) → option_or o (unsupported_case cs) ≡ Some it →
         (unsupported_case cs ≡ Some it → SomeCaseFalls cs it) →
         (o ≡ Some it) ⊎ SomeCaseFalls cs it
     by None is further = inr (further is)
     by (Some x) is further = inl is
 
-pub lacks_form : (st : StatementTree) (it : UnsupportedStatement) → own_unsupported st ≡ Some it → LacksForm st it
+pub lacks_form : (st : StatementTree) (it : Construct) → own_unsupported st ≡ Some it → LacksForm st it
 lacks_form (simple st) it is = is
 lacks_form (switch s cs) it is = case_falls cs it is
 lacks_form _ it is = absurd cc

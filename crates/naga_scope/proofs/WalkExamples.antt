@@ -31,7 +31,7 @@ use Rattle.naga_scope.specs.declared.plan.PlanError.{PlanError}
 use Rattle.naga_scope.specs.declared.plan.PlanError.TheVariants.{OutOfScope, StatementWithoutForm}
 use Rattle.naga_scope.specs.declared.plan.PlanError.TheVariants.{TypeWithoutForm, WithoutForm}
 use Rattle.naga_scope.specs.declared.scope_faults.ScopeFault.TheVariants as fault
-use Rattle.naga_scope.specs.declared.statements.UnsupportedStatement.TheVariants as unsupported
+use Rattle.naga_refusals.specs.declared.construct.Construct.TheVariants as construct
 
 module _ (other : Module) (info : ModuleInfo) (f : Function) (argument : FunctionArgument)
     (answer : FunctionResult) (variable : LocalVariable) where
@@ -151,7 +151,7 @@ module _ (other : Module) (info : ModuleInfo) (f : Function) (argument : Functio
   outer_first = refl
 
   inner_before_the_next : first_in (branch 0 (body_of unformed) (body_of (asks 9)) ∷ asks 9 ∷ [])
-      ≡ Some (StatementWithoutForm 1 unsupported.RayQuery)
+      ≡ Some (StatementWithoutForm 1 construct.RayQuery)
   inner_before_the_next = refl
 
   counted_after_the_inner : first_in (branch 0 (body_of (asks 0)) (body_of (asks 0)) ∷ asks 9 ∷ [])
@@ -176,12 +176,12 @@ module _ (other : Module) (info : ModuleInfo) (f : Function) (argument : Functio
 
   counted_by_cases :
       first_in (switch 0 (case_of (body_of (asks 0)) false (case_of (body_of unformed) false no_cases)) ∷ [])
-      ≡ Some (StatementWithoutForm 2 unsupported.RayQuery)
+      ≡ Some (StatementWithoutForm 2 construct.RayQuery)
   counted_by_cases = refl
 
   falls_through_at_the_switch :
       first_in (switch 0 (case_of (body_of unformed) true no_cases) ∷ [])
-      ≡ Some (StatementWithoutForm 0 unsupported.FallThrough)
+      ≡ Some (StatementWithoutForm 0 construct.FallThrough)
   falls_through_at_the_switch = refl
 
   body_before_continuing : first_in (loop (body_of (asks 1)) (body_of unformed) None ∷ [])
@@ -191,7 +191,7 @@ module _ (other : Module) (info : ModuleInfo) (f : Function) (argument : Functio
 
   -- a `break if` after all in its loop, of two the inner loop's first, and before what follows
   break_if_last : first_in (loop no_statements (body_of unformed) (Some 9) ∷ [])
-      ≡ Some (StatementWithoutForm 1 unsupported.RayQuery)
+      ≡ Some (StatementWithoutForm 1 construct.RayQuery)
   break_if_last = refl
 
   inner_loop_first : first_in (loop (body_of (loop no_statements no_statements (Some 1))) no_statements (Some 2) ∷ [])
@@ -209,7 +209,7 @@ module _ (other : Module) (info : ModuleInfo) (f : Function) (argument : Functio
   scope_before_a_form = refl
 
   statement_before_an_expression : first_in (simple (ray_query 1) ∷ [])
-      ≡ Some (StatementWithoutForm 0 unsupported.RayQuery)
+      ≡ Some (StatementWithoutForm 0 construct.RayQuery)
   statement_before_an_expression = refl
 
   scope_before_a_form_of_a_local : first_of (record empty { local_variables = local_of 1 (Some 9) ∷ [] })

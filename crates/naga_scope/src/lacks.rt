@@ -1,7 +1,7 @@
 //! Which expressions may be written out as constants, and the lowest expression without a form that each
 //! expression of a function is made of.
 
-ghost use Rattle.std.specs.Prelude.{◌≡◌, List, None, get_or, if◌then◌else◌, length, replicate};
+ghost use Rattle.std.specs.Prelude.{◌≡◌, List, None, get_or, length, replicate};
 ghost use Rattle.std.specs.Prelude.{IfOk, Some};
 ghost use Rattle.naga_ir.specs.Operands.{expression_operands};
 ghost use Rattle.naga_ir.specs.declared.expression.Expression.{Expression};
@@ -23,7 +23,7 @@ use naga_info::FunctionInfo;
 use naga_ir::{Expression, Function, Handle, ItemIndex, Module};
 use naga_naming::NameKey;
 use naga_tables::ModuleTables;
-use naga_tables::forms::has_own_form;
+use naga_tables::forms::own_refusal;
 use naga_tables::marks::{are_marked, is_marked, no_marks};
 use std::alloc::{AllocError, Global};
 use std::collections::HashMap;
@@ -85,7 +85,10 @@ fn expression_has_form(
     ensures { (es : List Expression) → MarksConstants es constants.now →
         result ≡ expression_has_form «module».now info.now es expression.now }
 {
-    has_own_form(module, tables, names, info, expression) && offset_has_form(constants, expression)
+    match own_refusal(module, tables, names, info, expression) {
+        Some(_) => false,
+        None => offset_has_form(constants, expression),
+    }
 }
 
 /// The lower of two handles, if there are any.
@@ -139,15 +142,9 @@ fn operands_lack(
     found
 }
 
-/// This handle where its expression has no form.
-fn handle_unless_formed(handle: Handle<Expression>, has_form: bool) -> Option<Handle<Expression>>
-    ensures { result ≡ (if has_form then None else Some handle) }
-{
-    if has_form { None } else { Some(handle) }
-}
-
 /// The lowest that the expression with this handle is made of, itself among them, where those before
 /// it stand in the table.
+#[tactic(auto, using(crate::proofs::Lowest::lower_none))]
 fn lowest_at(
     lacks: &[Option<Handle<Expression>>],
     constants: &[bool],
@@ -171,10 +168,12 @@ fn lowest_at(
         known.info,
         expression,
     );
-    lower(
-        operands_lack(lacks, expression),
-        handle_unless_formed(handle, has_form),
-    )
+    let found = operands_lack(lacks, expression);
+    if has_form {
+        found
+    } else {
+        lower(found, Some(handle))
+    }
 }
 
 /// Notes the lowest of each expression, from the first to the last, since operands stand before what

@@ -17,7 +17,7 @@ pub mod points;
 pub mod positions;
 mod scope_faults;
 mod spelled;
-pub mod statements;
+mod statements;
 mod walk;
 
 pub use continues::split_at_continue;
@@ -28,4 +28,3 @@ pub use plan::{Plan, PlanError};
 pub use points::{Availability, BoundName, Scope};
 pub use positions::{FunctionRefusalPosition, RefusalPosition};
 pub use scope_faults::ScopeFault;
-pub use statements::UnsupportedStatement;

@@ -26,13 +26,13 @@ use crate::lines::{Declared, Line};
 use crate::named::expression_names;
 use crate::points::Scope;
 use crate::scope_faults::ScopeFault;
-use crate::statements::UnsupportedStatement;
 use crate::walk::Walk;
 use naga_back::FunctionType;
 use naga_info::ModuleInfo;
 use naga_ir::{Expression, Handle, Module, Type_};
 use naga_names::namer::Namer;
 use naga_naming::{NameKey, NamerError};
+use naga_refusals::Construct;
 use naga_tables::ModuleTables;
 use std::alloc::{AllocError, Global};
 use std::collections::HashMap;
@@ -44,8 +44,9 @@ pub enum PlanError {
     /// The rules of scope don't hold in the function, by this fault.
     OutOfScope(ScopeFault),
     /// The statement with this number is the first without a form, where those in blocks are
-    /// counted too, each after the one that holds the block, from 0. A case is told by its `switch`.
-    StatementWithoutForm(usize, UnsupportedStatement),
+    /// counted too, each after the one that holds the block, from 0; it is refused by this construct.
+    /// A case is told by its `switch`.
+    StatementWithoutForm(usize, Construct),
     /// The line writes the expression with this handle, which has no form.
     WithoutForm(Line, Handle<Expression>),
     /// What is declared here is of this type, which has no form.

@@ -45,7 +45,7 @@ use Rattle.naga_ir.specs.declared.types.VectorSize.{VectorSize}
 use Rattle.naga_spelling.specs.Spelling.{is_struct}
 use Rattle.wgsl_words.specs.Words.{scalar_word, space_word}
 use Rattle.naga_tables.proofs.Marking.{just_marked}
-use Rattle.naga_tables.proofs.WrittenConstants.{MarksBelow, globals_in_order}
+use Rattle.naga_tables.proofs.WrittenConstants.{CellsBelow, globals_in_order}
 use Rattle.naga_tables.specs.Marks.{MarksAlso, is_marked, is_one_of}
 use Rattle.naga_tables.specs.Tables.{AreRepresentatives, ItemsStandInOrder, MarksNaming}
 use Rattle.naga_tables.specs.Tables.{MarksTypeForms, MarksUndeclared, is_marked_over}
@@ -197,7 +197,7 @@ module _ (m : Module) (stand : IsTrue (parts_stand_before m.types)) where
   -- so a type names one by which of those before it do
   pub naming_by : (h : ℕ) (t : Type_) → slice_get m.types h ≡ Some t → (undeclared : List Bool) →
       MarksUndeclared m undeclared → (marks : List Bool) →
-      MarksBelow (handle_names_undeclared m) (length m.types) marks h →
+      CellsBelow false (handle_names_undeclared m) (length m.types) marks h →
       (if is_struct t.inner then is_marked undeclared h else is_marked_over marks t.inner) ≡
       handle_names_undeclared m h
   naming_by h t at undeclared are marks below =
@@ -283,7 +283,7 @@ named_decided false spelled name key named same = same
 module _ (m : Module) (stand : IsTrue (parts_stand_before m.types)) where
   -- so a type is spelled by which of those before it are
   pub formed_by : (h : ℕ) (t : Type_) → slice_get m.types h ≡ Some t → (marks : List Bool) →
-      MarksBelow (λ h. has_type_form m.types (Handle h)) (length m.types) marks h →
+      CellsBelow false (λ h. has_type_form m.types (Handle h)) (length m.types) marks h →
       item_has_type_form marks t.inner ≡ has_type_form m.types (Handle h)
   unfolding handle_key
   formed_by h t at marks below =

@@ -1,11 +1,11 @@
--- Which expressions may be written out as constants, and which of a module's own are written, by one
+-- Which expressions may be written out as constants, and by what a module's own are refused, by one
 -- pass over them in their order.
 use Rattle.std.proofs.Common.{◌≡◌, ℕ, ◌+◌, ◌<◌, ◌≤◌, ◌&&◌, ◌||◌, Bool, true, false, List, [], ◌∷◌}
 use Rattle.std.proofs.Common.{Option, Some, None, refl, sym, ap, ap₂, ◌∙◌, arith, subst, length}
 use Rattle.std.proofs.Common.{below_more, get_or, nat_lt, slice_get, slice_set}
 use Rattle.std.specs.List.{list_all}
-use Rattle.std.specs.Prelude.{IsTrue}
-use Rattle.std.specs.Option.{is_some, option_map_or}
+use Rattle.std.specs.Prelude.{IsTrue, if◌then◌else◌}
+use Rattle.std.specs.Option.{is_some, option_map_or, option_or}
 use Rattle.std.proofs.lemmas.Bool.{ltb-false, ltb-true}
 use Rattle.std.proofs.lemmas.Grind.{get_or-set_at}
 use Rattle.std.proofs.lemmas.List.{get_or-set_other, get_or_past, length-set}
@@ -18,9 +18,7 @@ use Rattle.naga_form.proofs.declarations.OwnExpressions.{initialiser_stands_befo
 use Rattle.naga_form.proofs.declarations.OwnExpressions.{initialiser_within, own_is}
 use Rattle.naga_info.specs.declared.info.ModuleInfo.{ModuleInfo}
 use Rattle.module_semantics.specs.Undeclared.{is_spellable}
-use Rattle.module_semantics.specs.ExpressionForms.{constant_has_form, constant_has_form_over}
-use Rattle.module_semantics.specs.ExpressionForms.{global_has_form, global_has_form_over}
-use Rattle.module_semantics.specs.ExpressionForms.{global_has_form_within}
+use Rattle.module_semantics.specs.ExpressionForms.{constant_has_form_over, global_has_form_over}
 use Rattle.module_semantics.specs.Premises.{OperandsStandBefore}
 use Rattle.module_semantics.specs.WrittenOut.{is_written_out, written_out_over, written_out_within}
 use Rattle.naga_ir.specs.Operands.{expression_operands}
@@ -29,7 +27,13 @@ use Rattle.naga_ir.specs.declared.expression.Expression.TheVariants as expressio
 use Rattle.naga_info.specs.declared.info.TypeResolution.TheVariants.{Handle}
 use Rattle.naga_ir.specs.declared.module.Constant.{Constant}
 use Rattle.naga_ir.specs.declared.module.Module.{Module}
-use Rattle.naga_tables.specs.Marks.{GlobalsStandInOrder, MarksGlobals, is_marked}
+use Rattle.naga_refusals.specs.declared.construct.Construct.{Construct}
+use Rattle.naga_refusals.specs.declared.construct.Construct.TheVariants as construct
+use Rattle.naga_tables.specs.Marks.{GlobalsStandInOrder, is_marked}
+use Rattle.naga_tables.specs.Refusals.{constant_refusal, constant_refusal_over, first_refusal}
+use Rattle.naga_tables.specs.Refusals.{global_refusal, global_refusal_over, global_refusal_within}
+use Rattle.naga_tables.specs.Refusals.{type_refusal}
+use Rattle.naga_tables.specs.Tables.{TellsRefusals, refusal_at}
 use Rattle.shader_runs.specs.Premises.{AllBelow}
 
 -- ---- tests that agree below a handle
@@ -46,46 +50,47 @@ out_same a b h (expression.Compose ty components) below same =
 out_same a b h (expression.Splat size value) below same = same value below.0
 out_same a b h _ below same = refl
 
--- ---- tables of marks
--- a table of so many marks, in which those below i are right
-pub record MarksBelow (is : ℕ → Bool) (count : ℕ) (marks : List Bool) (i : ℕ) : Type 0 where
-  pub size : length marks ≡ count
-  pub cells : (h : ℕ) → h < i → is_marked marks h ≡ is h
+-- ---- tables
+-- a table of so many cells, in which those below i are right; what has no cell is as this one says
+pub record CellsBelow {A : Type 0} (none : A) (is : ℕ → A) (count : ℕ) (table : List A) (i : ℕ) :
+    Type 0 where
+  pub size : length table ≡ count
+  pub cells : (h : ℕ) → h < i → get_or table h none ≡ is h
 
-module _ (is : ℕ → Bool) (count : ℕ) where
-  pub none_below : (marks : List Bool) → length marks ≡ count → MarksBelow is count marks 0
-  none_below marks size = record { size = size; cells = λ h lt. absurd (omega (arith, lt)) }
+module _ {A : Type 0} (none : A) (is : ℕ → A) (count : ℕ) where
+  pub none_below : (cells : List A) → length cells ≡ count → CellsBelow none is count cells 0
+  none_below cells size = record { size = size; cells = λ h lt. absurd (omega (arith, lt)) }
 
-  pub one_below : (marks : List Bool) (i : ℕ) (mark : Bool) → i < count → mark ≡ is i →
-      MarksBelow is count marks i → MarksBelow is count (slice_set marks i mark) (i + 1)
-  one_below marks i mark lt same below =
-      let within : i < length marks = subst (λ n. i < n) (sym below.size) lt in
-      let now = slice_set marks i mark in
+  pub one_below : (cells : List A) (i : ℕ) (cell : A) → i < count → cell ≡ is i →
+      CellsBelow none is count cells i → CellsBelow none is count (slice_set cells i cell) (i + 1)
+  one_below cells i cell lt same below =
+      let within : i < length cells = subst (λ n. i < n) (sym below.size) lt in
+      let now = slice_set cells i cell in
       record {
-        size = length-set marks i mark ∙ below.size;
-        cells = below_more (λ h. get_or now h false ≡ is h) i
+        size = length-set cells i cell ∙ below.size;
+        cells = below_more (λ h. get_or now h none ≡ is h) i
             (λ h l.
-            get_or-set_other marks i h mark false (λ same. absurd (omega (arith, l, same)))
+            get_or-set_other cells i h cell none (λ same. absurd (omega (arith, l, same)))
             ∙ below.cells h l)
-            (get_or-set_at marks i i mark false refl within ∙ same);
+            (get_or-set_at cells i i cell none refl within ∙ same);
       }
 
-  pub all_below : ((h : ℕ) → count ≤ h → is h ≡ false) → (marks : List Bool) →
-      MarksBelow is count marks count → (h : ℕ) → is_marked marks h ≡ is h
-  all_below beyond marks below h = by (nat_lt h count) refl
+  pub all_below : ((h : ℕ) → count ≤ h → is h ≡ none) → (cells : List A) →
+      CellsBelow none is count cells count → (h : ℕ) → get_or cells h none ≡ is h
+  all_below beyond cells below h = by (nat_lt h count) refl
     where
-      by : (b : Bool) → nat_lt h count ≡ b → is_marked marks h ≡ is h
+      by : (b : Bool) → nat_lt h count ≡ b → get_or cells h none ≡ is h
       by true within = below.cells h (ltb-true h count within)
       by false outside =
           let le = ltb-false h count outside in
-          let past : length marks ≤ h = omega (arith, le, below.size) in
-          get_or_past marks h false past ∙ sym (beyond h le)
+          let past : length cells ≤ h = omega (arith, le, below.size) in
+          get_or_past cells h none past ∙ sym (beyond h le)
 
 -- ---- what may be written out
 module _ (es : List Expression) (ordered : OperandsStandBefore es) where
   -- an expression may be written out by what may of its operands
   pub constant_by : (h : ℕ) (e : Expression) → slice_get es h ≡ Some e → (marks : List Bool) →
-      MarksBelow (is_written_out es) (length es) marks h →
+      CellsBelow false (is_written_out es) (length es) marks h →
       written_out_over (is_marked marks) e ≡ is_written_out es h
   constant_by h e at marks below =
       by_those_before false es written_out_over (λ k h. written_out_within k es h) (λ k h. refl)
@@ -122,32 +127,69 @@ global_same m ordered h (expression.Splat size value) at a b same =
     same value (ordered.operands h (expression.Splat size value) at).0
 global_same m ordered h _ at a b same = refl
 
--- one is written by which of those before it are
-pub global_by : (m : Module) → GlobalsStandInOrder m → (h : ℕ) (e : Expression) →
-    slice_get m.global_expressions h ≡ Some e → (marks : List Bool) →
-    MarksBelow (global_has_form m) (length m.global_expressions) marks h →
-    global_has_form_over m (is_marked marks) e ≡ global_has_form m h
-global_by m ordered h e at marks below =
-    by_those_before false m.global_expressions (global_has_form_over m)
-    (λ k h. global_has_form_within k m h) (λ k h. refl) (global_same m ordered) h e at
-    (is_marked marks) below.cells
+-- ---- by what they are refused
+-- a constant whose initialiser stands below
+refused_constant_same : (m : Module) (a b : ℕ → Option Construct) (h c : ℕ) →
+    ((k : Constant) → slice_get m.constants c ≡ Some k → k.init < h) →
+    ((x : ℕ) → x < h → a x ≡ b x) → constant_refusal_over m a c ≡ constant_refusal_over m b c
+refused_constant_same m a b h c before same = by (slice_get m.constants c) refl
+  where
+    by : (o : Option Constant) → slice_get m.constants c ≡ o →
+        option_map_or (λ k. if is_some k.name then None else a k.init) o
+        (Some construct.ConstantOperator) ≡
+        option_map_or (λ k. if is_some k.name then None else b k.init) o
+        (Some construct.ConstantOperator)
+    by None at = refl
+    by (Some k) at = ap (λ w. if is_some k.name then None else w) (same k.init (before k at))
 
-pub no_global_beyond : (m : Module) (h : ℕ) → length m.global_expressions ≤ h →
-    global_has_form m h ≡ false
-no_global_beyond m h le =
-    ap (λ o. option_map_or (global_has_form_over m (global_has_form_within h m)) o false)
+first_same : (a b : ℕ → Option Construct) (h : ℕ) (xs : List ℕ) → AllBelow h xs →
+    ((x : ℕ) → x < h → a x ≡ b x) → first_refusal a xs ≡ first_refusal b xs
+first_same a b h [] below same = refl
+first_same a b h (x ∷ xs) below same =
+    ap₂ (λ p q. option_or p q) (same x below.0) (first_same a b h xs below.1 same)
+
+refused_same : (m : Module) → GlobalsStandInOrder m → (h : ℕ) (e : Expression) →
+    slice_get m.global_expressions h ≡ Some e → (a b : ℕ → Option Construct) →
+    ((x : ℕ) → x < h → a x ≡ b x) → global_refusal_over m a e ≡ global_refusal_over m b e
+refused_same m ordered h (expression.Constant c) at a b same =
+    refused_constant_same m a b h c (λ k there. ordered.initialisers h c k at there) same
+refused_same m ordered h (expression.Compose ty components) at a b same =
+    ap (λ first. option_or first (type_refusal m (Handle ty)))
+    (first_same a b h components.items
+    (ordered.operands h (expression.Compose ty components) at) same)
+refused_same m ordered h (expression.Splat size value) at a b same =
+    same value (ordered.operands h (expression.Splat size value) at).0
+refused_same m ordered h _ at a b same = refl
+
+abbrev pub no_constant : Option Construct
+no_constant = Some construct.ConstantOperator
+
+-- one is refused by what those before it are
+pub refused_by : (m : Module) → GlobalsStandInOrder m → (h : ℕ) (e : Expression) →
+    slice_get m.global_expressions h ≡ Some e → (cells : List (Option Construct)) →
+    CellsBelow no_constant (global_refusal m) (length m.global_expressions) cells h →
+    global_refusal_over m (refusal_at cells) e ≡ global_refusal m h
+refused_by m ordered h e at cells below =
+    by_those_before no_constant m.global_expressions (global_refusal_over m)
+    (λ k h. global_refusal_within k m h) (λ k h. refl) (refused_same m ordered) h e at
+    (refusal_at cells) below.cells
+
+pub refused_beyond : (m : Module) (h : ℕ) → length m.global_expressions ≤ h →
+    global_refusal m h ≡ no_constant
+refused_beyond m h le =
+    ap (λ o. option_map_or (global_refusal_over m (global_refusal_within h m)) o no_constant)
     (slice_get_past m.global_expressions h le)
 
--- a constant is written, by marks of the module's own expressions
-pub constant_marked : (m : Module) (marks : List Bool) → MarksGlobals m marks → (c : ℕ) →
-    constant_has_form_over m (is_marked marks) c ≡ constant_has_form m c
-constant_marked m marks are c = by (slice_get m.constants c)
+-- a constant is refused by the cells of the module's own expressions
+pub constant_told : (m : Module) (cells : List (Option Construct)) → TellsRefusals m cells → (c : ℕ) →
+    constant_refusal_over m (refusal_at cells) c ≡ constant_refusal m c
+constant_told m cells tell c = by (slice_get m.constants c)
   where
     by : (o : Option Constant) →
-        option_map_or (λ k. is_some k.name || is_marked marks k.init) o false ≡
-        option_map_or (λ k. is_some k.name || global_has_form m k.init) o false
+        option_map_or (λ k. if is_some k.name then None else refusal_at cells k.init) o no_constant ≡
+        option_map_or (λ k. if is_some k.name then None else global_refusal m k.init) o no_constant
     by None = refl
-    by (Some k) = ap (λ w. is_some k.name || w) (are k.init)
+    by (Some k) = ap (λ w. if is_some k.name then None else w) (tell k.init)
 
 -- ---- order
 -- in a module that is accepted operands and initialisers stand before

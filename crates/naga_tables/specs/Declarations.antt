@@ -1,5 +1,5 @@
--- What a search for a declaration without a form finds, or for a struct that can't keep the offsets
--- of its members.
+-- By which construct a declaration is refused, or a struct that can't keep the offsets of its members,
+-- and what a search for the first of these finds.
 --
 -- Throughout, m is a module, number is that of a function or an entry point, f is a function, p an
 -- entry point, b a binding, v a built-in value, ty is the handle of a type, h that of an
@@ -7,20 +7,18 @@
 -- of an item in its list, fault is why members can't stay where they are, ks are the members of a
 -- struct as the module places them, and it is what is found.
 use Rattle.std.specs.Prelude.{◌≡◌, ◌<◌, ◌⊎◌, ℕ, zero, suc, Option, Some, None, IsFalse, IsTrue}
-use Rattle.std.specs.Prelude.{List, slice_get}
-use Rattle.std.specs.Option.{is_some, option_and_then}
+use Rattle.std.specs.Prelude.{List, if◌then◌else◌, slice_get}
+use Rattle.std.specs.Option.{is_some, option_and_then, option_or}
 use Rattle.module_semantics.specs.DeclarationForms.{IsDeclaredType, IsInitialiser, IsMemberBinding}
 use Rattle.module_semantics.specs.DeclarationForms.{IsIoBinding, binding_has_form, entry_point_numbered}
 use Rattle.module_semantics.specs.DeclarationForms.{stage_has_form}
 use Rattle.module_semantics.specs.FunctionNumbers.{all_functions}
 use Rattle.module_semantics.specs.Layouts.{HasOtherStride, IsMisplaced, concerned_only, layout_in}
 use Rattle.module_semantics.specs.Layouts.{module_rule}
-use Rattle.module_semantics.specs.Undeclared.{is_declared, is_spellable}
-use Rattle.module_semantics.specs.ExpressionForms.{global_has_form}
+use Rattle.module_semantics.specs.Undeclared.{is_declared}
 use Rattle.naga_info.specs.declared.info.TypeResolution.TheVariants.{Handle}
 use Rattle.naga_ir.specs.declared.binding.Binding.{Binding}
 use Rattle.naga_ir.specs.declared.binding.Binding.TheVariants as binding
-use Rattle.naga_ir.specs.declared.binding.BuiltIn.{BuiltIn}
 use Rattle.naga_ir.specs.declared.module.Constant.{Constant}
 use Rattle.naga_ir.specs.declared.module.EntryPoint.{EntryPoint}
 use Rattle.naga_ir.specs.declared.module.Function.{Function}
@@ -32,36 +30,51 @@ use Rattle.naga_ir.specs.declared.types.StructMember.{StructMember}
 use Rattle.naga_ir.specs.declared.types.Type_.{Type_}
 use Rattle.naga_layout.specs.Types.{arrays_are_kept, placed_members}
 use Rattle.naga_naming.specs.Reset.{members_of}
+use Rattle.naga_refusals.specs.declared.construct.Construct.{Construct}
+use Rattle.naga_refusals.specs.declared.construct.Construct.TheVariants as construct
+use Rattle.naga_tables.specs.Refusals.{global_refusal, type_refusal, unless}
 use Rattle.naga_tables.specs.declared.declarations.DeclarationPosition.{DeclarationPosition}
 use Rattle.naga_tables.specs.declared.declarations.DeclarationPosition.TheVariants as position
-use Rattle.naga_tables.specs.declared.declarations.UnsupportedDeclaration.{UnsupportedDeclaration}
-use Rattle.naga_tables.specs.declared.declarations.UnsupportedDeclaration.TheVariants as declaration
-use Rattle.naga_tables.specs.declared.declarations.UnsupportedHead.{UnsupportedHead}
-use Rattle.naga_tables.specs.declared.declarations.UnsupportedHead.TheVariants as head
 use Rattle.wgsl_layout.specs.Faults.{StandsAmong, own_fault}
 use Rattle.wgsl_layout.specs.declared.layouts.Placed.{Placed}
 use Rattle.wgsl_layout.specs.declared.members.Misplaced.{Misplaced}
+use Rattle.wgsl_layout.specs.declared.members.Misplaced.TheVariants.{OffAlignment, Overlapping}
 
 -- ---- what is found
--- it has no form among what the function with this number takes and gives and its stage
-abbrev pub IsUnsupportedHead : Module → (number : ℕ) → UnsupportedHead → Type 0
-IsUnsupportedHead m number (head.BuiltIn v) =
-    (f : Function) × (slice_get (all_functions m) number ≡ Some f)
-    × IsIoBinding f (binding.BuiltIn v) × IsFalse (binding_has_form (binding.BuiltIn v))
-IsUnsupportedHead m number head.Stage =
-    (p : EntryPoint) × (entry_point_numbered m number ≡ Some p) × IsFalse (stage_has_form p p.stage)
+-- A binding to a built-in value that WGSL has no word for is refused.
+abbrev pub binding_refusal : Option Binding → Option Construct
+binding_refusal (Some (binding.BuiltIn v)) =
+    unless (binding_has_form (binding.BuiltIn v)) (construct.BuiltIn v)
+binding_refusal bound = None
 
--- it has no form among the module's declarations
-abbrev pub IsUnsupportedDeclaration : Module → UnsupportedDeclaration → Type 0
-IsUnsupportedDeclaration m (declaration.Type_ ty) =
-    IsDeclaredType m ty × IsFalse (is_spellable m (Handle ty))
-IsUnsupportedDeclaration m (declaration.Initialiser h) =
-    IsInitialiser m h × IsFalse (global_has_form m h)
-IsUnsupportedDeclaration m (declaration.BuiltIn v) =
-    IsMemberBinding m (binding.BuiltIn v) × IsFalse (binding_has_form (binding.BuiltIn v))
-IsUnsupportedDeclaration m (declaration.Head it) = (number : ℕ) × IsUnsupportedHead m number it
-IsUnsupportedDeclaration m (declaration.Misplaced fault) = (ty : ℕ) × IsMisplaced m ty fault
-IsUnsupportedDeclaration m (declaration.Stride found) = (ty : ℕ) × HasOtherStride m ty found
+-- why members can't stay where the module has them
+abbrev pub misplaced_construct : Misplaced → Construct
+misplaced_construct OffAlignment = construct.OffAlignment
+misplaced_construct Overlapping = construct.Overlap
+
+-- Among what the function with this number takes and gives is what is refused by this construct, or
+-- its stage is: its entry point lacks the payload or the mesh output of that.
+pub data IsUnsupportedHead (m : Module) (number : ℕ) (it : Construct) : Type 0 where
+  OfBinding : (f : Function) (b : Binding) → slice_get (all_functions m) number ≡ Some f →
+      IsIoBinding f b → binding_refusal (Some b) ≡ Some it → IsUnsupportedHead m number it
+  OfStage : (p : EntryPoint) → entry_point_numbered m number ≡ Some p →
+      IsFalse (stage_has_form p p.stage) → it ≡ construct.StageVariable →
+      IsUnsupportedHead m number it
+
+-- A declaration of the module is refused by this construct, or a struct can't keep the offsets of its
+-- members for that reason.
+pub data IsUnsupportedDeclaration (m : Module) (it : Construct) : Type 0 where
+  OfType : (ty : ℕ) → IsDeclaredType m ty → type_refusal m (Handle ty) ≡ Some it →
+      IsUnsupportedDeclaration m it
+  OfInitialiser : (h : ℕ) → IsInitialiser m h → global_refusal m h ≡ Some it →
+      IsUnsupportedDeclaration m it
+  OfMember : (b : Binding) → IsMemberBinding m b → binding_refusal (Some b) ≡ Some it →
+      IsUnsupportedDeclaration m it
+  OfHead : (number : ℕ) → IsUnsupportedHead m number it → IsUnsupportedDeclaration m it
+  OfOffsets : (h : ℕ) (fault : Misplaced) → IsMisplaced m h fault →
+      it ≡ misplaced_construct fault → IsUnsupportedDeclaration m it
+  OfStride : (h ty : ℕ) → HasOtherStride m h ty → it ≡ construct.ArrayStride →
+      IsUnsupportedDeclaration m it
 
 -- ---- searches
 -- each item of a list has a form
@@ -90,55 +103,36 @@ FindsFirst {X} xs HasForm at IsUnsupportedItem (Some found) =
     × IsUnsupportedItem i x found.1
 
 -- ---- types and initialisers
--- the type that is told, and the initialiser if there is one, have forms
-pub record ValueHasForm (m : Module) (ty : ℕ) (init : Option ℕ) : Type 0 where
-  pub type : IsTrue (is_spellable m (Handle ty))
-  pub initialiser : (h : ℕ) → init ≡ Some h → IsTrue (global_has_form m h)
+-- the type that is told, or else the initialiser, if there is one
+abbrev pub value_refusal : Module → (ty : ℕ) → (init : Option ℕ) → Option Construct
+value_refusal m ty init =
+    option_or (type_refusal m (Handle ty)) (option_and_then (global_refusal m) init)
 
--- the type has none, or the initialiser of one that has a form
-abbrev pub IsUnsupportedValue : Module → (ty : ℕ) → (init : Option ℕ) → UnsupportedDeclaration →
-    Type 0
-IsUnsupportedValue m ty init (declaration.Type_ found) =
-    (found ≡ ty) × IsFalse (is_spellable m (Handle found))
-IsUnsupportedValue m ty init (declaration.Initialiser h) =
-    IsTrue (is_spellable m (Handle ty)) × (init ≡ Some h) × IsFalse (global_has_form m h)
-IsUnsupportedValue m ty init _ = ⊥
+abbrev pub ValueHasForm : Module → (ty : ℕ) → (init : Option ℕ) → Type 0
+ValueHasForm m ty init = value_refusal m ty init ≡ None
+
+abbrev pub IsUnsupportedValue : Module → (ty : ℕ) → (init : Option ℕ) → Construct → Type 0
+IsUnsupportedValue m ty init it = value_refusal m ty init ≡ Some it
 
 -- so it is with a constant that has a name: its declaration tells both
+abbrev pub declared_refusal : Module → Constant → Option Construct
+declared_refusal m c = if is_some c.name then value_refusal m c.ty (Some c.init) else None
+
 abbrev pub ConstantHasForm : Module → Constant → Type 0
-ConstantHasForm m c = IsTrue (is_some c.name) → ValueHasForm m c.ty (Some c.init)
+ConstantHasForm m c = declared_refusal m c ≡ None
 
-abbrev pub IsUnsupportedConstant : Module → Constant → UnsupportedDeclaration → Type 0
-IsUnsupportedConstant m c it = IsTrue (is_some c.name) × IsUnsupportedValue m c.ty (Some c.init) it
-
--- ---- bindings
--- the binding, if there is one, has a form
-abbrev pub BindingHasForm : Option Binding → Type 0
-BindingHasForm bound = (b : Binding) → bound ≡ Some b → IsTrue (binding_has_form b)
-
--- it is to this built-in value, which has none
-abbrev pub IsUnsupportedBinding : Option Binding → BuiltIn → Type 0
-IsUnsupportedBinding bound v =
-    (bound ≡ Some (binding.BuiltIn v)) × IsFalse (binding_has_form (binding.BuiltIn v))
+abbrev pub IsUnsupportedConstant : Module → Constant → Construct → Type 0
+IsUnsupportedConstant m c it = declared_refusal m c ≡ Some it
 
 -- ---- structs
--- a member's type and its binding have forms
-pub record MemberHasForm (m : Module) (s : StructMember) : Type 0 where
-  pub type : IsTrue (is_spellable m (Handle s.ty))
-  pub binding : BindingHasForm s.binding
-
--- the type has none, or the binding where the type has one
-abbrev pub IsUnsupportedMember : Module → StructMember → UnsupportedDeclaration → Type 0
-IsUnsupportedMember m s (declaration.Type_ ty) =
-    (ty ≡ s.ty) × IsFalse (is_spellable m (Handle ty))
-IsUnsupportedMember m s (declaration.BuiltIn v) =
-    IsTrue (is_spellable m (Handle s.ty)) × IsUnsupportedBinding s.binding v
-IsUnsupportedMember m s _ = ⊥
+-- a member's type, or else its binding
+abbrev pub member_refusal : Module → StructMember → Option Construct
+member_refusal m s = option_or (type_refusal m (Handle s.ty)) (binding_refusal s.binding)
 
 -- these members have forms, or the first that has none is told
-abbrev pub FindsMember : Module → List StructMember → Option UnsupportedDeclaration → Type 0
+abbrev pub FindsMember : Module → List StructMember → Option Construct → Type 0
 FindsMember m members =
-    Finds members (λ i s. MemberHasForm m s) (λ i s it. IsUnsupportedMember m s it)
+    Finds members (λ i s. member_refusal m s ≡ None) (λ i s it. member_refusal m s ≡ Some it)
 
 -- the type of a member is an array of another stride than WGSL gives it, or has such an array in
 -- it, through arrays alone
@@ -178,25 +172,25 @@ pub record StructHasForm (m : Module) (members : List StructMember) : Type 0 whe
       (i : ℕ) (s : StructMember) → slice_get members i ≡ Some s →
       IsTrue (arrays_are_kept (module_rule m) m.types s.ty)
 
--- A member has no form; or all have one, and a member can't stay where it is; or all can, and one
--- has an array of another stride. Of each the first is told.
-abbrev pub IsUnsupportedStruct : Module → List StructMember → UnsupportedDeclaration → Type 0
-IsUnsupportedStruct m members (declaration.Misplaced fault) =
-    FindsMember m members None
-    × ((ks : List Placed) × (concerned_among m members ≡ Some ks) × StandsAmong fault ks
-    × FindsMisplaced ks (Some fault))
-IsUnsupportedStruct m members (declaration.Stride ty) =
-    FindsMember m members None
-    × ((ks : List Placed) × (concerned_among m members ≡ Some ks)
-    × ((fault : Misplaced) → StandsAmong fault ks → ⊥) × FindsStride m members (Some ty))
-IsUnsupportedStruct m members it = FindsMember m members (Some it)
+-- A member is refused; or none is, and a member can't stay where it is; or all can, and one has an
+-- array of another stride. Of each the first is told.
+pub data IsUnsupportedStruct (m : Module) (members : List StructMember) (it : Construct) : Type 0
+  where
+    OfFirst : FindsMember m members (Some it) → IsUnsupportedStruct m members it
+    OfPlace : (ks : List Placed) (fault : Misplaced) → FindsMember m members None →
+        concerned_among m members ≡ Some ks → StandsAmong fault ks →
+        FindsMisplaced ks (Some fault) → it ≡ misplaced_construct fault →
+        IsUnsupportedStruct m members it
+    OfArray : (ks : List Placed) (ty : ℕ) → FindsMember m members None →
+        concerned_among m members ≡ Some ks → ((fault : Misplaced) → StandsAmong fault ks → ⊥) →
+        FindsStride m members (Some ty) → it ≡ construct.ArrayStride → IsUnsupportedStruct m members it
 
 -- so it is with a struct that a text declares
 abbrev pub TypeHasForm : Module → (ty : ℕ) → Type_ → Type 0
 TypeHasForm m ty t =
     IsTrue (is_declared m.special_types ty t.inner) → StructHasForm m (members_of t.inner)
 
-abbrev pub IsUnsupportedType : Module → (ty : ℕ) → Type_ → UnsupportedDeclaration → Type 0
+abbrev pub IsUnsupportedType : Module → (ty : ℕ) → Type_ → Construct → Type 0
 IsUnsupportedType m ty t it =
     IsTrue (is_declared m.special_types ty t.inner) × IsUnsupportedStruct m (members_of t.inner) it
 
@@ -205,42 +199,33 @@ IsUnsupportedType m ty t it =
 abbrev pub IoHasForm : Function → Type 0
 IoHasForm f = (b : Binding) → IsIoBinding f b → IsTrue (binding_has_form b)
 
--- each argument has a form, or the first that has none is bound to this value
-abbrev pub FindsArgument : Function → Option BuiltIn → Type 0
+-- no argument is refused, or the first that is
+abbrev pub FindsArgument : Function → Option Construct → Type 0
 FindsArgument f =
-    Finds f.arguments.items (λ i a. BindingHasForm a.binding)
-    (λ i a. IsUnsupportedBinding a.binding)
+    Finds f.arguments.items (λ i a. binding_refusal a.binding ≡ None)
+    (λ i a it. binding_refusal a.binding ≡ Some it)
 
--- an argument is bound to this built-in value, which has none, and is the first that has none; or all
--- have one, and the result is bound to it
-abbrev pub IsUnsupportedIo : Function → BuiltIn → Type 0
-IsUnsupportedIo f v =
-    FindsArgument f (Some v)
+-- an argument is refused, the first that is; or none is, and the result is
+abbrev pub IsUnsupportedIo : Function → Construct → Type 0
+IsUnsupportedIo f it =
+    FindsArgument f (Some it)
     ⊎ (FindsArgument f None
-    × ((r : FunctionResult) × (f.result ≡ Some r) × IsUnsupportedBinding r.binding v))
+    × ((r : FunctionResult) × (f.result ≡ Some r) × (binding_refusal r.binding ≡ Some it)))
 
 -- so it is with an entry point and its stage
 pub record EntryPointHasForm (p : EntryPoint) : Type 0 where
   pub io : IoHasForm p.function
   pub stage : IsTrue (stage_has_form p p.stage)
 
--- what it takes or gives has none, or its stage where all that has one
-abbrev pub IsUnsupportedEntryPoint : EntryPoint → UnsupportedHead → Type 0
-IsUnsupportedEntryPoint p (head.BuiltIn v) = IsUnsupportedIo p.function v
-IsUnsupportedEntryPoint p head.Stage =
-    IoHasForm p.function × IsFalse (stage_has_form p p.stage)
+-- what it takes or gives is refused, or its stage where all that has a form
+abbrev pub IsUnsupportedEntryPoint : EntryPoint → Construct → Type 0
+IsUnsupportedEntryPoint p it =
+    IsUnsupportedIo p.function it
+    ⊎ (IoHasForm p.function × IsFalse (stage_has_form p p.stage) × (it ≡ construct.StageVariable))
 
 -- ---- where it stands
-abbrev pub IsUnsupportedFunction : Function → UnsupportedDeclaration → Type 0
-IsUnsupportedFunction f (declaration.Head (head.BuiltIn v)) = IsUnsupportedIo f v
-IsUnsupportedFunction f it = ⊥
-
-abbrev pub IsUnsupportedHeadOf : EntryPoint → UnsupportedDeclaration → Type 0
-IsUnsupportedHeadOf p (declaration.Head it) = IsUnsupportedEntryPoint p it
-IsUnsupportedHeadOf p it = ⊥
-
--- it has no form in this declaration of the module
-abbrev pub IsUnsupportedIn : Module → DeclarationPosition → UnsupportedDeclaration → Type 0
+-- this declaration of the module is refused by this construct
+abbrev pub IsUnsupportedIn : Module → DeclarationPosition → Construct → Type 0
 IsUnsupportedIn m (position.Struct h) it =
     (t : Type_) × (slice_get m.types h ≡ Some t) × IsUnsupportedType m h t it
 IsUnsupportedIn m (position.Constant h) it =
@@ -251,9 +236,9 @@ IsUnsupportedIn m (position.GlobalVariable h) it =
     (g : GlobalVariable) × (slice_get m.global_variables h ≡ Some g)
     × IsUnsupportedValue m g.ty g.init it
 IsUnsupportedIn m (position.Function h) it =
-    (f : Function) × (slice_get m.functions h ≡ Some f) × IsUnsupportedFunction f it
+    (f : Function) × (slice_get m.functions h ≡ Some f) × IsUnsupportedIo f it
 IsUnsupportedIn m (position.EntryPoint i) it =
-    (p : EntryPoint) × (slice_get m.entry_points.items i ≡ Some p) × IsUnsupportedHeadOf p it
+    (p : EntryPoint) × (slice_get m.entry_points.items i ≡ Some p) × IsUnsupportedEntryPoint p it
 
 -- ---- which is the first
 -- all declarations of one kind have forms

@@ -1,4 +1,5 @@
 pub mod Declarations
 pub mod Forms
 pub mod Marks
+pub mod Refusals
 pub mod Tables

@@ -2,7 +2,6 @@
 use Rattle.std.specs.Prelude.{◌≡◌, ◌<◌, ℕ, Bool, false, List, ◌&&◌, ◌||◌, get_or, length, nat_eq}
 use Rattle.std.specs.Prelude.{nat_lt, Some, slice_get}
 use Rattle.std.specs.List.{list_any}
-use Rattle.module_semantics.specs.ExpressionForms.{global_has_form}
 use Rattle.module_semantics.specs.Premises.{OperandsStandBefore}
 use Rattle.module_semantics.specs.WrittenOut.{is_written_out}
 use Rattle.naga_ir.specs.declared.expression.Expression.{Expression}
@@ -32,10 +31,6 @@ pub record MarksAlso (old : List Bool) (handles : List ℕ) (new : List Bool) : 
 abbrev pub MarksJust : (handles : List ℕ) → List Bool → Type 0
 MarksJust handles marks =
     (h : ℕ) → is_marked marks h ≡ (is_one_of handles h && nat_lt h (length marks))
-
--- just those of the module's own expressions have marks that are written
-abbrev pub MarksGlobals : Module → List Bool → Type 0
-MarksGlobals m marks = (h : ℕ) → is_marked marks h ≡ global_has_form m h
 
 -- Among the module's own expressions operands stand before what they are operands of, and so do the
 -- initialisers of the constants that an expression names, which are there, as are all initialisers.

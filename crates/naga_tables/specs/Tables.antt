@@ -2,7 +2,8 @@
 --
 -- Throughout, m is a module, t are its tables, h is the handle of one of its types or of one of its
 -- own expressions, c that of a constant, k a constant, e an expression, s are special types, it is
--- a type by itself, r a type of an expression, cells tell layouts, and kept are marks of strides.
+-- a type by itself, r a type of an expression, cells tell layouts or refusals, and kept are marks of
+-- strides.
 use Rattle.std.specs.Prelude.{◌≡◌, ◌++◌, ◌&&◌, ℕ, Bool, true, false, List, Option, Some, None}
 use Rattle.std.specs.Prelude.{IsTrue, get_or, if◌then◌else◌, length, slice_get}
 use Rattle.std.specs.Option.{is_none, is_some, option_and_then, option_map, option_map_or}
@@ -23,18 +24,21 @@ use Rattle.naga_ir.specs.declared.types.TypeInner.{TypeInner}
 use Rattle.naga_ir.specs.declared.types.TypeInner.TheVariants as inner
 use Rattle.naga_layout.specs.Tables.{cell_at, mark_at}
 use Rattle.naga_layout.specs.Types.{arrays_are_kept}
+use Rattle.naga_refusals.specs.declared.construct.Construct.{Construct}
+use Rattle.naga_refusals.specs.declared.construct.Construct.TheVariants as construct
 use Rattle.naga_spelling.specs.Spelling.{is_struct}
 use Rattle.wgsl_layout.specs.Capped.{capped}
 use Rattle.wgsl_layout.specs.declared.layouts.Layout.{Layout}
 use Rattle.wgsl_words.specs.Words.{space_word}
-use Rattle.naga_tables.specs.Marks.{GlobalsStandInOrder, MarksGlobals, is_marked}
+use Rattle.naga_tables.specs.Marks.{GlobalsStandInOrder, is_marked}
+use Rattle.naga_tables.specs.Refusals.{global_refusal}
 
--- The tables, with a cell for each of the module's own expressions or for each type: which
--- expressions are written, and by which; which structs no text declares, which types name one,
+-- The tables, with a cell for each of the module's own expressions or for each type: by what
+-- expressions are refused, and by which they are written; which structs no text declares, which types name one,
 -- which are spelled, how each is laid out, and whether the arrays that each is made of have the
 -- stride that WGSL gives them.
 pub record Tables : Type 0 where
-  pub global_forms : List Bool
+  pub global_refusals : List (Option Construct)
   pub representatives : List ℕ
   pub undeclared : List Bool
   pub naming : List Bool
@@ -111,6 +115,14 @@ abbrev pub TellsStrides : Module → List Bool → Type 0
 TellsStrides m kept = (h : ℕ) → mark_at kept h ≡ arrays_are_kept (module_rule m) m.types h
 
 -- ---- own expressions
+-- what a cell tells, where one without a cell is no constant
+abbrev pub refusal_at : (cells : List (Option Construct)) → (h : ℕ) → Option Construct
+refusal_at cells h = get_or cells h (Some construct.ConstantOperator)
+
+-- each cell tells by what its expression is refused
+abbrev pub TellsRefusals : Module → (cells : List (Option Construct)) → Type 0
+TellsRefusals m cells = (h : ℕ) → refusal_at cells h ≡ global_refusal m h
+
 -- the initialiser of a constant that has no name
 abbrev pub unnamed_value : Module → (constant : ℕ) → Option ℕ
 unnamed_value m c =
@@ -147,7 +159,7 @@ pub record ItemsStandInOrder (m : Module) : Type 0 where
 
 -- the tables are those of the module
 pub record AreTablesOf (m : Module) (t : Tables) : Type 0 where
-  pub global_forms : MarksGlobals m t.global_forms
+  pub global_refusals : TellsRefusals m t.global_refusals
   pub representatives : AreRepresentatives m t.representatives
   pub undeclared : MarksUndeclared m t.undeclared
   pub naming : MarksNaming m t.naming

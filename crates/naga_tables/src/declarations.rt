@@ -1,61 +1,32 @@
-//! Which declaration of a module no text has a form for.
+//! Which declaration of a module no text has a form for, and by which construct it is refused.
 
-ghost use Rattle.std.specs.Prelude.{◌≡◌, IfNone, IfSome, MatchOption};
+ghost use Rattle.std.specs.Prelude.{◌≡◌, IfNone, IfSome, MatchOption, None, Some};
 ghost use Rattle.module_semantics.specs.DeclarationForms.{DeclarationsHaveForms, HeadHasForm};
 ghost use Rattle.module_semantics.specs.DeclarationForms.{stage_has_form};
 ghost use Rattle.module_semantics.specs.FunctionNumbers.{IsFunctionOf, function_number};
-ghost use Rattle.naga_tables.specs.Declarations.{BindingHasForm, ConstantHasForm};
-ghost use Rattle.naga_tables.specs.Declarations.{EntryPointHasForm, Finds, FindsFirst, FindsMember};
-ghost use Rattle.naga_tables.specs.Declarations.{FindsStride, HaveFormsBefore};
-ghost use Rattle.naga_tables.specs.Declarations.{IsUnsupportedBinding, IsUnsupportedConstant};
-ghost use Rattle.naga_tables.specs.Declarations.{IsUnsupportedDeclaration, IsUnsupportedEntryPoint};
-ghost use Rattle.naga_tables.specs.Declarations.{IsUnsupportedFunction, IsUnsupportedHead};
-ghost use Rattle.naga_tables.specs.Declarations.{IsUnsupportedIn};
-ghost use Rattle.naga_tables.specs.Declarations.{IsUnsupportedMember};
-ghost use Rattle.naga_tables.specs.Declarations.{IsUnsupportedStruct};
-ghost use Rattle.naga_tables.specs.Declarations.{IsUnsupportedIo, IsUnsupportedType};
-ghost use Rattle.naga_tables.specs.Declarations.{IsUnsupportedValue};
-ghost use Rattle.naga_tables.specs.Declarations.{MemberHasForm, IoHasForm};
-ghost use Rattle.naga_tables.specs.Declarations.{StructHasForm, TypeHasForm, ValueHasForm};
+ghost use Rattle.naga_tables.specs.Declarations.{ConstantHasForm, EntryPointHasForm, Finds};
+ghost use Rattle.naga_tables.specs.Declarations.{FindsFirst, FindsMember, FindsStride};
+ghost use Rattle.naga_tables.specs.Declarations.{HaveFormsBefore, IoHasForm};
+ghost use Rattle.naga_tables.specs.Declarations.{IsUnsupportedConstant, IsUnsupportedDeclaration};
+ghost use Rattle.naga_tables.specs.Declarations.{IsUnsupportedEntryPoint, IsUnsupportedHead};
+ghost use Rattle.naga_tables.specs.Declarations.{IsUnsupportedIn, IsUnsupportedIo};
+ghost use Rattle.naga_tables.specs.Declarations.{IsUnsupportedStruct, IsUnsupportedType};
+ghost use Rattle.naga_tables.specs.Declarations.{IsUnsupportedValue, StructHasForm, TypeHasForm};
+ghost use Rattle.naga_tables.specs.Declarations.{ValueHasForm, binding_refusal, declared_refusal};
+ghost use Rattle.naga_tables.specs.Declarations.{member_refusal, misplaced_construct};
+ghost use Rattle.naga_tables.specs.Declarations.{value_refusal};
 ghost use Rattle.naga_tables.specs.Tables.{AreTablesOf};
 
+use crate::forms::unless;
 use crate::tables::ModuleTables;
 use naga_back::FunctionType;
 use naga_ir::{
-    Binding, BuiltIn, Constant, EntryPoint, Expression, Function, FunctionArgument, GlobalVariable,
-    Handle, Module, Override, ShaderStage, StructMember, Type_, TypeInner,
+    Binding, Constant, EntryPoint, Expression, Function, FunctionArgument, GlobalVariable, Handle,
+    Module, Override, ShaderStage, StructMember, Type_, TypeInner,
 };
+use naga_refusals::Construct;
 use wgsl_layout::Misplaced;
 use wgsl_words::TryToWgsl;
-
-/// What no text has a form for of what a function takes or gives, or of its stage.
-#[derive(Clone, Copy, Debug)]
-pub enum UnsupportedHead {
-    /// An argument or the result is bound to this value, which WGSL has no word for.
-    BuiltIn(BuiltIn),
-    /// The entry point lacks the payload or the mesh output of its stage.
-    Stage,
-}
-
-/// What no text has a form for of a module's declarations, or why a struct can't keep the offsets of
-/// its members.
-#[derive(Clone, Copy, Debug)]
-pub enum UnsupportedDeclaration {
-    /// A member of a struct, a constant, an override or a variable is of this type, which no text
-    /// can spell.
-    Type_(Handle<Type_>),
-    /// A constant, an override or a variable has this initialiser, which has no form.
-    Initialiser(Handle<Expression>),
-    /// A member of a struct is bound to this value, which WGSL has no word for.
-    BuiltIn(BuiltIn),
-    /// A function or an entry point has a head without a form.
-    Head(UnsupportedHead),
-    /// A struct, whose members' offsets are to be kept, has a member that can't stay where it is.
-    Misplaced(Misplaced),
-    /// Such a struct has a member of this type, which is an array of another stride than WGSL gives
-    /// it, or is made of such arrays through arrays alone.
-    Stride(Handle<Type_>),
-}
 
 /// A declaration of a module.
 #[derive(Clone, Copy, Debug, PartialEq, Eq)]
@@ -73,16 +44,13 @@ pub enum DeclarationPosition {
 
 /// What no text has a form for of what this function takes or gives, or of its stage, if it is that
 /// of an entry point. The function is one of the module's.
-pub fn unsupported_head(module: &Module, ty: FunctionType) -> Option<UnsupportedHead>
+pub fn unsupported_head(module: &Module, ty: FunctionType) -> Option<Construct>
     requires there { IsFunctionOf ty «module».now }
     ensures none { IfNone result (HeadHasForm «module».now (function_number «module».now ty)) }
     ensures some { IfSome result (IsUnsupportedHead «module».now (function_number «module».now ty)) }
 {
     match ty {
-        FunctionType::Function(handle) => match unsupported_io(&module.functions[handle]) {
-            Some(value) => Some(UnsupportedHead::BuiltIn(value)),
-            None => None,
-        },
+        FunctionType::Function(handle) => unsupported_io(&module.functions[handle]),
         FunctionType::EntryPoint(index) => {
             unsupported_entry_point(&module.entry_points[index as usize])
         }
@@ -95,7 +63,7 @@ pub fn unsupported_head(module: &Module, ty: FunctionType) -> Option<Unsupported
 pub fn unsupported_declaration(
     module: &Module,
     tables: &ModuleTables,
-) -> Option<(DeclarationPosition, UnsupportedDeclaration)>
+) -> Option<(DeclarationPosition, Construct)>
     requires tables { AreTablesOf «module».now tables.now }
     ensures none { IfNone result (DeclarationsHaveForms «module».now) }
     ensures some { IfSome result (λ found. IsUnsupportedDeclaration «module».now found.1) }
@@ -118,12 +86,7 @@ pub fn unsupported_declaration(
         return Some(unsupported);
     }
     match unsupported_in_entry_points(&module.entry_points) {
-        Some((index, head)) => {
-            Some((
-                DeclarationPosition::EntryPoint(index),
-                UnsupportedDeclaration::Head(head),
-            ))
-        }
+        Some((index, construct)) => Some((DeclarationPosition::EntryPoint(index), construct)),
         None => None,
     }
 }
@@ -132,7 +95,7 @@ pub fn unsupported_declaration(
 fn unsupported_in_structs(
     module: &Module,
     tables: &ModuleTables,
-) -> Option<(DeclarationPosition, UnsupportedDeclaration)>
+) -> Option<(DeclarationPosition, Construct)>
     requires tables { AreTablesOf «module».now tables.now }
     ensures { FindsFirst «module».now.types (TypeHasForm «module».now)
         (λ h. DeclarationPosition.Struct h) (IsUnsupportedType «module».now) result }
@@ -151,7 +114,7 @@ fn unsupported_in_type(
     tables: &ModuleTables,
     handle: Handle<Type_>,
     ty: &Type_,
-) -> Option<UnsupportedDeclaration>
+) -> Option<Construct>
     requires tables { AreTablesOf «module».now tables.now }
     ensures { MatchOption result (TypeHasForm «module».now handle ty.now)
         (IsUnsupportedType «module».now handle ty.now) }
@@ -175,7 +138,7 @@ fn unsupported_in_struct(
     tables: &ModuleTables,
     members: &[StructMember],
     span: u32,
-) -> Option<UnsupportedDeclaration>
+) -> Option<Construct>
     requires tables { AreTablesOf «module».now tables.now }
     ensures { MatchOption result (StructHasForm «module».now members.now)
         (IsUnsupportedStruct «module».now members.now) }
@@ -184,17 +147,27 @@ fn unsupported_in_struct(
         return Some(unsupported);
     }
     if let Some(fault) = tables.misplaced(module, members) {
-        return Some(UnsupportedDeclaration::Misplaced(fault));
+        return Some(misplaced_construct(fault));
     }
     match other_stride(module, tables, members) {
-        Some(ty) => {
+        Some(_) => {
             if tables.keeps_offsets(module, members, span) {
-                Some(UnsupportedDeclaration::Stride(ty))
+                Some(Construct::ArrayStride)
             } else {
                 None
             }
         }
         None => None,
+    }
+}
+
+/// Why members can't stay where the module has them.
+fn misplaced_construct(fault: Misplaced) -> Construct
+    ensures { result ≡ misplaced_construct fault }
+{
+    match fault {
+        Misplaced::OffAlignment => Construct::OffAlignment,
+        Misplaced::Overlapping => Construct::Overlap,
     }
 }
 
@@ -220,7 +193,7 @@ fn unsupported_in_members(
     module: &Module,
     tables: &ModuleTables,
     members: &[StructMember],
-) -> Option<UnsupportedDeclaration>
+) -> Option<Construct>
     requires tables { AreTablesOf «module».now tables.now }
     ensures { FindsMember «module».now members.now result }
 {
@@ -236,31 +209,23 @@ fn unsupported_member(
     module: &Module,
     tables: &ModuleTables,
     member: &StructMember,
-) -> Option<UnsupportedDeclaration>
+) -> Option<Construct>
     requires tables { AreTablesOf «module».now tables.now }
-    ensures { MatchOption result (MemberHasForm «module».now member.now)
-        (IsUnsupportedMember «module».now member.now) }
+    ensures { result ≡ member_refusal «module».now member.now }
 {
-    if !tables.is_spellable(module, member.ty) {
-        return Some(UnsupportedDeclaration::Type_(member.ty));
-    }
-    match unsupported_binding(member.binding) {
-        Some(value) => Some(UnsupportedDeclaration::BuiltIn(value)),
-        None => None,
+    match tables.type_refusal(module, member.ty) {
+        Some(construct) => Some(construct),
+        None => unsupported_binding(member.binding),
     }
 }
 
-/// The value of a binding that WGSL has no word for.
-fn unsupported_binding(binding: Option<Binding>) -> Option<BuiltIn>
-    ensures { MatchOption result (BindingHasForm binding) (IsUnsupportedBinding binding) }
+/// By what a binding is refused.
+fn unsupported_binding(binding: Option<Binding>) -> Option<Construct>
+    ensures { result ≡ binding_refusal binding }
 {
     match binding {
         Some(Binding::BuiltIn(value)) => {
-            if value.try_to_wgsl().is_some() {
-                None
-            } else {
-                Some(value)
-            }
+            unless(value.try_to_wgsl().is_some(), Construct::BuiltIn(value))
         }
         _ => None,
     }
@@ -270,7 +235,7 @@ fn unsupported_binding(binding: Option<Binding>) -> Option<BuiltIn>
 fn unsupported_in_constants(
     module: &Module,
     tables: &ModuleTables,
-) -> Option<(DeclarationPosition, UnsupportedDeclaration)>
+) -> Option<(DeclarationPosition, Construct)>
     requires tables { AreTablesOf «module».now tables.now }
     ensures { FindsFirst «module».now.constants (λ i. ConstantHasForm «module».now)
         (λ h. DeclarationPosition.Constant h) (λ i. IsUnsupportedConstant «module».now) result }
@@ -287,10 +252,9 @@ fn unsupported_constant(
     module: &Module,
     tables: &ModuleTables,
     constant: &Constant,
-) -> Option<UnsupportedDeclaration>
+) -> Option<Construct>
     requires tables { AreTablesOf «module».now tables.now }
-    ensures { MatchOption result (ConstantHasForm «module».now constant.now)
-        (IsUnsupportedConstant «module».now constant.now) }
+    ensures { result ≡ declared_refusal «module».now constant.now }
 {
     if constant.name.is_some() {
         unsupported_value(module, tables, constant.ty, Some(constant.init))
@@ -303,7 +267,7 @@ fn unsupported_constant(
 fn unsupported_in_overrides(
     module: &Module,
     tables: &ModuleTables,
-) -> Option<(DeclarationPosition, UnsupportedDeclaration)>
+) -> Option<(DeclarationPosition, Construct)>
     requires tables { AreTablesOf «module».now tables.now }
     ensures { FindsFirst «module».now.overrides (λ i o. ValueHasForm «module».now o.ty o.init)
         (λ h. DeclarationPosition.Override h)
@@ -321,7 +285,7 @@ fn unsupported_in_overrides(
 fn unsupported_in_variables(
     module: &Module,
     tables: &ModuleTables,
-) -> Option<(DeclarationPosition, UnsupportedDeclaration)>
+) -> Option<(DeclarationPosition, Construct)>
     requires tables { AreTablesOf «module».now tables.now }
     ensures { FindsFirst «module».now.global_variables
         (λ i g. ValueHasForm «module».now g.ty g.init) (λ h. DeclarationPosition.GlobalVariable h)
@@ -335,56 +299,44 @@ fn unsupported_in_variables(
     None
 }
 
-/// The type or the initialiser of a declaration, if it has no form.
+/// By what the type or else the initialiser of a declaration is refused.
 fn unsupported_value(
     module: &Module,
     tables: &ModuleTables,
     ty: Handle<Type_>,
     init: Option<Handle<Expression>>,
-) -> Option<UnsupportedDeclaration>
+) -> Option<Construct>
     requires tables { AreTablesOf «module».now tables.now }
-    ensures { MatchOption result (ValueHasForm «module».now ty init)
-        (IsUnsupportedValue «module».now ty init) }
+    ensures { result ≡ value_refusal «module».now ty init }
 {
-    if !tables.is_spellable(module, ty) {
-        return Some(UnsupportedDeclaration::Type_(ty));
+    if let Some(construct) = tables.type_refusal(module, ty) {
+        return Some(construct);
     }
     match init {
-        Some(init) => {
-            if tables.has_form(module, init) {
-                None
-            } else {
-                Some(UnsupportedDeclaration::Initialiser(init))
-            }
-        }
+        Some(init) => tables.refusal(module, init),
         None => None,
     }
 }
 
 /// The first value without a word that a function takes or gives.
-fn unsupported_in_functions(
-    module: &Module,
-) -> Option<(DeclarationPosition, UnsupportedDeclaration)>
+fn unsupported_in_functions(module: &Module) -> Option<(DeclarationPosition, Construct)>
     ensures { FindsFirst «module».now.functions (λ i. IoHasForm)
-        (λ h. DeclarationPosition.Function h) (λ i. IsUnsupportedFunction) result }
+        (λ h. DeclarationPosition.Function h) (λ i. IsUnsupportedIo) result }
 {
     for (handle, function) in module.functions.iter() {
-        if let Some(value) = unsupported_io(function) {
-            return Some((
-                DeclarationPosition::Function(handle),
-                UnsupportedDeclaration::Head(UnsupportedHead::BuiltIn(value)),
-            ));
+        if let Some(unsupported) = unsupported_io(function) {
+            return Some((DeclarationPosition::Function(handle), unsupported));
         }
     }
     None
 }
 
 /// The same of one function.
-fn unsupported_io(function: &Function) -> Option<BuiltIn>
+fn unsupported_io(function: &Function) -> Option<Construct>
     ensures { MatchOption result (IoHasForm function.now) (IsUnsupportedIo function.now) }
 {
-    if let Some(value) = unsupported_in_arguments(&function.arguments) {
-        return Some(value);
+    if let Some(unsupported) = unsupported_in_arguments(&function.arguments) {
+        return Some(unsupported);
     }
     match function.result {
         Some(answer) => unsupported_binding(answer.binding),
@@ -392,13 +344,13 @@ fn unsupported_io(function: &Function) -> Option<BuiltIn>
     }
 }
 
-fn unsupported_in_arguments(arguments: &[FunctionArgument]) -> Option<BuiltIn>
-    ensures { Finds arguments.now (λ i a. BindingHasForm a.binding)
-        (λ i a. IsUnsupportedBinding a.binding) result }
+fn unsupported_in_arguments(arguments: &[FunctionArgument]) -> Option<Construct>
+    ensures { Finds arguments.now (λ i a. binding_refusal a.binding ≡ None)
+        (λ i a it. binding_refusal a.binding ≡ Some it) result }
 {
     for argument in arguments {
-        if let Some(value) = unsupported_binding(argument.binding) {
-            return Some(value);
+        if let Some(unsupported) = unsupported_binding(argument.binding) {
+            return Some(unsupported);
         }
     }
     None
@@ -406,7 +358,7 @@ fn unsupported_in_arguments(arguments: &[FunctionArgument]) -> Option<BuiltIn>
 
 /// The first value without a word that an entry point takes or gives, or its stage without a form,
 /// and the index of the entry point.
-fn unsupported_in_entry_points(entry_points: &[EntryPoint]) -> Option<(usize, UnsupportedHead)>
+fn unsupported_in_entry_points(entry_points: &[EntryPoint]) -> Option<(usize, Construct)>
     ensures { FindsFirst entry_points.now (λ i. EntryPointHasForm) (λ i. i)
         (λ i. IsUnsupportedEntryPoint) result }
 {
@@ -419,17 +371,17 @@ fn unsupported_in_entry_points(entry_points: &[EntryPoint]) -> Option<(usize, Un
 }
 
 /// The same of one entry point.
-fn unsupported_entry_point(entry_point: &EntryPoint) -> Option<UnsupportedHead>
+fn unsupported_entry_point(entry_point: &EntryPoint) -> Option<Construct>
     ensures { MatchOption result (EntryPointHasForm entry_point.now)
         (IsUnsupportedEntryPoint entry_point.now) }
 {
-    if let Some(value) = unsupported_io(&entry_point.function) {
-        return Some(UnsupportedHead::BuiltIn(value));
+    if let Some(unsupported) = unsupported_io(&entry_point.function) {
+        return Some(unsupported);
     }
     if stage_has_form(entry_point) {
         None
     } else {
-        Some(UnsupportedHead::Stage)
+        Some(Construct::StageVariable)
     }
 }
 

@@ -1,16 +1,14 @@
-//! What is looked up of a module again and again while its text is decided and written; and which of
-//! its declarations, types and expressions have a form.
+//! What is looked up of a module again and again while its text is decided and written; and by which
+//! constructs its declarations, types and expressions are refused that have no form.
 #![tactic(auto)]
 
 pub mod declarations;
 pub mod forms;
+mod lacking;
 pub mod marks;
 pub mod single_types;
 pub mod tables;
 
-pub use declarations::{
-    DeclarationPosition, UnsupportedDeclaration, UnsupportedHead, unsupported_declaration,
-    unsupported_head,
-};
-pub use forms::{pointee_scalar, sampling_has_form, whole_known};
+pub use declarations::{DeclarationPosition, unsupported_declaration, unsupported_head};
+pub use forms::{pointee_scalar, refused_expression, whole_known};
 pub use tables::ModuleTables;

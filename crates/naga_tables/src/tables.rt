@@ -5,20 +5,20 @@ ghost use Rattle.std.specs.Prelude.{length, replicate};
 ghost use Rattle.std.specs.Option.{is_some, option_and_then, option_map};
 ghost use Rattle.indexmap.specs.IndexMap.{values};
 ghost use Rattle.module_semantics.specs.AlikeTypes.{has_type_form};
-ghost use Rattle.module_semantics.specs.ExpressionForms.{constant_has_form};
-ghost use Rattle.module_semantics.specs.ExpressionForms.{constant_has_form_over};
-ghost use Rattle.module_semantics.specs.ExpressionForms.{global_has_form, global_has_form_over};
 ghost use Rattle.module_semantics.specs.Layouts.{layout_in, module_rule};
 ghost use Rattle.module_semantics.specs.Undeclared.{handle_names_undeclared, is_spellable};
 ghost use Rattle.module_semantics.specs.Undeclared.{is_undeclared, names_undeclared};
 ghost use Rattle.naga_info.specs.declared.info.TypeResolution.TheVariants.{Handle as OfHandle};
 ghost use Rattle.naga_layout.specs.Tables.{cell_at, mark_at};
 ghost use Rattle.naga_layout.specs.Types.{arrays_are_kept, kept_struct, placed_members};
-ghost use Rattle.naga_tables.specs.Marks.{MarksAlso, MarksGlobals, is_marked};
+ghost use Rattle.naga_tables.specs.Marks.{MarksAlso, is_marked};
+ghost use Rattle.naga_tables.specs.Refusals.{constant_refusal, constant_refusal_over};
+ghost use Rattle.naga_tables.specs.Refusals.{first_refusal, global_refusal, global_refusal_over};
+ghost use Rattle.naga_tables.specs.Refusals.{type_refusal, unspelled};
 ghost use Rattle.naga_tables.specs.Tables.{AreRepresentatives, AreTablesOf, ItemsStandInOrder};
 ghost use Rattle.naga_tables.specs.Tables.{MarksNaming, MarksTypeForms, MarksUndeclared};
-ghost use Rattle.naga_tables.specs.Tables.{TellsLayouts, TellsStrides};
-ghost use Rattle.naga_tables.specs.Tables.{is_marked_over, is_marked_type, representative_at};
+ghost use Rattle.naga_tables.specs.Tables.{TellsLayouts, TellsRefusals, TellsStrides};
+ghost use Rattle.naga_tables.specs.Tables.{is_marked_over, is_marked_type, refusal_at, representative_at};
 ghost use Rattle.naga_tables.specs.Tables.{item_has_type_form, representative_over, type_form_over};
 ghost use Rattle.naga_tables.specs.Tables.{type_has_form_by_marks};
 ghost use Rattle.naga_tables.specs.Tables.{undeclared_handles, unnamed_initialiser, unnamed_value};
@@ -26,26 +26,28 @@ ghost use Rattle.naga_spelling.specs.Spelling.{is_struct};
 ghost use Rattle.wgsl_layout.specs.Capped.{IsAlignment, capped};
 ghost use Rattle.wgsl_layout.specs.Faults.{first_fault};
 
-use crate::forms::literal_has_form;
-use crate::marks::{are_marked, is_marked, mark, mark_present, no_marks};
+use crate::forms::literal_refusal;
+use crate::lacking::lacking_scalar;
+use crate::marks::{is_marked, mark, mark_present, no_marks};
 use crate::single_types::{base_type, has_type_form_alone};
 use naga_info::TypeResolution;
 use naga_ir::{
     Constant, Expression, Handle, ItemIndex, Module, SpecialTypes, StructMember, Type_, TypeInner,
 };
 use naga_layout::{kept_struct, layouts_of, strides_of};
+use naga_refusals::Construct;
 use std::alloc::{AllocError, Global};
 use std::marker::Model;
 use wgsl_layout::{Layout, Misplaced};
 
-/// What is asked of a module again and again while its text is decided and written: which of its
-/// own expressions are written, and by which others; which structs no text declares, which types
+/// What is asked of a module again and again while its text is decided and written: by what
+/// its own expressions are refused, and by which others they are written; which structs no text declares, which types
 /// name one, and which types have a form; how types are laid out, and whether arrays have the
 /// stride that WGSL gives them. Each is looked up in one step, where the module itself would be
 /// searched.
 #[derive(Debug, Drop)]
 pub struct ModuleTables {
-    global_forms: Vec<bool>,
+    global_refusals: Vec<Option<Construct>>,
     representatives: Vec<Handle<Expression>>,
     undeclared: Vec<bool>,
     naming: Vec<bool>,
@@ -61,7 +63,7 @@ impl Model for ModuleTables {
     ghost Value = { Tables };
 
     ghost view = { λ t. record {
-      global_forms = t.global_forms.items;
+      global_refusals = t.global_refusals.items;
       representatives = t.representatives.items;
       undeclared = t.undeclared.items;
       naming = t.naming.items;
@@ -84,12 +86,12 @@ impl ModuleTables {
         let undeclared = undeclared_structs(alloc, module)?;
         let naming = naming_types(alloc, module, &undeclared)?;
         let type_forms = type_form_marks(alloc, module)?;
-        let global_forms = global_form_marks(alloc, module, &naming, &type_forms)?;
+        let global_refusals = global_refusals(alloc, module, &naming, &type_forms)?;
         let representatives = representatives_of(alloc, module)?;
         let layouts = layouts(alloc, module, &undeclared)?;
         let strides = strides(alloc, module, &undeclared, &layouts)?;
         Ok(ModuleTables {
-            global_forms,
+            global_refusals,
             representatives,
             undeclared,
             naming,
@@ -99,22 +101,26 @@ impl ModuleTables {
         })
     }
 
-    /// Whether one of the module's own expressions is written: whether it is made of literals, zero
-    /// values, compositions, splats, overrides and constants that all have forms. One that is not there
-    /// is not.
-    pub fn has_form(&self, module: &Module, handle: Handle<Expression>) -> bool
+    /// By what one of the module's own expressions is refused: by nothing where it is made of literals,
+    /// zero values, compositions, splats, overrides and constants that all have forms. One that is not
+    /// there is no constant.
+    pub fn refusal(&self, module: &Module, handle: Handle<Expression>) -> Option<Construct>
         requires tables { AreTablesOf «module».now self.now }
-        ensures { result ≡ global_has_form «module».now handle }
+        ensures { result ≡ global_refusal «module».now handle }
     {
-        is_marked(&self.global_forms, handle)
+        refusal_at(&self.global_refusals, handle)
     }
 
-    /// Whether a constant is written: it has a name, or its initialiser is written.
-    pub(crate) fn writes(&self, module: &Module, constant: Handle<Constant>) -> bool
+    /// By what a constant is refused: by nothing where it has a name, else as its initialiser is.
+    pub(crate) fn constant_refusal(
+        &self,
+        module: &Module,
+        constant: Handle<Constant>,
+    ) -> Option<Construct>
         requires tables { AreTablesOf «module».now self.now }
-        ensures { result ≡ constant_has_form «module».now constant }
+        ensures { result ≡ constant_refusal «module».now constant }
     {
-        constant_is_marked(&self.global_forms, module, constant)
+        constant_refusal_over(&self.global_refusals, module, constant)
     }
 
     /// The expression by which one of the module's own is written: itself, or, if it is a constant
@@ -150,6 +156,23 @@ impl ModuleTables {
         ensures { result ≡ is_spellable «module».now (OfHandle ty) }
     {
         is_spellable_by(&self.naming, &self.type_forms, module, ty)
+    }
+
+    /// By what the type with this handle is refused, if no text can spell it.
+    pub fn type_refusal(&self, module: &Module, ty: Handle<Type_>) -> Option<Construct>
+        requires tables { AreTablesOf «module».now self.now }
+        ensures { result ≡ type_refusal «module».now (OfHandle ty) }
+    {
+        handle_refusal(&self.naming, &self.type_forms, module, ty)
+    }
+
+    /// What a type is that no text can spell: it names a struct that no text declares, a scalar has no
+    /// word, or it has no form for another reason.
+    pub fn unspelled(&self, module: &Module, ty: &TypeResolution) -> Construct
+        requires tables { AreTablesOf «module».now self.now }
+        ensures { result ≡ unspelled «module».now ty.now }
+    {
+        unspelled(&self.naming, module, ty)
     }
 
     /// Whether WGSL spells an expression's type.
@@ -435,73 +458,142 @@ fn handle_names(naming: &[bool], module: &Module, ty: Handle<Type_>) -> bool
     is_marked(naming, ty)
 }
 
-/// Marks the module's own expressions that are written.
-fn global_form_marks(
+/// By what the type with this handle is refused, by such marks.
+fn handle_refusal(
+    naming: &[bool],
+    type_forms: &[bool],
+    module: &Module,
+    ty: Handle<Type_>,
+) -> Option<Construct>
+    requires naming { MarksNaming «module».now naming.now }
+    requires type_forms { MarksTypeForms «module».now type_forms.now }
+    ensures { result ≡ type_refusal «module».now (OfHandle ty) }
+{
+    if is_spellable_by(naming, type_forms, module, ty) {
+        None
+    } else {
+        Some(unspelled(naming, module, &TypeResolution::Handle(ty)))
+    }
+}
+
+/// What a type is that no text can spell, by marks of those that name a struct which no text declares.
+fn unspelled(naming: &[bool], module: &Module, ty: &TypeResolution) -> Construct
+    requires naming { MarksNaming «module».now naming.now }
+    ensures { result ≡ unspelled «module».now ty.now }
+{
+    if is_marked_type(naming, ty) {
+        return Construct::PredeclaredStruct;
+    }
+    match lacking_scalar(&module.types, ty) {
+        Some(scalar) => Construct::ScalarType(scalar),
+        None => Construct::OtherType,
+    }
+}
+
+/// By what the module's own expressions are refused.
+fn global_refusals(
     alloc: Global,
     module: &Module,
     naming: &[bool],
     type_forms: &[bool],
-) -> Result<Vec<bool>, AllocError>
+) -> Result<Vec<Option<Construct>>, AllocError>
     requires ordered { ItemsStandInOrder «module».now }
     requires naming { MarksNaming «module».now naming.now }
     requires type_forms { MarksTypeForms «module».now type_forms.now }
-    ensures { IfOk result (λ marks. MarksGlobals «module».now marks.items) }
+    ensures { IfOk result (λ cells. TellsRefusals «module».now cells.items) }
 {
-    let mut marks = no_marks(alloc, module.global_expressions.len())?;
-    mark_globals(&mut marks, naming, type_forms, module);
-    Ok(marks)
+    let mut cells = vec![in alloc; None; module.global_expressions.len()]?;
+    set_refusals(&mut cells, naming, type_forms, module);
+    Ok(cells)
 }
 
-/// Marks them from the first to the last.
-fn mark_globals(marks: &mut [bool], naming: &[bool], type_forms: &[bool], module: &Module)
-    requires size { length marks.old ≡ length «module».now.global_expressions }
+/// Sets them from the first to the last.
+fn set_refusals(
+    cells: &mut [Option<Construct>],
+    naming: &[bool],
+    type_forms: &[bool],
+    module: &Module,
+)
+    requires size { length cells.old ≡ length «module».now.global_expressions }
     requires ordered { ItemsStandInOrder «module».now }
     requires naming { MarksNaming «module».now naming.now }
     requires type_forms { MarksTypeForms «module».now type_forms.now }
-    ensures { MarksGlobals «module».now marks.new }
+    ensures { TellsRefusals «module».now cells.new }
 {
     for index in 0..module.global_expressions.len() {
         let expression = &module.global_expressions[ItemIndex::from_index(index)];
-        let has_form = has_form_over(marks, naming, type_forms, module, expression);
-        marks[index] = has_form;
+        let refusal = global_refusal_over(cells, naming, type_forms, module, expression);
+        cells[index] = refusal;
     }
 }
 
-/// Whether one is written, by marks of those before it.
-fn has_form_over(
-    marks: &[bool],
+/// By what one is refused, by the cells of those before it.
+fn global_refusal_over(
+    cells: &[Option<Construct>],
     naming: &[bool],
     type_forms: &[bool],
     module: &Module,
     expression: &Expression,
-) -> bool
+) -> Option<Construct>
     requires naming { MarksNaming «module».now naming.now }
     requires type_forms { MarksTypeForms «module».now type_forms.now }
-    ensures { result ≡ global_has_form_over «module».now (is_marked marks.now) expression.now }
+    ensures { result ≡ global_refusal_over «module».now (refusal_at cells.now) expression.now }
 {
     match expression {
-        Expression::Literal(literal) => literal_has_form(*literal),
-        Expression::Constant(constant) => constant_is_marked(marks, module, *constant),
-        Expression::Override(_) => true,
-        Expression::ZeroValue(ty) => is_spellable_by(naming, type_forms, module, *ty),
+        Expression::Literal(literal) => literal_refusal(*literal),
+        Expression::Constant(constant) => constant_refusal_over(cells, module, *constant),
+        Expression::Override(_) => None,
+        Expression::ZeroValue(ty) => handle_refusal(naming, type_forms, module, *ty),
         Expression::Compose { ty, components } => {
-            is_spellable_by(naming, type_forms, module, *ty)
-                && are_marked(marks, components.as_slice())
+            match first_refusal(cells, components.as_slice()) {
+                Some(construct) => Some(construct),
+                None => handle_refusal(naming, type_forms, module, *ty),
+            }
         }
-        Expression::Splat { value, .. } => is_marked(marks, *value),
-        _ => false,
+        Expression::Splat { value, .. } => refusal_at(cells, *value),
+        _ => Some(Construct::ConstantOperator),
     }
 }
 
-/// Whether a constant has a name, or its initialiser a mark.
-fn constant_is_marked(marks: &[bool], module: &Module, constant: Handle<Constant>) -> bool
-    ensures { result ≡ constant_has_form_over «module».now (is_marked marks.now) constant }
+/// By what a constant is refused, by its name and by the cell of its initialiser.
+fn constant_refusal_over(
+    cells: &[Option<Construct>],
+    module: &Module,
+    constant: Handle<Constant>,
+) -> Option<Construct>
+    ensures { result ≡ constant_refusal_over «module».now (refusal_at cells.now) constant }
 {
     if constant.index() >= module.constants.len() {
-        return false;
+        return Some(Construct::ConstantOperator);
     }
     let item = &module.constants[constant];
-    item.name.is_some() || is_marked(marks, item.init)
+    if item.name.is_some() {
+        None
+    } else {
+        refusal_at(cells, item.init)
+    }
+}
+
+/// By what the first of these is refused that is refused.
+fn first_refusal(cells: &[Option<Construct>], handles: &[Handle<Expression>]) -> Option<Construct>
+    ensures { result ≡ first_refusal (refusal_at cells.now) handles.now }
+{
+    for handle in handles {
+        if let Some(construct) = refusal_at(cells, *handle) {
+            return Some(construct);
+        }
+    }
+    None
+}
+
+/// By what one is refused, by its cell. One that is not there is no constant.
+fn refusal_at(cells: &[Option<Construct>], handle: Handle<Expression>) -> Option<Construct>
+    ensures { result ≡ refusal_at cells.now handle }
+{
+    match cells.get(handle.index()) {
+        Some(cell) => *cell,
+        None => Some(Construct::ConstantOperator),
+    }
 }
 
 /// By which of the module's own expressions each of them is written.

@@ -3,33 +3,23 @@ use Rattle.naga_scope.specs.declared.plan.PlanError.TheVariants.{StatementWithou
 use Rattle.naga_scope.specs.declared.plan.PlanError.TheVariants.{LetWithoutForm, OutOfScope}
 use Rattle.naga_scope.specs.declared.plan.PlanError.TheVariants.{TypeWithoutForm, Unnamed}
 use Rattle.naga_scope.specs.declared.plan.PlanError.TheVariants.{WithoutForm}
-use Rattle.naga_wgsl_fns.specs.PlanRefusals.{NamesStatement, ExpressionNamesAreFullIn}
-use Rattle.naga_wgsl_shared.specs.Refusals.{IsErrorOfNames}
+use Rattle.naga_wgsl_fns.specs.PlanRefusals.{ExpressionNamesAreFullIn, IsConstructOf}
+use Rattle.naga_wgsl_fns.specs.PlanRefusals.{IsConstructOfNames}
 use Rattle.naga_wgsl_fns.specs.PlanRefusals.{IsReasonForNoPlan, IsWritableAt, IsOfPlan}
 use Rattle.naga_wgsl_fns.specs.PlanRefusals.{IsPlanRefusal}
 use Rattle.naga_wgsl_fns.specs.PlanRefusals.{HasUnsupportedIn}
 use Rattle.naga_wgsl_shared.specs.Refusals.{NamesExpression}
 use Rattle.naga_wgsl_fns.specs.PlanRefusals.{NamesUnsupportedType}
-use Rattle.naga_wgsl_shared.specs.Refusals.{NamesType}
 use Rattle.naga_wgsl_fns.specs.PlanRefusals.{NamesUnsupported}
-use Rattle.naga_wgsl_shared.specs.Refusals.{NamesItemsOf}
-use Rattle.naga_wgsl_fns.specs.PlanRefusals.{TellsPlanError}
-use Rattle.naga_scope.specs.declared.statements.UnsupportedStatement.TheVariants as unsupported_statement
-use Rattle.naga_scope.specs.declared.statements.UnsupportedStatement.{UnsupportedStatement}
 use Rattle.naga_scope.proofs.FormedStatements.{some_unsupported}
-use Rattle.naga_form.proofs.statements.AcceptedFunctions.{accepted_at, function_there}
-use Rattle.naga_form.proofs.statements.AcceptedFunctions.{names_are_in_range, all_counted}
-use Rattle.module_semantics.specs.acceptance.Ranges.{names_in_range}
-use Rattle.std.proofs.lemmas.Bool.{ltb-true}
-use Rattle.std.proofs.Common.{◌≡◌, ◌<◌, ◌∙◌, ℕ, Bool, true, zero, suc, List, [], ◌∷◌, None}
+use Rattle.naga_form.proofs.statements.AcceptedFunctions.{all_counted}
+use Rattle.std.proofs.Common.{◌≡◌, ◌<◌, ◌∙◌, ℕ, Bool, zero, suc, List, [], ◌∷◌, None}
 use Rattle.std.proofs.Common.{Option, Some, ap, arith, inl, inr, length, refl, subst, codes, sym}
 use Rattle.std.proofs.Common.{◌++◌}
 use Rattle.std.specs.Prelude.{IfSome, IsFalse, IsSomeAnd, IsTrue, slice_get}
 use Rattle.std.specs.Option.{option_map_or}
 use Rattle.std.proofs.lemmas.Option.{slice_get_within}
 use Rattle.naga_ir.specs.declared.expression.Expression.{Expression}
-use Rattle.naga_ir.specs.declared.expression.Expression.TheVariants.{Constant}
-use Rattle.naga_ir.specs.declared.expression.Expression.TheVariants.{GlobalVariable}
 use Rattle.naga_ir.specs.declared.module.Function as ir_function
 use Rattle.naga_ir.specs.declared.module.Module.{Module}
 use Rattle.naga_info.specs.declared.info.ExpressionInfo.{ExpressionInfo}
@@ -62,17 +52,18 @@ use Rattle.naga_scope.specs.declared.plan.PlanError.TheVariants as plan_error
 use Rattle.naga_scope.proofs.Planned.{shape_found}
 use Rattle.naga_scope.proofs.SpelledTypes.{declared_is_spelled}
 use Rattle.naga_scope.proofs.WrittenLines.{in_the_function}
-use Rattle.naga_wgsl_shared.specs.declared.refusals.error.Error.{Error}
-use Rattle.naga_wgsl_shared.specs.declared.refusals.error.Error.TheVariants.{Custom, FmtError}
-use Rattle.naga_wgsl_shared.specs.declared.refusals.error.Error.TheVariants.{Memory}
-use Rattle.naga_words.specs.declared.sink.SinkError.{SinkError}
-use Rattle.naga_wgsl_shared.specs.Errors.{IsCustom}
-use Rattle.naga_wgsl_shared.proofs.Wants.{no_type_sink, names_no_sink}
-use Rattle.naga_wgsl_shared.specs.Constructs.{IsToldAs}
+use Rattle.naga_refusals.specs.declared.error.Error.{Error}
+use Rattle.naga_refusals.specs.declared.error.Error.TheVariants.{Custom, FmtError}
+use Rattle.naga_refusals.specs.declared.error.Error.TheVariants.{Memory}
+use Rattle.naga_refusals.specs.Errors.{IsCustom}
+use Rattle.naga_wgsl_shared.proofs.Wants.{named_no_sink, told_no_sink}
+use Rattle.naga_tables.proofs.Refusals.{type_refused}
+use Rattle.naga_tables.specs.Refusals.{expression_refusal, type_refusal, unspelled}
+use Rattle.naga_refusals.specs.Constructs.{IsToldAs, IsToldOf}
 use Rattle.naga_wgsl_fns.specs.Unplanned.{IsRefusedFor, IsUnplanned, TellsUnplanned}
 use Rattle.naga_wgsl_fns.specs.declared.plans.Unplanned.{Unplanned}
 use Rattle.naga_wgsl_fns.specs.declared.plans.Unplanned.TheVariants as unplanned
-use Rattle.naga_wgsl_shared.specs.declared.refusals.construct.Construct.{Construct}
+use Rattle.naga_refusals.specs.declared.construct.Construct.{Construct}
 use Rattle.naga_scope.specs.declared.positions.FunctionRefusalPosition.{FunctionRefusalPosition}
 
 -- ---- functions with a plan
@@ -154,14 +145,6 @@ reason_fails explicit m info earlier i error (inr (inl unsupported)) w =
 reason_fails explicit m info earlier i error (inr (inr full)) w = w.nameable full.1
 
 -- ---- what is told of a plan's error
--- no refusal that names a statement is the sink's
-no_statement_sink : (statement : UnsupportedStatement) (reason : SinkError) →
-    NamesStatement statement (FmtError reason) → ⊥
-no_statement_sink unsupported_statement.RayQuery reason is = is
-no_statement_sink unsupported_statement.SubgroupOperation reason is = is
-no_statement_sink unsupported_statement.FallThrough reason is = is
-no_statement_sink unsupported_statement.ImageCompareExchange reason is = is
-
 module _ (explicit : Bool) (m : Module) (info : ModuleInfo) (accepted : IsTrue (is_accepted m info))
     (i : ℕ) (f : ir_function.Function)
     (stands : slice_get (all_functions m) i ≡ Some f) where
@@ -217,9 +200,9 @@ module _ (explicit : Bool) (m : Module) (info : ModuleInfo) (accepted : IsTrue (
         IsPlanRefusal explicit m info earlier i reported
     for_form (FmtError reason) (inl n) =
         let at = named m info i (FmtError reason) n in
-        absurd (names_no_sink m n.known n.function.expressions at.0 reason at.3)
-    for_form (FmtError reason) (inr (inl n)) = absurd (no_type_sink m n.type reason n.named)
-    for_form (FmtError reason) (inr (inr n)) = absurd (no_statement_sink n.statement reason n.named)
+        absurd (named_no_sink (expression_refusal m n.known n.function.expressions at.0) reason at.3)
+    for_form (FmtError reason) (inr (inl n)) = absurd (named_no_sink (type_refusal m n.type) reason n.named)
+    for_form (FmtError reason) (inr (inr n)) = absurd (told_no_sink n.statement reason n.named)
     for_form (Memory e) n = tt
     for_form _ n = (tt, inr (inl n))
 
@@ -257,20 +240,19 @@ module _ (explicit : Bool) (m : Module) (info : ModuleInfo) (accepted : IsTrue (
           (label_stem n full.label)) words ∙ full.full;
     }
 
-    for_names : (namer : Names) → HasOtherUses wgsl_names namer → (error : NamerError) (reported : Error) →
-        IsRefusalOfLabels namer earlier (expression_labels f) error →
-        IsErrorOfNames error reported → IsPlanRefusal explicit m info earlier i reported
-    for_names namer words namer_error.Full reported refusal is =
-        for_full reported is (full_is namer words refusal)
-    for_names namer words namer_error.KeyFull reported refusal is = absurd refusal
-    for_names namer words (namer_error.Memory e) reported refusal is =
-        subst (IsPlanRefusal explicit m info earlier i) (sym is) tt
+    for_names : (namer : Names) → HasOtherUses wgsl_names namer → (error : NamerError) (it : Construct)
+        (reported : Error) → IsRefusalOfLabels namer earlier (expression_labels f) error →
+        IsConstructOfNames error it → IsToldAs it reported → IsPlanRefusal explicit m info earlier i reported
+    for_names namer words namer_error.Full it reported refusal is told =
+        for_full reported (subst (λ it. IsToldAs it reported) is told) (full_is namer words refusal)
+    for_names namer words namer_error.KeyFull it reported refusal is told = absurd refusal
+    for_names namer words (namer_error.Memory e) it reported refusal is told = absurd is
 
     type_named : (es : List ExpressionInfo) → slice_get (all_infos info) i ≡ Some es →
-        (reported : Error) (r : TypeResolution) → IsSpelledIn explicit m info f es r →
-        IsFalse (is_spellable m r) → NamesType m r reported →
+        (reported : Error) (it : Construct) (r : TypeResolution) → IsSpelledIn explicit m info f es r →
+        IsFalse (is_spellable m r) → it ≡ unspelled m r → IsToldAs it reported →
         NamesUnsupportedType explicit m info i reported
-    type_named es at reported r spelled unsupported is = record {
+    type_named es at reported it r spelled unsupported is told = record {
       function = f;
       known = es;
       stands = stands;
@@ -278,19 +260,20 @@ module _ (explicit : Bool) (m : Module) (info : ModuleInfo) (accepted : IsTrue (
       type = r;
       spelled = spelled;
       unsupported = unsupported;
-      named = is;
+      named = subst (λ o. IsToldOf o reported) (sym (type_refused m r unsupported))
+          (subst (λ it. IsToldAs it reported) is told);
     }
 
     pub plan_refusal : (es : List ExpressionInfo) → slice_get (all_infos info) i ≡ Some es →
         (namer : Names) → HasOtherUses wgsl_names namer → HasNamed namer earlier →
-        (error : PlanError) (reported : Error) →
-        IsRefusalToPlanOf explicit m info i namer error → TellsPlanError m f es error reported →
-        IsPlanRefusal explicit m info earlier i reported
-    plan_refusal es at namer words has (Unnamed e) reported refusal is =
-        for_names namer words e reported (refusal f es stands at earlier has) is
-    plan_refusal es at namer words has (OutOfScope fault) reported refusal is =
-        for_scope reported is (out_of_scope namer fault refusal)
-    plan_refusal es at namer words has (StatementWithoutForm number statement) reported refusal is =
+        (error : PlanError) (it : Construct) (reported : Error) →
+        IsRefusalToPlanOf explicit m info i namer error → IsConstructOf m f es error it →
+        IsToldAs it reported → IsPlanRefusal explicit m info earlier i reported
+    plan_refusal es at namer words has (Unnamed e) it reported refusal is told =
+        for_names namer words e it reported (refusal f es stands at earlier has) is told
+    plan_refusal es at namer words has (OutOfScope fault) it reported refusal is told =
+        for_scope reported (subst (λ it. IsToldAs it reported) is told) (out_of_scope namer fault refusal)
+    plan_refusal es at namer words has (StatementWithoutForm number statement) it reported refusal is told =
         for_form reported (inr (inr (record {
           function = f;
           known = es;
@@ -298,9 +281,9 @@ module _ (explicit : Bool) (m : Module) (info : ModuleInfo) (accepted : IsTrue (
           is_known = at;
           statement = statement;
           unsupported = (refusal f es stands at).0;
-          named = is;
+          named = subst (λ it. IsToldAs it reported) is told;
         })))
-    plan_refusal es at namer words has (WithoutForm line h) reported refusal is =
+    plan_refusal es at namer words has (WithoutForm line h) it reported refusal is told =
         let here = refusal f es stands at in
         for_form reported (inl (record {
           function = f;
@@ -309,37 +292,39 @@ module _ (explicit : Bool) (m : Module) (info : ModuleInfo) (accepted : IsTrue (
           is_known = at;
           expression = h;
           written = in_the_function (binds (function_shape m info f es)) f f.expressions line h here.0;
-          named = both _ _ (slice_get f.expressions h) here.1 is;
+          named = both (slice_get f.expressions h) here.1 is;
         }))
       where
-        both : (P Q : Expression → Type 0) (o : Option Expression) → IsSomeAnd o P →
-            IsSomeAnd o Q → IsSomeAnd o (λ e. P e × Q e)
-        both P Q None p q = absurd p
-        both P Q (Some e) p q = (p, q)
-    plan_refusal es at namer words has (TypeWithoutForm declared ty) reported refusal is =
+        both : (o : Option Expression) →
+            IsSomeAnd o (λ e. IsFalse (expression_has_form m es f.expressions e)) →
+            IsSomeAnd o (λ e. expression_refusal m es f.expressions e ≡ Some it) →
+            IsSomeAnd o (λ e. IsFalse (expression_has_form m es f.expressions e)
+            × NamesExpression m es f.expressions e reported)
+        both None lacks is = absurd lacks
+        both (Some e) lacks is = (lacks, subst (λ o. IsToldOf o reported) (sym is) told)
+    plan_refusal es at namer words has (TypeWithoutForm declared ty) it reported refusal is told =
         let here = refusal f es stands at in
         let spelled = declared_is_spelled m f explicit info es declared ty here.0 in
-        for_form reported (inr (inl (type_named es at reported (Handle ty) spelled here.1 is)))
-    plan_refusal es at namer words has (LetWithoutForm number h) reported refusal is =
+        for_form reported (inr (inl (type_named es at reported it (Handle ty) spelled here.1 is told)))
+    plan_refusal es at namer words has (LetWithoutForm number h) it reported refusal is told =
         by (slice_get es h) (refusal f es stands at).1 is
       where
         by : (o : Option ExpressionInfo) →
             IsSomeAnd o (λ k. IsSpelledIn explicit m info f es k.ty × IsFalse (is_spellable m k.ty)) →
-            IsSomeAnd o (λ k. NamesType m k.ty reported) →
+            IsSomeAnd o (λ k. it ≡ unspelled m k.ty) →
             IsPlanRefusal explicit m info earlier i reported
         by None here is = absurd here
         by (Some k) here is =
-            for_form reported (inr (inl (type_named es at reported k.ty here.0 here.1 is)))
-    plan_refusal es at namer words has (plan_error.Memory e) reported refusal is =
-        subst (IsPlanRefusal explicit m info earlier i) (sym is) tt
+            for_form reported (inr (inl (type_named es at reported it k.ty here.0 here.1 is told)))
+    plan_refusal es at namer words has (plan_error.Memory e) it reported refusal is told = absurd is
 
     -- what is told of a construct for which it has no plan
     pub unplanned_refusal : (namer : Names) → HasOtherUses wgsl_names namer → HasNamed namer earlier →
         (it : Construct) (at : FunctionRefusalPosition) → IsRefusedFor explicit m info i namer it at →
         (reported : Error) → IsToldAs it reported → IsPlanRefusal explicit m info earlier i reported
     unplanned_refusal namer words has it at r reported told =
-        plan_refusal known.0 known.1 namer words has r.error reported r.refused
-        (r.told f known.0 stands known.1 reported told)
+        plan_refusal known.0 known.1 namer words has r.error it reported r.refused
+        (r.construct f known.0 stands known.1) told
 
     pub unplanned_told : (namer : Names) → HasOtherUses wgsl_names namer → HasNamed namer earlier →
         (u : Unplanned) (reported : Error) → IsUnplanned explicit m info i namer u → TellsUnplanned u reported →
@@ -348,20 +333,3 @@ module _ (explicit : Bool) (m : Module) (info : ModuleInfo) (accepted : IsTrue (
         unplanned_refusal namer words has it at r reported told
     unplanned_told namer words has (unplanned.Memory e) reported r told =
         subst (IsPlanRefusal explicit m info earlier i) (sym told) tt
-
--- each constant and variable that an expression of an accepted function names is there
-pub items_there : (m : Module) (info : ModuleInfo) → IsTrue (is_accepted m info) → (i : ℕ)
-    (f : ir_function.Function) → slice_get (all_functions m) i ≡ Some f → (es : List ExpressionInfo) →
-    slice_get (all_infos info) i ≡ Some es → (h : ℕ) (e : Expression) →
-    slice_get f.expressions h ≡ Some e → NamesItemsOf m e
-items_there m info accepted i f stands es stand h e at =
-    let numbered = function_there m info accepted i f stands in
-    let is = accepted_at m info accepted i f numbered.0 numbered.1 in
-    by e (names_are_in_range m is.callees f is.ranges h e at)
-  where
-    by : (e : Expression) →
-        names_in_range m (length f.arguments.items) (length f.local_variables) e ≡ true →
-        NamesItemsOf m e
-    by (Constant c) range = ltb-true c (length m.constants) range
-    by (GlobalVariable v) range = range
-    by _ range = tt

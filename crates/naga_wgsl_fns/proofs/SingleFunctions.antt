@@ -44,21 +44,21 @@ use Rattle.wgsl_text.specs.Words.{IsIdentifier}
 use Rattle.wgsl_text.proofs.Reading.{entry_point_has_one_reading, function_has_one_reading}
 use Rattle.wgsl_text.proofs.Text.{text-append}
 use Rattle.naga_wgsl_shared.specs.Attributes.{attributes_text}
-use Rattle.naga_wgsl_shared.specs.DeclarationRefusals.{NamesHead}
-use Rattle.naga_wgsl_shared.specs.Errors.{IsWant}
+use Rattle.naga_wgsl_shared.specs.Refusals.{NamesHead}
+use Rattle.naga_refusals.specs.Errors.{IsWant}
 use Rattle.naga_back.specs.Flags.{annotates_types}
 use Rattle.naga_wgsl_fns.specs.Functions.{known_of, names_of, stage_before, text_of, text_under}
 use Rattle.naga_wgsl_fns.specs.Items.{AppendsOne, FunctionWriting, IsFunctionRefusal}
 use Rattle.naga_wgsl_fns.specs.Items.{HasNamedItemsOf, StandsIn, named_following, text_after}
 use Rattle.naga_wgsl_fns.specs.PlanRefusals.{IsPlanRefusal, IsWritableAt}
 use Rattle.naga_wgsl_shared.specs.Stages.{stage_text}
-use Rattle.naga_wgsl_shared.specs.declared.refusals.error.Error.{Error}
-use Rattle.naga_wgsl_shared.specs.declared.refusals.error.Error.TheVariants.{FmtError, Memory}
+use Rattle.naga_refusals.specs.declared.error.Error.{Error}
+use Rattle.naga_refusals.specs.declared.error.Error.TheVariants.{FmtError, Memory}
 use Rattle.naga_wgsl_fns.proofs.ExpressionNames.{named_are, none_full}
 use Rattle.naga_wgsl_fns.proofs.FunctionRows.{no_entry_point, entry_point_within}
 use Rattle.naga_wgsl_fns.proofs.MeantFunctions.{is_meant, own_function, own_entry_point}
 use Rattle.naga_wgsl_shared.proofs.Wants.{want_tells_nothing}
-use Rattle.naga_wgsl_shared.proofs.Wants.{head_is_no_sink}
+use Rattle.naga_wgsl_shared.proofs.Wants.{told_no_sink}
 use Rattle.naga_wgsl_fns.proofs.PlanRefusals.{planned_holds}
 
 -- a namer that has named some first labels of a function has named the items in front of them
@@ -283,7 +283,7 @@ module _ (m : Module) (info : ModuleInfo) (flags : WriterFlags) (earlier : List 
 
     pub for_head : (error : Error) → NamesHead m g error →
         IsFunctionRefusal explicit m info earlier g before before error
-    for_head (FmtError e) named = absurd (head_is_no_sink m g e named)
+    for_head (FmtError e) named = absurd (told_no_sink named.0 e named.2)
     for_head (Memory e) named = tt
     for_head _ named = inl named
 

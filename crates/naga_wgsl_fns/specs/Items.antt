@@ -39,15 +39,15 @@ use Rattle.naga_spelling.specs.Contexts.{names_context}
 use Rattle.naga_spelling.specs.Segments.{HasWritten}
 use Rattle.naga_spelling.specs.Sink.{IsAfter}
 use Rattle.naga_spelling.specs.Spelling.{type_segments}
-use Rattle.naga_wgsl_shared.specs.Errors.{IsSinkWant}
+use Rattle.naga_refusals.specs.Errors.{IsSinkWant}
 use Rattle.naga_back.specs.Flags.{annotates_types}
 use Rattle.naga_wgsl_fns.specs.Functions.{text_under}
 use Rattle.naga_wgsl_shared.specs.GlobalExpressions.{RefusesGlobalOnlyFor}
-use Rattle.naga_wgsl_shared.specs.DeclarationRefusals.{NamesHead}
+use Rattle.naga_wgsl_shared.specs.Refusals.{NamesHead}
 use Rattle.naga_wgsl_fns.specs.PlanRefusals.{HasNamedLabels, IsReasonForNoPlan, IsWritableAt}
-use Rattle.naga_wgsl_shared.specs.Refusals.{TellsOfModule}
-use Rattle.naga_wgsl_shared.specs.declared.refusals.error.Error.{Error}
-use Rattle.naga_wgsl_shared.specs.declared.refusals.error.Error.TheVariants.{FmtError, Memory}
+use Rattle.naga_refusals.specs.Errors.{TellsOfModule}
+use Rattle.naga_refusals.specs.declared.error.Error.{Error}
+use Rattle.naga_refusals.specs.declared.error.Error.TheVariants.{FmtError, Memory}
 
 -- with the words and prefixes of WGSL the namer has named the labels of the module's items, and
 -- others after them

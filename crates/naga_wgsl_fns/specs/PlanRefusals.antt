@@ -2,6 +2,7 @@
 --
 -- Throughout, m is the module, e an error of memory, and explicit says whether `let`s tell types.
 use Rattle.std.specs.Prelude.{◌≡◌, ⊤, ℕ, ◌<◌, List, [], ◌∷◌, ◌⊎◌, codes, string_bytes}
+use Rattle.std.specs.declared.alloc.AllocError.{AllocError}
 use Rattle.std.specs.Prelude.{IsSomeAnd, Some, length, slice_get, Bool}
 use Rattle.std.specs.Prelude.{IsFalse}
 use Rattle.std.specs.List.{IsAmong}
@@ -25,20 +26,21 @@ use Rattle.naga_scope.specs.declared.plan.PlanError.{PlanError}
 use Rattle.naga_scope.specs.declared.plan.PlanError.TheVariants.{LetWithoutForm, OutOfScope}
 use Rattle.naga_scope.specs.declared.plan.PlanError.TheVariants.{TypeWithoutForm, Unnamed}
 use Rattle.naga_scope.specs.declared.plan.PlanError.TheVariants.{StatementWithoutForm, WithoutForm}
-use Rattle.naga_scope.specs.declared.statements.UnsupportedStatement.{UnsupportedStatement}
-use Rattle.naga_scope.specs.declared.statements.UnsupportedStatement.TheVariants as unsupported_statement
-use Rattle.naga_scope.specs.UnsupportedStatements.{unsupported_statement as unsupported_statement_of}
+use Rattle.naga_scope.specs.UnsupportedStatements.{unsupported_statement}
 use Rattle.naga_scope.specs.declared.plan.PlanError.TheVariants as plan_error
-use Rattle.naga_wgsl_shared.specs.Errors.{IsCustom, IsUnimplemented}
-use Rattle.naga_wgsl_shared.specs.declared.refusals.error.Error.{Error}
-use Rattle.naga_wgsl_shared.specs.declared.refusals.error.Error.TheVariants.{FmtError, Custom}
-use Rattle.naga_wgsl_shared.specs.declared.refusals.error.Error.TheVariants.{Memory, Unimplemented}
-use Rattle.naga_wgsl_shared.specs.declared.refusals.error.Error.TheVariants.{Unsupported}
-use Rattle.naga_wgsl_shared.specs.declared.refusals.error.Error.TheVariants.{UnsupportedRelationalFunction}
-use Rattle.naga_wgsl_shared.specs.Refusals.{IsErrorOfNames, NamesType, NamesRayQuery}
-use Rattle.naga_wgsl_shared.specs.Refusals.{NamesExpression, TellsOfModule}
-use Rattle.naga_wgsl_shared.specs.Carried.{CarriesOfType, CarriesOfExpression}
-use Rattle.naga_wgsl_shared.specs.declared.refusals.construct.Construct.{Construct}
+use Rattle.naga_naming.specs.declared.error.NamerError.{NamerError}
+use Rattle.naga_naming.specs.declared.error.NamerError.TheVariants as namer_error
+use Rattle.naga_refusals.specs.Constructs.{IsToldAs}
+use Rattle.naga_refusals.specs.Errors.{TellsOfModule}
+use Rattle.naga_refusals.specs.declared.construct.Construct.{Construct}
+use Rattle.naga_refusals.specs.declared.construct.Construct.TheVariants as construct
+use Rattle.naga_refusals.specs.declared.error.Error.{Error}
+use Rattle.naga_refusals.specs.declared.error.Error.TheVariants.{FmtError, Custom}
+use Rattle.naga_refusals.specs.declared.error.Error.TheVariants.{Memory, Unimplemented}
+use Rattle.naga_refusals.specs.declared.error.Error.TheVariants.{Unsupported}
+use Rattle.naga_refusals.specs.declared.error.Error.TheVariants.{UnsupportedRelationalFunction}
+use Rattle.naga_tables.specs.Refusals.{expression_refusal, unspelled}
+use Rattle.naga_wgsl_shared.specs.Refusals.{NamesExpression, NamesType}
 
 -- the names of some labels that front ends gave in the function with this number can't be told
 -- after these earlier labels, since so many of them have one base
@@ -47,16 +49,6 @@ ExpressionNamesAreFullIn m earlier number =
     SomeLabelIsFull wgsl_names earlier (labels_named_in m number)
 
 -- ---- what has no form in a function
--- a statement without a form
-abbrev pub NamesStatement : UnsupportedStatement → Error → Type 0
-NamesStatement unsupported_statement.RayQuery error = NamesRayQuery error
-NamesStatement unsupported_statement.SubgroupOperation error =
-    IsUnimplemented (codes "subgroup operation") error
-NamesStatement unsupported_statement.FallThrough error =
-    IsUnimplemented (codes "fall-through switch case block") error
-NamesStatement unsupported_statement.ImageCompareExchange error =
-    IsUnimplemented (codes "image compare exchange") error
-
 -- a statement without a form stands in the function with this number, and is named
 pub record NamesUnsupportedStatement (m : Module) (info : ModuleInfo) (number : ℕ) (error : Error) :
     Type 0 where
@@ -64,9 +56,9 @@ pub record NamesUnsupportedStatement (m : Module) (info : ModuleInfo) (number : 
   pub known : List ExpressionInfo
   pub stands : slice_get (all_functions m) number ≡ Some function
   pub is_known : slice_get (all_infos info) number ≡ Some known
-  pub statement : UnsupportedStatement
-  pub unsupported : unsupported_statement_of function.body ≡ Some statement
-  pub named : NamesStatement statement error
+  pub statement : Construct
+  pub unsupported : unsupported_statement function.body ≡ Some statement
+  pub named : IsToldAs statement error
 
 -- an expression is written in the function with this number that has no form, and is named
 pub record NamesUnsupported (m : Module) (info : ModuleInfo) (number : ℕ) (error : Error) :
@@ -165,7 +157,7 @@ IsPlanRefusal explicit m info earlier number error =
     TellsOfModule error × IsReasonForNoPlan explicit m info earlier number error
 
 -- the handle that an error of a plan tells of has an expression without a form, or one of which a
--- type is known; and what is told is the name of that, or what else the error says
+-- type is known
 abbrev pub IsOfPlan : Module → Function → List ExpressionInfo → PlanError → Type 0
 IsOfPlan m f known (WithoutForm line handle) =
     IsSomeAnd (slice_get f.expressions handle) (λ e.
@@ -173,31 +165,32 @@ IsOfPlan m f known (WithoutForm line handle) =
 IsOfPlan m f known (LetWithoutForm number handle) = handle < length known
 IsOfPlan m f known error = ⊤
 
-abbrev pub TellsPlanError : Module → Function → List ExpressionInfo → PlanError → Error → Type 0
-TellsPlanError m f known (OutOfScope fault) reported =
-    IsCustom (codes "operand out of scope") reported
-TellsPlanError m f known (StatementWithoutForm number statement) reported =
-    NamesStatement statement reported
-TellsPlanError m f known (WithoutForm line handle) reported =
+-- it is the construct for which a label, or an item, gets no name
+abbrev pub IsConstructOfNames : NamerError → Construct → Type 0
+IsConstructOfNames namer_error.Full it = it ≡ construct.FullNamer
+IsConstructOfNames namer_error.KeyFull it = it ≡ construct.NameKey
+IsConstructOfNames (namer_error.Memory e) it = ⊥
+
+-- and that for which a function has no plan
+abbrev pub IsConstructOf : Module → Function → List ExpressionInfo → PlanError → Construct → Type 0
+IsConstructOf m f known (OutOfScope fault) it = it ≡ construct.OutOfScope
+IsConstructOf m f known (StatementWithoutForm number statement) it = it ≡ statement
+IsConstructOf m f known (WithoutForm line handle) it =
     IsSomeAnd (slice_get f.expressions handle) (λ e.
-    NamesExpression m known f.expressions e reported)
-TellsPlanError m f known (TypeWithoutForm at ty) reported = NamesType m (Handle ty) reported
-TellsPlanError m f known (LetWithoutForm number handle) reported =
-    IsSomeAnd (slice_get known handle) (λ k. NamesType m k.ty reported)
-TellsPlanError m f known (Unnamed e) reported = IsErrorOfNames e reported
-TellsPlanError m f known (plan_error.Memory e) reported = reported ≡ Memory e
+    expression_refusal m known f.expressions e ≡ Some it)
+IsConstructOf m f known (TypeWithoutForm at ty) it = it ≡ unspelled m (Handle ty)
+IsConstructOf m f known (LetWithoutForm number handle) it =
+    IsSomeAnd (slice_get known handle) (λ k. it ≡ unspelled m k.ty)
+IsConstructOf m f known (Unnamed e) it = IsConstructOfNames e it
+IsConstructOf m f known (plan_error.Memory e) it = ⊥
+
+-- memory ran out, with this error
+abbrev pub IsMemoryOf : PlanError → AllocError → Type 0
+IsMemoryOf (Unnamed (namer_error.Memory e)) wanting = e ≡ wanting
+IsMemoryOf (plan_error.Memory e) wanting = e ≡ wanting
+IsMemoryOf error wanting = ⊥
 
 -- the namer has the words and prefixes of WGSL, and has named these labels
 pub record HasNamedLabels (earlier : List (List ℕ)) (namer : Names) : Type 0 where
   pub words : HasOtherUses wgsl_names namer
   pub labels : HasNamed namer earlier
-
--- What a construct carries that is told of a plan's error: that of what keeps the function from having
--- a plan.
-abbrev pub CarriesOfPlan : Module → Function → List ExpressionInfo → PlanError → Construct → Type 0
-CarriesOfPlan m f info (plan_error.WithoutForm line h) it =
-    IsSomeAnd (slice_get f.expressions h) (λ e. CarriesOfExpression m info e it)
-CarriesOfPlan m f info (plan_error.TypeWithoutForm at ty) it = CarriesOfType m (Handle ty) it
-CarriesOfPlan m f info (plan_error.LetWithoutForm n h) it =
-    IsSomeAnd (slice_get info h) (λ k. CarriesOfType m k.ty it)
-CarriesOfPlan m f info _ it = ⊤

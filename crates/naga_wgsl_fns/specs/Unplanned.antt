@@ -1,20 +1,17 @@
 -- Why there is no plan of a function, and where that stands.
-use Rattle.std.specs.Prelude.{◌≡◌, ℕ, Bool, true, false, IsFalse}
+use Rattle.std.specs.Prelude.{◌≡◌, ℕ, Bool}
 use Rattle.naga_ir.specs.declared.module.Module.{Module}
 use Rattle.naga_info.specs.declared.info.ModuleInfo.{ModuleInfo}
 use Rattle.module_semantics.specs.Written.{OfFunctionAt}
 use Rattle.naga_naming.specs.Naming.{Names}
-use Rattle.naga_naming.specs.declared.error.NamerError.{NamerError}
-use Rattle.naga_naming.specs.declared.error.NamerError.TheVariants as namer_error
 use Rattle.naga_scope.specs.Plans.{IsFirstToPlanOf, IsRefusalToPlanOf}
 use Rattle.naga_scope.specs.declared.plan.PlanError.{PlanError}
 use Rattle.naga_scope.specs.declared.plan.PlanError.TheVariants as plan_error
-use Rattle.naga_wgsl_fns.specs.PlanRefusals.{CarriesOfPlan}
-use Rattle.naga_wgsl_shared.specs.Constructs.{IsToldAs, Tells}
-use Rattle.naga_wgsl_fns.specs.PlanRefusals.{TellsPlanError}
-use Rattle.naga_wgsl_shared.specs.declared.refusals.construct.Construct.{Construct}
-use Rattle.naga_wgsl_shared.specs.declared.refusals.error.Error.{Error}
-use Rattle.naga_wgsl_shared.specs.declared.refusals.error.Error.TheVariants.{Memory}
+use Rattle.naga_wgsl_fns.specs.PlanRefusals.{IsConstructOf}
+use Rattle.naga_refusals.specs.Constructs.{IsToldAs}
+use Rattle.naga_refusals.specs.declared.construct.Construct.{Construct}
+use Rattle.naga_refusals.specs.declared.error.Error.{Error}
+use Rattle.naga_refusals.specs.declared.error.Error.TheVariants.{Memory}
 use Rattle.naga_scope.specs.declared.positions.FunctionRefusalPosition.{FunctionRefusalPosition}
 use Rattle.naga_scope.specs.declared.positions.FunctionRefusalPosition.TheVariants as part
 use Rattle.naga_wgsl_fns.specs.declared.plans.Unplanned.{Unplanned}
@@ -30,16 +27,6 @@ function_position (plan_error.LetWithoutForm number handle) = part.Let number ha
 function_position (plan_error.Unnamed error) = part.Labels
 function_position (plan_error.Memory error) = part.Labels
 
--- memory ran out
-abbrev pub namer_lacks_memory : NamerError → Bool
-namer_lacks_memory (namer_error.Memory e) = true
-namer_lacks_memory _ = false
-
-abbrev pub plan_lacks_memory : PlanError → Bool
-plan_lacks_memory (plan_error.Unnamed error) = namer_lacks_memory error
-plan_lacks_memory (plan_error.Memory e) = true
-plan_lacks_memory _ = false
-
 -- With this namer the function with this number has no plan, for the first construct in the order of
 -- the text, which stands at this part of the function.
 pub record IsRefusedFor (explicit : Bool) (m : Module) (info : ModuleInfo) (number : ℕ)
@@ -47,10 +34,8 @@ pub record IsRefusedFor (explicit : Bool) (m : Module) (info : ModuleInfo) (numb
   pub error : PlanError
   pub refused : IsRefusalToPlanOf explicit m info number namer error
   pub first : IsFirstToPlanOf explicit m info number namer error
-  pub told : OfFunctionAt m info number (λ f known. Tells it (TellsPlanError m f known error))
-  pub carries : OfFunctionAt m info number (λ f known. CarriesOfPlan m f known error it)
+  pub construct : OfFunctionAt m info number (λ f known. IsConstructOf m f known error it)
   pub part : at ≡ function_position error
-  pub other : IsFalse (plan_lacks_memory error)
 
 -- so it is, or memory ran out
 abbrev pub IsUnplanned : (explicit : Bool) → Module → ModuleInfo → (number : ℕ) → Names →

@@ -14,7 +14,7 @@ ghost use Rattle.naga_scope.specs.Plans.{IsPlanOf};
 ghost use Rattle.naga_tables.specs.Tables.{AreTablesOf};
 ghost use Rattle.naga_words.specs.Output.{Writes};
 ghost use Rattle.naga_spelling.specs.Sink.{IsAfter};
-ghost use Rattle.naga_wgsl_shared.specs.Errors.{IsWant};
+ghost use Rattle.naga_refusals.specs.Errors.{IsWant};
 ghost use Rattle.naga_wgsl_fns.specs.FunctionText.{CanWrite};
 ghost use Rattle.naga_back.specs.Flags.{annotates_types};
 ghost use Rattle.naga_wgsl_fns.specs.FunctionText.{AreInText, IsInText};
@@ -38,11 +38,11 @@ use naga_ir::{
     Module,
 };
 use naga_naming::NameKey;
+use naga_refusals::error::error_of_want;
 use naga_scope::{Plan, Scope, function_of};
 use naga_tables::ModuleTables;
 use naga_wgsl_shared::Error;
 use naga_wgsl_shared::bindings::write_optional_binding;
-use naga_wgsl_shared::refusals::error::error_of_want;
 use naga_words::{Output, TextSink};
 use std::alloc::Global;
 use std::collections::HashMap;

@@ -18,9 +18,8 @@ use naga_info::ModuleInfo;
 use naga_ir::Module;
 use naga_names::namer::Namer;
 use naga_naming::NameKey;
+use naga_refusals::Error;
 use naga_tables::{ModuleTables, unsupported_head};
-use naga_wgsl_shared::Error;
-use naga_wgsl_shared::refusals::declarations::head_without_form;
 use naga_words::TextSink;
 use std::alloc::Global;
 use std::collections::HashMap;
@@ -77,7 +76,7 @@ pub fn write_function<W: TextSink>(
     ensures named { HasNamedItemsOf «module».now namer.new }
 {
     match unsupported_head(module, ty) {
-        Some(head) => Err(head_without_form(alloc, head)),
+        Some(construct) => Err(construct.to_error(alloc)),
         None => write_by_plan(alloc, module, info, &ty, names, namer, flags, out),
     }
 }

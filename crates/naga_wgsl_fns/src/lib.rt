@@ -27,8 +27,7 @@ mod variables;
 pub use functions::write_planned;
 pub use items::write_function;
 pub use naga_wgsl_shared::{
-    Construct, Error, declaration_without_form, head_without_form, names_undeclared, put,
-    to_wgsl_if_implemented, unsupported_construct, write_binding, write_global_expression,
-    write_literal,
+    Construct, Error, names_undeclared, put, to_wgsl_if_implemented, write_binding,
+    write_global_expression, write_literal,
 };
 pub use plans::{Unplanned, construct_of_names, plan_of, plan_or_refusal};

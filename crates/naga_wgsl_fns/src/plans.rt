@@ -1,42 +1,30 @@
 //! The plan of a function, or why there is none.
 
-ghost use Rattle.std.specs.Prelude.{◌≡◌, [], ℕ, List, IfErr, IfOk, IsFalse, IsTrue, OnErr, OnOk};
-ghost use Rattle.std.specs.Prelude.{Some};
-ghost use Rattle.std.specs.Prelude.{slice_get};
+ghost use Rattle.std.specs.Prelude.{◌≡◌, [], ℕ, List, IfErr, IfOk, IsTrue, OnErr};
 ghost use Rattle.module_semantics.specs.acceptance.Accepted.{is_accepted};
 ghost use Rattle.module_semantics.specs.FunctionNumbers.{IsFunctionOf, function_number};
 ghost use Rattle.module_semantics.specs.Names.{HasNamesOf, labels_named_in, wgsl_names};
-ghost use Rattle.naga_ir.specs.declared.expression.Expression.{Expression};
+ghost use Rattle.naga_back.specs.Flags.{annotates_types};
 ghost use Rattle.naga_naming.specs.Keys.{names_in};
 ghost use Rattle.naga_naming.specs.Naming.{HasNamed};
-ghost use Rattle.naga_tables.specs.Forms.{AreKnownIn};
-ghost use Rattle.naga_scope.specs.ExpressionNames.{HasBegunLabels, HasOtherUses, NamesLabels};
-ghost use Rattle.naga_tables.specs.Marks.{GlobalsStandInOrder};
-ghost use Rattle.naga_scope.specs.Plans.{IsPlanOf};
-ghost use Rattle.naga_tables.specs.Tables.{AreTablesOf};
-ghost use Rattle.naga_back.specs.Flags.{annotates_types};
-ghost use Rattle.naga_wgsl_fns.specs.PlanRefusals.{NamesStatement};
-ghost use Rattle.naga_wgsl_fns.specs.PlanRefusals.{IsOfPlan, IsPlanRefusal};
-ghost use Rattle.naga_wgsl_shared.specs.Refusals.{NamesItemsOf};
-ghost use Rattle.naga_wgsl_fns.specs.PlanRefusals.{CarriesOfPlan};
-ghost use Rattle.naga_wgsl_shared.specs.Constructs.{Tells};
-ghost use Rattle.naga_wgsl_shared.specs.Refusals.{IsErrorOfNames};
-ghost use Rattle.naga_wgsl_fns.specs.PlanRefusals.{TellsPlanError};
-ghost use Rattle.naga_wgsl_fns.specs.Unplanned.{IsToldOfUnplanned, IsUnplanned, TellsUnplanned};
-ghost use Rattle.naga_wgsl_fns.specs.Unplanned.{namer_lacks_memory};
-ghost use Rattle.naga_wgsl_fns.specs.Unplanned.{plan_lacks_memory, function_position};
-ghost use Rattle.naga_wgsl_shared.specs.declared.refusals.error.Error.TheVariants.{Memory};
 ghost use Rattle.naga_naming.specs.declared.error.NamerError.TheVariants as namer_error;
+ghost use Rattle.naga_scope.specs.ExpressionNames.{HasBegunLabels, HasOtherUses, NamesLabels};
+ghost use Rattle.naga_scope.specs.Plans.{IsPlanOf};
+ghost use Rattle.naga_tables.specs.Forms.{AreKnownIn};
+ghost use Rattle.naga_tables.specs.Tables.{AreTablesOf};
+ghost use Rattle.naga_wgsl_fns.specs.PlanRefusals.{IsConstructOf, IsConstructOfNames, IsMemoryOf};
+ghost use Rattle.naga_wgsl_fns.specs.PlanRefusals.{IsOfPlan, IsPlanRefusal};
+ghost use Rattle.naga_wgsl_fns.specs.Unplanned.{IsToldOfUnplanned, IsUnplanned, TellsUnplanned};
+ghost use Rattle.naga_wgsl_fns.specs.Unplanned.{function_position};
 
 use naga_back::{FunctionType, WriterFlags, annotates_types};
 use naga_info::{FunctionInfo, ModuleInfo, TypeResolution};
 use naga_ir::{Function, Module};
 use naga_names::namer::Namer;
 use naga_naming::{NameKey, NamerError};
-use naga_scope::{FunctionRefusalPosition, Plan, PlanError, UnsupportedStatement, function_of};
-use naga_tables::ModuleTables;
-use naga_wgsl_shared::refusals::forms::{type_without_form, without_form};
-use naga_wgsl_shared::{Construct, Error};
+use naga_refusals::{Construct, Error};
+use naga_scope::{FunctionRefusalPosition, Plan, PlanError, function_of};
+use naga_tables::{ModuleTables, refused_expression};
 use std::alloc::{AllocError, Global};
 use std::collections::HashMap;
 
@@ -146,7 +134,7 @@ pub fn plan_or_refusal<'a>(
         Err(error) => {
             let part = function_position(&error);
             let (function, function_info) = function_of(module, info, *ty);
-            match construct_of_plan(module, tables, function, function_info, error) {
+            match construct_of_plan(module, tables, names, function, function_info, error) {
                 Ok(construct) => Err(Unplanned::Refused(construct, part)),
                 Err(error) => Err(Unplanned::Memory(error)),
             }
@@ -168,65 +156,46 @@ fn function_position(error: &PlanError) -> FunctionRefusalPosition
     }
 }
 
-/// Why there is no plan of this function, or want of memory.
+/// By what this function is refused that has no plan, or want of memory.
 fn construct_of_plan(
     module: &Module,
     tables: &ModuleTables,
+    names: &HashMap<NameKey, String>,
     function: &Function,
     info: &FunctionInfo,
     error: PlanError,
 ) -> Result<Construct, AllocError>
     requires known { AreKnownIn «module».now.types info.now }
-    requires ordered { GlobalsStandInOrder «module».now }
     requires tables { AreTablesOf «module».now tables.now }
-    requires named { (h : ℕ) (e : Expression) → slice_get function.now.expressions h ≡ Some e →
-        NamesItemsOf «module».now e }
+    requires names { HasNamesOf «module».now (names_in names.now) }
     requires unsupported { IsOfPlan «module».now function.now info.now error }
-    ensures ok { IfOk result (λ it.
-        Tells it (TellsPlanError «module».now function.now info.now error)) }
-    ensures carries { IfOk result (CarriesOfPlan «module».now function.now info.now error) }
-    ensures refused { OnOk result (IsFalse (plan_lacks_memory error)) }
-    ensures err { IfErr result (λ e.
-        TellsPlanError «module».now function.now info.now error (Memory e)) }
+    ensures ok { IfOk result (IsConstructOf «module».now function.now info.now error) }
+    ensures err { IfErr result (IsMemoryOf error) }
 {
     match error {
         PlanError::OutOfScope(_) => Ok(Construct::OutOfScope),
-        PlanError::StatementWithoutForm(_, statement) => Ok(statement_without_form(statement)),
+        PlanError::StatementWithoutForm(_, construct) => Ok(construct),
         PlanError::WithoutForm(_, handle) => {
-            Ok(without_form(module, tables, info, &function.expressions[handle]))
+            let expression = &function.expressions[handle];
+            Ok(refused_expression(module, tables, names, info, expression))
         }
         PlanError::TypeWithoutForm(_, ty) => {
-            Ok(type_without_form(module, tables, &TypeResolution::Handle(ty)))
+            Ok(tables.unspelled(module, &TypeResolution::Handle(ty)))
         }
-        PlanError::LetWithoutForm(_, handle) => {
-            Ok(type_without_form(module, tables, &info[handle].ty))
-        }
+        PlanError::LetWithoutForm(_, handle) => Ok(tables.unspelled(module, &info[handle].ty)),
         PlanError::Unnamed(error) => construct_of_names(error),
         PlanError::Memory(error) => Err(error),
     }
 }
 
-/// Why a module is refused of which an item or a label gets no name, or want of memory.
+/// By what a module is refused of which an item or a label gets no name, or want of memory.
 pub fn construct_of_names(error: NamerError) -> Result<Construct, AllocError>
-    ensures ok { IfOk result (λ it. Tells it (IsErrorOfNames error)) }
-    ensures refused { OnOk result (IsFalse (namer_lacks_memory error)) }
+    ensures ok { IfOk result (IsConstructOfNames error) }
     ensures err { IfErr result (λ e. error ≡ namer_error.Memory e) }
 {
     match error {
         NamerError::Full => Ok(Construct::FullNamer),
         NamerError::KeyFull => Ok(Construct::NameKey),
         NamerError::Memory(error) => Err(error),
-    }
-}
-
-/// What a statement that has no form is.
-fn statement_without_form(statement: UnsupportedStatement) -> Construct
-    ensures { Tells result (NamesStatement statement) }
-{
-    match statement {
-        UnsupportedStatement::RayQuery => Construct::RayQuery,
-        UnsupportedStatement::SubgroupOperation => Construct::SubgroupOperation,
-        UnsupportedStatement::FallThrough => Construct::FallThrough,
-        UnsupportedStatement::ImageCompareExchange => Construct::ImageCompareExchange,
     }
 }

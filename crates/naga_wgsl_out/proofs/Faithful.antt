@@ -26,10 +26,10 @@ use Rattle.naga_words.proofs.Writing.{after_then}
 use Rattle.naga_wgsl_fns.proofs.SingleFunctions.{same_following}
 use Rattle.naga_wgsl_shared.proofs.Appending.{stopped_first, stopped_then, wrote_then}
 use Rattle.naga_wgsl_shared.specs.Appends.{StoppedWithin, Wrote}
-use Rattle.naga_wgsl_shared.specs.Errors.{IsWant}
-use Rattle.naga_wgsl_shared.specs.declared.refusals.error.Error.{Error}
-use Rattle.naga_wgsl_shared.specs.declared.refusals.error.Error.TheVariants.{FmtError, Custom}
-use Rattle.naga_wgsl_shared.specs.declared.refusals.error.Error.TheVariants.{Memory}
+use Rattle.naga_refusals.specs.Errors.{IsWant}
+use Rattle.naga_refusals.specs.declared.error.Error.{Error}
+use Rattle.naga_refusals.specs.declared.error.Error.TheVariants.{FmtError, Custom}
+use Rattle.naga_refusals.specs.declared.error.Error.TheVariants.{Memory}
 use Rattle.naga_back.specs.declared.flags.WriterFlags.{WriterFlags}
 use Rattle.naga_back.specs.Flags.{annotates_types}
 use Rattle.naga_wgsl_out.specs.Writing.{HasPlan, MetNoPlan, WritesFunctions, WroteFunctions}
@@ -39,7 +39,7 @@ use Rattle.naga_wgsl_out.proofs.Functions.{lines_after, lines_split, written_lin
 use Rattle.naga_wgsl_out.proofs.ModuleScopes.{all_planned_counted, all_planned_formed}
 use Rattle.naga_wgsl_out.proofs.ModuleScopes.{all_planned_hold, reason_refuses, reason_reported}
 use Rattle.naga_wgsl_fns.specs.PlanRefusals.{TellsOfForm, TellsOfFullNamer, TellsOfScope}
-use Rattle.naga_wgsl_shared.specs.Refusals.{TellsOfModule}
+use Rattle.naga_refusals.specs.Errors.{TellsOfModule}
 use Rattle.naga_wgsl_out.specs.ModuleRefusals.{ComesBeforeText, HasAllNames, IsNamesRefusal}
 use Rattle.naga_wgsl_out.specs.ModuleRefusals.{ItemsAreFull, IsRefusal, NamerIsFull}
 use Rattle.naga_wgsl_out.specs.ModuleRefusals.{TellsOfFunction}

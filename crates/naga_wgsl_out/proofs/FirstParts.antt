@@ -3,12 +3,15 @@ use Rattle.std.proofs.Common.{◌≡◌, ◌<◌, ◌⊎◌, inl, inr, ℕ, Bool
 use Rattle.std.proofs.Common.{nat_lt, refl, slice_get, subst, sym, ◌∙◌}
 use Rattle.std.proofs.lemmas.Bool.{false≢true, ltb-false, ltb-true}
 use Rattle.std.proofs.lemmas.Option.{same_Some}
-use Rattle.std.specs.Prelude.{IsFalse, IsSomeAnd}
+use Rattle.std.specs.Prelude.{IsSomeAnd}
 use Rattle.module_semantics.specs.ExpressionForms.{expression_has_form}
 use Rattle.module_semantics.specs.FunctionShapes.{function_shape}
+use Rattle.module_semantics.specs.Undeclared.{is_spellable}
 use Rattle.module_semantics.specs.Written.{WrittenHaveForms}
 use Rattle.naga_info.specs.declared.info.ExpressionInfo.{ExpressionInfo}
 use Rattle.naga_info.specs.declared.info.ModuleInfo.{ModuleInfo}
+use Rattle.naga_info.specs.declared.info.TypeResolution.{TypeResolution}
+use Rattle.naga_info.specs.declared.info.TypeResolution.TheVariants.{Handle}
 use Rattle.naga_ir.specs.declared.expression.Expression.{Expression}
 use Rattle.naga_ir.specs.declared.module.Function.{Function}
 use Rattle.naga_ir.specs.declared.module.Module.{Module}
@@ -19,13 +22,12 @@ use Rattle.naga_scope.specs.FirstLack.{first_lack}
 use Rattle.naga_scope.specs.Plans.{IsFirstToPlan}
 use Rattle.naga_scope.specs.declared.plan.PlanError.{PlanError}
 use Rattle.naga_scope.specs.declared.plan.PlanError.TheVariants as reason
-use Rattle.naga_wgsl_shared.specs.Carried.{CarriesOfExpression}
-use Rattle.naga_wgsl_shared.specs.Constructs.{Tells}
-use Rattle.naga_wgsl_shared.specs.Refusals.{NamesExpression}
+use Rattle.naga_tables.proofs.Refusals.{expression_refusal_is, refused_lacks, unless_is}
+use Rattle.naga_tables.specs.Refusals.{expression_refusal, type_refusal}
 use Rattle.naga_wgsl_fns.specs.Unplanned.{function_position}
 use Rattle.naga_scope.specs.declared.positions.FunctionRefusalPosition.{FunctionRefusalPosition}
 use Rattle.naga_scope.specs.declared.positions.FunctionRefusalPosition.TheVariants as part
-use Rattle.naga_wgsl_shared.specs.declared.refusals.construct.Construct.{Construct}
+use Rattle.naga_refusals.specs.declared.construct.Construct.{Construct}
 use Rattle.naga_wgsl_out.specs.Unwritable.{IsUnspellable, LabelsGetNamesIn, StandsAtPart}
 use Rattle.shader_runs.proofs.ScopeFaults.{fault_is_no_rule}
 use Rattle.shader_runs.specs.Program.{binds}
@@ -45,11 +47,10 @@ lowest h k no_less no_more = by (nat_lt h k) (nat_lt k h) refl refl
 
 module _ (explicit : Bool) (m : Module) (info : ModuleInfo) (number : ℕ) (f : Function)
     (known : List ExpressionInfo) where
-  -- an expression that has no form, and is told by this construct
-  abbrev pub Unformed : Construct → Expression → Type 0
-  Unformed it e =
-      IsFalse (expression_has_form m known f.expressions e)
-      × Tells it (NamesExpression m known f.expressions e) × CarriesOfExpression m known e it
+  -- a type that is refused can't be spelled
+  type_fails : {it : Construct} (r : TypeResolution) → type_refusal m r ≡ Some it → is_spellable m r ≡ true → ⊥
+  type_fails {it} r lacks has =
+      false≢true (sym (refused_lacks (type_refusal m r) (is_spellable m r) (unless_is _ _) it lacks) ∙ has)
 
   -- ---- what stands there keeps the function from being written
   pub part_refuses : (at : FunctionRefusalPosition) (it : Construct) →
@@ -59,23 +60,27 @@ module _ (explicit : Bool) (m : Module) (info : ModuleInfo) (number : ℕ) (f : 
   part_refuses (part.Scope fault) it stands scope formed labelled =
       fault_is_no_rule (function_shape m info f known) (fault_breaks (function_shape m info f known) fault stands.0)
       scope
-  part_refuses (part.Statement n) it (statement, found, at, told) scope formed labelled =
-      false≢true (sym (some_unsupported f.body statement found) ∙ formed.statements)
+  part_refuses (part.Statement n) it (found, at) scope formed labelled =
+      false≢true (sym (some_unsupported f.body it found) ∙ formed.statements)
   part_refuses (part.Expression line h) it (written, lacks) scope formed labelled =
       by (slice_get f.expressions h) refl lacks
     where
-      by : (o : Option Expression) → slice_get f.expressions h ≡ o → IsSomeAnd o (Unformed it) → ⊥
+      by : (o : Option Expression) → slice_get f.expressions h ≡ o →
+          IsSomeAnd o (λ e. expression_refusal m known f.expressions e ≡ Some it) → ⊥
       by None there lacks = lacks
       by (Some e) there lacks =
-          false≢true (sym lacks.0 ∙ formed.expressions h e there
+          false≢true
+          (sym (refused_lacks (expression_refusal m known f.expressions e)
+          (expression_has_form m known f.expressions e) (expression_refusal_is m known f.expressions e) it lacks)
+          ∙ formed.expressions h e there
           (in_the_function (binds (function_shape m info f known)) f f.expressions line h written))
-  part_refuses (part.Type_ at ty) it (declared, (spelled, lacks, told, carries)) scope formed labelled =
-      false≢true (sym lacks ∙ formed.types _ spelled)
+  part_refuses (part.Type_ at ty) it (declared, (spelled, lacks)) scope formed labelled =
+      type_fails (Handle ty) lacks (formed.types _ spelled)
   part_refuses (part.Let n h) it (among, lacks) scope formed labelled = by (slice_get known h) lacks
     where
       by : (o : Option ExpressionInfo) → IsSomeAnd o (λ k. IsUnspellable explicit m info f known k.ty it) → ⊥
       by None lacks = lacks
-      by (Some k) lacks = false≢true (sym lacks.1 ∙ formed.types k.ty lacks.0)
+      by (Some k) lacks = type_fails k.ty lacks.1 (formed.types k.ty lacks.0)
   part_refuses part.Labels it stands scope formed labelled = labelled stands.0
 
   -- ---- the first is told of labels, or is the one of the text

@@ -2,7 +2,7 @@
 use Rattle.std.proofs.Common.{◌≡◌, ◌<◌, ◌+◌, ℕ, Bool, true, false, List, Option, Some, None, ap}
 use Rattle.std.proofs.Common.{arith, inl, inr, length, refl, slice_get, subst, sym, ◌∙◌}
 use Rattle.std.proofs.lemmas.Bool.{false≢true}
-use Rattle.std.specs.Option.{option_and_then}
+use Rattle.std.specs.Option.{is_some, option_and_then}
 use Rattle.std.specs.Prelude.{IfSome, if◌then◌else◌}
 use Rattle.module_semantics.proofs.FunctionNumbers.{function_among}
 use Rattle.module_semantics.specs.DeclarationForms.{DeclarationsHaveForms}
@@ -18,11 +18,7 @@ use Rattle.module_semantics.specs.DeclarationForms.IsIoBinding.{OfArgument, OfRe
 use Rattle.module_semantics.specs.FunctionNumbers.{all_functions, all_infos}
 use Rattle.module_semantics.specs.Layouts.{concerned_members, concerned_of, module_rule}
 use Rattle.module_semantics.specs.ExpressionForms.{global_has_form}
-use Rattle.module_semantics.specs.Undeclared.{is_spellable}
 use Rattle.naga_info.specs.declared.info.ModuleInfo.{ModuleInfo}
-use Rattle.naga_info.specs.declared.info.TypeResolution.TheVariants.{Handle}
-use Rattle.naga_ir.specs.declared.binding.Binding.TheVariants as binding
-use Rattle.naga_ir.specs.declared.binding.BuiltIn.{BuiltIn}
 use Rattle.naga_ir.specs.declared.module.Constant.{Constant}
 use Rattle.naga_ir.specs.declared.module.EntryPoint.{EntryPoint}
 use Rattle.naga_ir.specs.declared.module.Function.{Function}
@@ -34,25 +30,20 @@ use Rattle.naga_ir.specs.declared.types.Type_.{Type_}
 use Rattle.naga_layout.specs.Types.{arrays_are_kept}
 use Rattle.naga_naming.specs.Reset.{members_of}
 use Rattle.naga_scope.proofs.Planned.{shape_found}
-use Rattle.naga_tables.proofs.UnsupportedDeclarations.{entry_point_lacks}
+use Rattle.naga_tables.proofs.UnsupportedDeclarations.{entry_point_lacks, formed_binding}
+use Rattle.naga_tables.proofs.UnsupportedDeclarations.{member_formed, value_formed}
 use Rattle.naga_tables.specs.Declarations.{ConstantHasForm, EntryPointHasForm, HaveFormsBefore}
-use Rattle.naga_tables.specs.Declarations.{IsUnsupportedConstant, IsUnsupportedHead}
-use Rattle.naga_tables.specs.Declarations.{IsUnsupportedFunction, IsUnsupportedHeadOf}
-use Rattle.naga_tables.specs.Declarations.{IsUnsupportedIn, IsUnsupportedIo, IsUnsupportedStruct}
-use Rattle.naga_tables.specs.Declarations.{IsUnsupportedType, IsUnsupportedValue, IoHasForm}
-use Rattle.naga_tables.specs.Declarations.{StructHasForm, TypeHasForm, ValueHasForm}
-use Rattle.naga_tables.specs.Declarations.{concerned_among}
+use Rattle.naga_tables.specs.Declarations.{IoHasForm, IsUnsupportedEntryPoint, IsUnsupportedIn}
+use Rattle.naga_tables.specs.Declarations.{IsUnsupportedIo, IsUnsupportedStruct, IsUnsupportedType}
+use Rattle.naga_tables.specs.Declarations.{OfArray, OfFirst, OfHead, OfPlace, StructHasForm}
+use Rattle.naga_tables.specs.Declarations.{TypeHasForm, ValueHasForm, concerned_among, value_refusal}
 use Rattle.naga_scope.specs.Plans.{IsFirstToPlan}
 use Rattle.naga_tables.specs.declared.declarations.DeclarationPosition.{DeclarationPosition}
 use Rattle.naga_tables.specs.declared.declarations.DeclarationPosition.TheVariants as declared
-use Rattle.naga_tables.specs.declared.declarations.UnsupportedDeclaration.{UnsupportedDeclaration}
-use Rattle.naga_tables.specs.declared.declarations.UnsupportedDeclaration.TheVariants as declaration
-use Rattle.naga_tables.specs.declared.declarations.UnsupportedHead.{UnsupportedHead}
-use Rattle.naga_tables.specs.declared.declarations.UnsupportedHead.TheVariants as head
 use Rattle.naga_scope.specs.declared.positions.FunctionRefusalPosition.{FunctionRefusalPosition}
-use Rattle.naga_wgsl_shared.specs.declared.refusals.construct.Construct.{Construct}
+use Rattle.naga_refusals.specs.declared.construct.Construct.{Construct}
 use Rattle.naga_wgsl_out.proofs.FirstParts.{lowest, one_part, part_refuses}
-use Rattle.naga_wgsl_out.proofs.ModuleScopes.{each_writable}
+use Rattle.naga_wgsl_out.proofs.ModuleScopes.{each_writable, no_unsupported}
 use Rattle.naga_wgsl_out.specs.ModuleRefusals.{ItemsAreFull, KeyIsOutOfRange, NothingIsRefused}
 use Rattle.naga_wgsl_out.specs.Unwritable.{AreWritableBefore, IsFirst, LabelsGetNamesIn, StandsAt}
 use Rattle.naga_wgsl_out.specs.Unwritable.{StandsAtPart, StandsInFunction, StandsInLabels}
@@ -114,72 +105,40 @@ module _ (explicit : Bool) (m : Module) (info : ModuleInfo) (number : ℕ) where
 
 -- ---- declarations
 module _ (m : Module) where
-  -- what has no form is in no item that has one
-  value_lacks : (ty : ℕ) (init : Option ℕ) (it : UnsupportedDeclaration) → IsUnsupportedValue m ty init it →
-      ValueHasForm m ty init → ⊥
-  value_lacks ty init (declaration.Type_ found) (same, lacks) has =
-      false≢true (sym lacks ∙ subst (λ ty. is_spellable m (Handle ty) ≡ true) (sym same) has.type)
-  value_lacks ty init (declaration.Initialiser h) (typed, same, lacks) has =
-      false≢true (sym lacks ∙ has.initialiser h same)
-  value_lacks ty init (declaration.BuiltIn v) lacks has = lacks
-  value_lacks ty init (declaration.Head it) lacks has = lacks
-  value_lacks ty init (declaration.Misplaced fault) lacks has = lacks
-  value_lacks ty init (declaration.Stride found) lacks has = lacks
+  -- what is refused is in no item that has a form
+  some_none : {found : Option Construct} {it : Construct} → found ≡ Some it → found ≡ None → ⊥
+  some_none lacks has = absurd cc
 
-  struct_lacks : (members : List StructMember) (it : UnsupportedDeclaration) → IsUnsupportedStruct m members it →
+  struct_lacks : (members : List StructMember) (it : Construct) → IsUnsupportedStruct m members it →
       StructHasForm m members → ⊥
-  struct_lacks members (declaration.Type_ ty) (i, s, there, earlier, (same, lacks)) has =
-      false≢true (sym lacks ∙ subst (λ ty. is_spellable m (Handle ty) ≡ true) (sym same) (has.each i s there).type)
-  struct_lacks members (declaration.Initialiser h) (i, s, there, earlier, lacks) has = lacks
-  struct_lacks members (declaration.BuiltIn v) (i, s, there, earlier, (typed, (bound, lacks))) has =
-      false≢true (sym lacks ∙ (has.each i s there).binding (binding.BuiltIn v) bound)
-  struct_lacks members (declaration.Head it) (i, s, there, earlier, lacks) has = lacks
-  struct_lacks members (declaration.Misplaced fault) (formed, (ks, concerned, stands, first)) has =
+  struct_lacks members it (OfFirst (i, s, there, earlier, lacks)) has = some_none lacks (has.each i s there)
+  struct_lacks members it (OfPlace ks fault formed concerned stands first is) has =
       has.offsets ks concerned fault stands
-  struct_lacks members (declaration.Stride ty) (formed, (ks, concerned, kept, (i, s, there, earlier, other))) has =
+  struct_lacks members it (OfArray ks ty formed concerned kept (i, s, there, earlier, other) is) has =
       false≢true (sym other.1 ∙ subst (λ ty. arrays_are_kept (module_rule m) m.types ty ≡ true) (sym other.0)
       (has.strides ks concerned i s there))
 
-  type_lacks : (h : ℕ) (t : Type_) (it : UnsupportedDeclaration) → IsUnsupportedType m h t it → TypeHasForm m h t → ⊥
+  type_lacks : (h : ℕ) (t : Type_) (it : Construct) → IsUnsupportedType m h t it → TypeHasForm m h t → ⊥
   type_lacks h t it lacks has = struct_lacks (members_of t.inner) it lacks.1 (has lacks.0)
 
-  constant_lacks : (c : Constant) (it : UnsupportedDeclaration) → IsUnsupportedConstant m c it →
-      ConstantHasForm m c → ⊥
-  constant_lacks c it lacks has = value_lacks c.ty (Some c.init) it lacks.1 (has lacks.0)
+  io_lacks : (f : Function) (it : Construct) → IsUnsupportedIo f it → IoHasForm f → ⊥
+  io_lacks f it (inl (i, a, at, earlier, lacks)) has =
+      some_none lacks (formed_binding a.binding (λ b bound. has b (OfArgument i a b at bound)))
+  io_lacks f it (inr (formed, (r, is, lacks))) has =
+      some_none lacks (formed_binding r.binding (λ b bound. has b (OfResult r b is bound)))
 
-  io_lacks : (f : Function) (v : BuiltIn) → IsUnsupportedIo f v → IoHasForm f → ⊥
-  io_lacks f v (inl (i, a, at, earlier, (bound, lacks))) has =
-      false≢true (sym lacks ∙ has (binding.BuiltIn v) (OfArgument i a (binding.BuiltIn v) at bound))
-  io_lacks f v (inr (formed, (r, is, (bound, lacks)))) has =
-      false≢true (sym lacks ∙ has (binding.BuiltIn v) (OfResult r (binding.BuiltIn v) is bound))
-
-  function_lacks : (f : Function) (it : UnsupportedDeclaration) → IsUnsupportedFunction f it → IoHasForm f → ⊥
-  function_lacks f (declaration.Head (head.BuiltIn v)) lacks has = io_lacks f v lacks has
-  function_lacks f (declaration.Head head.Stage) lacks has = lacks
-  function_lacks f (declaration.Type_ ty) lacks has = lacks
-  function_lacks f (declaration.Initialiser h) lacks has = lacks
-  function_lacks f (declaration.BuiltIn v) lacks has = lacks
-  function_lacks f (declaration.Misplaced fault) lacks has = lacks
-  function_lacks f (declaration.Stride ty) lacks has = lacks
-
-  entry_point_lacks_form : (p : EntryPoint) (it : UnsupportedDeclaration) → IsUnsupportedHeadOf p it →
+  entry_point_lacks_form : (p : EntryPoint) (it : Construct) → IsUnsupportedEntryPoint p it →
       EntryPointHasForm p → ⊥
-  entry_point_lacks_form p (declaration.Head (head.BuiltIn v)) lacks has = io_lacks p.function v lacks has.io
-  entry_point_lacks_form p (declaration.Head head.Stage) lacks has = false≢true (sym lacks.1 ∙ has.stage)
-  entry_point_lacks_form p (declaration.Type_ ty) lacks has = lacks
-  entry_point_lacks_form p (declaration.Initialiser h) lacks has = lacks
-  entry_point_lacks_form p (declaration.BuiltIn v) lacks has = lacks
-  entry_point_lacks_form p (declaration.Misplaced fault) lacks has = lacks
-  entry_point_lacks_form p (declaration.Stride ty) lacks has = lacks
+  entry_point_lacks_form p it (inl lacks) has = io_lacks p.function it lacks has.io
+  entry_point_lacks_form p it (inr (formed, lacks, is)) has = false≢true (sym lacks ∙ has.stage)
 
   -- where all declarations have forms, each item has one
   module _ (has : DeclarationsHaveForms m) where
     type_formed : (h : ℕ) (t : Type_) → slice_get m.types h ≡ Some t → TypeHasForm m h t
     type_formed h t at is_there = record {
-      each = λ i s there. record {
-        type = has.types s.ty (MemberType h i t s at is_there there);
-        binding = λ b bound. has.members b (MemberBinding h i t s b at is_there there bound);
-      };
+      each = λ i s there.
+          member_formed m s (has.types s.ty (MemberType h i t s at is_there there))
+          (λ b bound. has.members b (MemberBinding h i t s b at is_there there bound));
       offsets = λ ks concerned fault stands.
           has.offsets h fault (record { members = ks; concerned = is_concerned ∙ concerned; stands = stands });
       strides = λ ks concerned i s there.
@@ -208,53 +167,44 @@ module _ (m : Module) where
         }))
 
     constant_formed : (i : ℕ) (c : Constant) → slice_get m.constants i ≡ Some c → ConstantHasForm m c
-    constant_formed i c at is_named = record {
-      type = has.types c.ty (ConstantType i c at is_named);
-      initialiser = λ h same.
-          let handle : c.init ≡ h = cc in
-          subst (λ h. global_has_form m h ≡ true) handle
-          (has.initialisers c.init (ConstantInitialiser i c at is_named));
-    }
+    constant_formed i c at = by (is_some c.name) refl
+      where
+        by : (b : Bool) → is_some c.name ≡ b →
+            (if b then value_refusal m c.ty (Some c.init) else None) ≡ None
+        by false unnamed = refl
+        by true is_named =
+            value_formed m c.ty (Some c.init) (has.types c.ty (ConstantType i c at is_named))
+            (λ h same.
+            let handle : c.init ≡ h = cc in
+            subst (λ h. global_has_form m h ≡ true) handle
+            (has.initialisers c.init (ConstantInitialiser i c at is_named)))
 
     override_formed : (i : ℕ) (o : Override) → slice_get m.overrides i ≡ Some o → ValueHasForm m o.ty o.init
-    override_formed i o at = record {
-      type = has.types o.ty (OverrideType i o at);
-      initialiser = λ h same. has.initialisers h (OverrideInitialiser i o h at same);
-    }
+    override_formed i o at =
+        value_formed m o.ty o.init (has.types o.ty (OverrideType i o at))
+        (λ h same. has.initialisers h (OverrideInitialiser i o h at same))
 
     variable_formed : (i : ℕ) (g : GlobalVariable) → slice_get m.global_variables i ≡ Some g →
         ValueHasForm m g.ty g.init
-    variable_formed i g at = record {
-      type = has.types g.ty (VariableType i g at);
-      initialiser = λ h same. has.initialisers h (VariableInitialiser i g h at same);
-    }
+    variable_formed i g at =
+        value_formed m g.ty g.init (has.types g.ty (VariableType i g at))
+        (λ h same. has.initialisers h (VariableInitialiser i g h at same))
 
     function_formed : (h : ℕ) (f : Function) → slice_get m.functions h ≡ Some f → IoHasForm f
     function_formed h f at = λ b passed. (has.heads h).bindings f (function_among m h f at) b passed
 
-    head_formed : (number : ℕ) (it : UnsupportedHead) → IsUnsupportedHead m number it → ⊥
-    head_formed number (head.BuiltIn v) (f, at, passed, lacks) =
-        false≢true (sym lacks ∙ (has.heads number).bindings f at (binding.BuiltIn v) passed)
-    head_formed number head.Stage (p, at, lacks) = false≢true (sym lacks ∙ (has.heads number).stage p at)
-
     -- so nothing is in any that has none
-    pub none_in : (at : DeclarationPosition) (it : UnsupportedDeclaration) → IsUnsupportedIn m at it → ⊥
+    pub none_in : (at : DeclarationPosition) (it : Construct) → IsUnsupportedIn m at it → ⊥
     none_in (declared.Struct h) it (t, there, lacks) = type_lacks h t it lacks (type_formed h t there)
-    none_in (declared.Constant h) it (c, there, lacks) = constant_lacks c it lacks (constant_formed h c there)
-    none_in (declared.Override h) it (o, there, lacks) = value_lacks o.ty o.init it lacks (override_formed h o there)
-    none_in (declared.GlobalVariable h) it (g, there, lacks) =
-        value_lacks g.ty g.init it lacks (variable_formed h g there)
-    none_in (declared.Function h) it (f, there, lacks) = function_lacks f it lacks (function_formed h f there)
-    none_in (declared.EntryPoint i) (declaration.Head it) (p, there, lacks) =
-        head_formed (length m.functions + i) it (entry_point_lacks m i p there it lacks)
-    none_in (declared.EntryPoint i) (declaration.Type_ ty) (p, there, lacks) = lacks
-    none_in (declared.EntryPoint i) (declaration.Initialiser h) (p, there, lacks) = lacks
-    none_in (declared.EntryPoint i) (declaration.BuiltIn v) (p, there, lacks) = lacks
-    none_in (declared.EntryPoint i) (declaration.Misplaced fault) (p, there, lacks) = lacks
-    none_in (declared.EntryPoint i) (declaration.Stride ty) (p, there, lacks) = lacks
+    none_in (declared.Constant h) it (c, there, lacks) = some_none lacks (constant_formed h c there)
+    none_in (declared.Override h) it (o, there, lacks) = some_none lacks (override_formed h o there)
+    none_in (declared.GlobalVariable h) it (g, there, lacks) = some_none lacks (variable_formed h g there)
+    none_in (declared.Function h) it (f, there, lacks) = io_lacks f it lacks (function_formed h f there)
+    none_in (declared.EntryPoint i) it (p, there, lacks) =
+        no_unsupported m it has (OfHead (length m.functions + i) (entry_point_lacks m i p there it lacks))
 
   -- the first stands in one declaration
-  pub one_declaration : (at other : DeclarationPosition) (it that : UnsupportedDeclaration) →
+  pub one_declaration : (at other : DeclarationPosition) (it that : Construct) →
       IsUnsupportedIn m at it → IsUnsupportedIn m other that → HaveFormsBefore m at → HaveFormsBefore m other →
       at ≡ other
   one_declaration (declared.Struct h) (declared.Struct k) it that (t, there, lacks) (u, found, lack) first second =
@@ -276,84 +226,84 @@ module _ (m : Module) where
       absurd (type_lacks k u that lack (first.0 k u found))
   one_declaration (declared.Constant h) (declared.Constant k) it that (c, there, lacks) (d, found, lack) first second =
       ap declared.Constant (lowest h k
-      (λ less. constant_lacks c it lacks (second.1 h c less there))
-      (λ less. constant_lacks d that lack (first.1 k d less found)))
+      (λ less. some_none lacks (second.1 h c less there))
+      (λ less. some_none lack (first.1 k d less found)))
   one_declaration (declared.Constant h) (declared.Override k) it that (c, there, lacks) (p, found, lack) first second =
-      absurd (constant_lacks c it lacks (second.1 h c there))
+      absurd (some_none lacks (second.1 h c there))
   one_declaration (declared.Constant h) (declared.GlobalVariable k) it that (c, there, lacks)
       (v, found, lack) first second =
-      absurd (constant_lacks c it lacks (second.1 h c there))
+      absurd (some_none lacks (second.1 h c there))
   one_declaration (declared.Constant h) (declared.Function k) it that (c, there, lacks) (q, found, lack) first second =
-      absurd (constant_lacks c it lacks (second.1 h c there))
+      absurd (some_none lacks (second.1 h c there))
   one_declaration (declared.Constant h) (declared.EntryPoint k) it that (c, there, lacks)
       (n, found, lack) first second =
-      absurd (constant_lacks c it lacks (second.1 h c there))
+      absurd (some_none lacks (second.1 h c there))
   one_declaration (declared.Override h) (declared.Struct k) it that (o, there, lacks) (u, found, lack) first second =
       absurd (type_lacks k u that lack (first.0 k u found))
   one_declaration (declared.Override h) (declared.Constant k) it that (o, there, lacks) (d, found, lack) first second =
-      absurd (constant_lacks d that lack (first.1 k d found))
+      absurd (some_none lack (first.1 k d found))
   one_declaration (declared.Override h) (declared.Override k) it that (o, there, lacks) (p, found, lack) first second =
       ap declared.Override (lowest h k
-      (λ less. value_lacks o.ty o.init it lacks (second.2 h o less there))
-      (λ less. value_lacks p.ty p.init that lack (first.2 k p less found)))
+      (λ less. some_none lacks (second.2 h o less there))
+      (λ less. some_none lack (first.2 k p less found)))
   one_declaration (declared.Override h) (declared.GlobalVariable k) it that (o, there, lacks)
       (v, found, lack) first second =
-      absurd (value_lacks o.ty o.init it lacks (second.2 h o there))
+      absurd (some_none lacks (second.2 h o there))
   one_declaration (declared.Override h) (declared.Function k) it that (o, there, lacks) (q, found, lack) first second =
-      absurd (value_lacks o.ty o.init it lacks (second.2 h o there))
+      absurd (some_none lacks (second.2 h o there))
   one_declaration (declared.Override h) (declared.EntryPoint k) it that (o, there, lacks)
       (n, found, lack) first second =
-      absurd (value_lacks o.ty o.init it lacks (second.2 h o there))
+      absurd (some_none lacks (second.2 h o there))
   one_declaration (declared.GlobalVariable h) (declared.Struct k) it that (g, there, lacks)
       (u, found, lack) first second =
       absurd (type_lacks k u that lack (first.0 k u found))
   one_declaration (declared.GlobalVariable h) (declared.Constant k) it that (g, there, lacks)
       (d, found, lack) first second =
-      absurd (constant_lacks d that lack (first.1 k d found))
+      absurd (some_none lack (first.1 k d found))
   one_declaration (declared.GlobalVariable h) (declared.Override k) it that (g, there, lacks)
       (p, found, lack) first second =
-      absurd (value_lacks p.ty p.init that lack (first.2 k p found))
+      absurd (some_none lack (first.2 k p found))
   one_declaration (declared.GlobalVariable h) (declared.GlobalVariable k) it that (g, there, lacks)
       (v, found, lack) first second =
       ap declared.GlobalVariable (lowest h k
-      (λ less. value_lacks g.ty g.init it lacks (second.3 h g less there))
-      (λ less. value_lacks v.ty v.init that lack (first.3 k v less found)))
+      (λ less. some_none lacks (second.3 h g less there))
+      (λ less. some_none lack (first.3 k v less found)))
   one_declaration (declared.GlobalVariable h) (declared.Function k) it that (g, there, lacks)
       (q, found, lack) first second =
-      absurd (value_lacks g.ty g.init it lacks (second.3 h g there))
+      absurd (some_none lacks (second.3 h g there))
   one_declaration (declared.GlobalVariable h) (declared.EntryPoint k) it that (g, there, lacks)
       (n, found, lack) first second =
-      absurd (value_lacks g.ty g.init it lacks (second.3 h g there))
+      absurd (some_none lacks (second.3 h g there))
   one_declaration (declared.Function h) (declared.Struct k) it that (f, there, lacks) (u, found, lack) first second =
       absurd (type_lacks k u that lack (first.0 k u found))
   one_declaration (declared.Function h) (declared.Constant k) it that (f, there, lacks) (d, found, lack) first second =
-      absurd (constant_lacks d that lack (first.1 k d found))
+      absurd (some_none lack (first.1 k d found))
   one_declaration (declared.Function h) (declared.Override k) it that (f, there, lacks) (p, found, lack) first second =
-      absurd (value_lacks p.ty p.init that lack (first.2 k p found))
+      absurd (some_none lack (first.2 k p found))
   one_declaration (declared.Function h) (declared.GlobalVariable k) it that (f, there, lacks)
       (v, found, lack) first second =
-      absurd (value_lacks v.ty v.init that lack (first.3 k v found))
+      absurd (some_none lack (first.3 k v found))
   one_declaration (declared.Function h) (declared.Function k) it that (f, there, lacks) (q, found, lack) first second =
       ap declared.Function (lowest h k
-      (λ less. function_lacks f it lacks (second.4 h f less there))
-      (λ less. function_lacks q that lack (first.4 k q less found)))
+      (λ less. io_lacks f it lacks (second.4 h f less there))
+      (λ less. io_lacks q that lack (first.4 k q less found)))
   one_declaration (declared.Function h) (declared.EntryPoint k) it that (f, there, lacks)
       (n, found, lack) first second =
-      absurd (function_lacks f it lacks (second.4 h f there))
+      absurd (io_lacks f it lacks (second.4 h f there))
   one_declaration (declared.EntryPoint h) (declared.Struct k) it that (e, there, lacks) (u, found, lack) first second =
       absurd (type_lacks k u that lack (first.0 k u found))
   one_declaration (declared.EntryPoint h) (declared.Constant k) it that (e, there, lacks)
       (d, found, lack) first second =
-      absurd (constant_lacks d that lack (first.1 k d found))
+      absurd (some_none lack (first.1 k d found))
   one_declaration (declared.EntryPoint h) (declared.Override k) it that (e, there, lacks)
       (p, found, lack) first second =
-      absurd (value_lacks p.ty p.init that lack (first.2 k p found))
+      absurd (some_none lack (first.2 k p found))
   one_declaration (declared.EntryPoint h) (declared.GlobalVariable k) it that (e, there, lacks)
       (v, found, lack) first second =
-      absurd (value_lacks v.ty v.init that lack (first.3 k v found))
+      absurd (some_none lack (first.3 k v found))
   one_declaration (declared.EntryPoint h) (declared.Function k) it that (e, there, lacks)
       (q, found, lack) first second =
-      absurd (function_lacks q that lack (first.4 k q found))
+      absurd (io_lacks q that lack (first.4 k q found))
   one_declaration (declared.EntryPoint h) (declared.EntryPoint k) it that (e, there, lacks)
       (n, found, lack) first second =
       ap declared.EntryPoint (lowest h k
@@ -373,7 +323,7 @@ module _ (explicit : Bool) (m : Module) (info : ModuleInfo) where
       NothingIsRefused explicit m info → ⊥
   refuses position.Labels it stands nothing =
       labels_refuse m it stands (λ full. nothing.nameable (inl full)) nothing.keys
-  refuses (position.Declaration at) it stands nothing = none_in m nothing.declarations at stands.0 stands.1
+  refuses (position.Declaration at) it stands nothing = none_in m nothing.declarations at it stands
   refuses (position.Function h at) it stands nothing = refused_in explicit m info h (it, at) stands.1 nothing
   refuses (position.EntryPoint i at) it stands nothing =
       refused_in explicit m info (length m.functions + i) (it, at) stands nothing
@@ -385,7 +335,7 @@ module _ (explicit : Bool) (m : Module) (info : ModuleInfo) where
 
     not_declaration : (at : DeclarationPosition) (it : Construct) →
         StandsAt explicit m info (position.Declaration at) it → ⊥
-    not_declaration at it stands = none_in m before.declarations at stands.0 stands.1
+    not_declaration at it stands = none_in m before.declarations at it stands
 
     not_function : (k : ℕ) (at : FunctionRefusalPosition) (it : Construct) →
         StandsInFunction explicit m info k (it, at) →
@@ -404,15 +354,15 @@ module _ (explicit : Bool) (m : Module) (info : ModuleInfo) where
       IsFirst explicit m info at → StandsAt explicit m info by that → IsFirst explicit m info by → at ≡ by
   one_position position.Labels position.Labels it that stands first stood second = refl
   one_position position.Labels (position.Declaration at) it that stands first stood second =
-      absurd (none_in m first at stood.0 stood.1)
+      absurd (none_in m first at that stood)
   one_position position.Labels (position.Function h at) it that stands first stood second =
       absurd (not_labels h second it stands)
   one_position position.Labels (position.EntryPoint i at) it that stands first stood second =
       absurd (not_labels (length m.functions + i) second it stands)
   one_position (position.Declaration at) position.Labels it that stands first stood second =
-      absurd (none_in m second at stands.0 stands.1)
+      absurd (none_in m second at it stands)
   one_position (position.Declaration at) (position.Declaration by) it that stands first stood second =
-      ap position.Declaration (one_declaration m at by stands.0 stood.0 stands.1 stood.1 first second)
+      ap position.Declaration (one_declaration m at by it that stands stood first second)
   one_position (position.Declaration at) (position.Function h by) it that stands first stood second =
       absurd (not_declaration h second at it stands)
   one_position (position.Declaration at) (position.EntryPoint i by) it that stands first stood second =

@@ -46,8 +46,8 @@ use Rattle.naga_wgsl_shared.specs.Attributes.{attributes_text}
 use Rattle.naga_back.specs.Flags.{annotates_types}
 use Rattle.naga_wgsl_fns.specs.Functions.{known_of, text_of}
 use Rattle.naga_wgsl_shared.specs.Stages.{stage_text}
-use Rattle.naga_wgsl_shared.specs.declared.refusals.error.Error.{Error}
-use Rattle.naga_wgsl_shared.specs.declared.refusals.error.Error.TheVariants.{Memory}
+use Rattle.naga_refusals.specs.declared.error.Error.{Error}
+use Rattle.naga_refusals.specs.declared.error.Error.TheVariants.{Memory}
 use Rattle.naga_wgsl_shared.proofs.Appending.{stopped_first, stopped_then, wrote_nothing}
 use Rattle.naga_wgsl_shared.proofs.Appending.{wrote_then}
 use Rattle.naga_back.specs.declared.flags.WriterFlags.{WriterFlags}

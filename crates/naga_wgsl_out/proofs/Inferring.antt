@@ -7,8 +7,8 @@ use Rattle.naga_back.specs.declared.flags.WriterFlags.{WriterFlags}
 use Rattle.naga_inference.specs.declared.errors.InferenceError.{InferenceError}
 use Rattle.naga_info.specs.declared.info.ModuleInfo.{ModuleInfo}
 use Rattle.naga_ir.specs.declared.module.Module.{Module}
-use Rattle.naga_wgsl_shared.specs.declared.refusals.error.Error.{Error}
-use Rattle.naga_wgsl_shared.specs.declared.refusals.error.Error.TheVariants as error
+use Rattle.naga_refusals.specs.declared.error.Error.{Error}
+use Rattle.naga_refusals.specs.declared.error.Error.TheVariants as error
 use Rattle.naga_wgsl_out.specs.Inferring.{AnswersInferred, AnswersInferredWithin, IsInferred}
 use Rattle.naga_wgsl_out.specs.Inferring.{IsWritten}
 use Rattle.naga_wgsl_out.specs.Within.{AnswersBounded}

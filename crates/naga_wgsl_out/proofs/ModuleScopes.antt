@@ -1,9 +1,10 @@
 -- The rules of scope in the functions of a module, one by one and in all.
 use Rattle.std.proofs.Common.{◌≡◌, ◌<◌, ◌^◌, ℕ, Bool, true, zero, suc, List, [], ◌∷◌, Some, arith}
-use Rattle.std.proofs.Common.{inl, inr, length, nat_le, ◌∙◌, sym}
+use Rattle.std.proofs.Common.{Option, inl, inr, length, nat_le, ◌∙◌, subst, sym}
+use Rattle.std.specs.Option.{is_none}
 use Rattle.std.proofs.lemmas.Bool.{false≢true}
 use Rattle.std.specs.Prelude.{IfSome, IsTrue, slice_get}
-use Rattle.std.proofs.lemmas.Option.{slice_get_within}
+use Rattle.std.proofs.lemmas.Option.{same_Some, slice_get_within}
 use mathlib.Core.List.{reverse_aux}
 use Rattle.naga_ir.specs.declared.module.Function as ir_function
 use Rattle.naga_ir.specs.declared.module.Module.{Module}
@@ -20,24 +21,31 @@ use Rattle.module_semantics.specs.FunctionShapes.{function_shapes}
 use Rattle.naga_form.proofs.statements.AcceptedFunctions.{all_counted}
 use Rattle.naga_naming.proofs.Refusal.{element}
 use Rattle.module_semantics.specs.Names.{labels_before}
-use Rattle.naga_wgsl_shared.specs.declared.refusals.error.Error.{Error}
-use Rattle.naga_wgsl_shared.specs.declared.refusals.error.Error.TheVariants.{Custom, FmtError}
-use Rattle.naga_wgsl_shared.specs.declared.refusals.error.Error.TheVariants.{Memory}
-use Rattle.naga_wgsl_shared.specs.declared.refusals.error.Error.TheVariants.{Unimplemented}
-use Rattle.naga_wgsl_shared.specs.declared.refusals.error.Error.TheVariants.{Unsupported}
-use Rattle.naga_wgsl_shared.specs.declared.refusals.error.Error.TheVariants.{UnsupportedRelationalFunction}
+use Rattle.naga_refusals.specs.declared.error.Error.{Error}
+use Rattle.naga_refusals.specs.declared.error.Error.TheVariants.{Custom, FmtError}
+use Rattle.naga_refusals.specs.declared.error.Error.TheVariants.{Memory}
+use Rattle.naga_refusals.specs.declared.error.Error.TheVariants.{Unimplemented}
+use Rattle.naga_refusals.specs.declared.error.Error.TheVariants.{Unsupported}
+use Rattle.naga_refusals.specs.declared.error.Error.TheVariants.{UnsupportedRelationalFunction}
 use Rattle.naga_wgsl_fns.specs.PlanRefusals.{IsReasonForNoPlan, IsWritableAt, HasUnsupportedIn}
 use Rattle.naga_wgsl_fns.specs.PlanRefusals.{NamesUnsupported}
-use Rattle.naga_wgsl_shared.specs.Refusals.{TellsOfModule}
+use Rattle.naga_refusals.specs.Errors.{TellsOfModule}
 use Rattle.naga_wgsl_fns.specs.PlanRefusals.{TellsOfScope}
-use Rattle.naga_wgsl_shared.specs.DeclarationRefusals.{NamesDeclaration}
-use Rattle.naga_wgsl_shared.specs.DeclarationRefusals.NamesDeclaration.{OfHead, OfInitialiser}
-use Rattle.naga_wgsl_shared.specs.DeclarationRefusals.NamesDeclaration.{OfMember, OfOffsets}
-use Rattle.naga_wgsl_shared.specs.DeclarationRefusals.NamesDeclaration.{OfStride}
-use Rattle.naga_wgsl_shared.specs.DeclarationRefusals.NamesDeclaration.{OfType as OfDeclaredType}
-use Rattle.naga_wgsl_shared.specs.DeclarationRefusals.NamesHead.{OfBinding, OfStage}
+use Rattle.module_semantics.specs.DeclarationForms.{binding_has_form}
+use Rattle.module_semantics.specs.ExpressionForms.{global_has_form}
+use Rattle.module_semantics.specs.Undeclared.{is_spellable}
+use Rattle.naga_info.specs.declared.info.TypeResolution.TheVariants.{Handle}
+use Rattle.naga_ir.specs.declared.binding.Binding.{Binding}
+use Rattle.naga_refusals.specs.declared.construct.Construct.{Construct}
+use Rattle.naga_tables.proofs.Refusals.{global_refusal_is, refused_lacks, unless_is}
+use Rattle.naga_tables.proofs.UnsupportedDeclarations.{formed_binding}
+use Rattle.naga_tables.specs.Declarations.{IsUnsupportedDeclaration, OfBinding, OfHead, OfInitialiser}
+use Rattle.naga_tables.specs.Declarations.{OfMember, OfOffsets, OfStage, OfStride, OfType}
+use Rattle.naga_tables.specs.Declarations.{binding_refusal}
+use Rattle.naga_tables.specs.Refusals.{global_refusal, type_refusal}
+use Rattle.naga_wgsl_shared.specs.Refusals.{NamesDeclaration}
 use Rattle.naga_scope.specs.Plans.{HasScopeFaultIn}
-use Rattle.naga_wgsl_shared.proofs.Wants.{declaration_is_no_sink}
+use Rattle.naga_wgsl_shared.proofs.Wants.{told_no_sink}
 use Rattle.naga_wgsl_fns.proofs.PlanRefusals.{reason_fails, named}
 use Rattle.naga_wgsl_fns.proofs.PlanRefusals.{planned_holds, unsupported_fails}
 use Rattle.naga_wgsl_out.proofs.UnsupportedTexts.{of_expression, of_statement, of_type}
@@ -125,7 +133,7 @@ module _ (m : Module) (declarations : DeclarationsHaveForms m) where
   }
   unsupported_reported explicit info i error (inr (inr n)) tells = record {
     declarations = declarations;
-    tells = inr (inl (of_statement error tells n.statement n.named));
+    tells = inr (inl (of_statement error tells n.function.body n.statement n.unsupported n.named));
   }
 
 -- what a fault tells
@@ -156,26 +164,39 @@ module _ (explicit : Bool) (m : Module) (info : ModuleInfo) (i : ℕ) where
   reason_refuses before after _ tells (inr (inr full)) = absurd full.0
 
 -- ---- declarations without a form
--- none is named where all have forms
+-- what is refused has no form
+fails : (found : Option Construct) (has : Bool) → is_none found ≡ has → (it : Construct) → found ≡ Some it →
+    has ≡ true → ⊥
+fails found has same it lacks formed = false≢true (sym (refused_lacks found has same it lacks) ∙ formed)
+
+bound_fails : (b : Binding) (it : Construct) → binding_refusal (Some b) ≡ Some it → binding_has_form b ≡ true → ⊥
+bound_fails b it lacks formed =
+    let none = formed_binding (Some b)
+    (λ c same. subst (λ b. binding_has_form b ≡ true) (same_Some b c same) formed) in
+    absurd cc
+
+-- none is refused where all have forms
+pub no_unsupported : (m : Module) (it : Construct) → DeclarationsHaveForms m → IsUnsupportedDeclaration m it → ⊥
+no_unsupported m it have (OfType ty is lacks) =
+    fails (type_refusal m (Handle ty)) (is_spellable m (Handle ty)) (unless_is _ _) it lacks (have.types ty is)
+no_unsupported m it have (OfInitialiser h is lacks) =
+    fails (global_refusal m h) (global_has_form m h) (global_refusal_is m h) it lacks (have.initialisers h is)
+no_unsupported m it have (OfMember b is lacks) = bound_fails b it lacks (have.members b is)
+no_unsupported m it have (OfHead number (OfBinding f b at is lacks)) =
+    bound_fails b it lacks ((have.heads number).bindings f at b is)
+no_unsupported m it have (OfHead number (OfStage p at lacks is)) =
+    false≢true (sym lacks ∙ (have.heads number).stage p at)
+no_unsupported m it have (OfOffsets h fault is same) = have.offsets h fault is
+no_unsupported m it have (OfStride h ty is same) = have.strides h ty is
+
 no_declaration : (m : Module) (error : Error) → DeclarationsHaveForms m → NamesDeclaration m error → ⊥
-no_declaration m error have (OfDeclaredType ty is unsupported named) =
-    false≢true (sym unsupported ∙ have.types ty is)
-no_declaration m error have (OfInitialiser h is unsupported named) =
-    false≢true (sym unsupported ∙ have.initialisers h is)
-no_declaration m error have (OfMember b is unsupported named) =
-    false≢true (sym unsupported ∙ have.members b is)
-no_declaration m error have (OfHead number (OfBinding f b at is unsupported named)) =
-    false≢true (sym unsupported ∙ (have.heads number).bindings f at b is)
-no_declaration m error have (OfHead number (OfStage p at unsupported named)) =
-    false≢true (sym unsupported ∙ (have.heads number).stage p at)
-no_declaration m error have (OfOffsets h fault is named) = have.offsets h fault is
-no_declaration m error have (OfStride h ty is named) = have.strides h ty is
+no_declaration m error have (it, lacks, told) = no_unsupported m it have lacks
 
 -- one that is named is a reason
 pub declaration_refuses : (explicit : Bool) (m : Module) (info : ModuleInfo) (before after : ℕ)
     (error : Error) → NamesDeclaration m error → IsRefusal explicit m info before after error
 declaration_refuses explicit m info before after (FmtError e) named =
-    absurd (declaration_is_no_sink m e named)
+    absurd (told_no_sink named.0 e named.2)
 declaration_refuses explicit m info before after (Memory e) named = tt
 declaration_refuses explicit m info before after (Custom message) named = inr (inr (inl named))
 declaration_refuses explicit m info before after _ named = inl named

@@ -1,12 +1,11 @@
 -- Where a construct stands for which a module is refused.
-use Rattle.std.proofs.Common.{◌≡◌, ◌+◌, ◌<◌, ℕ, Bool, false, List, Some, None, Option, arith}
+use Rattle.std.proofs.Common.{◌≡◌, ◌+◌, ◌<◌, ◌∙◌, ℕ, Bool, List, Some, None, Option, ap, arith}
 use Rattle.std.proofs.Common.{below_more, inl, inr, length, slice_get, subst, sym, refl}
 use Rattle.std.specs.Prelude.{Err, IfErr, IfOk, IsErrAnd, IsFalse, IsSomeAnd, IsTrue, MatchOption}
 use Rattle.std.specs.Prelude.{Ok, Result}
 use Rattle.std.proofs.lemmas.Option.{slice_get_within}
 use Rattle.module_semantics.specs.acceptance.Accepted.{is_accepted}
 use Rattle.module_semantics.specs.DeclarationForms.{DeclarationsHaveForms}
-use Rattle.module_semantics.specs.ExpressionForms.{expression_has_form}
 use Rattle.module_semantics.specs.FunctionNumbers.{all_functions, all_infos, function_number}
 use Rattle.module_semantics.specs.Names.{labels_before, wgsl_names}
 use Rattle.module_semantics.specs.Undeclared.{is_spellable}
@@ -14,7 +13,7 @@ use Rattle.module_semantics.specs.Written.{IsSpelledIn}
 use Rattle.naga_form.proofs.statements.AcceptedFunctions.{all_counted}
 use Rattle.naga_info.specs.declared.info.ExpressionInfo.{ExpressionInfo}
 use Rattle.naga_info.specs.declared.info.ModuleInfo.{ModuleInfo}
-use Rattle.naga_ir.specs.declared.expression.Expression.{Expression}
+use Rattle.naga_info.specs.declared.info.TypeResolution.TheVariants.{Handle}
 use Rattle.naga_ir.specs.declared.module.Function.{Function}
 use Rattle.naga_ir.specs.declared.module.Module.{Module}
 use Rattle.naga_naming.proofs.Refusal.{element}
@@ -29,20 +28,18 @@ use Rattle.naga_scope.specs.declared.plan.PlanError.{PlanError}
 use Rattle.naga_scope.specs.declared.plan.PlanError.TheVariants as plan_error
 use Rattle.naga_wgsl_fns.proofs.PlanRefusals.{full_is, is_full}
 use Rattle.naga_wgsl_shared.specs.Appends.{Appends, StoppedWithin}
-use Rattle.naga_wgsl_shared.specs.Carried.{CarriesOfExpression, CarriesOfType}
-use Rattle.naga_wgsl_fns.specs.PlanRefusals.{CarriesOfPlan}
-use Rattle.naga_wgsl_shared.specs.Constructs.{Tells}
-use Rattle.naga_wgsl_shared.specs.Refusals.{IsErrorOfNames, NamesExpression, NamesType}
-use Rattle.naga_wgsl_shared.specs.Refusals.{TellsOfModule}
-use Rattle.naga_wgsl_fns.specs.PlanRefusals.{TellsPlanError}
-use Rattle.naga_wgsl_fns.specs.Unplanned.{IsRefusedFor, IsToldOfUnplanned, IsUnplanned}
-use Rattle.naga_wgsl_fns.specs.Unplanned.{namer_lacks_memory, plan_lacks_memory, function_position}
-use Rattle.naga_wgsl_shared.specs.declared.refusals.error.Error.{Error}
-use Rattle.naga_wgsl_shared.specs.declared.refusals.error.Error.TheVariants.{Custom, Memory}
+use Rattle.naga_refusals.specs.Errors.{TellsOfModule}
+use Rattle.naga_scope.specs.UnsupportedStatements.{IsUnsupportedAt, unsupported_statement}
+use Rattle.naga_tables.proofs.Refusals.{type_refused}
+use Rattle.naga_tables.specs.Refusals.{unspelled}
+use Rattle.naga_wgsl_fns.specs.PlanRefusals.{IsConstructOf, IsConstructOfNames}
+use Rattle.naga_wgsl_fns.specs.Unplanned.{IsRefusedFor, IsToldOfUnplanned, IsUnplanned, function_position}
+use Rattle.naga_refusals.specs.declared.error.Error.{Error}
+use Rattle.naga_refusals.specs.declared.error.Error.TheVariants.{Custom, Memory}
 use Rattle.naga_wgsl_fns.specs.declared.plans.Unplanned.{Unplanned}
 use Rattle.naga_wgsl_fns.specs.declared.plans.Unplanned.TheVariants as unplanned
-use Rattle.naga_wgsl_shared.specs.declared.refusals.construct.Construct.{Construct}
-use Rattle.naga_wgsl_shared.specs.declared.refusals.construct.Construct.TheVariants as construct
+use Rattle.naga_refusals.specs.declared.construct.Construct.{Construct}
+use Rattle.naga_refusals.specs.declared.construct.Construct.TheVariants as construct
 use Rattle.naga_scope.specs.declared.positions.FunctionRefusalPosition.{FunctionRefusalPosition}
 use Rattle.naga_wgsl_out.proofs.ExpressionNames.{none_past}
 use Rattle.naga_wgsl_out.proofs.ModuleScopes.{all_planned_formed, all_planned_hold}
@@ -69,42 +66,36 @@ module _ (explicit : Bool) (m : Module) (info : ModuleInfo) (accepted : IsTrue (
     (namer : Names) (named : HasNamedBefore m number namer) where
   -- what stands there by an error of a plan
   by_error : (error : PlanError) (it : Construct) → IsRefusalToPlan explicit m info f known namer error →
-      Tells it (TellsPlanError m f known error) → CarriesOfPlan m f known error it → plan_lacks_memory error ≡ false →
+      IsConstructOf m f known error it →
       StandsAtPart explicit m info number f known (function_position error) it
-  by_error (plan_error.OutOfScope fault) it refused told carries other = (refused, told)
-  by_error (plan_error.StatementWithoutForm n statement) it refused told carries other =
-      (statement, refused.0, refused.1, told)
-  by_error (plan_error.WithoutForm line h) it refused told carries other =
-      (refused.0, written (slice_get f.expressions h) refused.1 told carries)
-    where
-      written : (o : Option Expression) → IsSomeAnd o (λ e. IsFalse (expression_has_form m known f.expressions e)) →
-          Tells it (λ reported. IsSomeAnd o (λ e. NamesExpression m known f.expressions e reported)) →
-          IsSomeAnd o (λ e. CarriesOfExpression m known e it) →
-          IsSomeAnd o (λ e. IsFalse (expression_has_form m known f.expressions e)
-          × Tells it (NamesExpression m known f.expressions e) × CarriesOfExpression m known e it)
-      written None lacks told carries = lacks
-      written (Some e) lacks told carries = (lacks, told, carries)
-  by_error (plan_error.TypeWithoutForm declared ty) it refused told carries other =
-      (refused.0, (declared_is_spelled m f explicit info known declared ty refused.0, refused.1, told, carries))
-  by_error (plan_error.LetWithoutForm n h) it refused told carries other =
-      (refused.0, let_ (slice_get known h) refused.1 told carries)
+  by_error (plan_error.OutOfScope fault) it refused is = (refused, is)
+  by_error (plan_error.StatementWithoutForm n statement) it refused is =
+      subst (λ it. (unsupported_statement f.body ≡ Some it) × IsUnsupportedAt f.body n it) (sym is) refused
+  by_error (plan_error.WithoutForm line h) it refused is = (refused.0, is)
+  by_error (plan_error.TypeWithoutForm declared ty) it refused is = (
+    refused.0,
+    (
+      declared_is_spelled m f explicit info known declared ty refused.0,
+      type_refused m (Handle ty) refused.1 ∙ ap Some (sym is),
+    ),
+  )
+  by_error (plan_error.LetWithoutForm n h) it refused is = (refused.0, let_ (slice_get known h) refused.1 is)
     where
       let_ : (o : Option ExpressionInfo) →
           IsSomeAnd o (λ k. IsSpelledIn explicit m info f known k.ty × IsFalse (is_spellable m k.ty)) →
-          Tells it (λ reported. IsSomeAnd o (λ k. NamesType m k.ty reported)) →
-          IsSomeAnd o (λ k. CarriesOfType m k.ty it) →
+          IsSomeAnd o (λ k. it ≡ unspelled m k.ty) →
           IsSomeAnd o (λ k. IsUnspellable explicit m info f known k.ty it)
-      let_ None lacks told carries = lacks
-      let_ (Some k) lacks told carries = (lacks.0, lacks.1, told, carries)
-  by_error (plan_error.Unnamed namer_error.Full) it refused told carries other = (
+      let_ None lacks is = lacks
+      let_ (Some k) lacks is = (lacks.0, type_refused m k.ty lacks.1 ∙ ap Some (sym is))
+  by_error (plan_error.Unnamed namer_error.Full) it refused is = (
     full_is explicit m info accepted number f stands (labels_before m number) namer named.words
         (refused (labels_before m number) named.labels),
-    told,
+    is,
   )
-  by_error (plan_error.Unnamed namer_error.KeyFull) it refused told carries other =
+  by_error (plan_error.Unnamed namer_error.KeyFull) it refused is =
       absurd (refused (labels_before m number) named.labels)
-  by_error (plan_error.Unnamed (namer_error.Memory e)) it refused told carries other = absurd cc
-  by_error (plan_error.Memory e) it refused told carries other = absurd cc
+  by_error (plan_error.Unnamed (namer_error.Memory e)) it refused is = absurd is
+  by_error (plan_error.Memory e) it refused is = absurd is
 
   -- its labels get names after all in front of it
   named_labels : LabelsGetNames namer f → LabelsGetNamesIn m number
@@ -130,8 +121,7 @@ module _ (explicit : Bool) (m : Module) (info : ModuleInfo) (accepted : IsTrue (
     stands = stands;
     is_known = is_known;
     at = subst (λ at. StandsAtPart explicit m info number f known at it) (sym r.part)
-        (by_error r.error it (r.refused f known stands is_known) (r.told f known stands is_known)
-        (r.carries f known stands is_known) r.other);
+        (by_error r.error it (r.refused f known stands is_known) (r.construct f known stands is_known));
     first = (r.error, r.part, first_in r.error (r.first f known stands is_known));
   }
 
@@ -283,23 +273,23 @@ all_writable explicit m info names n namer declarations has is all = record {
 -- ---- labels of items
 -- why the items of a module get no names
 pub labels_stand : (m : Module) (error : NamerError) (it : Construct) → IsResetRefusal wgsl_names m error →
-    Tells it (IsErrorOfNames error) → namer_lacks_memory error ≡ false → StandsInLabels m it
-labels_stand m namer_error.Full it refused told other = inl (refused, told)
-labels_stand m namer_error.KeyFull it refused told other = inr (refused, told)
-labels_stand m (namer_error.Memory e) it refused told other = absurd cc
+    IsConstructOfNames error it → StandsInLabels m it
+labels_stand m namer_error.Full it refused is = inl (refused, is)
+labels_stand m namer_error.KeyFull it refused is = inr (refused, is)
+labels_stand m (namer_error.Memory e) it refused is = absurd is
 
 -- and that they get none is told as such a construct
 pub labels_told : (explicit : Bool) (m : Module) (info : ModuleInfo) (error : Error) → DeclarationsHaveForms m →
     IsNamesRefusal m error → TellsOfModule error → TellsFirst explicit m info error
 labels_told explicit m info (Custom message) declarations (inl is) of = record {
   refusal = record { construct = construct.FullNamer; position = position.Labels };
-  stands = inl (is.1, λ error told. told);
+  stands = inl (is.1, refl);
   first = declarations;
   told = is.0;
 }
 labels_told explicit m info (Custom message) declarations (inr is) of = record {
   refusal = record { construct = construct.NameKey; position = position.Labels };
-  stands = inr (is.1, λ error told. told);
+  stands = inr (is.1, refl);
   first = declarations;
   told = is.0;
 }

@@ -8,9 +8,9 @@ use Rattle.naga_ir.specs.declared.module.Module.{Module}
 use Rattle.naga_wgsl_fns.specs.PlanRefusals.{TellsOfForm, TellsOfFullNamer, TellsOfScope}
 use Rattle.naga_wgsl_fns.specs.PlanRefusals.{custom_texts}
 use Rattle.naga_wgsl_fns.specs.PlanRefusals.{unimplemented_texts}
-use Rattle.naga_wgsl_shared.specs.declared.refusals.error.Error.{Error}
-use Rattle.naga_wgsl_shared.specs.declared.refusals.error.Error.TheVariants.{Custom, Memory}
-use Rattle.naga_wgsl_shared.specs.declared.refusals.error.Error.TheVariants.{Unimplemented}
+use Rattle.naga_refusals.specs.declared.error.Error.{Error}
+use Rattle.naga_refusals.specs.declared.error.Error.TheVariants.{Custom, Memory}
+use Rattle.naga_refusals.specs.declared.error.Error.TheVariants.{Unimplemented}
 use Rattle.naga_wgsl_out.specs.ModuleRefusals.{ComesBeforeText, IsNamesRefusal, ItemsAreFull}
 use Rattle.naga_wgsl_out.specs.ModuleRefusals.{TellsOfFunction, TellsOfKeys}
 

@@ -1,39 +1,46 @@
 -- What names an expression, a type or a statement without a form tells of one by its text.
-use Rattle.std.proofs.Common.{ℕ, Bool, true, false, List, None, Option, Some, arith, codes}
-use Rattle.std.proofs.Common.{inl, inr, refl, subst, sym}
+use Rattle.std.proofs.Common.{◌≡◌, ℕ, zero, suc, Bool, true, false, List, [], ◌∷◌, None, Option, Some}
+use Rattle.std.proofs.Common.{arith, refl, slice_get, subst, sym}
 use Rattle.std.specs.List.{IsAmong}
-use Rattle.std.specs.Prelude.{IsSomeAnd, slice_get}
-use Rattle.module_semantics.specs.ExpressionForms.{known_passes}
-use Rattle.module_semantics.specs.ExpressionOperators.{has_parts}
+use Rattle.std.specs.Option.{is_some, option_map_or, option_or}
+use Rattle.std.specs.Prelude.{if◌then◌else◌}
+use Rattle.module_semantics.specs.ExpressionOperators.{own_operator}
 use Rattle.module_semantics.specs.LackingScalars.{lacking_scalar}
+use Rattle.module_semantics.specs.OperatorTable.{has_word}
 use Rattle.module_semantics.specs.Undeclared.{names_undeclared}
 use Rattle.naga_info.specs.declared.info.ExpressionInfo.{ExpressionInfo}
 use Rattle.naga_info.specs.declared.info.TypeResolution.{TypeResolution}
 use Rattle.naga_info.specs.declared.info.TypeResolution.TheVariants.{Handle}
+use Rattle.naga_ir.specs.InOrder.{trees_in}
+use Rattle.naga_ir.specs.StatementTree.{SimpleStatement, StatementTree, BlockTree, CaseTrees}
+use Rattle.naga_ir.specs.StatementTree.{case, has_no_statements, image_atomic, no_cases, ray_query}
+use Rattle.naga_ir.specs.StatementTree.{simple, subgroup_collective_operation, switch}
 use Rattle.naga_ir.specs.declared.expression.Expression.{Expression}
 use Rattle.naga_ir.specs.declared.expression.Expression.TheVariants as expression
-use Rattle.naga_ir.specs.declared.expression.Literal.{Literal as LiteralValue}
+use Rattle.naga_ir.specs.declared.expression.Literal.{Literal}
 use Rattle.naga_ir.specs.declared.expression.Literal.TheVariants as literal
 use Rattle.naga_ir.specs.declared.module.Constant.{Constant}
 use Rattle.naga_ir.specs.declared.module.Module.{Module}
 use Rattle.naga_ir.specs.declared.types.Scalar.{Scalar}
 use Rattle.naga_ir.specs.declared.types.TypeInner.{TypeInner}
-use Rattle.naga_scope.specs.declared.statements.UnsupportedStatement.{UnsupportedStatement}
-use Rattle.naga_scope.specs.declared.statements.UnsupportedStatement.TheVariants as unsupported
-use Rattle.naga_wgsl_shared.specs.Errors.{IsCustom, IsUnimplemented, IsUnsupported}
-use Rattle.naga_wgsl_shared.specs.Refusals.{NamesConversion, NamesExpression, NamesFunction}
-use Rattle.naga_wgsl_shared.specs.Refusals.{NamesGlobal, NamesLiteral, NamesMatrix, NamesPart}
-use Rattle.naga_wgsl_shared.specs.Refusals.{NamesScalar, NamesType, NamesUnspelled}
-use Rattle.naga_wgsl_fns.specs.PlanRefusals.{NamesStatement}
-use Rattle.naga_wgsl_shared.specs.Refusals.{OfConstant, OfLiteral, OfOperand, OfOperation, OfType}
+use Rattle.naga_ir.specs.declared.types.TypeInner.TheVariants as inner
+use Rattle.naga_refusals.specs.Constructs.{IsToldAs, IsToldOf, construct_words}
+use Rattle.naga_refusals.specs.Errors.{IsCustom, IsUnimplemented, IsUnsupported, TellsOfModule}
+use Rattle.naga_refusals.specs.declared.construct.Construct.{Construct}
+use Rattle.naga_refusals.specs.declared.construct.Construct.TheVariants as construct
+use Rattle.naga_refusals.specs.declared.error.Error.{Error}
+use Rattle.naga_refusals.specs.declared.error.Error.TheVariants.{Custom, Memory, Unimplemented}
+use Rattle.naga_refusals.specs.declared.error.Error.TheVariants.{Unsupported}
+use Rattle.naga_scope.specs.UnsupportedStatements.{falls_unsupported, first_unsupported}
+use Rattle.naga_scope.specs.UnsupportedStatements.{own_unsupported, simple_unsupported}
+use Rattle.naga_scope.specs.UnsupportedStatements.{unsupported_case, unsupported_statement}
+use Rattle.naga_tables.specs.Refusals.{expression_refusal, first_refusal, global_refusal}
+use Rattle.naga_tables.specs.Refusals.{global_refusal_over, global_refusal_within, lacking}
+use Rattle.naga_tables.specs.Refusals.{offset_refusal, own_refusal, type_refusal, unconverted, unless}
+use Rattle.naga_tables.specs.Refusals.{unnamed_part, unspelled, unwritten_literal, wordless_operator}
 use Rattle.naga_wgsl_fns.specs.PlanRefusals.{TellsOfForm, custom_texts}
-use Rattle.naga_wgsl_shared.specs.Refusals.{TellsOfModule, converted}
-use Rattle.naga_wgsl_shared.specs.Refusals.{pointed_scalar}
 use Rattle.naga_wgsl_fns.specs.PlanRefusals.{unimplemented_texts, unsupported_kinds}
-use Rattle.naga_wgsl_shared.specs.declared.refusals.error.Error.{Error}
-use Rattle.naga_wgsl_shared.specs.declared.refusals.error.Error.TheVariants.{Custom, Memory}
-use Rattle.naga_wgsl_shared.specs.declared.refusals.error.Error.TheVariants.{Unimplemented}
-use Rattle.naga_wgsl_shared.specs.declared.refusals.error.Error.TheVariants.{Unsupported}
+use Rattle.naga_wgsl_shared.specs.Refusals.{NamesExpression, NamesType}
 
 -- ---- listed texts
 by_custom : (error : Error) (text : List ℕ) → IsAmong custom_texts text → IsCustom text error →
@@ -56,130 +63,219 @@ by_unsupported (Unsupported told value) kind among is tells =
 by_unsupported (Memory e) kind among is tells = absurd tells
 by_unsupported _ kind among is tells = absurd is
 
+-- ---- constructs
+-- it is one of an expression, a type or a statement
+abbrev is_of_form : Construct → Bool
+is_of_form (construct.BuiltIn value) = false
+is_of_form construct.OutOfScope = false
+is_of_form construct.StageVariable = false
+is_of_form construct.OffAlignment = false
+is_of_form construct.Overlap = false
+is_of_form construct.ArrayStride = false
+is_of_form construct.FullNamer = false
+is_of_form construct.NameKey = false
+is_of_form it = true
+
+-- the one that there is
+abbrev OfForm : Option Construct → Type 0
+OfForm None = Unit {0}
+OfForm (Some it) = is_of_form it ≡ true
+
+module _ (error : Error) (tells : TellsOfModule error) where
+  custom_at : (it : Construct) → IsAmong custom_texts (construct_words it) →
+      IsCustom (construct_words it) error → TellsOfForm error
+  custom_at it among told = by_custom error (construct_words it) among told tells
+
+  unimplemented_at : (it : Construct) → IsAmong unimplemented_texts (construct_words it) →
+      IsUnimplemented (construct_words it) error → TellsOfForm error
+  unimplemented_at it among told = by_unimplemented error (construct_words it) among told tells
+
+  unsupported_at : (it : Construct) → IsAmong unsupported_kinds (construct_words it) →
+      IsUnsupported (construct_words it) error → TellsOfForm error
+  unsupported_at it among told = by_unsupported error (construct_words it) among told tells
+
+  of_construct : (it : Construct) → is_of_form it ≡ true → IsToldAs it error → TellsOfForm error
+  of_construct construct.AbstractLiteral is told = custom_at construct.AbstractLiteral (0, (omega arith, refl)) told
+  of_construct construct.ConstantOperator is told = custom_at construct.ConstantOperator (1, (omega arith, refl)) told
+  of_construct construct.ImageLoad is told = custom_at construct.ImageLoad (2, (omega arith, refl)) told
+  of_construct construct.Index is told = custom_at construct.Index (3, (omega arith, refl)) told
+  of_construct construct.PredeclaredStruct is told =
+      custom_at construct.PredeclaredStruct (4, (omega arith, refl)) told
+  of_construct construct.OtherType is told = custom_at construct.OtherType (5, (omega arith, refl)) told
+  of_construct construct.FloatLiteral is told = unimplemented_at construct.FloatLiteral (0, (omega arith, refl)) told
+  of_construct construct.Conversion is told = unimplemented_at construct.Conversion (1, (omega arith, refl)) told
+  of_construct construct.SamplingMethod is told =
+      unimplemented_at construct.SamplingMethod (2, (omega arith, refl)) told
+  of_construct construct.RayQuery is told = unimplemented_at construct.RayQuery (3, (omega arith, refl)) told
+  of_construct construct.SubgroupOperation is told =
+      unimplemented_at construct.SubgroupOperation (4, (omega arith, refl)) told
+  of_construct construct.FallThrough is told = unimplemented_at construct.FallThrough (5, (omega arith, refl)) told
+  of_construct construct.ImageCompareExchange is told =
+      unimplemented_at construct.ImageCompareExchange (6, (omega arith, refl)) told
+  of_construct (construct.MathFunction fun) is told =
+      unsupported_at (construct.MathFunction fun) (0, (omega arith, refl)) told
+  of_construct (construct.ScalarType scalar) is told =
+      unsupported_at (construct.ScalarType scalar) (1, (omega arith, refl)) told
+  of_construct (construct.RelationalFunction fun) is told = subst TellsOfForm (sym told) tt
+  of_construct (construct.BuiltIn value) is told = absurd cc
+  of_construct construct.OutOfScope is told = absurd cc
+  of_construct construct.StageVariable is told = absurd cc
+  of_construct construct.OffAlignment is told = absurd cc
+  of_construct construct.Overlap is told = absurd cc
+  of_construct construct.ArrayStride is told = absurd cc
+  of_construct construct.FullNamer is told = absurd cc
+  of_construct construct.NameKey is told = absurd cc
+
+  of_found : (found : Option Construct) → OfForm found → IsToldOf found error → TellsOfForm error
+  of_found None is told = absurd told
+  of_found (Some it) is told = of_construct it is told
+
+-- ---- what refuses
+unless_of : (b : Bool) (it : Construct) → is_of_form it ≡ true → OfForm (unless b it)
+unless_of true it is = tt
+unless_of false it is = is
+
+either_of : (one other : Option Construct) → OfForm one → OfForm other → OfForm (option_or one other)
+either_of None other first second = second
+either_of (Some it) other first second = first
+
+literal_of : (value : Literal) → is_of_form (unwritten_literal value) ≡ true
+literal_of (literal.AbstractInt value) = refl
+literal_of (literal.AbstractFloat bits) = refl
+literal_of _ = refl
+
+lacking_of : (o : Option Scalar) → is_of_form (lacking o) ≡ true
+lacking_of None = refl
+lacking_of (Some s) = refl
+
+unspelled_of : (m : Module) (r : TypeResolution) → is_of_form (unspelled m r) ≡ true
+unspelled_of m r = by (names_undeclared m r)
+  where
+    by : (b : Bool) →
+        is_of_form (if b then construct.PredeclaredStruct else lacking (lacking_scalar m.types r)) ≡ true
+    by true = refl
+    by false = lacking_of (lacking_scalar m.types r)
+
+type_of : (m : Module) (r : TypeResolution) → OfForm (type_refusal m r)
+type_of m r = unless_of _ (unspelled m r) (unspelled_of m r)
+
+module _ (m : Module) (own : ℕ → Option Construct) (each : (h : ℕ) → OfForm (own h)) where
+  first_of : (hs : List ℕ) → OfForm (first_refusal own hs)
+  first_of [] = tt
+  first_of (h ∷ hs) = either_of (own h) (first_refusal own hs) (each h) (first_of hs)
+
+  constant_of : (o : Option Constant) →
+      OfForm (option_map_or (λ k. if is_some k.name then None else own k.init) o
+      (Some construct.ConstantOperator))
+  constant_of None = refl
+  constant_of (Some k) = by (is_some k.name)
+    where
+      by : (b : Bool) → OfForm (if b then None else own k.init)
+      by true = tt
+      by false = each k.init
+
+  global_over : (e : Expression) → OfForm (global_refusal_over m own e)
+  global_over (expression.Literal value) = unless_of _ (unwritten_literal value) (literal_of value)
+  global_over (expression.Constant c) = constant_of (slice_get m.constants c)
+  global_over (expression.Override o) = tt
+  global_over (expression.ZeroValue ty) = type_of m (Handle ty)
+  global_over (expression.Compose ty components) =
+      either_of (first_refusal own components.items) (type_refusal m (Handle ty)) (first_of components.items)
+      (type_of m (Handle ty))
+  global_over (expression.Splat size value) = each value
+  global_over _ = refl
+
+within_of : (m : Module) (levels h : ℕ) → OfForm (global_refusal_within levels m h)
+within_of m zero h = refl
+within_of m (suc levels) h = by (slice_get m.global_expressions h) (within_of m levels)
+  where
+    by : (o : Option Expression) → ((x : ℕ) → OfForm (global_refusal_within levels m x)) →
+        OfForm (option_map_or (global_refusal_over m (global_refusal_within levels m)) o
+        (Some construct.ConstantOperator))
+    by None each = refl
+    by (Some e) each = global_over m (global_refusal_within levels m) each e
+
+global_of : (m : Module) (h : ℕ) → OfForm (global_refusal m h)
+global_of m h = within_of m (suc h) h
+
+converted_of : (new : Option TypeInner) → is_of_form (unconverted new) ≡ true
+converted_of None = refl
+converted_of (Some (inner.Scalar s)) = refl
+converted_of (Some (inner.Vector size s)) = refl
+converted_of (Some (inner.Matrix columns rows s)) = refl
+converted_of (Some _) = refl
+
+part_of : (b : Bool) → is_of_form (unnamed_part b) ≡ true
+part_of true = refl
+part_of false = refl
+
+operator_of : (e : Expression) → is_of_form (wordless_operator e) ≡ true
+operator_of (expression.Math fun arg arg1 arg2 arg3) = refl
+operator_of (expression.Relational fun argument) = refl
+operator_of (expression.ImageLoad image coordinate array_index sample level) = refl
+operator_of _ = refl
+
+own_of : (m : Module) (known : List ExpressionInfo) (e : Expression) → OfForm (own_refusal m known e)
+own_of m known (expression.Literal value) = unless_of _ (unwritten_literal value) (literal_of value)
+own_of m known (expression.Constant c) = constant_of m (global_refusal m) (global_of m) (slice_get m.constants c)
+own_of m known (expression.ZeroValue ty) = type_of m (Handle ty)
+own_of m known (expression.GlobalVariable handle) = unless_of _ construct.Index refl
+own_of m known (expression.Compose ty components) = type_of m (Handle ty)
+own_of m known (expression.AccessIndex base index) = unless_of _ (unnamed_part _) (part_of _)
+own_of m known (expression.As operand kind convert) = unless_of _ (unconverted _) (converted_of _)
+own_of m known
+    (expression.ImageSample
+    image sampler gather coordinate array_index offset level depth_ref clamp) =
+    unless_of _ construct.SamplingMethod refl
+own_of m known (expression.CooperativeLoad columns rows role place) = unless_of _ (lacking _) (lacking_of _)
+own_of m known (expression.ImageQuery image query) = tt
+own_of m known expression.RayQueryProceedResult = refl
+own_of m known e =
+    unless_of (option_map_or has_word (own_operator e) true) (wordless_operator e) (operator_of e)
+
 -- ---- what is named
 module _ (error : Error) (tells : TellsOfModule error) where
-  of_scalar : NamesScalar error → TellsOfForm error
-  of_scalar named = by_unsupported error (codes "scalar type") (1, (omega arith, refl)) named tells
-
-  of_function : NamesFunction error → TellsOfForm error
-  of_function named =
-      by_unsupported error (codes "math function") (0, (omega arith, refl)) named tells
-
-  of_float : IsUnimplemented (codes "float literal") error → TellsOfForm error
-  of_float named =
-      by_unimplemented error (codes "float literal") (0, (omega arith, refl)) named tells
-
-  of_abstract :
-      IsCustom (codes "Abstract types should not appear in IR presented to backends") error →
-      TellsOfForm error
-  of_abstract named =
-      by_custom error (codes "Abstract types should not appear in IR presented to backends")
-      (0, (omega arith, refl)) named tells
-
-  of_operation : IsCustom (codes "operator in a constant") error → TellsOfForm error
-  of_operation named =
-      by_custom error (codes "operator in a constant") (1, (omega arith, refl)) named tells
-
-  of_undeclared : IsCustom (codes "predeclared struct") error → TellsOfForm error
-  of_undeclared named =
-      by_custom error (codes "predeclared struct") (4, (omega arith, refl)) named tells
-
-  of_unsupported_type : IsCustom (codes "type without a WGSL form") error → TellsOfForm error
-  of_unsupported_type named =
-      by_custom error (codes "type without a WGSL form") (5, (omega arith, refl)) named tells
-
-  of_ray_query : IsUnimplemented (codes "ray query") error → TellsOfForm error
-  of_ray_query named =
-      by_unimplemented error (codes "ray query") (3, (omega arith, refl)) named tells
-
-  of_literal : (value : LiteralValue) → NamesLiteral value error → TellsOfForm error
-  of_literal (literal.F64 bits) named = of_float named
-  of_literal (literal.F32 bits) named = of_float named
-  of_literal (literal.F16 bits) named = of_float named
-  of_literal (literal.DecimalF64 numeral) named = of_float named
-  of_literal (literal.DecimalF32 numeral) named = of_float named
-  of_literal (literal.DecimalF16 numeral) named = of_float named
-  of_literal (literal.AbstractInt value) named = of_abstract named
-  of_literal (literal.AbstractFloat bits) named = of_abstract named
-  of_literal _ named = absurd named
-
-  of_conversion : (o : Option TypeInner) → NamesConversion o error → TellsOfForm error
-  of_conversion None named =
-      by_unimplemented error (codes "conversion of this type") (1, (omega arith, refl)) named tells
-  of_conversion (Some new) named = of_scalar named
-
-  of_matrix : (o : Option Scalar) → NamesMatrix o error → TellsOfForm error
-  of_matrix None named = of_unsupported_type named
-  of_matrix (Some s) named = of_scalar named
-
   pub of_type : (m : Module) (r : TypeResolution) → NamesType m r error → TellsOfForm error
-  of_type m r named = by (names_undeclared m r) (lacking_scalar m.types r) named
-    where
-      by : (b : Bool) (o : Option Scalar) → NamesUnspelled b o error → TellsOfForm error
-      by true o named = of_undeclared named
-      by false None named = of_unsupported_type named
-      by false (Some s) named = of_scalar named
-
-  of_part : (has_parts : Bool) → NamesPart has_parts error → TellsOfForm error
-  of_part true named = of_undeclared named
-  of_part false named =
-      by_custom error (codes "cannot index") (3, (omega arith, refl)) named tells
-
-  of_global : (m : Module) (h : ℕ) → NamesGlobal m error h → TellsOfForm error
-  of_global m h (OfLiteral _ value at unsupported named) = of_literal value named
-  of_global m h (OfType _ ty e at is all unsupported named) = of_type m (Handle ty) named
-  of_global m h (OfOperation _ e at is named) = of_operation named
-  of_global m h (OfOperand _ x e at made first inside) = of_global m x inside
-  of_global m h (OfConstant _ c k at there unnamed inside) = of_global m k.init inside
+  of_type m r named = of_found error tells (type_refusal m r) (type_of m r) named
 
   pub of_expression : (m : Module) (known : List ExpressionInfo) (es : List Expression)
       (e : Expression) → NamesExpression m known es e error → TellsOfForm error
-  of_expression m known es (expression.Literal value) named = of_literal value named
-  of_expression m known es (expression.Math fun arg arg1 arg2 arg3) named = of_function named
-  of_expression m known es (expression.Relational fun argument) named =
-      subst TellsOfForm (sym named) tt
-  of_expression m known es (expression.As operand kind convert) named =
-      of_conversion (converted m.types known operand kind convert) named
-  of_expression m known es
-      (expression.ImageSample
-      image sampler gather coordinate array_index offset level depth_ref clamp) (inl named) =
-      by_unimplemented error (codes "sampling form") (2, (omega arith, refl)) named.1 tells
-  of_expression m known es
-      (expression.ImageSample
-      image sampler gather coordinate array_index offset level depth_ref clamp) (inr named) =
-      of_operation named.2
-  of_expression m known es
-      (expression.ImageLoad image coordinate array_index sample level) named =
-      by_custom error (codes "image load with sample and level") (2, (omega arith, refl)) named
-      tells
-  of_expression m known es (expression.CooperativeLoad columns rows role place) named =
-      of_matrix (pointed_scalar m.types known place.pointer) named
-  of_expression m known es expression.RayQueryProceedResult named = of_ray_query named
-  of_expression m known es (expression.RayQueryGetIntersection query committed) named =
-      of_ray_query named
-  of_expression m known es (expression.RayQueryVertexPositions query committed) named =
-      of_ray_query named
-  of_expression m known es (expression.ZeroValue ty) named = of_type m (Handle ty) named
-  of_expression m known es (expression.Compose ty components) named =
-      of_type m (Handle ty) named
-  of_expression m known es (expression.AccessIndex base index) named =
-      of_part (known_passes m.types known (has_parts m.types) base) named
-  of_expression m known es (expression.Constant handle) named =
-      by (slice_get m.constants handle) named
-    where
-      by : (o : Option Constant) → IsSomeAnd o (λ k. NamesGlobal m error k.init) →
-          TellsOfForm error
-      by None named = absurd named
-      by (Some k) named = of_global m k.init named
-  of_expression m known es _ named = absurd named
+  of_expression m known es e named =
+      of_found error tells (expression_refusal m known es e)
+      (either_of (own_refusal m known e) (offset_refusal es e) (own_of m known e)
+      (unless_of _ construct.ConstantOperator refl))
+      named
 
-  pub of_statement : (statement : UnsupportedStatement) → NamesStatement statement error →
-      TellsOfForm error
-  of_statement unsupported.RayQuery named = of_ray_query named
-  of_statement unsupported.SubgroupOperation named =
-      by_unimplemented error (codes "subgroup operation") (4, (omega arith, refl)) named tells
-  of_statement unsupported.FallThrough named =
-      by_unimplemented error (codes "fall-through switch case block") (5, (omega arith, refl))
-      named tells
-  of_statement unsupported.ImageCompareExchange named =
-      by_unimplemented error (codes "image compare exchange") (6, (omega arith, refl)) named tells
+  pub of_statement : (b : BlockTree) (it : Construct) → unsupported_statement b ≡ Some it →
+      IsToldAs it error → TellsOfForm error
+  of_statement b it is told =
+      of_construct error tells it (subst OfForm is (statements_of (trees_in b))) told
+    where
+      simple_of : (st : SimpleStatement) → OfForm (simple_unsupported st)
+      simple_of (image_atomic image coordinate array_index fun value) =
+          unless_of _ construct.ImageCompareExchange refl
+      simple_of (ray_query query) = refl
+      simple_of (subgroup_collective_operation op collective argument outcome) =
+          unless_of _ construct.SubgroupOperation refl
+      simple_of _ = tt
+
+      falls_of : (falls is_empty : Bool) → OfForm (falls_unsupported falls is_empty)
+      falls_of true false = refl
+      falls_of true true = tt
+      falls_of false is_empty = tt
+
+      case_of : (cs : CaseTrees) → OfForm (unsupported_case cs)
+      case_of no_cases = tt
+      case_of (case value body falls cs) =
+          either_of (falls_unsupported falls (has_no_statements body)) (unsupported_case cs) (falls_of falls _)
+          (case_of cs)
+
+      own_statement_of : (st : StatementTree) → OfForm (own_unsupported st)
+      own_statement_of (simple st) = simple_of st
+      own_statement_of (switch selector cs) = case_of cs
+      own_statement_of _ = tt
+
+      statements_of : (sts : List StatementTree) → OfForm (first_unsupported sts)
+      statements_of [] = tt
+      statements_of (st ∷ sts) =
+          either_of (own_unsupported st) (first_unsupported sts) (own_statement_of st) (statements_of sts)

@@ -12,7 +12,7 @@ use Rattle.module_semantics.specs.FunctionLets.{BindsAs}
 use Rattle.module_semantics.specs.Faithful.{HasInterfaceOf, RunsAs}
 use Rattle.module_semantics.specs.Layouts.{KeepsLayouts}
 use Rattle.module_semantics.specs.Resolution.{ResolvesAs}
-use Rattle.naga_wgsl_shared.specs.declared.refusals.error.Error.{Error}
+use Rattle.naga_refusals.specs.declared.error.Error.{Error}
 use Rattle.naga_wgsl_out.specs.ModuleRefusals.{RefusesOnlyFor}
 use Rattle.naga_back.specs.declared.flags.WriterFlags.{WriterFlags}
 use Rattle.naga_back.specs.Flags.{annotates_types}

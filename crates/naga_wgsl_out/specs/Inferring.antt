@@ -14,9 +14,9 @@ use Rattle.naga_inference.specs.Inferred.{IsRefused, IsTyped}
 use Rattle.naga_inference.specs.declared.errors.InferenceError.{InferenceError}
 use Rattle.naga_info.specs.declared.info.ModuleInfo.{ModuleInfo}
 use Rattle.naga_ir.specs.declared.module.Module.{Module}
-use Rattle.naga_wgsl_shared.specs.Refusals.{TellsOfModule}
-use Rattle.naga_wgsl_shared.specs.declared.refusals.error.Error.{Error}
-use Rattle.naga_wgsl_shared.specs.declared.refusals.error.Error.TheVariants.{Memory}
+use Rattle.naga_refusals.specs.Errors.{TellsOfModule}
+use Rattle.naga_refusals.specs.declared.error.Error.{Error}
+use Rattle.naga_refusals.specs.declared.error.Error.TheVariants.{Memory}
 use Rattle.naga_wgsl_out.specs.Checked.{IsCounted}
 use Rattle.naga_wgsl_out.specs.Headline.{EachReading, FaithfulWriting, MatchesModule}
 use Rattle.naga_wgsl_out.specs.Headline.{answer_of, text_of}

@@ -7,8 +7,8 @@ use Rattle.naga_back.specs.Flags.{annotates_types}
 use Rattle.naga_back.specs.declared.flags.WriterFlags.{WriterFlags}
 use Rattle.naga_info.specs.declared.info.ModuleInfo.{ModuleInfo}
 use Rattle.naga_ir.specs.declared.module.Module.{Module}
-use Rattle.naga_wgsl_shared.specs.Refusals.{TellsOfModule}
-use Rattle.naga_wgsl_shared.specs.declared.refusals.error.Error.{Error}
+use Rattle.naga_refusals.specs.Errors.{TellsOfModule}
+use Rattle.naga_refusals.specs.declared.error.Error.{Error}
 use Rattle.naga_spelling.specs.Sink.{IsAfter}
 use Rattle.naga_wgsl_out.specs.ModuleRefusals.{ComesBeforeText, TellsOfFunction, TellsOfKeys}
 use Rattle.naga_wgsl_out.specs.Unwritable.{TellsFirst}

@@ -13,15 +13,15 @@ use Rattle.naga_naming.specs.Naming.{Names}
 use Rattle.naga_naming.specs.Refusal.{SomeNameIsFull, SomeKeyIsFull}
 use Rattle.naga_naming.specs.Reset.{labelled_items}
 use Rattle.naga_scope.specs.Plans.{HasScopeFaultIn}
-use Rattle.naga_wgsl_shared.specs.DeclarationRefusals.{NamesDeclaration}
-use Rattle.naga_wgsl_shared.specs.Errors.{IsSinkWant}
+use Rattle.naga_wgsl_shared.specs.Refusals.{NamesDeclaration}
+use Rattle.naga_refusals.specs.Errors.{IsSinkWant}
 use Rattle.naga_wgsl_fns.specs.PlanRefusals.{ExpressionNamesAreFullIn, HasUnsupportedIn}
 use Rattle.naga_wgsl_fns.specs.PlanRefusals.{HasNamedLabels}
 use Rattle.naga_wgsl_fns.specs.PlanRefusals.{TellsOfForm, TellsOfFullNamer, TellsOfScope}
-use Rattle.naga_wgsl_shared.specs.Refusals.{TellsOfModule}
-use Rattle.naga_wgsl_shared.specs.declared.refusals.error.Error.{Error}
-use Rattle.naga_wgsl_shared.specs.declared.refusals.error.Error.TheVariants.{FmtError, Custom}
-use Rattle.naga_wgsl_shared.specs.declared.refusals.error.Error.TheVariants.{Memory}
+use Rattle.naga_refusals.specs.Errors.{TellsOfModule}
+use Rattle.naga_refusals.specs.declared.error.Error.{Error}
+use Rattle.naga_refusals.specs.declared.error.Error.TheVariants.{FmtError, Custom}
+use Rattle.naga_refusals.specs.declared.error.Error.TheVariants.{Memory}
 
 -- the names of some items of the module can't be told, since so many of them have one stem; or
 -- those of some labels that front ends gave in a function, after all labels in front of them; or,

@@ -3,15 +3,13 @@
 -- Throughout, m is the module, info what is known of it, f is a function, known what is known of its
 -- expressions, number that of a function or an entry point, explicit says whether `let`s tell types,
 -- it is a construct and at is where it stands.
-use Rattle.std.specs.Prelude.{◌≡◌, ℕ, ◌+◌, ◌<◌, ◌⊎◌, Bool, List, Option, Some, IsFalse, IsSomeAnd}
-use Rattle.std.specs.Prelude.{codes, length, slice_get}
+use Rattle.std.specs.Prelude.{◌≡◌, ℕ, ◌+◌, ◌<◌, ◌⊎◌, Bool, List, Option, Some, IsSomeAnd}
+use Rattle.std.specs.Prelude.{length, slice_get}
 use Rattle.std.specs.List.{IsAmong}
 use Rattle.module_semantics.specs.DeclarationForms.{DeclarationsHaveForms}
-use Rattle.module_semantics.specs.ExpressionForms.{expression_has_form}
 use Rattle.module_semantics.specs.FunctionNumbers.{all_functions, all_infos, function_number}
 use Rattle.module_semantics.specs.FunctionShapes.{function_shape}
 use Rattle.module_semantics.specs.Names.{labels_before}
-use Rattle.module_semantics.specs.Undeclared.{is_spellable}
 use Rattle.module_semantics.specs.Written.{IsSpelledIn}
 use Rattle.naga_back.specs.declared.context.FunctionType.{FunctionType}
 use Rattle.naga_back.specs.declared.context.FunctionType.TheVariants as item
@@ -27,21 +25,15 @@ use Rattle.naga_scope.specs.UnsupportedStatements.{IsUnsupportedAt, unsupported_
 use Rattle.naga_scope.specs.Lines.{IsWrittenAt, declared_type, lets_at}
 use Rattle.naga_scope.specs.Plans.{IsFirstToPlan}
 use Rattle.naga_scope.specs.ScopeFaults.{IsScopeFault}
-use Rattle.naga_tables.specs.declared.declarations.DeclarationPosition.{DeclarationPosition}
-use Rattle.naga_tables.specs.declared.declarations.UnsupportedDeclaration.{UnsupportedDeclaration}
 use Rattle.naga_scope.specs.declared.plan.PlanError.{PlanError}
-use Rattle.naga_scope.specs.declared.statements.UnsupportedStatement.{UnsupportedStatement}
 use Rattle.shader_runs.specs.Program.{binds}
-use Rattle.naga_wgsl_shared.specs.Carried.{CarriesOfDeclaration, CarriesOfExpression, CarriesOfType}
-use Rattle.naga_wgsl_shared.specs.Constructs.{IsToldAs, Tells}
-use Rattle.naga_wgsl_shared.specs.DeclarationRefusals.{NamesUnsupportedDeclaration}
-use Rattle.naga_wgsl_shared.specs.Errors.{IsCustom}
-use Rattle.naga_wgsl_fns.specs.PlanRefusals.{ExpressionNamesAreFullIn, NamesStatement}
-use Rattle.naga_wgsl_shared.specs.Refusals.{NamesExpression}
-use Rattle.naga_wgsl_shared.specs.Refusals.{NamesType}
+use Rattle.naga_refusals.specs.Constructs.{IsToldAs}
+use Rattle.naga_wgsl_fns.specs.PlanRefusals.{ExpressionNamesAreFullIn}
+use Rattle.naga_tables.specs.Refusals.{expression_refusal, type_refusal}
 use Rattle.naga_wgsl_fns.specs.Unplanned.{function_position}
-use Rattle.naga_wgsl_shared.specs.declared.refusals.construct.Construct.{Construct}
-use Rattle.naga_wgsl_shared.specs.declared.refusals.error.Error.{Error}
+use Rattle.naga_refusals.specs.declared.construct.Construct.{Construct}
+use Rattle.naga_refusals.specs.declared.construct.Construct.TheVariants as construct
+use Rattle.naga_refusals.specs.declared.error.Error.{Error}
 use Rattle.naga_scope.specs.declared.positions.FunctionRefusalPosition.{FunctionRefusalPosition}
 use Rattle.naga_scope.specs.declared.positions.FunctionRefusalPosition.TheVariants as part
 use Rattle.naga_wgsl_fns.specs.declared.plans.Unplanned.{Unplanned}
@@ -52,17 +44,12 @@ use Rattle.naga_wgsl_out.specs.declared.unwritable.Refusal.{Refusal}
 use Rattle.naga_scope.specs.declared.positions.RefusalPosition.{RefusalPosition}
 use Rattle.naga_scope.specs.declared.positions.RefusalPosition.TheVariants as position
 
--- the construct is told so
-abbrev pub TellsCustom : Construct → (message : List ℕ) → Type 0
-TellsCustom it message = Tells it (IsCustom message)
-
 -- ---- functions
--- it is a type that no text can spell
+-- it is a type that no text can spell, which is refused by the construct
 abbrev pub IsUnspellable : (explicit : Bool) → Module → ModuleInfo → Function →
     (known : List ExpressionInfo) → TypeResolution → Construct → Type 0
 IsUnspellable explicit m info f known ty it =
-    IsSpelledIn explicit m info f known ty × IsFalse (is_spellable m ty)
-    × Tells it (NamesType m ty) × CarriesOfType m ty it
+    IsSpelledIn explicit m info f known ty × (type_refusal m ty ≡ Some it)
 
 -- It stands at this part of the function with this number: a fault of scope, a statement without a
 -- form, an expression without one that this line writes, a type without one that is declared here or
@@ -71,24 +58,20 @@ IsUnspellable explicit m info f known ty it =
 abbrev pub StandsAtPart : (explicit : Bool) → Module → ModuleInfo → (number : ℕ) → Function →
     (known : List ExpressionInfo) → FunctionRefusalPosition → Construct → Type 0
 StandsAtPart explicit m info number f known (part.Scope fault) it =
-    IsScopeFault (function_shape m info f known) fault
-    × TellsCustom it (codes "operand out of scope")
+    IsScopeFault (function_shape m info f known) fault × (it ≡ construct.OutOfScope)
 StandsAtPart explicit m info number f known (part.Statement n) it =
-    (statement : UnsupportedStatement) × (unsupported_statement f.body ≡ Some statement)
-    × IsUnsupportedAt f.body n statement × Tells it (NamesStatement statement)
+    (unsupported_statement f.body ≡ Some it) × IsUnsupportedAt f.body n it
 StandsAtPart explicit m info number f known (part.Expression line h) it =
     IsWrittenAt m info f known line h
     × IsSomeAnd (slice_get f.expressions h) (λ e.
-    IsFalse (expression_has_form m known f.expressions e)
-    × Tells it (NamesExpression m known f.expressions e) × CarriesOfExpression m known e it)
+    expression_refusal m known f.expressions e ≡ Some it)
 StandsAtPart explicit m info number f known (part.Type_ at ty) it =
     (declared_type f at ≡ Some ty) × IsUnspellable explicit m info f known (Handle ty) it
 StandsAtPart explicit m info number f known (part.Let n h) it =
     IsAmong (lets_at (binds (function_shape m info f known)) f n) h
     × IsSomeAnd (slice_get known h) (λ k. IsUnspellable explicit m info f known k.ty it)
 StandsAtPart explicit m info number f known part.Labels it =
-    ExpressionNamesAreFullIn m (labels_before m number) number
-    × TellsCustom it (codes "namer is full")
+    ExpressionNamesAreFullIn m (labels_before m number) number × (it ≡ construct.FullNamer)
 
 -- the labels that front ends gave in the function with this number get names after all labels in
 -- front of the function
@@ -107,26 +90,18 @@ pub record StandsInFunction (explicit : Bool) (m : Module) (info : ModuleInfo) (
   pub first : (error : PlanError) × (found.1 ≡ function_position error)
       × IsFirstToPlan (LabelsGetNamesIn m number) explicit m info function known error
 
--- ---- declarations
--- it is what has no form in this declaration
-abbrev pub StandsInDeclaration : Module → DeclarationPosition → Construct → Type 0
-StandsInDeclaration m at it =
-    (lack : UnsupportedDeclaration) × IsUnsupportedIn m at lack
-    × Tells it (NamesUnsupportedDeclaration m lack) × CarriesOfDeclaration m lack it
-
 -- ---- labels
 -- an item gets no name, or its key is out of range
 abbrev pub StandsInLabels : Module → Construct → Type 0
 StandsInLabels m it =
-    (ItemsAreFull m × TellsCustom it (codes "namer is full"))
-    ⊎ (KeyIsOutOfRange m × TellsCustom it (codes "name key out of range"))
+    (ItemsAreFull m × (it ≡ construct.FullNamer)) ⊎ (KeyIsOutOfRange m × (it ≡ construct.NameKey))
 
 -- ---- modules
 -- the construct stands at its position in the module; the entry points are numbered after the
 -- functions
 abbrev pub StandsAt : (explicit : Bool) → Module → ModuleInfo → RefusalPosition → Construct → Type 0
 StandsAt explicit m info position.Labels it = StandsInLabels m it
-StandsAt explicit m info (position.Declaration at) it = StandsInDeclaration m at it
+StandsAt explicit m info (position.Declaration at) it = IsUnsupportedIn m at it
 StandsAt explicit m info (position.Function h at) it =
     (h < length m.functions) × StandsInFunction explicit m info h (it, at)
 StandsAt explicit m info (position.EntryPoint i at) it =

@@ -18,10 +18,10 @@ use Rattle.wgsl_text.specs.Reading.{printed_program}
 use Rattle.naga_wgsl_shared.specs.Appends.{StoppedWithin, Wrote}
 use Rattle.naga_back.specs.Flags.{annotates_types}
 use Rattle.naga_wgsl_fns.specs.Functions.{known_of, text_of, text_of_function}
-use Rattle.naga_wgsl_shared.specs.declared.refusals.error.Error.{Error}
+use Rattle.naga_refusals.specs.declared.error.Error.{Error}
 use Rattle.naga_wgsl_fns.specs.PlanRefusals.{ExpressionNamesAreFullIn, IsReasonForNoPlan}
 use Rattle.naga_wgsl_fns.specs.PlanRefusals.{IsWritableAt}
-use Rattle.naga_wgsl_shared.specs.Refusals.{TellsOfModule}
+use Rattle.naga_refusals.specs.Errors.{TellsOfModule}
 use Rattle.naga_wgsl_out.specs.Declarations.{declarations_text}
 use Rattle.naga_wgsl_out.specs.Enables.{enables_text}
 use Rattle.naga_wgsl_out.specs.ModuleRefusals.{HasNamedBefore}

@@ -8,7 +8,7 @@ ghost use Rattle.naga_back.specs.Flags.{annotates_types};
 ghost use Rattle.naga_wgsl_out.specs.Checked.{IsCounted, fault_of, written_of};
 ghost use Rattle.naga_wgsl_out.specs.Headline.{EachReading, FaithfulWriting, MatchesModule};
 ghost use Rattle.naga_wgsl_out.specs.Headline.{answer_of, text_of};
-ghost use Rattle.naga_wgsl_shared.specs.Refusals.{TellsOfModule};
+ghost use Rattle.naga_refusals.specs.Errors.{TellsOfModule};
 ghost use Rattle.naga_wgsl_out.specs.Unwritable.{TellsFirst};
 ghost use Rattle.naga_wgsl_out.specs.Writing.{written_text};
 

@@ -23,8 +23,8 @@ use naga_ir::{
     GlobalVariable, Interpolation, Module, Scalar, ScalarKind, ShaderStage, StructMember, Type_,
     TypeInner, UniqueArena,
 };
-use naga_wgsl_shared::Error;
-use naga_wgsl_shared::refusals::error::error_of_want;
+use naga_refusals::Error;
+use naga_refusals::error::error_of_want;
 use naga_words::{Output, TextSink};
 
 /// Writes a line for each extension that a text of the module enables, written with these flags,

@@ -18,10 +18,10 @@ use naga_info::ModuleInfo;
 use naga_ir::{Function, Handle, ItemIndex, Module};
 use naga_names::namer::Namer;
 use naga_naming::NameKey;
+use naga_refusals::Construct;
 use naga_scope::{FunctionRefusalPosition, RefusalPosition};
 use naga_tables::{ModuleTables, unsupported_declaration};
 use naga_wgsl_fns::{Unplanned, construct_of_names, plan_or_refusal};
-use naga_wgsl_shared::{Construct, unsupported_construct};
 use std::alloc::{AllocError, Global};
 use std::collections::HashMap;
 
@@ -71,9 +71,9 @@ pub fn unwritable(
         IsFirst (annotates_types flags) «module».now info.now refusal.position)) }
 {
     let tables = ModuleTables::of(alloc, module)?;
-    if let Some((position, declaration)) = unsupported_declaration(module, &tables) {
+    if let Some((position, construct)) = unsupported_declaration(module, &tables) {
         return Ok(Some(Refusal {
-            construct: unsupported_construct(module, &tables, declaration),
+            construct,
             position: RefusalPosition::Declaration(position),
         }));
     }

@@ -17,7 +17,7 @@ ghost use Rattle.naga_wgsl_out.specs.Headline.{answer_of, text_of};
 ghost use Rattle.naga_wgsl_out.specs.Leaving.{Leaves};
 ghost use Rattle.naga_wgsl_fns.specs.Items.{HasNamedItemsOf};
 ghost use Rattle.naga_wgsl_shared.specs.ModuleText.{CanWriteOf};
-ghost use Rattle.naga_wgsl_shared.specs.Refusals.{TellsOfModule};
+ghost use Rattle.naga_refusals.specs.Errors.{TellsOfModule};
 ghost use Rattle.naga_wgsl_out.specs.ModuleRefusals.{HasAllNames, HasNamedBefore};
 ghost use Rattle.naga_wgsl_out.specs.ModuleRefusals.{IsNamesRefusal};
 ghost use Rattle.naga_wgsl_out.specs.Unwritable.{TellsFirst, TellsRefusalOf};
@@ -34,11 +34,12 @@ use naga_names::by_bytes::{builtin_words, reserved_words};
 use naga_names::keyword_set::CaseInsensitiveKeywordSet;
 use naga_names::keywords::RESERVED_PREFIXES;
 use naga_names::namer::{NameKey, Namer, NamerError};
+use naga_refusals::Error;
+use naga_refusals::error::names_error;
 use naga_scope::Plan;
 use naga_tables::{ModuleTables, unsupported_declaration};
 use naga_wgsl_fns::{plan_of, write_planned};
-use naga_wgsl_shared::refusals::error::names_error;
-use naga_wgsl_shared::{Error, declaration_without_form, put};
+use naga_wgsl_shared::put;
 use naga_words::TextSink;
 use std::alloc::Global;
 use std::collections::HashMap;
@@ -133,8 +134,8 @@ impl<W: TextSink> Writer<W> {
         ensures flags { self.new.flags ≡ self.old.flags }
     {
         let tables = ModuleTables::of(self.alloc, module)?;
-        if let Some((_, declaration)) = unsupported_declaration(module, &tables) {
-            return Err(declaration_without_form(self.alloc, module, &tables, declaration));
+        if let Some((_, construct)) = unsupported_declaration(module, &tables) {
+            return Err(construct.to_error(self.alloc));
         }
         let (names, mut namer) = names_of(self.alloc, module)?;
         write_front(

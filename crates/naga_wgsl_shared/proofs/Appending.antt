@@ -4,8 +4,8 @@ use Rattle.std.proofs.Common.{◌∙◌, subst}
 use Rattle.std.proofs.lemmas.List.{append-nil}
 use Rattle.std.specs.Result.{IsErrAnd}
 use Rattle.naga_words.proofs.Writing.{after_first, after_then}
-use Rattle.naga_wgsl_shared.specs.declared.refusals.error.Error.{Error}
-use Rattle.naga_wgsl_shared.specs.Errors.{IsWant}
+use Rattle.naga_refusals.specs.declared.error.Error.{Error}
+use Rattle.naga_refusals.specs.Errors.{IsWant}
 use Rattle.naga_wgsl_shared.specs.Appends.{Wrote, StoppedWithin, Appends}
 
 pub wrote_nothing : (content : List ℕ) (failed : ℕ) → Wrote content failed [] content failed

@@ -1,12 +1,10 @@
 pub mod Appending
 pub mod AttributeRows
 pub mod ConstantRows
-pub mod DeclarationRefusals
 pub mod Literals
 pub mod RepresentativeRows
 pub mod SingleBindings
 pub mod SingleExpressions
 pub mod StageRows
 pub mod TypeRows
-pub mod UnsupportedConstants
 pub mod Wants

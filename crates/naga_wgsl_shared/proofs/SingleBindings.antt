@@ -11,9 +11,9 @@ use Rattle.naga_form.specs.Attributes.{binding_attributes}
 use Rattle.naga_spelling.specs.Sink.{IsAfter}
 use Rattle.naga_wgsl_shared.specs.Attributes.{binding_text}
 use Rattle.naga_wgsl_shared.specs.Bindings.{BindingWriting}
-use Rattle.naga_wgsl_shared.specs.DeclarationRefusals.{NamesBuiltin}
-use Rattle.naga_wgsl_shared.specs.Errors.{IsWant}
-use Rattle.naga_wgsl_shared.specs.declared.refusals.error.Error.{Error}
+use Rattle.naga_wgsl_shared.specs.Refusals.{NamesBuiltin}
+use Rattle.naga_refusals.specs.Errors.{IsWant}
+use Rattle.naga_refusals.specs.declared.error.Error.{Error}
 
 -- the attributes of a binding that has a form say how it is bound
 binding_means : (b : Binding) → IsTrue (binding_has_form b) →

@@ -17,14 +17,15 @@ use Rattle.wgsl_text.specs.Reading.{HasOneReading, ReadsExpression}
 use Rattle.wgsl_text.specs.Text.{tokens}
 use Rattle.wgsl_text.proofs.Reading.{expression_has_one_reading}
 use Rattle.naga_wgsl_shared.specs.Constants.{global_text}
-use Rattle.naga_wgsl_shared.specs.Errors.{IsWant}
+use Rattle.naga_refusals.specs.Errors.{IsWant}
 use Rattle.naga_wgsl_shared.specs.GlobalExpressions.{AppendsTheValue, GlobalWriting}
 use Rattle.naga_wgsl_shared.specs.GlobalExpressions.{IsGlobalRefusal}
+use Rattle.naga_tables.specs.Refusals.{global_refusal}
 use Rattle.naga_wgsl_shared.specs.Refusals.{NamesGlobal}
-use Rattle.naga_wgsl_shared.specs.declared.refusals.error.Error.{Error}
-use Rattle.naga_wgsl_shared.specs.declared.refusals.error.Error.TheVariants.{FmtError, Memory}
+use Rattle.naga_refusals.specs.declared.error.Error.{Error}
+use Rattle.naga_refusals.specs.declared.error.Error.TheVariants.{FmtError, Memory}
 use Rattle.naga_wgsl_shared.proofs.Wants.{want_tells_nothing}
-use Rattle.naga_wgsl_shared.proofs.Wants.{no_global_sink}
+use Rattle.naga_wgsl_shared.proofs.Wants.{named_no_sink}
 
 module _ (m : Module) (handle : ℕ) where
   module _ (content : List ℕ) (before : ℕ) where
@@ -44,7 +45,7 @@ module _ (m : Module) (handle : ℕ) where
 
     pub global_for_form : (error : Error) → IsFalse (global_has_form m handle) →
         NamesGlobal m error handle → IsGlobalRefusal m handle before before error
-    global_for_form (FmtError e) unsupported named = absurd (no_global_sink m e handle named)
+    global_for_form (FmtError e) unsupported named = absurd (named_no_sink (global_refusal m handle) e named)
     global_for_form (Memory e) unsupported named = tt
     global_for_form _ unsupported named = (unsupported, named)
 

@@ -2,8 +2,8 @@
 -- and both afterwards.
 use Rattle.std.specs.Prelude.{◌≡◌, ℕ, List, ◌++◌, Result, Ok, Err}
 use Rattle.naga_spelling.specs.Sink.{IsAfter}
-use Rattle.naga_wgsl_shared.specs.declared.refusals.error.Error.{Error}
-use Rattle.naga_wgsl_shared.specs.Errors.{IsWant}
+use Rattle.naga_refusals.specs.declared.error.Error.{Error}
+use Rattle.naga_refusals.specs.Errors.{IsWant}
 
 -- the text stands after what the sink held, and the sink has not failed
 pub record Wrote (content : List ℕ) (failed : ℕ) (text now : List ℕ) (failures : ℕ) : Type 0 where

@@ -11,9 +11,9 @@ use Rattle.module_semantics.specs.StageBindings.{binding_meant}
 use Rattle.naga_form.specs.Attributes.{binding_attributes}
 use Rattle.naga_spelling.specs.Sink.{IsAfter}
 use Rattle.naga_wgsl_shared.specs.Attributes.{binding_text}
-use Rattle.naga_wgsl_shared.specs.DeclarationRefusals.{NamesBuiltin}
-use Rattle.naga_wgsl_shared.specs.Errors.{IsWant}
-use Rattle.naga_wgsl_shared.specs.declared.refusals.error.Error.{Error}
+use Rattle.naga_wgsl_shared.specs.Refusals.{NamesBuiltin}
+use Rattle.naga_refusals.specs.Errors.{IsWant}
+use Rattle.naga_refusals.specs.declared.error.Error.{Error}
 
 -- what passes in or out has a form where its binding has one, if it has a binding
 abbrev pub passing_has_form : Option Binding → Bool

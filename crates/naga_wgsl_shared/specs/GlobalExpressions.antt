@@ -15,10 +15,11 @@ use Rattle.wgsl_text.specs.Reading.{HasOneReading, ReadsExpression}
 use Rattle.wgsl_text.specs.Text.{tokens}
 use Rattle.naga_spelling.specs.Sink.{IsAfter}
 use Rattle.naga_wgsl_shared.specs.Constants.{global_at, global_text}
-use Rattle.naga_wgsl_shared.specs.Errors.{IsSinkWant}
-use Rattle.naga_wgsl_shared.specs.Refusals.{NamesGlobal, TellsOfModule}
-use Rattle.naga_wgsl_shared.specs.declared.refusals.error.Error.{Error}
-use Rattle.naga_wgsl_shared.specs.declared.refusals.error.Error.TheVariants.{FmtError, Memory}
+use Rattle.naga_refusals.specs.Errors.{IsSinkWant}
+use Rattle.naga_wgsl_shared.specs.Refusals.{NamesGlobal}
+use Rattle.naga_refusals.specs.Errors.{TellsOfModule}
+use Rattle.naga_refusals.specs.declared.error.Error.{Error}
+use Rattle.naga_refusals.specs.declared.error.Error.TheVariants.{FmtError, Memory}
 use Rattle.naga_back.specs.declared.flags.WriterFlags.{WriterFlags}
 
 -- why it is refused, where the sink had failed so often before and has failed so often now

@@ -1,11 +1,7 @@
 pub mod Appends
 pub mod Attributes
 pub mod Bindings
-pub mod Carried
 pub mod Constants
-pub mod Constructs
-pub mod DeclarationRefusals
-pub mod Errors
 pub mod GlobalExpressions
 pub mod Literals
 pub mod ModuleText

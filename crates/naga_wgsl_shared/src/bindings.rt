@@ -14,13 +14,14 @@ ghost use Rattle.wgsl_text.specs.Attributes.{BlendSource, Numbered};
 ghost use Rattle.wgsl_words.specs.Words.{builtin_word};
 ghost use Rattle.naga_wgsl_shared.specs.Attributes.{attributes_text, binding_text};
 ghost use Rattle.naga_wgsl_shared.specs.Bindings.{BindingWriting, passing_has_form};
-ghost use Rattle.naga_wgsl_shared.specs.DeclarationRefusals.{NamesBuiltin};
-ghost use Rattle.naga_wgsl_shared.specs.Errors.{IsWant};
+ghost use Rattle.naga_wgsl_shared.specs.Refusals.{NamesBuiltin};
+ghost use Rattle.naga_refusals.specs.Errors.{IsWant};
 
 use crate::attributes::{write_interpolated, write_numbered, write_optional_chunk, write_worded};
 use crate::implemented::to_wgsl_if_implemented;
-use crate::refusals::error::{Error, error_of_want};
 use naga_ir::{Binding, BuiltIn, Interpolation, Sampling};
+use naga_refusals::Error;
+use naga_refusals::error::error_of_want;
 use naga_words::{Output, TextSink};
 use std::alloc::Global;
 use wgsl_words::{ToWgsl, TryToWgsl};

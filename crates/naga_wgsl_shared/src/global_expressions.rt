@@ -8,15 +8,15 @@ ghost use Rattle.naga_info.specs.declared.info.ModuleInfo.{ModuleInfo};
 ghost use Rattle.naga_naming.specs.Keys.{names_in};
 ghost use Rattle.naga_spelling.specs.Sink.{IsAfter};
 ghost use Rattle.naga_wgsl_shared.specs.Constants.{global_text};
-ghost use Rattle.naga_wgsl_shared.specs.Errors.{IsWant};
+ghost use Rattle.naga_refusals.specs.Errors.{IsWant};
 ghost use Rattle.naga_wgsl_shared.specs.GlobalExpressions.{GlobalWriting};
 ghost use Rattle.naga_wgsl_shared.specs.ModuleText.{CanWriteIn};
 
 use crate::module_text::ModuleText;
-use crate::refusals::constants::global_without_form;
-use crate::refusals::error::{Error, error_of_want};
 use naga_ir::{Expression, Handle, Module};
 use naga_naming::NameKey;
+use naga_refusals::Error;
+use naga_refusals::error::error_of_want;
 use naga_tables::ModuleTables;
 use naga_words::{Output, TextSink};
 use std::alloc::Global;
@@ -54,8 +54,9 @@ pub fn write_global_expression<W: TextSink>(
         (W.failures out.old) (W.failures out.new) }
 {
     let tables = ModuleTables::of(alloc, module)?;
-    if tables.has_form(module, handle) {
-        write_written_global(
+    match tables.refusal(module, handle) {
+        Some(construct) => Err(construct.to_error(alloc)),
+        None => write_written_global(
             alloc,
             ModuleText {
                 shader: module,
@@ -64,9 +65,7 @@ pub fn write_global_expression<W: TextSink>(
             },
             handle,
             out,
-        )
-    } else {
-        Err(global_without_form(alloc, module, &tables, handle))
+        ),
     }
 }
 

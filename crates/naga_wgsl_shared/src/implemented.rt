@@ -1,9 +1,9 @@
 //! The word of a value, or the refusal where WGSL has none.
 
 ghost use Rattle.std.specs.Prelude.{◌≡◌, IfErr, IfOk, IsErr, None, Some};
-ghost use Rattle.naga_wgsl_shared.specs.Errors.{IsUnsupported};
+ghost use Rattle.naga_refusals.specs.Errors.{IsUnsupported};
 
-use crate::refusals::error::Error;
+use naga_refusals::Error;
 use std::alloc::Global;
 use std::fmt::Debug;
 use wgsl_words::TryToWgsl;

@@ -1,6 +1,5 @@
 //! What the WGSL texts of functions and of other declarations share: literals, attributes, bindings,
-//! stages, names, types, and a module's own expressions; why a module is not written, and the errors
-//! that say so; and words that WGSL may lack.
+//! stages, names, types, and a module's own expressions; and words that WGSL may lack.
 //!
 //! Users take these through the crate `naga_wgsl_out`.
 #![tactic(auto)]
@@ -13,7 +12,6 @@ pub mod implemented;
 pub mod literal;
 pub mod module_text;
 mod names;
-pub mod refusals;
 pub mod sinks;
 mod stages;
 pub mod undeclared;
@@ -22,10 +20,6 @@ pub use bindings::write_binding;
 pub use global_expressions::write_global_expression;
 pub use implemented::to_wgsl_if_implemented;
 pub use literal::write_literal;
-pub use refusals::construct::Construct;
-pub use refusals::declarations::{
-    declaration_without_form, head_without_form, unsupported_construct,
-};
-pub use refusals::error::Error;
+pub use naga_refusals::{Construct, Error};
 pub use sinks::put;
 pub use undeclared::names_undeclared;

@@ -2,7 +2,7 @@
 
 ghost use Rattle.naga_wgsl_shared.specs.Appends.{Appends};
 
-use crate::refusals::error::Error;
+use naga_refusals::Error;
 use naga_words::TextSink;
 
 /// Writes a chunk of text after what the sink holds. Want of memory is told as

@@ -30,8 +30,8 @@ use Rattle.module_limits.specs.Nesting.{nested_past}
 use Rattle.module_limits.specs.declared.nesting.Nested.{Nested}
 use Rattle.naga_form.specs.Declarations.{written_program}
 use Rattle.wgsl_text.specs.Reading.{printed_program}
-use Rattle.naga_wgsl_shared.specs.declared.refusals.error.Error.{Error}
-use Rattle.naga_wgsl_shared.specs.declared.refusals.error.Error.TheVariants as error
+use Rattle.naga_refusals.specs.declared.error.Error.{Error}
+use Rattle.naga_refusals.specs.declared.error.Error.TheVariants as error
 use Rattle.naga_wgsl_out.specs.Checked.{IsCounted}
 use Rattle.naga_wgsl_out.specs.Headline.{FaithfulWriting}
 use Rattle.naga_wgsl_out.specs.declared.unwritable.Refusal.{Refusal}

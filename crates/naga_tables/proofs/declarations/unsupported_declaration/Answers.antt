@@ -40,9 +40,9 @@ returns-in-Some-unsupported_in_entry_points-clause-some c =
     let step = c.in-Some-unsupported_in_entry_points in
     (of_entry_points c.args.module.now c.in_default.ensures c.in_default-unsupported_in_constants.ensures
     c.in_default-unsupported_in_overrides.ensures
-    c.in_default-unsupported_in_variables.ensures c.in_default-unsupported_in_functions.ensures (step.index, step.head)
+    c.in_default-unsupported_in_variables.ensures c.in_default-unsupported_in_functions.ensures (step.index, step.construct)
     (subst (λ ps. FindsFirst ps (λ i. EntryPointHasForm) (λ i. i) (λ i. IsUnsupportedEntryPoint)
-    (Some (step.index, step.head))) c.deref.ensures.value step.ensures)).some
+    (Some (step.index, step.construct))) c.deref.ensures.value step.ensures)).some
 
 pub returns-in-Some-clause-stands : goal.returns-in-Some-clause-stands
 returns-in-Some-clause-stands c = (of_types c.args.module.now c.in-Some.unsupported c.in-Some.ensures).stands
@@ -79,9 +79,9 @@ returns-in-Some-unsupported_in_entry_points-clause-stands c =
     let step = c.in-Some-unsupported_in_entry_points in
     (of_entry_points c.args.module.now c.in_default.ensures c.in_default-unsupported_in_constants.ensures
     c.in_default-unsupported_in_overrides.ensures
-    c.in_default-unsupported_in_variables.ensures c.in_default-unsupported_in_functions.ensures (step.index, step.head)
+    c.in_default-unsupported_in_variables.ensures c.in_default-unsupported_in_functions.ensures (step.index, step.construct)
     (subst (λ ps. FindsFirst ps (λ i. EntryPointHasForm) (λ i. i) (λ i. IsUnsupportedEntryPoint)
-    (Some (step.index, step.head))) c.deref.ensures.value step.ensures)).stands
+    (Some (step.index, step.construct))) c.deref.ensures.value step.ensures)).stands
 
 pub returns-in-Some-clause-first : goal.returns-in-Some-clause-first
 returns-in-Some-clause-first c = (of_types c.args.module.now c.in-Some.unsupported c.in-Some.ensures).first
@@ -118,9 +118,9 @@ returns-in-Some-unsupported_in_entry_points-clause-first c =
     let step = c.in-Some-unsupported_in_entry_points in
     (of_entry_points c.args.module.now c.in_default.ensures c.in_default-unsupported_in_constants.ensures
     c.in_default-unsupported_in_overrides.ensures
-    c.in_default-unsupported_in_variables.ensures c.in_default-unsupported_in_functions.ensures (step.index, step.head)
+    c.in_default-unsupported_in_variables.ensures c.in_default-unsupported_in_functions.ensures (step.index, step.construct)
     (subst (λ ps. FindsFirst ps (λ i. EntryPointHasForm) (λ i. i) (λ i. IsUnsupportedEntryPoint)
-    (Some (step.index, step.head))) c.deref.ensures.value step.ensures)).first
+    (Some (step.index, step.construct))) c.deref.ensures.value step.ensures)).first
 
 pub returns-in-None-clause-none : goal.returns-in-None-clause-none
 returns-in-None-clause-none c =

@@ -4,22 +4,23 @@ use Rattle.std.proofs.lemmas.Option.{slice_get_read}
 use Rattle.module_semantics.specs.DeclarationForms.{HeadHasForm}
 use Rattle.module_semantics.specs.FunctionNumbers.{IsFunctionOf, function_number}
 use Rattle.naga_tables.proofs.UnsupportedDeclarations.{entry_point_with, entry_point_without}
-use Rattle.naga_tables.proofs.UnsupportedDeclarations.{function_head, function_lacks}
+use Rattle.naga_tables.proofs.UnsupportedDeclarations.{function_with, function_without}
 use Rattle.naga_tables.specs.Declarations.{IsUnsupportedHead}
-use Rattle.naga_tables.specs.declared.declarations.UnsupportedHead.TheVariants as head
 use Rattle.naga_tables.proofs.declarations.unsupported_head.Goals as goal
 
-pub returns-in-Some-clause-some : goal.returns-in-Some-clause-some
-returns-in-Some-clause-some c =
+pub returns-in-Function-clause-none : goal.returns-in-Function-clause-none
+returns-in-Function-clause-none c =
     let m = c.args.module.now in
-    subst (λ ty. IsUnsupportedHead m (function_number m ty) (head.BuiltIn c.in-Some.value)) (sym c.in-Function.is)
-    (function_lacks m c.in-Function.handle c.index.result.now c.index.ensures c.in-Some.value c.in-Some.ensures)
+    let found = c.unsupported_io.result in
+    subst (λ ty. IfNone found (HeadHasForm m (function_number m ty))) (sym c.in-Function.is)
+    (function_without m c.in-Function.handle c.index.result.now c.index.ensures found c.unsupported_io.ensures)
 
-pub returns-in-None-clause-none : goal.returns-in-None-clause-none
-returns-in-None-clause-none c =
+pub returns-in-Function-clause-some : goal.returns-in-Function-clause-some
+returns-in-Function-clause-some c =
     let m = c.args.module.now in
-    subst (λ ty. HeadHasForm m (function_number m ty)) (sym c.in-Function.is)
-    (function_head m c.in-Function.handle c.index.result.now c.index.ensures c.in-None.ensures)
+    let found = c.unsupported_io.result in
+    subst (λ ty. IfSome found (IsUnsupportedHead m (function_number m ty))) (sym c.in-Function.is)
+    (function_with m c.in-Function.handle c.index.result.now c.index.ensures found c.unsupported_io.ensures)
 
 pub returns-in-EntryPoint-clause-none : goal.returns-in-EntryPoint-clause-none
 returns-in-EntryPoint-clause-none c =

@@ -1,4 +1,4 @@
-use Rattle.std.proofs.Common.{refl}
+use Rattle.std.proofs.Common.{refl, sym}
 use Rattle.naga_tables.proofs.Searching.{before_left, here_left, next_left, none_left}
 use Rattle.naga_tables.specs.Declarations.{ConstantHasForm}
 use Rattle.naga_tables.proofs.declarations.unsupported_in_constants.Goals as goal
@@ -14,14 +14,14 @@ returns-in-Some-unsupported_constant c =
     before_left (λ i. ConstantHasForm m) m.constants c.loop-handle.handle-iterator c.next.new.self
     c.in-Some.handle c.in-Some.constant.now c.in-Some.ensures.steps
     c.loop-handle.invariant in
-    (c.in-Some.handle, c.in-Some.constant.now, here, refl, earlier, c.in-Some-unsupported_constant.ensures)
+    (c.in-Some.handle, c.in-Some.constant.now, here, refl, earlier, sym c.in-Some-unsupported_constant.ensures)
 
 pub loop-handle-preserved : goal.loop-handle-preserved
 loop-handle-preserved c =
     let m = c.args.module.now in
     next_left (λ i. ConstantHasForm m) m.constants c.loop-handle.handle-iterator c.next.new.self
     c.in-Some.handle c.in-Some.constant.now c.in-Some.ensures.steps
-    c.in_default.ensures c.loop-handle.invariant
+    (sym c.in_default.ensures) c.loop-handle.invariant
 
 pub returns : goal.returns
 returns c =

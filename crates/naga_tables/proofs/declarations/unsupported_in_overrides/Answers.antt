@@ -1,4 +1,4 @@
-use Rattle.std.proofs.Common.{refl}
+use Rattle.std.proofs.Common.{refl, sym}
 use Rattle.naga_tables.proofs.Searching.{before_left, here_left, next_left, none_left}
 use Rattle.naga_tables.specs.Declarations.{ValueHasForm}
 use Rattle.naga_ir.specs.declared.module.Override.{Override}
@@ -15,14 +15,14 @@ returns-in-Some-unsupported_value c =
     before_left (λ i (o : Override). ValueHasForm m o.ty o.init) m.overrides c.loop-handle.handle-iterator
     c.next.new.self c.in-Some.handle c.in-Some.item.now c.in-Some.ensures.steps
     c.loop-handle.invariant in
-    (c.in-Some.handle, c.in-Some.item.now, here, refl, earlier, c.in-Some-unsupported_value.ensures)
+    (c.in-Some.handle, c.in-Some.item.now, here, refl, earlier, sym c.in-Some-unsupported_value.ensures)
 
 pub loop-handle-preserved : goal.loop-handle-preserved
 loop-handle-preserved c =
     let m = c.args.module.now in
     next_left (λ i (o : Override). ValueHasForm m o.ty o.init) m.overrides c.loop-handle.handle-iterator
     c.next.new.self c.in-Some.handle c.in-Some.item.now c.in-Some.ensures.steps
-    c.in_default.ensures c.loop-handle.invariant
+    (sym c.in_default.ensures) c.loop-handle.invariant
 
 pub returns : goal.returns
 returns c =

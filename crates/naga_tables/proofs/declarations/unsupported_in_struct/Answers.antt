@@ -1,20 +1,21 @@
-use Rattle.std.proofs.Common.{◌∙◌, sym}
+use Rattle.std.proofs.Common.{◌∙◌, subst, sym}
 use Rattle.naga_tables.proofs.UnsupportedDeclarations.{by_fault, by_none, by_other, by_strides}
-use Rattle.naga_tables.proofs.UnsupportedDeclarations.{of_members}
+use Rattle.naga_tables.specs.Declarations.{IsUnsupportedStruct, OfFirst}
 use Rattle.naga_tables.proofs.declarations.unsupported_in_struct.Goals as goal
 
 pub returns-in-Some : goal.returns-in-Some
-returns-in-Some c = of_members c.args.module.now c.args.members.now c.in-Some.unsupported c.in-Some.ensures
+returns-in-Some c = OfFirst c.in-Some.ensures
 
 pub returns-in-Some-misplaced : goal.returns-in-Some-misplaced
 returns-in-Some-misplaced c =
-    by_fault c.args.module.now c.args.members.now c.in-Some-misplaced.fault c.in_default.ensures
-    c.in-Some-misplaced.ensures
+    subst (IsUnsupportedStruct c.args.module.now c.args.members.now) (sym c.misplaced_construct.ensures)
+    (by_fault c.args.module.now c.args.members.now c.in-Some-misplaced.fault c.in_default.ensures
+    c.in-Some-misplaced.ensures)
 
 pub returns-then-keeps_offsets : goal.returns-then-keeps_offsets
 returns-then-keeps_offsets c =
     by_other c.args.module.now c.args.members.now c.in_default.ensures c.in_default-misplaced.ensures
-    c.args.span c.in-Some-other_stride.ty c.in-Some-other_stride.ensures
+    c.args.span c.in-Some-other_stride.field-0 c.in-Some-other_stride.ensures
     (sym c.if-keeps_offsets.true ∙ c.keeps_offsets.ensures)
 
 pub returns-else-keeps_offsets : goal.returns-else-keeps_offsets

@@ -1,10 +1,10 @@
-use Rattle.std.proofs.Common.{◌≡◌, ◌<◌, ℕ, Bool, ap, arith, length, sym, subst, ◌∙◌}
+use Rattle.std.proofs.Common.{◌≡◌, ◌<◌, ℕ, ◌∙◌, Bool, ap, arith, false, length, subst, sym}
 use Rattle.std.specs.Prelude.{slice_get}
 use Rattle.module_semantics.specs.AlikeTypes.{has_type_form}
 use Rattle.naga_info.specs.declared.info.TypeResolution.TheVariants.{Handle}
 use Rattle.naga_ir.specs.declared.module.Module.{Module}
 use Rattle.naga_tables.proofs.FilledTables.{no_type_form_beyond, formed_by}
-use Rattle.naga_tables.proofs.WrittenConstants.{MarksBelow, all_below, none_below, one_below}
+use Rattle.naga_tables.proofs.WrittenConstants.{CellsBelow, all_below, none_below, one_below}
 use Rattle.naga_tables.proofs.tables.mark_type_forms.Goals as goal
 
 abbrev has_form_in : Module → (h : ℕ) → Bool
@@ -13,7 +13,7 @@ has_form_in m h = has_type_form m.types (Handle h)
 pub loop-index-init : goal.loop-index-init
 loop-index-init c =
     let m = c.args.module.now in
-    none_below (has_form_in m) (length m.types) c.args.marks.now c.requires.size
+    none_below false (has_form_in m) (length m.types) c.args.marks.now c.requires.size
 
 pub loop-index-preserved : goal.loop-index-preserved
 loop-index-preserved c =
@@ -22,7 +22,7 @@ loop-index-preserved c =
     let test = c.loop-index-test.true in
     let within : c.loop-index.index < length m.types = omega (arith, end, test) in
     let at = ap (slice_get m.types) (sym c.from_index-handle.ensures) ∙ c.index.ensures in
-    one_below (has_form_in m) (length m.types) c.loop-index.marks c.loop-index.index
+    one_below false (has_form_in m) (length m.types) c.loop-index.marks c.loop-index.index
     c.item_has_type_form-has_form.result within
     (c.item_has_type_form-has_form.ensures
     ∙ formed_by m c.requires.ordered.types c.loop-index.index c.index.result.now at
@@ -36,6 +36,6 @@ returns c =
     let test = c.loop-index-test.false in
     let last = c.loop-index.auto.index-end in
     let all : c.loop-index.index ≡ length m.types = omega (arith, end, test, last) in
-    all_below (has_form_in m) (length m.types) (no_type_form_beyond m) c.loop-index.marks
-    (subst (MarksBelow (has_form_in m) (length m.types) c.loop-index.marks) all
+    all_below false (has_form_in m) (length m.types) (no_type_form_beyond m) c.loop-index.marks
+    (subst (CellsBelow false (has_form_in m) (length m.types) c.loop-index.marks) all
     c.loop-index.invariant)

@@ -8,7 +8,7 @@ use Rattle.module_semantics.specs.FunctionNumbers.{function_number}
 use Rattle.naga_words.proofs.Writing.{content_begun_as, content_whole_as, never_unsupported}
 use Rattle.naga_words.proofs.Writing.{reason_known, same_sink, writes_as}
 use Rattle.naga_scope.proofs.Planned.{plan_found}
-use Rattle.naga_wgsl_shared.specs.Errors.{IsWant}
+use Rattle.naga_refusals.specs.Errors.{IsWant}
 use Rattle.naga_back.specs.Flags.{annotates_types}
 use Rattle.naga_wgsl_fns.proofs.FunctionRows.{can_write, names_same}
 use Rattle.naga_wgsl_shared.proofs.Wants.{reason_reported}

@@ -13,10 +13,10 @@ returns-in-Some-clause-function g c =
     let info = c.args.info.now in
     let content = g.W.TextSink.text c.args.out.now in
     let before = g.W.TextSink.failures c.args.out.now in
-    refused m info c.args.flags earlier c.args.ty content before _ c.head_without_form.result
+    refused m info c.args.flags earlier c.args.ty content before _ c.to_error.result
     c.args.namer.now refl
-    (for_head m info c.args.flags earlier c.args.ty content before c.head_without_form.result
-    (c.head_without_form.ensures m (function_number m c.args.ty) c.in-Some.ensures.some))
+    (for_head m info c.args.flags earlier c.args.ty content before c.to_error.result
+    (c.in-Some.construct, c.in-Some.ensures.some, c.to_error.ensures))
     (none_named m info c.args.flags earlier c.args.ty c.args.namer.now has)
 
 pub returns-in-None-clause-named : goal.returns-in-None-clause-named

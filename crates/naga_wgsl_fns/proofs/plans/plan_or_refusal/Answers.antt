@@ -4,12 +4,9 @@ use Rattle.module_semantics.specs.FunctionNumbers.{function_number}
 use Rattle.module_semantics.specs.Written.{OfFunctionAt}
 use Rattle.naga_form.proofs.declarations.AcceptedGroups.{fits_in_range, known_is_fit}
 use Rattle.naga_scope.proofs.Planned.{of_the_ok}
-use Rattle.naga_tables.proofs.WrittenConstants.{globals_in_order}
 use Rattle.naga_scope.specs.Plans.{IsPlanOf}
-use Rattle.naga_wgsl_fns.proofs.PlanRefusals.{is_of_plan, items_there}
-use Rattle.naga_wgsl_fns.specs.PlanRefusals.{CarriesOfPlan}
-use Rattle.naga_wgsl_shared.specs.Constructs.{Tells}
-use Rattle.naga_wgsl_fns.specs.PlanRefusals.{TellsPlanError}
+use Rattle.naga_wgsl_fns.proofs.PlanRefusals.{is_of_plan}
+use Rattle.naga_wgsl_fns.specs.PlanRefusals.{IsConstructOf}
 use Rattle.naga_wgsl_fns.specs.Unplanned.{IsRefusedFor}
 use Rattle.naga_wgsl_fns.proofs.plans.plan_or_refusal.Goals as goal
 
@@ -27,16 +24,6 @@ construct_of_plan-requires-clause-unsupported c =
     (function_number c.args.«module».now c.args.ty.now) c.function_of.result.0.now
     c.function_of.ensures.function c.function_of.result.1.now c.function_of.ensures.known
     _ c.in-Err.error c.in-Err.ensures.err
-
-pub construct_of_plan-requires-clause-ordered : goal.construct_of_plan-requires-clause-ordered
-construct_of_plan-requires-clause-ordered c =
-    globals_in_order c.args.«module».now c.args.info.now c.requires.accepted
-
-pub construct_of_plan-requires-clause-named : goal.construct_of_plan-requires-clause-named
-construct_of_plan-requires-clause-named c =
-    items_there c.args.«module».now c.args.info.now c.requires.accepted
-    (function_number c.args.«module».now c.args.ty.now)
-    c.function_of.result.0.now c.function_of.ensures.function c.function_of.result.1.now c.function_of.ensures.known
 
 pub returns-in-Ok-clause-ok : goal.returns-in-Ok-clause-ok
 returns-in-Ok-clause-ok c =
@@ -56,20 +43,12 @@ returns-in-Ok-construct_of_plan-clause-err c =
       error = c.in-Err.error;
       refused = c.in-Err.ensures.err;
       first = c.in-Err.ensures.first;
-      told = subst
-          (λ r. IfOk r (λ it. OfFunctionAt m info number (λ f es. Tells it (TellsPlanError m f es c.in-Err.error))))
+      construct = subst
+          (λ r. IfOk r (λ it. OfFunctionAt m info number (λ f es. IsConstructOf m f es c.in-Err.error it)))
           c.in-Ok-construct_of_plan.is
-          (of_the_ok (λ f es it. Tells it (TellsPlanError m f es c.in-Err.error)) m info number
+          (of_the_ok (λ f es it. IsConstructOf m f es c.in-Err.error it) m info number
           c.function_of.result.0.now c.function_of.result.1.now c.function_of.ensures.function
           c.function_of.ensures.known
           c.construct_of_plan.result c.construct_of_plan.ensures.ok);
-      carries = subst
-          (λ r. IfOk r (λ it. OfFunctionAt m info number (λ f es. CarriesOfPlan m f es c.in-Err.error it)))
-          c.in-Ok-construct_of_plan.is
-          (of_the_ok (λ f es it. CarriesOfPlan m f es c.in-Err.error it) m info number
-          c.function_of.result.0.now c.function_of.result.1.now c.function_of.ensures.function
-          c.function_of.ensures.known
-          c.construct_of_plan.result c.construct_of_plan.ensures.carries);
       part = c.function_position-part.ensures;
-      other = c.in-Ok-construct_of_plan.ensures.refused;
     })

@@ -1,7 +1,7 @@
 use Rattle.std.proofs.Common.{◌≡◌, ◌∙◌, Some, ap, arith, subst}
 use Rattle.naga_words.proofs.Writing.{content_begun_as, content_whole_as, never_failed}
 use Rattle.naga_words.proofs.Writing.{never_unsupported, reason_known, same_sink}
-use Rattle.naga_wgsl_shared.specs.Errors.{IsWant}
+use Rattle.naga_refusals.specs.Errors.{IsWant}
 use Rattle.naga_wgsl_shared.proofs.Wants.{reason_reported}
 use Rattle.naga_wgsl_out.proofs.declarations.write_declarations.Goals as goal
 

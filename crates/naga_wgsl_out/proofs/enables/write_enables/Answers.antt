@@ -3,7 +3,7 @@ use Rattle.module_semantics.specs.Enables.{is_enabled}
 use Rattle.naga_back.specs.Flags.{is_portable}
 use Rattle.naga_words.proofs.Writing.{content_begun_as, content_whole_as, never_failed}
 use Rattle.naga_words.proofs.Writing.{never_unsupported, reason_known, same_sink, writes_as}
-use Rattle.naga_wgsl_shared.specs.Errors.{IsWant}
+use Rattle.naga_refusals.specs.Errors.{IsWant}
 use Rattle.naga_wgsl_shared.proofs.Wants.{reason_reported}
 use Rattle.naga_wgsl_out.specs.Enables.{enables_text, words_among, words_found}
 use Rattle.naga_wgsl_out.proofs.EnableRows.{words_needed}

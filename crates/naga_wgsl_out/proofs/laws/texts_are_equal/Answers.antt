@@ -1,7 +1,7 @@
 use Rattle.std.proofs.Common.{◌≡◌, List, ◌++◌, sym, ◌∙◌, subst}
 use Rattle.std.specs.Prelude.{ℕ, Ok, OnOk, Result}
 use Rattle.std.proofs.lemmas.List.{append_cancel_left}
-use Rattle.naga_wgsl_shared.specs.declared.refusals.error.Error.{Error}
+use Rattle.naga_refusals.specs.declared.error.Error.{Error}
 use Rattle.naga_wgsl_out.specs.Writing.{written_text}
 use Rattle.naga_wgsl_out.proofs.laws.texts_are_equal.Goals as goal
 

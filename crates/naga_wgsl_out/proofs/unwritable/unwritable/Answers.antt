@@ -8,13 +8,7 @@ of-requires c = record {
 }
 
 pub returns-in-Some-clause-stands : goal.returns-in-Some-clause-stands
-returns-in-Some-clause-stands c =
-    let found = c.in-Some.ensures in (
-      c.in-Some.declaration,
-      found.stands,
-      c.unsupported_construct.ensures.names,
-      c.unsupported_construct.ensures.carries,
-    )
+returns-in-Some-clause-stands c = c.in-Some.ensures.stands
 
 pub returns-in-Some-clause-first : goal.returns-in-Some-clause-first
 returns-in-Some-clause-first c = c.in-Some.ensures.first
@@ -22,4 +16,4 @@ returns-in-Some-clause-first c = c.in-Some.ensures.first
 pub returns-clause-stands : goal.returns-clause-stands
 returns-clause-stands c =
     labels_stand c.args.«module».now c.in-Err.error c.in_ok-construct-in-Err.construct c.in-Err.ensures.err
-    c.in_ok-construct-in-Err.ensures.ok c.in_ok-construct-in-Err.ensures.refused
+    c.in_ok-construct-in-Err.ensures.ok

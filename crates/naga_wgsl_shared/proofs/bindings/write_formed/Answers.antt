@@ -1,7 +1,7 @@
 use Rattle.std.proofs.Common.{◌≡◌, ◌∙◌, Some, arith, ap, subst}
 use Rattle.naga_words.proofs.Writing.{content_begun_as, content_whole_as, never_unsupported}
 use Rattle.naga_words.proofs.Writing.{reason_known, same_sink}
-use Rattle.naga_wgsl_shared.specs.Errors.{IsWant}
+use Rattle.naga_refusals.specs.Errors.{IsWant}
 use Rattle.naga_wgsl_shared.proofs.Wants.{reason_reported}
 use Rattle.naga_wgsl_shared.proofs.bindings.write_formed.Goals as goal
 

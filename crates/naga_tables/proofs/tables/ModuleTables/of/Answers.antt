@@ -2,7 +2,7 @@ use Rattle.naga_tables.proofs.tables.ModuleTables.of.Goals as goal
 
 pub returns : goal.returns
 returns c = record {
-  global_forms = c.in_ok-global_forms.ensures;
+  global_refusals = c.in_ok-global_refusals.ensures;
   representatives = c.in_ok-representatives.ensures;
   undeclared = c.in_ok-undeclared.ensures;
   naming = c.in_ok-naming.ensures;

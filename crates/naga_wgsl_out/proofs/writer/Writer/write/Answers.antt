@@ -71,23 +71,22 @@ returns-in_err-tables-clause-leaves g c =
 
 pub returns-in-Some-clause-faithful : goal.returns-in-Some-clause-faithful
 returns-in-Some-clause-faithful g c =
-    refused _ c.args.«module».now c.args.info.now c.declaration_without_form.result _ _ _ _
-    (declaration_refuses _ c.args.«module».now c.args.info.now _ _
-    c.declaration_without_form.result c.declaration_without_form.ensures.names)
+    refused _ c.args.«module».now c.args.info.now c.to_error.result _ _ _ _
+    (declaration_refuses _ c.args.«module».now c.args.info.now _ _ c.to_error.result
+    (c.in-Some.construct, c.in-Some.ensures.some, c.to_error.ensures))
 
 pub returns-in-Some-clause-leaves : goal.returns-in-Some-clause-leaves
 returns-in-Some-clause-leaves g c =
     let m = c.args.«module».now in
-    let error = c.declaration_without_form.result in
+    let error = c.to_error.result in
     let found = c.in-Some.ensures in
-    let told = c.declaration_without_form.ensures.told in
     leaves_untouched _ m c.args.info.now _ _ (Err error) error refl
-    (declaration_tells_of_none m error c.declaration_without_form.ensures.names)
+    (declaration_tells_of_none m error (c.in-Some.construct, found.some, c.to_error.ensures))
     (λ of. record {
-      refusal = record { construct = told.0; position = position.Declaration _ };
-      stands = (c.in-Some.declaration, found.stands, told.1, told.2);
+      refusal = record { construct = c.in-Some.construct; position = position.Declaration _ };
+      stands = found.stands;
       first = found.first;
-      told = told.3;
+      told = c.to_error.ensures;
     })
 
 pub returns-in_err-names-clause-leaves : goal.returns-in_err-names-clause-leaves
