@@ -12,7 +12,7 @@ returns-in-WithoutForm-clause-ok c =
     let known = c.args.info.now in
     let it = c.refused_expression.result in
     let lacks = subst (λ o. IsSomeAnd o (λ e. IsFalse (expression_has_form m known f.expressions e)))
-    c.index.ensures (subst (IsOfPlan m f known) c.in-WithoutForm.is c.requires.unsupported) in
+    c.index-expression.ensures (subst (IsOfPlan m f known) c.in-WithoutForm.is c.requires.unsupported) in
     subst (λ error. IsConstructOf m f known error it) (sym c.in-WithoutForm.is)
-    (subst (λ o. IsSomeAnd o (λ e. expression_refusal m known f.expressions e ≡ Some it)) (sym c.index.ensures)
+    (subst (λ o. IsSomeAnd o (λ e. expression_refusal m known f.expressions e ≡ Some it)) (sym c.index-expression.ensures)
     (c.refused_expression.ensures f.expressions lacks))
