@@ -71,6 +71,7 @@ LAYERS = [
         ("naga_wgsl_shared", "parts of texts, errors"),
         ("naga_wgsl_fns", "texts of functions"),
         ("naga_wgsl_out", "texts of modules"),
+        ("wrong_texts", "wrong texts, refused"),
     ]),
     ("answers", CODE, [
         ("module_positions", "where it is"),
