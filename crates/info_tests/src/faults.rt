@@ -67,13 +67,12 @@ fn a_missing_special_type_is_told(rt: HostRuntime) {
         .global_expressions
         .append(parts)
         .expect(&rt, "memory");
-    let position = FaultPosition::GlobalExpression(parts);
     assert_eq!(rt;
         refusal(&rt, alloc, &module),
-        InferenceError::Undeclared(position)
+        InferenceError::Undeclared(FaultPosition::GlobalExpression(parts))
     );
     let untyped = Untyped {
-        position,
+        position: FaultPosition::GlobalExpression(parts),
         missing: Missing::SpecialType,
     };
     match inferred_types(alloc, &module).expect(&rt, "memory") {

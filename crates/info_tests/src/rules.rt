@@ -5,7 +5,7 @@ use naga_inference::inferred_type;
 use naga_info::TypeResolution;
 use naga_ir::{
     BinaryOperator, Expression, Handle, ImageClass, ImageDimension, ItemIndex, MathFunction,
-    Module, SampleLevel, Scalar, ScalarKind, StorageAccess, StorageFormat, SwizzleComponent,
+    Module, SampleLevel, Scalar, ScalarKind, StorageAccess, StorageFormat, SwizzleComponent, Type_,
     TypeInner, VectorSize,
 };
 use std::process::Abort;
@@ -158,6 +158,28 @@ fn images_have_their_types(rt: HostRuntime) {
     gives(&rt, &module, load, texel);
 }
 
+/// The types of rays are these two of the module's.
+fn tell_rays(module: &mut Module, found: usize, positions: usize) {
+    let found: Handle<Type_> = ItemIndex::from_index(found);
+    let positions: Handle<Type_> = ItemIndex::from_index(positions);
+    let special = &mut module.special_types;
+    special.ray_intersection = Some(found);
+    special.ray_vertex_return = Some(positions);
+}
+
+/// Which type of the module the rule gives, by no operands.
+fn given_handle(module: &Module, expression: &Expression) -> Option<usize> {
+    let known: [TypeResolution; 0] = [];
+    let given = inferred_type(module, None, Known::Global(known.as_slice()), expression);
+    match &given {
+        Some(ty) => match ty.handle() {
+            Some(handle) => Some(handle.index()),
+            None => None,
+        },
+        None => None,
+    }
+}
+
 /// What a ray query found has the module's own types, if it tells them.
 #[test]
 fn rays_have_special_types(rt: HostRuntime) {
@@ -170,18 +192,9 @@ fn rays_have_special_types(rt: HostRuntime) {
         query: at(0),
         committed: true,
     };
-    let none: Vec<TypeResolution> = Vec::new(rt.alloc());
-    let known = Known::Global(none.as_slice());
-    assert!(rt; inferred_type(&module, None, known, &found).is_none());
-    assert!(rt; inferred_type(&module, None, known, &positions).is_none());
-    module.special_types.ray_intersection = Some(ItemIndex::from_index(3));
-    module.special_types.ray_vertex_return = Some(ItemIndex::from_index(4));
-    match inferred_type(&module, None, known, &found) {
-        Some(TypeResolution::Handle(ty)) => assert_eq!(rt; ty.index(), 3),
-        _ => panic!(rt; "the module's struct"),
-    }
-    match inferred_type(&module, None, known, &positions) {
-        Some(TypeResolution::Handle(ty)) => assert_eq!(rt; ty.index(), 4),
-        _ => panic!(rt; "the module's array"),
-    }
+    assert_eq!(rt; given_handle(&module, &found), None);
+    assert_eq!(rt; given_handle(&module, &positions), None);
+    tell_rays(&mut module, 3, 4);
+    assert_eq!(rt; given_handle(&module, &found), Some(3));
+    assert_eq!(rt; given_handle(&module, &positions), Some(4));
 }
