@@ -1,7 +1,7 @@
 //! Modules without an info.
 
 use naga_acceptance::{Fault, FaultPosition, FunctionPosition, Unaccepted};
-use naga_inference::{InferenceError, infer};
+use naga_inference::{InferenceError, Missing, Untyped, infer, inferred_types};
 use naga_ir::{
     BinaryOperator, Constant, Expression, Function, ItemIndex, Literal, MathFunction, Module,
     Scalar, Type_, TypeInner,
@@ -72,9 +72,17 @@ fn a_missing_special_type_is_told(rt: HostRuntime) {
         refusal(&rt, alloc, &module),
         InferenceError::Undeclared(position)
     );
+    let untyped = Untyped {
+        position,
+        missing: Missing::SpecialType,
+    };
+    match inferred_types(alloc, &module).expect(&rt, "memory") {
+        Ok(_) => panic!(rt; "it has types"),
+        Err(found) => assert_eq!(rt; found, untyped),
+    }
 }
 
-/// A constant of `u32` whose value is an `i32`.
+/// A constant of `u32` whose value is an `i32`, which has a type all the same.
 #[test]
 fn a_fault_of_acceptance_is_told(rt: HostRuntime) {
     let alloc = rt.alloc();
@@ -100,4 +108,8 @@ fn a_fault_of_acceptance_is_told(rt: HostRuntime) {
         refusal(&rt, alloc, &module),
         InferenceError::Unaccepted(fault)
     );
+    match inferred_types(alloc, &module).expect(&rt, "memory") {
+        Ok(types) => assert_eq!(rt; types.const_expression_types.len(), 1),
+        Err(untyped) => panic!(rt; "{untyped}"),
+    }
 }

@@ -1,4 +1,5 @@
 pub mod Accepting
+pub mod FirstUntyped
 pub mod Following
 pub mod Passing
 pub mod Refusals
@@ -7,4 +8,3 @@ pub mod SameIdentity
 pub mod SameSoundness
 pub mod SameTypes
 pub mod Typed
-pub mod Untyped

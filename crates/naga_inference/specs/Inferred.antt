@@ -29,6 +29,7 @@ use Rattle.naga_inference.specs.Passes.{answers_after}
 use Rattle.naga_inference.specs.Rules.{has_special_type, rule_type}
 use Rattle.naga_inference.specs.declared.errors.InferenceError.{InferenceError}
 use Rattle.naga_inference.specs.declared.errors.InferenceError.TheVariants as error
+use Rattle.naga_inference.specs.declared.errors.Untyped.{Untyped}
 use Rattle.naga_inference.specs.declared.rules.Missing.{Missing}
 use Rattle.naga_inference.specs.declared.rules.Missing.TheVariants as missing
 
@@ -131,6 +132,10 @@ first_of own functions points =
 -- the first expression without a type: of the module's own, of a function, of an entry point
 abbrev pub first_untyped : Module → Option (FaultPosition × Missing)
 first_untyped m = first_of (own_types m) (functions_infos m) (entry_points_infos m)
+
+-- This expression is the first without a type, and this is what it lacks.
+abbrev pub IsFirstUntyped : Module → Untyped → Type 0
+IsFirstUntyped m untyped = first_untyped m ≡ Some (untyped.position, untyped.missing)
 
 -- Why a module has no such info that is accepted: an expression has no type; or the fault is the
 -- first, as acceptance tells it, of the module with the types that the passes find.

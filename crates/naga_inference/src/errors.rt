@@ -1,10 +1,39 @@
 //! Why a module has no info that is accepted.
 
 ghost use Rattle.std.specs.Prelude.{Some};
-ghost use Rattle.naga_inference.specs.ErrorTexts.{error_text};
+ghost use Rattle.naga_inference.specs.ErrorTexts.{error_text, missing_text, untyped_text};
 
+use crate::rules::Missing;
 use naga_acceptance::{FaultPosition, Unaccepted};
 use std::fmt;
+
+/// An expression to which the rules give no type.
+#[derive(Debug, Clone, Copy, PartialEq, Eq)]
+pub struct Untyped {
+    /// Where it stands.
+    pub position: FaultPosition,
+    /// What it lacks.
+    pub missing: Missing,
+}
+
+impl fmt::Display for Untyped {
+    ghost output = { λ untyped. Some (untyped_text untyped) };
+
+    fn fmt<W: fmt::Write>(&self, f: &mut fmt::Formatter<W>) -> fmt::Result {
+        write!(f, "{}: {}", self.position, self.missing)
+    }
+}
+
+impl fmt::Display for Missing {
+    ghost output = { λ missing. Some (missing_text missing) };
+
+    fn fmt<W: fmt::Write>(&self, f: &mut fmt::Formatter<W>) -> fmt::Result {
+        match self {
+            Missing::Rule => f.write_str("it has no type"),
+            Missing::SpecialType => f.write_str("the module has no special type for it"),
+        }
+    }
+}
 
 /// Why a module has no info by the rules of types that is accepted.
 #[derive(Debug, Clone, Copy, PartialEq, Eq)]
@@ -23,9 +52,9 @@ impl fmt::Display for InferenceError {
 
     fn fmt<W: fmt::Write>(&self, f: &mut fmt::Formatter<W>) -> fmt::Result {
         match self {
-            InferenceError::Untyped(position) => write!(f, "{}: it has no type", position),
+            InferenceError::Untyped(position) => write!(f, "{}: {}", position, Missing::Rule),
             InferenceError::Undeclared(position) => {
-                write!(f, "{}: the module has no special type for it", position)
+                write!(f, "{}: {}", position, Missing::SpecialType)
             }
             InferenceError::Unaccepted(unaccepted) => write!(f, "{}", unaccepted),
         }

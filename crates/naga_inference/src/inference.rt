@@ -3,11 +3,11 @@
 ghost use Rattle.std.specs.Prelude.{◌≡◌, IsTrue, IfOk, IfErr, MatchResult, OnErr, Some};
 ghost use Rattle.module_semantics.specs.acceptance.Accepted.{is_accepted};
 ghost use Rattle.naga_inference.specs.Following.{FollowsRules, NoneIsAccepted};
-ghost use Rattle.naga_inference.specs.Inferred.{IsTyped, IsRefused};
+ghost use Rattle.naga_inference.specs.Inferred.{IsFirstUntyped, IsRefused, IsTyped};
 ghost use Rattle.naga_inference.specs.Inferred.{entry_points_infos, function_infos};
-ghost use Rattle.naga_inference.specs.Inferred.{first_untyped, functions_infos, own_types};
+ghost use Rattle.naga_inference.specs.Inferred.{functions_infos, own_types};
 
-use crate::errors::InferenceError;
+use crate::errors::{InferenceError, Untyped};
 use crate::rules::{Missing, inferred_type, missing_of};
 use naga_acceptance::parts::Known;
 use naga_acceptance::{FaultPosition, FunctionPosition, unaccepted};
@@ -98,34 +98,51 @@ fn entry_points_infos(
     Ok(Ok(infos))
 }
 
-/// The types of all expressions, or the first expression that has none, with what it lacks.
-#[tactic(auto, using(crate::proofs::Untyped::untyped_own, crate::proofs::Untyped::untyped_function, crate::proofs::Untyped::untyped_entry_point))]
-fn module_types(
+/// The types of all expressions, or the first that has none: of the module's own, of the functions
+/// and of the entry points, in this order. [`infer`] says what the types are.
+///
+/// Whether the module is accepted with them is not asked. Where it is not, they are what
+/// [`unaccepted`] found a fault with. An `Ok(Err(_))` comes only where no info that follows the
+/// rules is accepted. An `Err` says that memory was refused.
+///
+/// ```text
+/// match inferred_types(alloc, &module)? {
+///     Ok(info) => match unaccepted(&module, &info) {
+///         Some(fault) => println!(rt; "{fault}")?, // which `explain` says more of, by the info
+///         None => println!(rt; "accepted")?,
+///     },
+///     Err(untyped) => println!(rt; "{untyped}")?, // function 3, expression 41: it has no type
+/// }
+/// ```
+#[tactic(auto, using(crate::proofs::FirstUntyped::untyped_own, crate::proofs::FirstUntyped::untyped_function, crate::proofs::FirstUntyped::untyped_entry_point, crate::proofs::Following::untyped_unfollowed))]
+pub fn inferred_types(
     alloc: Global,
     module: &Module,
-) -> Result<Result<ModuleInfo, (FaultPosition, Missing)>, AllocError>
+) -> Result<Result<ModuleInfo, Untyped>, AllocError>
     ensures typed { IfOk result (λ found. IfOk found (IsTyped «module».now)) }
-    ensures untyped { IfOk result (λ found. IfErr found
-        (λ fault. first_untyped «module».now ≡ Some fault)) }
+    ensures untyped { IfOk result (λ found. IfErr found (IsFirstUntyped «module».now)) }
+    ensures none { IfOk result (λ found. OnErr found (NoneIsAccepted «module».now)) }
 {
     let const_expression_types = match own_types(alloc, module)? {
         Ok(types) => types,
         Err((handle, missing)) => {
-            return Ok(Err((FaultPosition::GlobalExpression(handle), missing)));
+            let position = FaultPosition::GlobalExpression(handle);
+            return Ok(Err(Untyped { position, missing }));
         }
     };
     let functions = match functions_infos(alloc, module)? {
         Ok(infos) => infos,
         Err((here, (expression, missing))) => {
-            let part = FunctionPosition::Expression(expression);
-            return Ok(Err((FaultPosition::Function(here, part), missing)));
+            let position = FaultPosition::Function(here, FunctionPosition::Expression(expression));
+            return Ok(Err(Untyped { position, missing }));
         }
     };
     let entry_points = match entry_points_infos(alloc, module)? {
         Ok(infos) => infos,
         Err((index, (expression, missing))) => {
             let part = FunctionPosition::Expression(expression);
-            return Ok(Err((FaultPosition::EntryPoint(index, part), missing)));
+            let position = FaultPosition::EntryPoint(index, part);
+            return Ok(Err(Untyped { position, missing }));
         }
     };
     Ok(Ok(ModuleInfo {
@@ -177,12 +194,12 @@ pub fn infer(
     ensures refused { IfOk result (λ found. IfErr found (IsRefused «module».now)) }
     ensures none { IfOk result (λ found. OnErr found (NoneIsAccepted «module».now)) }
 {
-    let info = match module_types(alloc, module)? {
+    let info = match inferred_types(alloc, module)? {
         Ok(info) => info,
-        Err((position, Missing::Rule)) => return Ok(Err(InferenceError::Untyped(position))),
-        Err((position, Missing::SpecialType)) => {
-            return Ok(Err(InferenceError::Undeclared(position)));
-        }
+        Err(Untyped { position, missing }) => match missing {
+            Missing::Rule => return Ok(Err(InferenceError::Untyped(position))),
+            Missing::SpecialType => return Ok(Err(InferenceError::Undeclared(position))),
+        },
     };
     match unaccepted(module, &info) {
         Some(fault) => Ok(Err(InferenceError::Unaccepted(fault))),

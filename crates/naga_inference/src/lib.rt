@@ -1,7 +1,7 @@
 //! The types of a module's expressions, for a module that comes without its `ModuleInfo`.
 //!
 //! [`infer`] takes no info on trust: what it answers `Ok` is made of the module alone, and is
-//! accepted.
+//! accepted. [`inferred_types`] gives the same types without asking whether they are accepted.
 #![tactic(auto)]
 
 pub mod errors;
@@ -9,6 +9,6 @@ mod functions;
 pub mod inference;
 pub mod rules;
 
-pub use errors::InferenceError;
-pub use inference::infer;
-pub use rules::{has_special_type, inferred_type};
+pub use errors::{InferenceError, Untyped};
+pub use inference::{infer, inferred_types};
+pub use rules::{Missing, has_special_type, inferred_type};

@@ -528,8 +528,8 @@ fn rule_type(module: &Module, known: Known<'_>, expression: &Expression) -> Opti
 }
 
 /// What an expression lacks that has no type.
-#[derive(Debug, Clone, Copy)]
-pub(crate) enum Missing {
+#[derive(Debug, Clone, Copy, PartialEq, Eq)]
+pub enum Missing {
     /// A rule that gives it one.
     Rule,
     /// A special type of the module.
