@@ -8,6 +8,7 @@ use Rattle.naga_ir.specs.declared.module.Module.{Module}
 use Rattle.naga_info.specs.declared.info.ModuleInfo.{ModuleInfo}
 use Rattle.naga_back.specs.declared.flags.WriterFlags.{WriterFlags}
 use Rattle.naga_back.specs.Flags.{annotates_types}
+use Rattle.naga_acceptance.specs.declared.faults.Unaccepted.{Unaccepted}
 use Rattle.naga_wgsl_fns.specs.PlanRefusals.{TellsOfForm, TellsOfFullNamer, TellsOfScope}
 use Rattle.naga_wgsl_shared.specs.declared.refusals.error.Error.{Error}
 use Rattle.naga_wgsl_shared.specs.declared.refusals.error.Error.TheVariants as error
@@ -136,8 +137,8 @@ module _ (flags : WriterFlags) (m : Module) (info : ModuleInfo) (content now : L
 
 -- what is told of the writer's answer is so of the module: the writer had these flags, and its sink
 -- this content before, held this after, and has not failed
-pub answers_bounded : {Y : Type 0} (flags own : WriterFlags) (m : Module) (info : ModuleInfo) (bound : ℕ)
-    (answer : Result Unit Error) (content held now : List ℕ) (result : Result (String Y) LimitedError) →
+pub answers_bounded : {Y Fault : Type 0} (flags own : WriterFlags) (m : Module) (info : ModuleInfo) (bound : ℕ)
+    (answer : Result Unit Error) (content held now : List ℕ) (result : Result (String Y) (LimitedError Fault)) →
     own ≡ flags → content ≡ [] → now ≡ held →
     FaithfulWriting own m info answer content held 0 0 →
     OnOk answer (EachReading content held (MatchesModule (annotates_types own) m info)) →
@@ -178,7 +179,7 @@ answers_bounded flags own m info bound answer content held now (Err (limited.Not
 
 -- and so it is of one that was asked for first, and counted
 pub answers_within : {Y : Type 0} (flags : WriterFlags) (limits : Limits) (m : Module) (old new : ModuleInfo)
-    (result : Result (String Y) LimitedError) →
+    (result : Result (String Y) (LimitedError Unaccepted)) →
     nested_past limits.nesting m ≡ None → IsTrue (is_accepted m old) → IsCounted m old new →
     AnswersBounded flags limits.text m new result → AnswersWithin flags limits m old new result
 answers_within flags limits m old new (Ok text) flat accepted counted answers =

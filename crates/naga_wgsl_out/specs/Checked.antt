@@ -3,7 +3,6 @@
 -- Throughout, m is the module, and info is what is known of it.
 use Rattle.std.specs.Prelude.{◌≡◌, Option, Some, None, Result, Ok, Err, String}
 use Rattle.naga_acceptance.specs.Counts.{all_with_counts, functions_of}
-use Rattle.naga_acceptance.specs.declared.faults.Unaccepted.{Unaccepted}
 use Rattle.naga_info.specs.declared.info.ModuleInfo.{ModuleInfo}
 use Rattle.naga_ir.specs.declared.module.Module.{Module}
 use Rattle.naga_wgsl_shared.specs.declared.refusals.error.Error.{Error}
@@ -11,12 +10,12 @@ use Rattle.naga_wgsl_out.specs.declared.checked.CheckedError.{CheckedError}
 use Rattle.naga_wgsl_out.specs.declared.checked.CheckedError.TheVariants.{NotAccepted, Refused}
 
 -- where the module is not accepted, if the answer says so
-abbrev pub fault_of : {Y : Type 0} → Result (String Y) CheckedError → Option Unaccepted
+abbrev pub fault_of : {Y Fault : Type 0} → Result (String Y) (CheckedError Fault) → Option Fault
 fault_of (Err (NotAccepted fault)) = Some fault
 fault_of _ = None
 
 -- the writer's own answer, if it was asked
-abbrev pub written_of : {Y : Type 0} → Result (String Y) CheckedError →
+abbrev pub written_of : {Y Fault : Type 0} → Result (String Y) (CheckedError Fault) →
     Option (Result (String Y) Error)
 written_of (Ok text) = Some (Ok text)
 written_of (Err (Refused error)) = Some (Err error)

@@ -9,6 +9,7 @@ use Rattle.module_limits.specs.Nesting.{nested_past}
 use Rattle.module_limits.specs.declared.limits.Limits.{Limits}
 use Rattle.module_semantics.specs.acceptance.Accepted.{is_accepted}
 use Rattle.naga_acceptance.specs.FirstFaults.{IsFirstFault}
+use Rattle.naga_acceptance.specs.declared.faults.Unaccepted.{Unaccepted}
 use Rattle.naga_back.specs.Flags.{annotates_types}
 use Rattle.naga_back.specs.declared.flags.WriterFlags.{WriterFlags}
 use Rattle.naga_info.specs.declared.info.ModuleInfo.{ModuleInfo}
@@ -52,8 +53,8 @@ pub record IsRefusedWithin (flags : WriterFlags) (bound : ℕ) (m : Module) (inf
 
 -- What is answered of an accepted module. In particular a text is too long only where the module's
 -- is; of a module that is refused that is the text with what stands after the point of the refusal.
-abbrev pub AnswersBounded : {Y : Type 0} → WriterFlags → (bound : ℕ) → Module → ModuleInfo →
-    Result (String Y) LimitedError → Type 0
+abbrev pub AnswersBounded : {Y Fault : Type 0} → WriterFlags → (bound : ℕ) → Module →
+    ModuleInfo → Result (String Y) (LimitedError Fault) → Type 0
 AnswersBounded flags bound m info (Ok text) =
     IsTextWithin flags bound m info (string_bytes text)
 AnswersBounded flags bound m info (Err limited.TooLong) =
@@ -63,8 +64,8 @@ AnswersBounded flags bound m info (Err (limited.Refused error)) =
 AnswersBounded flags bound m info (Err _) = ⊥
 
 -- the same by the writer's answer and what its sink holds
-abbrev pub TellsBounded : {Y : Type 0} → (bound : ℕ) → Result Unit Error → (content : List ℕ) →
-    Result (String Y) LimitedError → Type 0
+abbrev pub TellsBounded : {Y Fault : Type 0} → (bound : ℕ) → Result Unit Error →
+    (content : List ℕ) → Result (String Y) (LimitedError Fault) → Type 0
 TellsBounded bound answer content (Ok text) =
     (answer ≡ Ok tt) × (string_bytes text ≡ content) × (length content ≤ bound)
 TellsBounded bound answer content (Err limited.TooLong) = bound < length content
@@ -75,7 +76,7 @@ TellsBounded bound answer content (Err _) = ⊥
 -- The module is nested no deeper than it may be, and accepted; its uses were counted, and then this
 -- was answered of it.
 pub record IsLookedInto {Y : Type 0} (flags : WriterFlags) (limits : Limits) (m : Module)
-    (old new : ModuleInfo) (answer : Result (String Y) LimitedError) : Type 0 where
+    (old new : ModuleInfo) (answer : Result (String Y) (LimitedError Unaccepted)) : Type 0 where
   pub nested : nested_past limits.nesting m ≡ None
   pub accepted : IsTrue (is_accepted m old)
   pub counted : IsCounted m old new
@@ -86,7 +87,7 @@ abbrev pub IsUnasked : (old new : ModuleInfo) → Error → Type 0
 IsUnasked old new error = (error ≡ Memory alloc_error) × (new ≡ old)
 
 abbrev pub AnswersWithin : {Y : Type 0} → WriterFlags → Limits → Module → (old new : ModuleInfo) →
-    Result (String Y) LimitedError → Type 0
+    Result (String Y) (LimitedError Unaccepted) → Type 0
 AnswersWithin {Y} flags limits m old new (Err (limited.TooDeep nested)) =
     (nested_past limits.nesting m ≡ Some nested) × (new ≡ old)
 AnswersWithin {Y} flags limits m old new (Err (limited.NotAccepted fault)) =

@@ -19,14 +19,17 @@ use naga_info::ModuleInfo;
 use naga_ir::Module;
 use naga_wgsl_shared::Error;
 use std::alloc::Global;
+use std::fmt::Display;
 use thiserror::Error as DisplayedError;
 
-/// Why [`write_checked`] gives no text.
+/// Why [`write_checked`] gives no text; [`write_inferred`](crate::wgsl::write_inferred) has another
+/// `Fault`.
 #[derive(Debug, Drop, DisplayedError)]
-pub enum CheckedError {
+#[error_bound(Fault: Display)]
+pub enum CheckedError<Fault = Unaccepted> {
     /// The module is not accepted: at this position, for a fault of this kind.
     #[error("not accepted: {0}")]
-    NotAccepted(Unaccepted),
+    NotAccepted(Fault),
     /// The module is accepted, and the writer refuses it, or memory was wanting.
     #[error("{0}")]
     Refused(Error),

@@ -2,7 +2,7 @@
 
 pub use crate::checked::{CheckedError, write_checked};
 pub use crate::flags::no_flags;
-pub use crate::inferred::{InferredError, write_inferred};
+pub use crate::inferred::{write_inferred, write_inferred_within};
 pub use crate::unwritable::{Refusal, unwritable};
 pub use crate::within::{LimitedError, write_checked_within};
 pub use crate::writer::{Writer, names_of, write_string};

@@ -14,17 +14,20 @@ use naga_info::ModuleInfo;
 use naga_ir::Module;
 use naga_wgsl_shared::Error;
 use std::alloc::{AllocError, Global};
+use std::fmt::Display;
 use thiserror::Error as DisplayedError;
 
-/// Why [`write_checked_within`] gives no text.
+/// Why [`write_checked_within`] gives no text;
+/// [`write_inferred_within`](crate::wgsl::write_inferred_within) has another `Fault`.
 #[derive(Debug, Drop, DisplayedError)]
-pub enum LimitedError {
+#[error_bound(Fault: Display)]
+pub enum LimitedError<Fault = Unaccepted> {
     /// This of the module is nested deeper than the limit.
     #[error("{0}")]
     TooDeep(Nested),
     /// The module is not accepted: at this position, for a fault of this kind.
     #[error("not accepted: {0}")]
-    NotAccepted(Unaccepted),
+    NotAccepted(Fault),
     /// What was written of the module has more bytes than the limit.
     #[error("text too long")]
     TooLong,
@@ -89,13 +92,13 @@ fn write_flat(
 }
 
 /// Writes an accepted module, up to so many bytes and a chunk more.
-fn write_bounded(
+pub(crate) fn write_bounded<Fault: Drop>(
     alloc: Global,
     module: &Module,
     info: &ModuleInfo,
     flags: WriterFlags,
     bound: usize,
-) -> Result<String, LimitedError>
+) -> Result<String, LimitedError<Fault>>
     requires accepted { IsTrue (is_accepted «module».now info.now) }
     ensures { AnswersBounded flags bound «module».now info.now result }
 {
@@ -107,11 +110,11 @@ fn write_bounded(
 }
 
 /// The answer of the writer, or that the text is too long, by the length of what its sink took.
-fn within_limit(
+fn within_limit<Fault: Drop>(
     answer: Result<(), Error>,
     sink: BoundedText,
     bound: usize,
-) -> Result<String, LimitedError>
+) -> Result<String, LimitedError<Fault>>
     ensures { TellsBounded bound (unfailed answer) sink.text result }
 {
     if sink.text().len() > bound {

@@ -1,11 +1,12 @@
 //! A module is asked for, counted and written at once.
 use naga_json::read_known;
 use naga_wgsl_out::info::{FaultPosition, InferenceError};
-use naga_wgsl_out::ir::{Expression, Literal, MathFunction};
+use naga_wgsl_out::ir::{Expression, Literal, MathFunction, Module};
 use naga_wgsl_out::wgsl::{
-    CheckedError, InferredError, LimitedError, Limits, Nested, nested_past, no_flags,
-    write_checked, write_checked_within, write_inferred,
+    CheckedError, LimitedError, Limits, Nested, nested_past, no_flags, write_checked,
+    write_checked_within, write_inferred, write_inferred_within,
 };
+use std::process::Abort;
 
 /// A function that returns what a local held before a store to it, whose uses are not counted.
 const STORE: &str = r#"{
@@ -45,16 +46,11 @@ fn a_module_is_asked_for_and_written(rt: HostRuntime) {
     assert!(rt; matches!(answer, Err(CheckedError::NotAccepted(_))));
 }
 
-/// The same of the module alone; and with a `modf`, of which the module tells no struct.
-#[test]
-fn a_module_alone_is_written(rt: HostRuntime) {
-    let alloc = rt.alloc();
-    let mut known = read_known(alloc, STORE).expect(&rt, "a module");
-    let text = write_inferred(alloc, &known.module, no_flags());
-    assert_eq!(rt; text.expect(&rt, "a text").as_str(), STORE_TEXT);
-    let expressions = &mut known.module.global_expressions;
+/// Adds a `modf` of which the module tells no struct, and gives its position.
+fn add_modf(rt: &impl Abort, module: &mut Module) -> FaultPosition {
+    let expressions = &mut module.global_expressions;
     let number = Expression::Literal(Literal::I32(1));
-    let number = expressions.append(number).expect(&rt, "memory");
+    let number = expressions.append(number).expect(rt, "memory");
     let parts = Expression::Math {
         fun: MathFunction::Modf,
         arg: number,
@@ -62,11 +58,20 @@ fn a_module_alone_is_written(rt: HostRuntime) {
         arg2: None,
         arg3: None,
     };
-    let parts = expressions.append(parts).expect(&rt, "memory");
-    let expected = InferenceError::Undeclared(FaultPosition::GlobalExpression(parts));
+    FaultPosition::GlobalExpression(expressions.append(parts).expect(rt, "memory"))
+}
+
+/// The same of the module alone; and with a `modf`, of which the module tells no struct.
+#[test]
+fn a_module_alone_is_written(rt: HostRuntime) {
+    let alloc = rt.alloc();
+    let mut known = read_known(alloc, STORE).expect(&rt, "a module");
+    let text = write_inferred(alloc, &known.module, no_flags());
+    assert_eq!(rt; text.expect(&rt, "a text").as_str(), STORE_TEXT);
+    let expected = InferenceError::Undeclared(add_modf(&rt, &mut known.module));
     let answer = write_inferred(alloc, &known.module, no_flags());
     match &answer {
-        Err(InferredError::NotAccepted(error)) => assert_eq!(rt; *error, expected),
+        Err(CheckedError::NotAccepted(error)) => assert_eq!(rt; *error, expected),
         _ => panic!(rt; "an error of inference"),
     }
 }
@@ -91,4 +96,26 @@ fn a_module_is_written_within_limits(rt: HostRuntime) {
     assert!(rt; matches!(answer, Err(LimitedError::TooDeep(Nested::Blocks))));
     let nested = nested_past(alloc, &known.module, 1);
     assert!(rt; matches!(nested, Ok(Some(Nested::Operands))));
+}
+
+/// The same of the module alone; and one that is not accepted with the types that are found.
+#[test]
+fn a_module_alone_is_written_within_limits(rt: HostRuntime) {
+    let alloc = rt.alloc();
+    let mut known = read_known(alloc, STORE).expect(&rt, "a module");
+    let mut limits = Limits {
+        nesting: 9,
+        text: STORE_TEXT.len(),
+    };
+    let text = write_inferred_within(alloc, &known.module, no_flags(), limits);
+    assert_eq!(rt; text.expect(&rt, "a text").as_str(), STORE_TEXT);
+    limits.text -= 1;
+    let answer = write_inferred_within(alloc, &known.module, no_flags(), limits);
+    assert!(rt; matches!(answer, Err(LimitedError::TooLong)));
+    add_modf(&rt, &mut known.module);
+    let answer = write_inferred_within(alloc, &known.module, no_flags(), limits);
+    assert!(rt; matches!(answer, Err(LimitedError::NotAccepted(_))));
+    limits.nesting = 0;
+    let answer = write_inferred_within(alloc, &known.module, no_flags(), limits);
+    assert!(rt; matches!(answer, Err(LimitedError::TooDeep(Nested::Blocks))));
 }

@@ -2,15 +2,8 @@ use Rattle.naga_wgsl_out.proofs.inferred.write_typed.Goals as goal
 
 pub returns : goal.returns
 returns c = record {
-  typed = c.args.info;
-  is_typed = c.requires.typed;
-  accepted = c.requires.accepted;
-  counted = c.count.new.info;
-  is_counted = record {
-    functions = c.count.ensures.functions;
-    entry_points = c.count.ensures.entry_points;
-    types = c.count.ensures.types;
-  };
+  counted = c.counted-info.result;
+  inferred = c.counted-info.ensures.inferred;
   faithful = c.write_string.ensures.faithful;
   matches = c.write_string.ensures.matches;
   text = c.write_string.ensures.text;

@@ -5,7 +5,7 @@ use Rattle.naga_wgsl_out.proofs.Bounded.{leaves_unfailed, matches_unfailed}
 use Rattle.naga_wgsl_out.proofs.within.write_bounded.Goals as goal
 
 pub returns : goal.returns
-returns c =
+returns g c =
     let begun = c.new-writer.ensures.sink ∙ c.new-empty.ensures in
     let wrote = c.write-answer.ensures in
     let m = c.args.«module».now in
