@@ -25,6 +25,14 @@ from notation import CaseError, Module  # noqa: E402
 LISTED = re.compile(r"(declarations|function (\d+)|entry point (\d+))(?:, ([a-z ]+?) (\d+))?(?:, beside ([a-z ]+?) (\d+))?")
 
 
+# How a module is told without an info, from the members of one with it.
+ALONE = {
+    "info left out": lambda told: {"module": told["module"]},
+    "info null": lambda told: {"module": told["module"], "info": None},
+    "module bare": lambda told: {"whole": told["module"]},
+}
+
+
 def position_of(case, head):
     """What a line `shows POSITION` asks for."""
     match = LISTED.fullmatch(head.text[len("shows "):])
@@ -52,10 +60,12 @@ def joined():
     for file in sorted(HERE.glob("*.cases")):
         for made in wgsl.cases_of(file):
             for case in wgsl.rows_of(wgsl.with_definitions(made)):
-                module, listings, likes, edits = [], [], [], []
+                module, listings, likes, edits, forms = [], [], [], [], []
                 for head, lines in wgsl.sections(case):
                     if head.text.startswith("shows "):
                         listings.append((head, lines))
+                    elif head.text in ALONE:
+                        forms.append(ALONE[head.text])
                     elif head.text.startswith("like "):
                         likes.append((head, head.text[len("like "):]))
                     elif "=>" in head.text:
@@ -70,6 +80,8 @@ def joined():
                     raise case.error("nothing is shown")
                 modules[case.name] = module
                 told, _ = Module.of(module, case)
+                for form in forms:
+                    told = form(told)
                 for head, lines in listings:
                     name = f"{case.name}: {head.text[len('shows '):]}"
                     line = {"name": name, **position_of(case, head), **told}
@@ -92,12 +104,13 @@ def rows_not_read(file):
         if word == "not":
             name = f"not read: row {len(rows) + 1}"
             module, info = told.get("module", "{}"), told.get("info", "{}")
-            rows.append((name, f'{{"name":{json.dumps(name)},"module":{module},"info":{info}}}', text))
+            members = f'"whole":{told["whole"]}' if "whole" in told else f'"module":{module},"info":{info}'
+            rows.append((name, f'{{"name":{json.dumps(name)},{members}}}', text))
             told = {}
-        elif word in ("module", "info") and word not in told:
+        elif word in ("module", "info", "whole") and word not in told:
             told[word] = rest
         else:
-            raise CaseError(f"{file.name}:{number}: a row has a module, an info and an answer")
+            raise CaseError(f"{file.name}:{number}: a row has a module, an info and an answer, or the whole and an answer")
     return rows
 
 

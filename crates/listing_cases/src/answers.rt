@@ -1,8 +1,10 @@
 //! The listing of a case.
 
 use json::{Scratch, Value};
-use naga_ir::ItemIndex as Handle;
-use naga_json::{Known, known_of, parse};
+use naga_inference::inferred_types;
+use naga_info::ModuleInfo;
+use naga_ir::{ItemIndex as Handle, Module};
+use naga_json::{Given, given_of, parse};
 use naga_listing::{Listed, ListingPosition, Spot, explain};
 use std::alloc::Global;
 use std::io;
@@ -19,20 +21,43 @@ pub fn answer_line<W: Write>(alloc: Global, line: &str, out: &mut W) -> io::Resu
 
 fn answer_case<W: Write>(alloc: Global, case: &Value<'_>, out: &mut W) -> io::Result<()> {
     let name = text_in(case, "name").unwrap_or("");
-    match known_of(alloc, case) {
-        Ok(known) => answer_known(alloc, name, &known, position_in(case), out),
+    match given_of(alloc, case.get("whole").unwrap_or(case)) {
+        Ok(given) => answer_given(alloc, name, given, position_in(case), out),
         Err(error) => writeln!(out, "== {name}\nnot read: {error}"),
+    }
+}
+
+/// Prints the listing, whose types are inferred where the case has none.
+fn answer_given<W: Write>(
+    alloc: Global,
+    name: &str,
+    given: Given,
+    position: ListingPosition,
+    out: &mut W,
+) -> io::Result<()> {
+    let Given {
+        module,
+        info,
+        is_bare: _,
+    } = given;
+    if let Some(info) = info {
+        return answer_known(alloc, name, &module, &info, position, out);
+    }
+    match inferred_types(alloc, &module)? {
+        Ok(info) => answer_known(alloc, name, &module, &info, position, out),
+        Err(untyped) => writeln!(out, "== {name}\n{untyped}"),
     }
 }
 
 fn answer_known<W: Write>(
     alloc: Global,
     name: &str,
-    known: &Known,
+    module: &Module,
+    info: &ModuleInfo,
     position: ListingPosition,
     out: &mut W,
 ) -> io::Result<()> {
-    let listing = explain(alloc, &known.module, &known.info, &position, "here")?;
+    let listing = explain(alloc, module, info, &position, "here")?;
     write!(out, "== {name}\n{listing}")
 }
 

@@ -2,8 +2,9 @@
 //!
 //! A line is a JSON object with the members `name`, `module` and `info`, of the position `listed`
 //! (`declarations`, `function` or `entry point`), `number`, `spot` and `index`, and of what is to be
-//! seen beside it `beside` and `beside_index`. After a line `== NAME` comes the listing, with the
-//! message `here`.
+//! seen beside it `beside` and `beside_index`. Where it has a member `whole`, module and info are read
+//! from that. After a line `== NAME` comes the listing, with the message `here`; the types are
+//! inferred where there is no info.
 //!
 //! The folder `cases` has what `stdin` and `stdout` are made of.
 #![tactic(auto)]

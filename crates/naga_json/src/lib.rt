@@ -26,6 +26,9 @@
 //! What is known of a function may be given short, by the list of its expressions' types, and a
 //! type by its handle alone. Each `ref_count` is 0 then.
 //!
+//! [`read_given`] takes a module with what is known of it, or without: the member `info` may be left
+//! out, and the module may be all of the JSON.
+//!
 //! Where nothing is read, a [`ReadError`] tells why, and at which position:
 //!
 //! ```text
@@ -48,5 +51,8 @@ mod text;
 mod types;
 
 pub use error::{JsonKind, Problem, ReadError};
-pub use modules::{Known, info_of, known_of, module_of, read_info, read_known, read_module};
+pub use modules::{
+    Given, Known, given_of, info_of, known_of, module_of, read_given, read_info, read_known,
+    read_module,
+};
 pub use text::{parse, parse_bytes};

@@ -1,7 +1,9 @@
 //! What is read: from a text, or from JSON that a caller parsed who wants more of it.
 
+ghost use Rattle.std.specs.Prelude.{◌≡◌, IfOk, IsTrue, None};
+
 use crate::error::ReadError;
-use crate::shape::{FromJson, member};
+use crate::shape::{FromJson, is_object, member};
 use crate::text::parse;
 use json::{Scratch, Value};
 use naga_info::ModuleInfo;
@@ -43,6 +45,28 @@ pub fn read_known(alloc: Global, text: &str) -> Result<Known, ReadError> {
     known_of(alloc, &value)
 }
 
+/// A module as it was given, with what is known of it or without.
+#[derive(Debug, Drop)]
+pub struct Given {
+    /// The module.
+    pub module: Module,
+    /// What is known of it, where that is told.
+    pub info: Option<ModuleInfo>,
+    /// Whether the JSON is the module itself, and no object that has it as its member `module`.
+    pub is_bare: bool,
+}
+
+/// Reads what [`read_known`] reads, where the info may be left out: the member `info` may be null or
+/// absent. An object that has neither a member `module` nor a member `info` is the module itself,
+/// as for [`read_module`]. It fails as that does.
+pub fn read_given(alloc: Global, text: &str) -> Result<Given, ReadError>
+    ensures bare { IfOk result (λ given. IsTrue given.is_bare → given.info ≡ None) }
+{
+    let mut scratch = Scratch::new(alloc);
+    let value = parse(alloc, text, &mut scratch)?;
+    given_of(alloc, &value)
+}
+
 /// Reads a module from JSON that was parsed before. It fails as [`read_module`] does, but there is
 /// always JSON. Its blocks may nest 64 deep, more than those of any text.
 pub fn module_of(alloc: Global, value: &Value) -> Result<Module, ReadError> {
@@ -61,4 +85,31 @@ pub fn known_of(alloc: Global, value: &Value) -> Result<Known, ReadError> {
     let module = member(alloc, value, "module")?;
     let info = member(alloc, value, "info")?;
     Ok(Known { module, info })
+}
+
+/// Reads what [`read_given`] reads from JSON that was parsed before. It fails as [`module_of`]
+/// does.
+pub fn given_of(alloc: Global, value: &Value) -> Result<Given, ReadError>
+    ensures bare { IfOk result (λ given. IsTrue given.is_bare → given.info ≡ None) }
+{
+    if is_bare(value) {
+        let module = module_of(alloc, value)?;
+        return Ok(Given {
+            module,
+            info: None,
+            is_bare: true,
+        });
+    }
+    let module = member(alloc, value, "module")?;
+    let info: Option<ModuleInfo> = member(alloc, value, "info")?;
+    Ok(Given {
+        module,
+        info,
+        is_bare: false,
+    })
+}
+
+/// Whether the value is an object without a member `module` or `info`.
+fn is_bare(value: &Value) -> bool {
+    is_object(value) && value.get("module").is_none() && value.get("info").is_none()
 }
