@@ -1,14 +1,12 @@
 -- What is told of a module that is not written.
 use Rattle.std.proofs.Common.{◌≡◌, ℕ, ◌<◌, List, [], Result, length, refl, subst, sym}
-use Rattle.std.specs.Prelude.{Bool, Err, IfErr, IsErrAnd, IsTrue, None, Ok, Option, Some}
+use Rattle.std.specs.Prelude.{Bool, Err, IsTrue, None, Ok, Option, Some}
 use Rattle.naga_ir.specs.declared.module.Module.{Module}
 use Rattle.naga_info.specs.declared.info.ModuleInfo.{ModuleInfo}
 use Rattle.naga_back.specs.Flags.{annotates_types}
 use Rattle.naga_back.specs.declared.flags.WriterFlags.{WriterFlags}
 use Rattle.naga_wgsl_shared.specs.declared.refusals.error.Error.{Error}
 use Rattle.naga_wgsl_shared.specs.declared.refusals.error.Error.TheVariants as error
-use Rattle.module_limits.specs.Nesting.{nested_past}
-use Rattle.module_limits.specs.declared.limits.Limits.{Limits}
 use Rattle.module_semantics.specs.acceptance.Accepted.{is_accepted}
 use Rattle.naga_wgsl_out.specs.Checked.{IsCounted}
 use Rattle.naga_wgsl_out.specs.declared.unwritable.Refusal.{Refusal}
@@ -16,35 +14,16 @@ use Rattle.naga_wgsl_out.specs.Within.{unfailed}
 use Rattle.naga_wgsl_out.proofs.Bounded.{appends_unfailed, faithful_unfailed, leaves_unfailed}
 use Rattle.naga_wgsl_out.proofs.Bounded.{matches_unfailed, whole_is_longer}
 use Rattle.naga_wgsl_out.proofs.Faithful.{leaves_beginning}
-use Rattle.module_answers.specs.Within.{IsTooLong, IsUnwritten, TellsDepth}
+use Rattle.module_answers.specs.Within.{IsTooLong}
 use Rattle.module_answers.specs.WriteOutcomes.{AnswersWriting, TellsBeside}
-use Rattle.module_answers.specs.declared.within.NoOutcome.{NoOutcome}
-use Rattle.module_answers.specs.declared.within.NoOutcome.TheVariants as unwritten
-
--- one that is nested too deep is as it was, and so is what is known of it
-pub depth_unwritten : (flags : WriterFlags) (limits : Limits) (m : Module) (info : ModuleInfo) (reason : NoOutcome) →
-    TellsDepth limits.nesting m reason → IsUnwritten flags limits m m info info reason
-depth_unwritten flags limits m info (unwritten.TooDeep nested) tells = (tells, refl, refl)
-depth_unwritten flags limits m info (unwritten.NotAccepted fault) tells = absurd tells
-depth_unwritten flags limits m info unwritten.TooLong tells = absurd tells
-depth_unwritten flags limits m info (unwritten.Memory error) tells = (refl, refl)
-
--- so it is with the answer of a call that ends with this reason
-pub as_unwritten : {T : Type 0} (flags : WriterFlags) (limits : Limits) (m : Module) (info : ModuleInfo)
-    (r : Result T NoOutcome) (reason : NoOutcome) →
-    IsErrAnd r (λ e. e ≡ reason) → TellsDepth limits.nesting m reason → IfErr r (IsUnwritten flags limits m m info info)
-as_unwritten flags limits m info (Ok x) reason reported tells = tt
-as_unwritten flags limits m info (Err e) reason reported tells =
-    subst (IsUnwritten flags limits m m info info) (sym reported) (depth_unwritten flags limits m info reason tells)
 
 -- a sink that began empty tells that the text of one is too long
-pub is_too_long : (flags : WriterFlags) (limits : Limits) (given m : Module) (old new : ModuleInfo)
+pub is_too_long : (flags : WriterFlags) (bound : ℕ) (given m : Module) (old new : ModuleInfo)
     (answer : Result Unit Error) (told : Option Refusal) (beginning : List ℕ) (failures : ℕ) →
-    nested_past limits.nesting given ≡ None → IsTrue (is_accepted given old) → IsCounted m old new →
+    IsTrue (is_accepted given old) → IsCounted m old new →
     AnswersWriting flags m new answer told [] beginning 0 failures →
-    limits.text < length beginning → IsTooLong flags limits given m old new
-is_too_long flags limits given m old new answer told beginning failures flat accepted counted written passed = record {
-  nested = flat;
+    bound < length beginning → IsTooLong flags bound given m old new
+is_too_long flags bound given m old new answer told beginning failures accepted counted written passed = record {
   accepted = accepted;
   counted = counted;
   answer = answer;
@@ -53,7 +32,7 @@ is_too_long flags limits given m old new answer told beginning failures flat acc
   failures = failures;
   written = written;
   passed = passed;
-  longer = whole_is_longer flags m new limits.text answer [] beginning refl written.text
+  longer = whole_is_longer flags m new bound answer [] beginning refl written.text
       (leaves_beginning flags m new answer [] beginning 0 failures written.leaves) passed;
 }
 

@@ -1,2 +1,3 @@
+mod Alone
 pub mod Bounded
 mod Wants

@@ -1,4 +1,5 @@
 pub mod Wants
 pub mod WriteOutcomes
 pub mod Refusals
+pub mod Shaders
 pub mod Within

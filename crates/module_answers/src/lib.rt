@@ -4,10 +4,12 @@
 
 mod layouts;
 mod refusals;
+mod shaders;
 mod within;
 mod writing;
 
 pub use layouts::layout_table;
 pub use refusals::refusal_line;
-pub use within::{NoOutcome, check_nesting, write_decimal_within, write_within};
+pub use shaders::{Shader, Unasked, holder_of, info_within, untyped_line};
+pub use within::{NoOutcome, write_decimal_within, write_within};
 pub use writing::{WriteOutcome, flags_for, write, write_decimal};

@@ -1,32 +1,28 @@
-//! What the writer does with a module that others made, within limits.
+//! What the writer does with a module that others made, within so many bytes.
 
 ghost use Rattle.std.specs.Prelude.{◌≡◌, ◌<◌, ◌≤◌, [], IfErr, IfNone, IfOk, IfSome, IsTrue};
-ghost use Rattle.std.specs.Prelude.{None, OnOk, length};
+ghost use Rattle.std.specs.Prelude.{length};
 ghost use Rattle.std.specs.Prelude.{string_bytes};
-ghost use Rattle.module_answers.specs.Within.{IsUnwritten, TellsDepth};
+ghost use Rattle.module_answers.specs.Within.{IsUnwritten};
 ghost use Rattle.module_answers.specs.WriteOutcomes.{AnswersWriting};
-ghost use Rattle.module_limits.specs.Nesting.{nested_past};
 ghost use Rattle.module_semantics.specs.acceptance.Accepted.{is_accepted};
 ghost use Rattle.naga_wgsl_out.specs.Checked.{IsCounted};
 ghost use Rattle.naga_wgsl_out.specs.Within.{unfailed};
 ghost use Rattle.decimal_floats.specs.Decimals.{IsDecimalModule};
 
 use crate::writing::{WriteOutcome, write, write_decimal};
-use module_limits::{BoundedText, Limits, Nested, nested_past};
+use module_limits::BoundedText;
 use naga_acceptance::Unaccepted;
 use naga_back::WriterFlags;
 use naga_info::ModuleInfo;
 use naga_ir::Module;
 use naga_wgsl_out::sinks::unfailed;
-use std::alloc::{AllocError, Global};
+use std::alloc::Global;
 use thiserror::Error as DisplayedError;
 
 /// Why the writer was not asked for a module, or was stopped at it.
 #[derive(Debug, Drop, DisplayedError)]
 pub enum NoOutcome {
-    /// This of the module is nested deeper than the limit.
-    #[error("{0}")]
-    TooDeep(Nested),
     /// The module is not accepted, at this position, for a fault of this kind.
     #[error("not accepted: {0}")]
     NotAccepted(Unaccepted),
@@ -35,33 +31,28 @@ pub enum NoOutcome {
     /// but of the text with what stands after it.
     #[error("text too long")]
     TooLong,
-    /// There was no memory for the question how deep it is nested.
-    #[error("out of memory")]
-    Memory(AllocError),
 }
 
-/// Does with a module what [`write`] does, within limits: it is asked first how deep it is nested,
-/// and its text is cut where it gets too long.
+/// Does with a module what [`write`] does, and cuts its text where it gets longer than `bound` bytes.
+/// How deep it is nested [`info_within`](crate::info_within) asks.
 pub fn write_within(
     alloc: Global,
     module: &Module,
     info: &mut ModuleInfo,
     flags: WriterFlags,
-    limits: Limits,
+    bound: usize,
 ) -> Result<WriteOutcome<String>, NoOutcome>
-    ensures nested { IfOk result (λ _. nested_past limits.nesting «module».now ≡ None) }
     ensures accepted { IfOk result (λ _. IsTrue (is_accepted «module».now info.old)) }
     ensures counted { IfOk result (λ _. IsCounted «module».now info.old info.new) }
     ensures written { IfOk result (λ w. AnswersWriting flags «module».now info.new
         w.answer w.refusal [] (string_bytes w.sink) 0 0) }
-    ensures within { IfOk result (λ w. length (string_bytes w.sink) ≤ limits.text) }
-    ensures unwritten { IfErr result (IsUnwritten flags limits «module».now «module».now info.old
+    ensures within { IfOk result (λ w. length (string_bytes w.sink) ≤ bound) }
+    ensures unwritten { IfErr result (IsUnwritten flags bound «module».now «module».now info.old
         info.new) }
 {
-    let empty = BoundedText::new(alloc, limits.text);
-    check_nesting(alloc, module, limits.nesting)?;
+    let empty = BoundedText::new(alloc, bound);
     match write(alloc, module, info, flags, empty) {
-        Ok(written) => match within_its_limit(written, limits.text) {
+        Ok(written) => match within_its_limit(written, bound) {
             Some(whole) => Ok(whole),
             None => Err(NoOutcome::TooLong),
         },
@@ -69,47 +60,33 @@ pub fn write_within(
     }
 }
 
-/// Does with a module what [`write_decimal`] does, within limits. One that is nested too deep or not
-/// accepted is left as it is.
+/// Does with a module what [`write_decimal`] does, and cuts its text as [`write_within`] does. One that
+/// is not accepted is left as it is.
 pub fn write_decimal_within(
     alloc: Global,
     module: &mut Module,
     info: &mut ModuleInfo,
     flags: WriterFlags,
-    limits: Limits,
+    bound: usize,
 ) -> Result<WriteOutcome<String>, NoOutcome>
-    ensures nested { IfOk result (λ _. nested_past limits.nesting «module».old ≡ None) }
     ensures accepted { IfOk result (λ _. IsTrue (is_accepted «module».old info.old)) }
     ensures decimal { IfOk result (λ _. IsDecimalModule «module».old «module».new) }
     ensures counted { IfOk result (λ _. IsCounted «module».new info.old info.new) }
     ensures written { IfOk result (λ w. AnswersWriting flags «module».new info.new
         w.answer w.refusal [] (string_bytes w.sink) 0 0) }
-    ensures within { IfOk result (λ w. length (string_bytes w.sink) ≤ limits.text) }
-    ensures unwritten { IfErr result (IsUnwritten flags limits «module».old «module».new info.old
+    ensures within { IfOk result (λ w. length (string_bytes w.sink) ≤ bound) }
+    ensures unwritten { IfErr result (IsUnwritten flags bound «module».old «module».new info.old
         info.new) }
     ensures too_long { IfErr result (λ e. e ≡ NoOutcome.TooLong →
         IsDecimalModule «module».old «module».new) }
 {
-    let empty = BoundedText::new(alloc, limits.text);
-    check_nesting(alloc, module, limits.nesting)?;
+    let empty = BoundedText::new(alloc, bound);
     match write_decimal(alloc, module, info, flags, empty) {
-        Ok(written) => match within_its_limit(written, limits.text) {
+        Ok(written) => match within_its_limit(written, bound) {
             Some(whole) => Ok(whole),
             None => Err(NoOutcome::TooLong),
         },
         Err(fault) => Err(NoOutcome::NotAccepted(fault)),
-    }
-}
-
-/// Says what of the module is nested too deep, if anything is.
-pub fn check_nesting(alloc: Global, module: &Module, levels: usize) -> Result<(), NoOutcome>
-    ensures flat { OnOk result (nested_past levels «module».now ≡ None) }
-    ensures deep { IfErr result (TellsDepth levels «module».now) }
-{
-    match nested_past(alloc, module, levels) {
-        Ok(None) => Ok(()),
-        Ok(Some(nested)) => Err(NoOutcome::TooDeep(nested)),
-        Err(error) => Err(NoOutcome::Memory(error)),
     }
 }
 

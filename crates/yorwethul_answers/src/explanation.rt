@@ -1,13 +1,15 @@
 //! Why a module has no text, with the lines around its position.
 
 use crate::texts::write_in;
-use module_answers::{NoOutcome, WriteOutcome, refusal_line};
+use crate::untyped::types_before;
+use module_answers::{NoOutcome, Shader, Unasked, WriteOutcome, refusal_line, untyped_line};
 use module_positions::{
     JsonHolder, MarkedRoot, fault_text, labelled_position, listed_position, refused_position,
     root_at, root_spots,
 };
 use naga_acceptance::Unaccepted;
-use naga_json::Known;
+use naga_inference::Untyped;
+use naga_ir::Module;
 use naga_listing::{ListingPosition, Spot, explain, explain_with};
 use naga_wgsl_out::wgsl::Refusal;
 use naga_wgsl_shared::Error;
@@ -27,21 +29,49 @@ pub struct Explanation {
 pub fn explained(
     alloc: Global,
     style: Style,
-    holder: JsonHolder,
-    known: &mut Known,
+    shader: &mut Shader,
 ) -> Result<Explanation, AllocError> {
-    match write_in(alloc, style, known) {
-        Ok(written) => of_written(alloc, holder, known, written),
-        Err(NoOutcome::NotAccepted(fault)) => of_unaccepted(alloc, holder, known, fault),
-        Err(NoOutcome::Memory(error)) => Err(error),
-        Err(reason) => not_written(format!(in alloc; "refused: {reason}\n")),
+    match write_in(alloc, style, shader) {
+        Ok(written) => of_written(alloc, shader, written),
+        Err(NoOutcome::NotAccepted(fault)) => of_unaccepted(alloc, shader, fault),
+        Err(NoOutcome::TooLong) => {
+            not_written(format!(in alloc; "refused: {}\n", NoOutcome::TooLong))
+        }
     }
+}
+
+/// Tells why nothing more is asked of a module.
+pub fn unasked_explained(
+    alloc: Global,
+    module: &Module,
+    unasked: Unasked,
+    holder: JsonHolder,
+) -> Result<Explanation, AllocError> {
+    match unasked {
+        Unasked::TooDeep(nested) => not_written(format!(in alloc; "refused: {nested}\n")),
+        Unasked::Untyped(untyped) => of_untyped(alloc, module, untyped, holder),
+        Unasked::Memory(error) => Err(error),
+    }
+}
+
+/// Tells which expression has no type, and shows the lines around, with the types of those before it.
+fn of_untyped(
+    alloc: Global,
+    module: &Module,
+    untyped: Untyped,
+    holder: JsonHolder,
+) -> Result<Explanation, AllocError> {
+    let line = untyped_line(alloc, module, untyped, holder)?;
+    let item = listed_position(untyped.position);
+    let info = types_before(alloc, module, untyped.position)?;
+    let message = format!(in alloc; "{}", untyped.missing)?;
+    let listing = explain(alloc, module, &info, &item, message.as_str())?;
+    not_written(format!(in alloc; "not accepted: {line}\n\n{listing}"))
 }
 
 fn of_written(
     alloc: Global,
-    holder: JsonHolder,
-    known: &Known,
+    shader: &Shader,
     written: WriteOutcome<String>,
 ) -> Result<Explanation, AllocError> {
     let WriteOutcome {
@@ -55,51 +85,50 @@ fn of_written(
             is_written: true,
         }),
         (Err(Error::Memory(error)), _) => Err(error),
-        (Err(_), Some(refusal)) => of_refusal(alloc, holder, known, refusal),
+        (Err(_), Some(refusal)) => of_refusal(alloc, shader, refusal),
         (Err(reason), None) => not_written(format!(in alloc; "refused: {reason}\n")),
     }
 }
 
 /// Tells what a module is refused for and where, and shows the lines around: of an operand that is
 /// out of scope those around the expression that it has no value for.
-fn of_refusal(
-    alloc: Global,
-    holder: JsonHolder,
-    known: &Known,
-    refusal: Refusal,
-) -> Result<Explanation, AllocError> {
+fn of_refusal(alloc: Global, shader: &Shader, refusal: Refusal) -> Result<Explanation, AllocError> {
     let position = refused_position(refusal.position);
-    let (spot, message) = match root_at(alloc, &known.module, &refusal.position)? {
+    let (spot, message) = match root_at(alloc, &shader.module, &refusal.position)? {
         Some(root) => (
             Spot::Expression(root.expression),
             format!(in alloc; "{}", MarkedRoot(root))?,
         ),
         None => (position.spot, format!(in alloc; "{}", refusal.construct)?),
     };
-    let more = root_spots(alloc, &known.module, &refusal.position)?;
+    let more = root_spots(alloc, &shader.module, &refusal.position)?;
     let listing = explain_with(
         alloc,
-        &known.module,
-        &known.info,
+        &shader.module,
+        &shader.info,
         &ListingPosition { spot, ..position },
         &more,
         message.as_str(),
     )?;
-    let line = refusal_line(alloc, &known.module, refusal, holder)?;
+    let line = refusal_line(alloc, &shader.module, refusal, shader.holder)?;
     not_written(format!(in alloc; "refused: {line}\n\n{listing}"))
 }
 
 /// Tells where a module is not accepted and why, and shows the lines around.
 fn of_unaccepted(
     alloc: Global,
-    holder: JsonHolder,
-    known: &Known,
+    shader: &Shader,
     unaccepted: Unaccepted,
 ) -> Result<Explanation, AllocError> {
-    let position = labelled_position(alloc, &known.module, unaccepted.item, holder)?;
+    let Shader {
+        module,
+        info,
+        holder,
+    } = shader;
+    let position = labelled_position(alloc, module, unaccepted.item, *holder)?;
     let item = listed_position(unaccepted.item);
-    let fault = fault_text(alloc, &known.module, &known.info, unaccepted, holder)?;
-    let listing = explain(alloc, &known.module, &known.info, &item, fault.as_str())?;
+    let fault = fault_text(alloc, module, info, unaccepted, *holder)?;
+    let listing = explain(alloc, module, info, &item, fault.as_str())?;
     not_written(format!(in alloc; "not accepted: {position}: {fault}\n\n{listing}"))
 }
 

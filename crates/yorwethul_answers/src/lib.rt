@@ -5,5 +5,6 @@ mod explanation;
 mod lines;
 mod program;
 mod texts;
+mod untyped;
 
 pub use program::{FAILED, REFUSED, run};

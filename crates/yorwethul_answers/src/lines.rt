@@ -3,15 +3,16 @@
 use crate::texts::write_in;
 use fault_details::explain;
 use json::Scratch;
-use module_answers::{NoOutcome, WriteOutcome};
+use module_answers::{NoOutcome, Shader, Unasked, WriteOutcome, holder_of, info_within};
 use module_limits::Limits;
 use module_positions::{
     JsonHolder, JsonPosition, JsonRefusalPosition, NESTS_TOO_DEEP, label_at, label_of,
     mismatch_text, nests_too_deep, root_at,
 };
-use naga_acceptance::Unaccepted;
+use naga_acceptance::{FaultPosition, Unaccepted};
+use naga_inference::Untyped;
 use naga_ir::Module;
-use naga_json::{Known, ReadError, known_of, parse_bytes};
+use naga_json::{Given, ReadError, given_of, parse_bytes};
 use naga_wgsl_out::wgsl::Refusal;
 use naga_wgsl_shared::Error;
 use serde_json::{Map, Value};
@@ -192,44 +193,85 @@ fn answer_module(
     style: Style,
     members: &mut Members,
 ) -> Result<(), AllocError> {
-    match known_of(alloc, query) {
-        Ok(mut known) => tell_known(alloc, &mut known, style, members),
+    match given_of(alloc, query) {
+        Ok(given) => tell_given(alloc, given, style, members),
         Err(error) => tell(alloc, "error", error, members),
     }
 }
 
-fn tell_known(
+/// Tells what becomes of a module as it was given.
+fn tell_given(
     alloc: Global,
-    known: &mut Known,
+    given: Given,
     style: Style,
     members: &mut Members,
 ) -> Result<(), AllocError> {
-    match write_in(alloc, style, known) {
-        Ok(written) => tell_written(alloc, written, &known.module, members),
-        Err(NoOutcome::NotAccepted(unaccepted)) => {
-            tell_unaccepted(alloc, known, unaccepted, members)
+    let Given {
+        module,
+        info,
+        is_bare,
+    } = given;
+    let holder = holder_of(is_bare);
+    match info_within(alloc, &module, info, style.limits.nesting) {
+        Ok(info) => {
+            let mut shader = Shader {
+                module,
+                info,
+                holder,
+            };
+            tell_shader(alloc, &mut shader, style, members)
         }
-        Err(NoOutcome::Memory(error)) => Err(error),
-        Err(NoOutcome::TooDeep(nested)) => tell_limited(alloc, known, nested, members),
-        Err(NoOutcome::TooLong) => tell_limited(alloc, known, NoOutcome::TooLong, members),
+        Err(unasked) => tell_unasked(alloc, &module, unasked, holder, members),
+    }
+}
+
+fn tell_shader(
+    alloc: Global,
+    shader: &mut Shader,
+    style: Style,
+    members: &mut Members,
+) -> Result<(), AllocError> {
+    match write_in(alloc, style, shader) {
+        Ok(written) => tell_written(alloc, written, shader, members),
+        Err(NoOutcome::NotAccepted(unaccepted)) => {
+            tell_unaccepted(alloc, shader, unaccepted, members)
+        }
+        Err(NoOutcome::TooLong) => tell_limited(alloc, NoOutcome::TooLong, members),
+    }
+}
+
+/// Tells why nothing more is asked of a module.
+fn tell_unasked(
+    alloc: Global,
+    module: &Module,
+    unasked: Unasked,
+    holder: JsonHolder,
+    members: &mut Members,
+) -> Result<(), AllocError> {
+    match unasked {
+        Unasked::TooDeep(nested) => tell_limited(alloc, nested, members),
+        Unasked::Untyped(Untyped { position, missing }) => {
+            let told = fault_members(alloc, module, position, missing, holder)?;
+            put(alloc, "not_accepted", Value::Object(told), members)
+        }
+        Unasked::Memory(error) => Err(error),
     }
 }
 
 /// Tells that the module is past a limit: at no position, and with no text in front of it.
 fn tell_limited(
     alloc: Global,
-    known: &Known,
     reason: impl Display + Drop,
     members: &mut Members,
 ) -> Result<(), AllocError> {
-    let text = String::new(alloc);
-    tell_refused(alloc, reason, None, &known.module, text, members)
+    tell(alloc, "refused", reason, members)?;
+    put(alloc, "text", Value::String(String::new(alloc)), members)
 }
 
 fn tell_written(
     alloc: Global,
     written: WriteOutcome<String>,
-    module: &Module,
+    shader: &Shader,
     members: &mut Members,
 ) -> Result<(), AllocError> {
     let WriteOutcome {
@@ -240,7 +282,7 @@ fn tell_written(
     match answer {
         Ok(()) => put(alloc, "text", Value::String(sink), members),
         Err(Error::Memory(error)) => Err(error),
-        Err(reason) => tell_refused(alloc, reason, refusal, module, sink, members),
+        Err(reason) => tell_refused(alloc, reason, refusal, shader, sink, members),
     }
 }
 
@@ -250,13 +292,14 @@ fn tell_refused(
     alloc: Global,
     reason: impl Display + Drop,
     refusal: Option<Refusal>,
-    module: &Module,
+    shader: &Shader,
     text: String,
     members: &mut Members,
 ) -> Result<(), AllocError> {
+    let module = &shader.module;
     tell(alloc, "refused", reason, members)?;
     if let Some(refusal) = refusal {
-        let position = JsonRefusalPosition::of(JsonHolder::Member, module, refusal.position);
+        let position = JsonRefusalPosition::of(shader.holder, module, refusal.position);
         tell(alloc, "position", position, members)?;
         if let Some(label) = label_at(module, refusal.position) {
             tell(alloc, "function", label, members)?;
@@ -270,26 +313,38 @@ fn tell_refused(
 
 fn tell_unaccepted(
     alloc: Global,
-    known: &Known,
+    shader: &Shader,
     unaccepted: Unaccepted,
     members: &mut Members,
 ) -> Result<(), AllocError> {
-    let mut told = Map::new(alloc);
-    tell(
-        alloc,
-        "position",
-        JsonPosition(JsonHolder::Member, unaccepted.item),
-        &mut told,
-    )?;
-    tell(alloc, "fault", unaccepted.fault, &mut told)?;
-    if let Some(label) = label_of(&known.module, &unaccepted.item) {
-        tell(alloc, "function", label, &mut told)?;
-    }
-    if let Some(reason) = explain(alloc, &known.module, &known.info, unaccepted)? {
-        let reason = mismatch_text(alloc, &known.module, reason, JsonHolder::Member)?;
+    let Shader {
+        module,
+        info,
+        holder,
+    } = shader;
+    let mut told = fault_members(alloc, module, unaccepted.item, unaccepted.fault, *holder)?;
+    if let Some(reason) = explain(alloc, module, info, unaccepted)? {
+        let reason = mismatch_text(alloc, module, reason, *holder)?;
         put(alloc, "reason", Value::String(reason), &mut told)?;
     }
     put(alloc, "not_accepted", Value::Object(told), members)
+}
+
+/// What is told of a fault: its position, its kind, and the function that it is in.
+fn fault_members(
+    alloc: Global,
+    module: &Module,
+    item: FaultPosition,
+    fault: impl Display + Drop,
+    holder: JsonHolder,
+) -> Result<Members, AllocError> {
+    let mut told = Map::new(alloc);
+    tell(alloc, "position", JsonPosition(holder, item), &mut told)?;
+    tell(alloc, "fault", fault, &mut told)?;
+    if let Some(label) = label_of(module, &item) {
+        tell(alloc, "function", label, &mut told)?;
+    }
+    Ok(told)
 }
 
 /// Tells why the line holds no query.

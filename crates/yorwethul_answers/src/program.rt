@@ -1,20 +1,23 @@
 //! The program: its answers and its statuses.
 
-use crate::explanation::{Explanation, explained};
+use crate::explanation::{Explanation, explained, unasked_explained};
 use crate::lines::answer_lines;
 use crate::texts::write_in;
-use module_answers::{NoOutcome, WriteOutcome, check_nesting, layout_table, refusal_line};
+use module_answers::{
+    NoOutcome, Shader, Unasked, WriteOutcome, holder_of, info_within, layout_table, refusal_line,
+    untyped_line,
+};
 use module_positions::{JsonHolder, fault_line};
 use naga_acceptance::{Unaccepted, unaccepted};
 use naga_ir::Module;
-use naga_json::Known;
+use naga_json::Given;
 use naga_wgsl_shared::Error;
-use std::alloc::Global;
+use std::alloc::{AllocError, Global};
 use std::fmt::Display;
 use std::io::{BufReader, Read, Write};
 use std::rt::{Clock, Files};
 use std::{fs, io};
-use yorwethul_input::{Failure, Invocation, Task, invocation_of, known_of};
+use yorwethul_input::{Failure, Invocation, Style, Task, given_by, invocation_of};
 use yorwethul_progress::Progress;
 
 /// The status where a module is refused or not accepted.
@@ -83,8 +86,8 @@ fn serve_module<R: Files + Input + AllocGlobal, O: Write, E: Write>(
     out: &mut O,
     err: &mut E,
 ) -> u8 {
-    match known_of(rt, invocation) {
-        Ok(mut known) => answer(rt.alloc(), invocation, &mut known, out, err),
+    match given_by(rt, invocation) {
+        Ok(given) => answer_given(rt.alloc(), invocation, given, out, err),
         Err(failure) => fail(failure, err),
     }
 }
@@ -127,61 +130,94 @@ fn buffered<I: Read + Drop>(alloc: Global, input: io::Result<I>) -> io::Result<B
     BufReader::new(alloc, input?)
 }
 
+/// Answers what the invocation wants to know of a module as it was given.
+fn answer_given<O: Write, E: Write>(
+    alloc: Global,
+    invocation: Invocation<'_>,
+    given: Given,
+    out: &mut O,
+    err: &mut E,
+) -> u8 {
+    let Given {
+        module,
+        info,
+        is_bare,
+    } = given;
+    let holder = holder_of(is_bare);
+    match info_within(alloc, &module, info, invocation.style.limits.nesting) {
+        Ok(info) => {
+            let mut shader = Shader {
+                module,
+                info,
+                holder,
+            };
+            answer(alloc, invocation, &mut shader, out, err)
+        }
+        Err(unasked) => answer_unasked(alloc, invocation.task, &module, unasked, holder, out, err),
+    }
+}
+
 /// Prints what the invocation wants to know of a module.
 fn answer<O: Write, E: Write>(
     alloc: Global,
     invocation: Invocation<'_>,
-    known: &mut Known,
+    shader: &mut Shader,
     out: &mut O,
     err: &mut E,
 ) -> u8 {
     match invocation.task {
-        Task::Check => check(alloc, invocation, known, out, err),
-        Task::Layout => tell_layouts(alloc, invocation, known, out, err),
-        Task::Explain => explain(alloc, invocation, known, out, err),
-        Task::Write | Task::Lines => print_text(alloc, invocation, known, out, err),
+        Task::Check => check(alloc, shader, out, err),
+        Task::Layout => tell_layouts(alloc, shader, out, err),
+        Task::Explain => explain(explained(alloc, invocation.style, shader), out, err),
+        Task::Write | Task::Lines => print_text(alloc, invocation.style, shader, out, err),
+    }
+}
+
+/// Tells why nothing more is asked of a module.
+fn answer_unasked<O: Write, E: Write>(
+    alloc: Global,
+    task: Task,
+    module: &Module,
+    unasked: Unasked,
+    holder: JsonHolder,
+    out: &mut O,
+    err: &mut E,
+) -> u8 {
+    match task {
+        Task::Explain => explain(unasked_explained(alloc, module, unasked, holder), out, err),
+        _ => tell_unasked(alloc, module, unasked, holder, err),
     }
 }
 
 /// Prints the module's text.
 fn print_text<O: Write, E: Write>(
     alloc: Global,
-    invocation: Invocation<'_>,
-    known: &mut Known,
+    style: Style,
+    shader: &mut Shader,
     out: &mut O,
     err: &mut E,
 ) -> u8 {
-    match write_in(alloc, invocation.style, known) {
-        Ok(written) => print_written(alloc, written, invocation.holder(), &known.module, out, err),
-        Err(unwritten) => tell_unwritten(alloc, invocation, known, unwritten, err),
+    match write_in(alloc, style, shader) {
+        Ok(written) => print_written(alloc, written, shader, out, err),
+        Err(NoOutcome::NotAccepted(fault)) => refuse_unaccepted(alloc, shader, fault, err),
+        Err(NoOutcome::TooLong) => refuse(NoOutcome::TooLong, err),
     }
 }
 
-fn check<O: Write, E: Write>(
-    alloc: Global,
-    invocation: Invocation<'_>,
-    known: &Known,
-    out: &mut O,
-    err: &mut E,
-) -> u8 {
-    if let Err(unwritten) = check_nesting(alloc, &known.module, invocation.style.limits.nesting) {
-        return tell_unwritten(alloc, invocation, known, unwritten, err);
-    }
-    match unaccepted(&known.module, &known.info) {
-        Some(fault) => refuse_unaccepted(alloc, invocation, known, fault, err),
+fn check<O: Write, E: Write>(alloc: Global, shader: &Shader, out: &mut O, err: &mut E) -> u8 {
+    match unaccepted(&shader.module, &shader.info) {
+        Some(fault) => refuse_unaccepted(alloc, shader, fault, err),
         None => print("accepted\n", out, err),
     }
 }
 
 /// Prints why the module has no text.
 fn explain<O: Write, E: Write>(
-    alloc: Global,
-    invocation: Invocation<'_>,
-    known: &mut Known,
+    explanation: Result<Explanation, AllocError>,
     out: &mut O,
     err: &mut E,
 ) -> u8 {
-    match explained(alloc, invocation.style, invocation.holder(), known) {
+    match explanation {
         Ok(Explanation { text, is_written }) => match print(text, out, err) {
             0 if !is_written => REFUSED,
             status => status,
@@ -193,17 +229,13 @@ fn explain<O: Write, E: Write>(
 /// Prints where the members of the module's structs stand.
 fn tell_layouts<O: Write, E: Write>(
     alloc: Global,
-    invocation: Invocation<'_>,
-    known: &Known,
+    shader: &Shader,
     out: &mut O,
     err: &mut E,
 ) -> u8 {
-    if let Err(unwritten) = check_nesting(alloc, &known.module, invocation.style.limits.nesting) {
-        return tell_unwritten(alloc, invocation, known, unwritten, err);
-    }
-    match unaccepted(&known.module, &known.info) {
-        Some(fault) => refuse_unaccepted(alloc, invocation, known, fault, err),
-        None => match layout_table(alloc, &known.module, &known.info) {
+    match unaccepted(&shader.module, &shader.info) {
+        Some(fault) => refuse_unaccepted(alloc, shader, fault, err),
+        None => match layout_table(alloc, &shader.module, &shader.info) {
             Ok(table) => print(table, out, err),
             Err(error) => tell_error(error, err),
         },
@@ -213,8 +245,7 @@ fn tell_layouts<O: Write, E: Write>(
 fn print_written<O: Write, E: Write>(
     alloc: Global,
     written: WriteOutcome<String>,
-    root: JsonHolder,
-    module: &Module,
+    shader: &Shader,
     out: &mut O,
     err: &mut E,
 ) -> u8 {
@@ -225,10 +256,12 @@ fn print_written<O: Write, E: Write>(
     } = written;
     match (answer, refusal) {
         (Ok(()), _) => print(sink, out, err),
-        (Err(_), Some(refusal)) => match refusal_line(alloc, module, refusal, root) {
-            Ok(line) => refuse(line, err),
-            Err(_) => fail(Failure::Memory, err),
-        },
+        (Err(_), Some(refusal)) => {
+            match refusal_line(alloc, &shader.module, refusal, shader.holder) {
+                Ok(line) => refuse(line, err),
+                Err(_) => fail(Failure::Memory, err),
+            }
+        }
         (Err(error), None) => tell_error(error, err),
     }
 }
@@ -256,38 +289,41 @@ fn write_and_flush<O: Write>(text: impl Display + Drop, out: &mut O) -> io::Resu
 /// Tells where and why the module is not accepted, and what was expected there.
 fn refuse_unaccepted<E: Write>(
     alloc: Global,
-    invocation: Invocation<'_>,
-    known: &Known,
+    shader: &Shader,
     fault: Unaccepted,
     err: &mut E,
 ) -> u8 {
-    match fault_line(
-        alloc,
-        &known.module,
-        &known.info,
-        fault,
-        invocation.holder(),
-    ) {
+    not_accepted(
+        fault_line(alloc, &shader.module, &shader.info, fault, shader.holder),
+        err,
+    )
+}
+
+/// Tells why nothing more is asked of a module.
+fn tell_unasked<E: Write>(
+    alloc: Global,
+    module: &Module,
+    unasked: Unasked,
+    holder: JsonHolder,
+    err: &mut E,
+) -> u8 {
+    match unasked {
+        Unasked::TooDeep(nested) => refuse(nested, err),
+        Unasked::Untyped(untyped) => {
+            not_accepted(untyped_line(alloc, module, untyped, holder), err)
+        }
+        Unasked::Memory(_) => fail(Failure::Memory, err),
+    }
+}
+
+/// Tells the fault for which a module is not accepted.
+fn not_accepted<E: Write>(line: Result<String, AllocError>, err: &mut E) -> u8 {
+    match line {
         Ok(line) => {
             let _ = writeln!(err, "not accepted: {line}");
             REFUSED
         }
         Err(_) => fail(Failure::Memory, err),
-    }
-}
-
-/// Tells why the writer was not asked for a module, or was stopped at it.
-fn tell_unwritten<E: Write>(
-    alloc: Global,
-    invocation: Invocation<'_>,
-    known: &Known,
-    unwritten: NoOutcome,
-    err: &mut E,
-) -> u8 {
-    match unwritten {
-        NoOutcome::NotAccepted(fault) => refuse_unaccepted(alloc, invocation, known, fault, err),
-        NoOutcome::Memory(_) => fail(Failure::Memory, err),
-        reason => refuse(reason, err),
     }
 }
 

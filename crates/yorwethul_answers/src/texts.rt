@@ -1,7 +1,8 @@
 //! Texts in the style that is asked for.
 
-use module_answers::{NoOutcome, WriteOutcome, flags_for, write_decimal_within, write_within};
-use naga_json::Known;
+use module_answers::{
+    NoOutcome, Shader, WriteOutcome, flags_for, write_decimal_within, write_within,
+};
 use std::alloc::Global;
 use yorwethul_input::Style;
 
@@ -9,13 +10,13 @@ use yorwethul_input::Style;
 pub fn write_in(
     alloc: Global,
     style: Style,
-    known: &mut Known,
+    shader: &mut Shader,
 ) -> Result<WriteOutcome<String>, NoOutcome> {
     let flags = flags_for(style.explicit_types, !style.plain);
-    let limits = style.limits;
+    let bound = style.limits.text;
     if style.plain {
-        write_within(alloc, &known.module, &mut known.info, flags, limits)
+        write_within(alloc, &shader.module, &mut shader.info, flags, bound)
     } else {
-        write_decimal_within(alloc, &mut known.module, &mut known.info, flags, limits)
+        write_decimal_within(alloc, &mut shader.module, &mut shader.info, flags, bound)
     }
 }

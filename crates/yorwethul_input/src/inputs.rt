@@ -5,43 +5,47 @@ use crate::words::Invocation;
 use module_positions::nests_too_deep;
 use naga_info::ModuleInfo;
 use naga_ir::Module;
-use naga_json::{Known, ReadError, read_info, read_known, read_module};
+use naga_json::{Given, ReadError, read_given, read_info, read_module};
 use std::rt::Files;
 use std::{fs, io};
 
-/// The module that the invocation names, with what is known of it.
-pub fn known_of<'a, R: Files + Input + AllocGlobal>(
+/// The module that the invocation names, with what is known of it where a file tells that.
+pub fn given_by<'a, R: Files + Input + AllocGlobal>(
     rt: &R,
     invocation: Invocation<'a>,
-) -> Result<Known, Failure<'a>> {
+) -> Result<Given, Failure<'a>> {
     match invocation.info {
-        Some(info) => known_in_two(rt, invocation.module, info),
-        None => known_in(rt, invocation.module),
+        Some(info) => given_in_two(rt, invocation.module, info),
+        None => given_in(rt, invocation.module),
     }
 }
 
-fn known_in<'a, R: Files + Input + AllocGlobal>(
+fn given_in<'a, R: Files + Input + AllocGlobal>(
     rt: &R,
     name: &'a str,
-) -> Result<Known, Failure<'a>> {
+) -> Result<Given, Failure<'a>> {
     let text = text_of(rt, name)?;
-    match read_known(rt.alloc(), text.as_str()) {
-        Ok(known) => Ok(known),
+    match read_given(rt.alloc(), text.as_str()) {
+        Ok(given) => Ok(given),
         Err(error) => Err(unread(name, text.as_str(), error)),
     }
 }
 
-fn known_in_two<'a, R: Files + Input + AllocGlobal>(
+fn given_in_two<'a, R: Files + Input + AllocGlobal>(
     rt: &R,
     module_name: &'a str,
     info_name: &'a str,
-) -> Result<Known, Failure<'a>> {
+) -> Result<Given, Failure<'a>> {
     if info_name == "-" && module_name == "-" {
         return Err(Failure::OneInput);
     }
     let info = info_in(rt, info_name)?;
     match module_in(rt, module_name) {
-        Ok(module) => Ok(Known { module, info }),
+        Ok(module) => Ok(Given {
+            module,
+            info: Some(info),
+            is_bare: true,
+        }),
         Err(failure) => Err(failure),
     }
 }

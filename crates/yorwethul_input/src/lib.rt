@@ -7,5 +7,5 @@ mod inputs;
 mod words;
 
 pub use failure::Failure;
-pub use inputs::known_of;
+pub use inputs::given_by;
 pub use words::{Invocation, Style, Task, invocation_of};

@@ -2,7 +2,6 @@
 
 use clap::{Arg, ArgAction, ArgMatches, Command, Error, value_parser};
 use module_limits::Limits;
-use module_positions::JsonHolder;
 use std::alloc::{AllocError, Global};
 
 /// What is done with the modules that are read.
@@ -41,18 +40,8 @@ pub struct Invocation<'a> {
     pub style: Style,
     /// The file with the module, or `-` for the standard input.
     pub module: &'a str,
-    /// The file with what is known of the module, where it does not stand beside the module.
+    /// The file with what is known of the module, where one is named.
     pub info: Option<&'a str>,
-}
-
-impl Invocation<'_> {
-    /// What the file with the module holds, by which positions are told.
-    pub fn holder(self) -> JsonHolder {
-        match self.info {
-            Some(_) => JsonHolder::Module,
-            None => JsonHolder::Member,
-        }
-    }
 }
 
 /// What the words after the program's name ask for. The error is also what tells the help and the
@@ -108,11 +97,13 @@ const ABOUT: &str =
     "Reads a module of naga's intermediate representation from JSON, and prints its WGSL text.";
 
 const AFTER_HELP: &str = "\
-The file holds an object with the members module and info, as serde writes naga's Module and
-ModuleInfo. With --lines each line is such an object, which may have the members explicit_types,
-plain, nesting, text and id beside; the first two, true or false, and the next two, numbers, hold
-in place of the options of these names. It is answered before the next line is read, by one line,
-an object with the same id and with one of the members text, refused, not_accepted and error.
+The file holds a module, as serde writes naga's Module, or an object with the members module and
+info, the second as serde writes naga's ModuleInfo. Where there is no info, or it is null, the types
+of expressions are found by the module. With --lines each line is such a module or such an object,
+which may have the members explicit_types, plain, nesting, text and id beside; the first two, true
+or false, and the next two, numbers, hold in place of the options of these names. It is answered
+before the next line is read, by one line, an object with the same id and with one of the members
+text, refused, not_accepted and error.
 
 Literals of floats are written by the digits that Rust's formatting gives, and the text has what
 standard compilers ask for, as enable subgroups. With --plain neither is so, as by the library
@@ -219,6 +210,6 @@ fn number<'a>(alloc: Global, name: &'a str, value: &'a str, help: &'a str) -> Ar
 
 fn module<'a>(alloc: Global) -> Arg<'a> {
     Arg::new(alloc, "module").value_name("MODULE.json").help(
-        "The module with what is known of it; the standard input where it is - or absent",
+        "The module, also with what is known of it; the standard input where it is - or absent",
     )
 }

@@ -4,16 +4,8 @@ use Rattle.naga_acceptance.specs.FirstFaults.{IsFirstFault}
 use Rattle.naga_wgsl_out.specs.Checked.{IsCounted}
 use Rattle.naga_wgsl_out.specs.Within.{unfailed}
 use Rattle.module_answers.specs.WriteOutcomes.{AnswersWriting}
-use Rattle.module_answers.proofs.Bounded.{as_kept, as_unwritten, is_too_long}
+use Rattle.module_answers.proofs.Bounded.{as_kept, is_too_long}
 use Rattle.module_answers.proofs.within.write_within.Goals as goal
-
-pub returns-in_err-check_nesting-clause-unwritten : goal.returns-in_err-check_nesting-clause-unwritten
-returns-in_err-check_nesting-clause-unwritten c =
-    as_unwritten c.args.flags c.args.limits c.args.«module».now c.args.info.now c.from_residual.result _
-    c.from_residual.ensures.1 c.in_err-check_nesting.ensures.deep
-
-pub returns-in-Some-clause-nested : goal.returns-in-Some-clause-nested
-returns-in-Some-clause-nested c = c.in_ok-check_nesting.ensures.flat
 
 pub returns-in-Some-clause-accepted : goal.returns-in-Some-clause-accepted
 returns-in-Some-clause-accepted c = sym c.write.ensures.accepted ∙ ap is_ok c.in-Ok.is
@@ -43,7 +35,7 @@ returns-in-Some-clause-written c =
 
 pub returns-in-Some-clause-within : goal.returns-in-Some-clause-within
 returns-in-Some-clause-within c =
-    subst (λ o. IfSome o (λ v. length (string_bytes v.sink) ≤ c.args.limits.text)) c.in-Some.is
+    subst (λ o. IfSome o (λ v. length (string_bytes v.sink) ≤ c.args.bound)) c.in-Some.is
     c.within_its_limit.ensures.within
 
 pub returns-in-None-clause-unwritten : goal.returns-in-None-clause-unwritten
@@ -55,18 +47,16 @@ returns-in-None-clause-unwritten c =
     let written =
     subst (λ r. IfOk r (λ w. AnswersWriting flags m info w.answer w.refusal c.new-empty.result.text
     w.sink.text c.new-empty.result.failures w.sink.failures)) c.in-Ok.is c.write.ensures.written in
-    is_too_long flags c.args.limits c.args.«module».now m c.args.info.now info w.answer w.refusal w.sink.text
+    is_too_long flags c.args.bound c.args.«module».now m c.args.info.now info w.answer w.refusal w.sink.text
     w.sink.failures
-    c.in_ok-check_nesting.ensures.flat
     (sym c.write.ensures.accepted ∙ ap is_ok c.in-Ok.is)
     (subst (λ r. IfOk r (λ _. IsCounted m c.args.info.now info)) c.in-Ok.is c.write.ensures.counted)
     (subst (λ s. AnswersWriting flags m info w.answer w.refusal s.text w.sink.text s.failures w.sink.failures)
     c.new-empty.ensures written)
-    (subst (λ o. IfNone o (c.args.limits.text < length w.sink.text)) c.in-None.is c.within_its_limit.ensures.too_long)
+    (subst (λ o. IfNone o (c.args.bound < length w.sink.text)) c.in-None.is c.within_its_limit.ensures.too_long)
 
 pub returns-in-Err-clause-unwritten : goal.returns-in-Err-clause-unwritten
 returns-in-Err-clause-unwritten c = (
-  c.in_ok-check_nesting.ensures.flat,
   subst (λ r. IfErr r (IsFirstFault c.args.«module».now c.args.info.now)) c.in-Err.is c.write.ensures.fault,
   refl,
   subst (λ r. IfErr r (λ _. c.write.new.info ≡ c.args.info.now)) c.in-Err.is c.write.ensures.untouched,
