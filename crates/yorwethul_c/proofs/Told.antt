@@ -1,6 +1,7 @@
 -- What a call tells, from what its steps say.
 use Rattle.std.proofs.Common.{◌≡◌, ◌≤◌, ◌∙◌, ℕ, List, [], Err, IfErr, IfOk, None, Ok, Option}
 use Rattle.std.proofs.Common.{Result, Some, ap, inl, inr, is_none, length, refl, subst, sym, arith}
+use Rattle.std.specs.Prelude.{Bool, true, false}
 use Rattle.std.proofs.lemmas.Bool.{le-leb, lt-leb}
 use Rattle.decimal_floats.specs.Decimals.{IsDecimalModule}
 use Rattle.std.specs.Prelude.{◌<◌, ◌%◌, IfSome, IsTrue}
@@ -21,15 +22,20 @@ use Rattle.naga_acceptance.specs.FirstFaults.{IsFirstFault}
 use Rattle.naga_acceptance.specs.declared.faults.Unaccepted.{Unaccepted}
 use Rattle.naga_wgsl_out.specs.declared.unwritable.Refusal.{Refusal}
 use Rattle.module_positions.specs.Faults.{TellsFaultAt}
+use Rattle.module_answers.specs.Shaders.{TellsUnasked, TellsUntypedAt, holder_of}
 use Rattle.module_answers.specs.WriteOutcomes.{TellsBeside}
+use Rattle.module_answers.specs.declared.shaders.Unasked.{Unasked}
+use Rattle.module_answers.specs.declared.shaders.Unasked.TheVariants as unasked
+use Rattle.module_positions.specs.declared.positions.JsonHolder.{JsonHolder}
 use Rattle.module_positions.specs.declared.positions.JsonHolder.TheVariants as holder
-use Rattle.module_answers.specs.Within.{IsUnwritten, TellsDepth}
+use Rattle.module_answers.specs.Within.{IsUnwritten}
 use Rattle.module_answers.specs.declared.within.NoOutcome.{NoOutcome}
 use Rattle.module_answers.specs.declared.within.NoOutcome.TheVariants as unwritten
-use Rattle.yorwethul_c.specs.Answers.{IsAccepted, IsNotAccepted, IsRefused, IsTooDeep, IsTooLong}
-use Rattle.yorwethul_c.specs.Answers.{WasWritten, LacksMemory, Says, SaysOfError, SaysOfUnwritten}
-use Rattle.yorwethul_c.specs.Answers.{SaysOfWritten, SaysThat, TellsAnyRefusal, deepest_nesting}
-use Rattle.yorwethul_c.specs.Answers.{longest_text, TellsOfChecking, TellsOfLayouts, TellsOfReading}
+use Rattle.yorwethul_c.specs.Answers.{IsAccepted, IsRefused, IsTooLong}
+use Rattle.yorwethul_c.specs.Answers.{WasWritten, LacksMemory, Says, SaysOfError, SaysOfUnasked}
+use Rattle.yorwethul_c.specs.Answers.{SaysOfUnwritten, SaysOfWritten, SaysThat, TellsAnyRefusal}
+use Rattle.yorwethul_c.specs.Answers.{TellsOfChecking, TellsOfFault, TellsOfLayouts, WasRead}
+use Rattle.yorwethul_c.specs.Answers.{deepest_nesting, longest_text, TellsOfReading}
 use Rattle.yorwethul_c.specs.Answers.{TellsOfWriting, IsAsAsked, WasAsked, asks_decimal_floats}
 use Rattle.yorwethul_c.specs.declared.status.Status.{Status}
 use Rattle.yorwethul_c.specs.declared.status.Status.TheVariants as status
@@ -59,142 +65,156 @@ settled_that bytes Holds (Ok t) wanted told text holds is lacks = inl (is.0, sub
 settled_that bytes Holds (Err e) wanted told text holds is lacks = inr lacks
 
 -- of no refusal nothing has to hold
-pub said_of_none : (m : Module) (wanted told : Status) (text : List ℕ) → Says wanted told text →
-    SaysThat (TellsAnyRefusal m None) wanted told text
-said_of_none m wanted told text (inl is) = inl (is, tt)
-said_of_none m wanted told text (inr less) = inr less
+pub said_of_none : (from : JsonHolder) (m : Module) (wanted told : Status) (text : List ℕ) → Says wanted told text →
+    SaysThat (TellsAnyRefusal from m None) wanted told text
+said_of_none from m wanted told text (inl is) = inl (is, tt)
+said_of_none from m wanted told text (inr less) = inr less
 
 -- ---- what is said of reading is told by each call
 
 pub unread_written : (json : List ℕ) (flags : ℕ) (told : Status) (text : List ℕ) → TellsOfReading json told text →
     TellsOfWriting json flags told text
 unread_written json flags status.NoModule text tells = tells
-unread_written json flags status.TooDeep text tells = inl tells
+unread_written json flags status.TooDeep text tells = tells
 unread_written json flags status.OutOfMemory text tells = tells
 unread_written json flags status.Done text tells = absurd tells
 unread_written json flags status.Refused text tells = absurd tells
-unread_written json flags status.NotAccepted text tells = absurd tells
+unread_written json flags status.NotAccepted text tells = inr tells
 unread_written json flags status.UnknownFlag text tells = absurd tells
 unread_written json flags status.TooLong text tells = absurd tells
 
 pub unread_checked : (json : List ℕ) (told : Status) (text : List ℕ) → TellsOfReading json told text →
     TellsOfChecking json told text
 unread_checked json status.NoModule text tells = tells
-unread_checked json status.TooDeep text tells = inl tells
+unread_checked json status.TooDeep text tells = tells
 unread_checked json status.OutOfMemory text tells = tells
 unread_checked json status.Done text tells = absurd tells
 unread_checked json status.Refused text tells = absurd tells
-unread_checked json status.NotAccepted text tells = absurd tells
+unread_checked json status.NotAccepted text tells = inr tells
 unread_checked json status.UnknownFlag text tells = absurd tells
 unread_checked json status.TooLong text tells = absurd tells
 
 pub unread_laid_out : (json : List ℕ) (told : Status) (text : List ℕ) → TellsOfReading json told text →
     TellsOfLayouts json told text
 unread_laid_out json status.NoModule text tells = tells
-unread_laid_out json status.TooDeep text tells = inl tells
+unread_laid_out json status.TooDeep text tells = tells
 unread_laid_out json status.OutOfMemory text tells = tells
 unread_laid_out json status.Done text tells = absurd tells
 unread_laid_out json status.Refused text tells = absurd tells
-unread_laid_out json status.NotAccepted text tells = absurd tells
+unread_laid_out json status.NotAccepted text tells = inr tells
 unread_laid_out json status.UnknownFlag text tells = absurd tells
 unread_laid_out json status.TooLong text tells = absurd tells
 
+-- ---- what was read
+
+-- JSON that is the module itself has no info
+pub bare_alone : (is_bare : Bool) (came : Option ModuleInfo) → (IsTrue is_bare → came ≡ None) →
+    holder_of is_bare ≡ holder.Module → came ≡ None
+bare_alone true came alone is = alone refl
+bare_alone false came alone is = absurd cc
+
+-- nothing more is asked of a module
+pub not_asked : (json : List ℕ) (from : JsonHolder) (m : Module) (came : Option ModuleInfo) (reason : Unasked)
+    (told : Status) (text : List ℕ) → TellsUnasked deepest_nesting m came reason →
+    SaysOfUnasked from m reason told text → TellsOfReading json told text
+not_asked json from m came (unasked.TooDeep nested) told text is says =
+    said (TellsOfReading json) status.TooDeep told text (inr (record { m = m; nested = nested; past = is })) refl says
+not_asked json from m came (unasked.Untyped untyped) told text is says =
+    said_that (TellsOfReading json) (TellsUntypedAt from m untyped) status.NotAccepted told text
+    (λ line. record { from = from; m = m; came = came; untyped = untyped; is = is; line = line }) refl says
+not_asked json from m came (unasked.Memory error) told text is says =
+    lacking (TellsOfReading json) told text refl says
+
 -- ---- what was asked of the module
 
-pub faulty : (m : Module) (read : ModuleInfo) (found : Option Unaccepted) (fault : Unaccepted) (text : List ℕ) →
-    found ≡ Some fault → IfSome found (IsFirstFault m read) → TellsFaultAt holder.Member m read fault text →
-    IsNotAccepted text
-faulty m read found fault text is fails line =
-    record {
+pub faulty : (from : JsonHolder) (m : Module) (read : ModuleInfo) (found : Option Unaccepted) (fault : Unaccepted)
+    (text : List ℕ) → WasRead from m read →
+    found ≡ Some fault → IfSome found (IsFirstFault m read) → TellsFaultAt from m read fault text →
+    TellsOfFault text
+faulty from m read found fault text was_read is fails line =
+    inl (record {
+      from = from;
       m = m;
       read = read;
+      was_read = was_read;
       fault = fault;
       fails = subst (λ r. IfSome r (IsFirstFault m read)) is fails;
       line = line;
-    }
-
--- it is nested too deep, or memory was wanting for the question
-pub too_deep : (Tells : Status → List ℕ → Type 0) (m : Module) (info : ModuleInfo) (reason : NoOutcome)
-    (told : Status) (text : List ℕ) → (IsTooDeep → Tells status.TooDeep text) → Tells status.OutOfMemory [] →
-    TellsDepth deepest_nesting m reason → SaysOfUnwritten m info reason told text → Tells told text
-too_deep Tells m info (unwritten.TooDeep nested) told text deep lacks past says =
-    said Tells status.TooDeep told text (deep (record { m = m; nested = nested; past = past })) lacks says.0
-too_deep Tells m info (unwritten.NotAccepted fault) told text deep lacks past says = absurd past
-too_deep Tells m info unwritten.TooLong told text deep lacks past says = absurd past
-too_deep Tells m info (unwritten.Memory error) told text deep lacks past says =
-    said Tells status.OutOfMemory told text (subst (Tells status.OutOfMemory) (sym (says.1 refl)) lacks) lacks says.0
+    })
 
 -- what was asked of the writer
-abbrev was_asked : (flags : ℕ) (writer : WriterFlags) (given m : Module) (read info : ModuleInfo) → flags ≤ 7 →
-    bits_of writer ≡ flags % 4 → IsAsAsked (asks_decimal_floats flags) given m →
+abbrev was_asked : (flags : ℕ) (writer : WriterFlags) (from : JsonHolder) (given m : Module)
+    (read info : ModuleInfo) → flags ≤ 7 → bits_of writer ≡ flags % 4 → WasRead from given read →
+    IsAsAsked (asks_decimal_floats flags) given m →
     IsTrue (is_accepted given read) → IsCounted m read info → WasAsked flags
-was_asked flags writer given m read info known bits asked accepted counted = record {
+was_asked flags writer from given m read info known bits was_read asked accepted counted = record {
   flags_are_known = known;
   writer = writer;
   has_bits = bits;
+  from = from;
   given = given;
   m = m;
   is_as_asked = asked;
   read = read;
+  was_read = was_read;
   info = info;
   accepted = accepted;
   counted = counted;
 }
 
 -- the writer was not asked for it, or was stopped
-pub not_written : (json : List ℕ) (flags : ℕ) (writer : WriterFlags) (given m : Module) (read info : ModuleInfo)
-    (reason : NoOutcome) (told : Status) (text : List ℕ) →
-    flags ≤ 7 → bits_of writer ≡ flags % 4 →
+pub not_written : (json : List ℕ) (flags : ℕ) (writer : WriterFlags) (from : JsonHolder) (given m : Module)
+    (read info : ModuleInfo) (reason : NoOutcome) (told : Status) (text : List ℕ) →
+    flags ≤ 7 → bits_of writer ≡ flags % 4 → WasRead from given read →
     (reason ≡ unwritten.TooLong → IsAsAsked (asks_decimal_floats flags) given m) →
-    IsUnwritten writer (record { nesting = deepest_nesting; text = longest_text }) given m read info reason →
-    SaysOfUnwritten m info reason told text → TellsOfWriting json flags told text
-not_written json flags writer given m read info (unwritten.TooDeep nested) told text known bits asked is says =
-    said (TellsOfWriting json flags) status.TooDeep told text
-    (inr (record { m = given; nested = nested; past = is.0 })) refl says.0
-not_written json flags writer given m read info (unwritten.NotAccepted fault) told text known bits asked is says =
-    said_that (TellsOfWriting json flags) (TellsFaultAt holder.Member m info fault) status.NotAccepted told text
-    (λ line. record {
+    IsUnwritten writer longest_text given m read info reason →
+    SaysOfUnwritten from m info reason told text → TellsOfWriting json flags told text
+not_written json flags writer from given m read info (unwritten.NotAccepted fault) told text known bits was_read asked
+    is says =
+    said_that (TellsOfWriting json flags) (TellsFaultAt from m info fault) status.NotAccepted told text
+    (λ line. inl (record {
+      from = from;
       m = given;
       read = read;
+      was_read = was_read;
       fault = fault;
-      fails = is.1;
-      line = subst (λ m. TellsFaultAt holder.Member m read fault text) is.2
-          (subst (λ read. TellsFaultAt holder.Member m read fault text) is.3 line);
-    }) refl says
-not_written json flags writer given m read info unwritten.TooLong told text known bits asked is says =
-    let asking = was_asked flags writer given m read info known bits (asked refl) is.accepted is.counted in
+      fails = is.0;
+      line = subst (λ m. TellsFaultAt from m read fault text) is.1
+          (subst (λ read. TellsFaultAt from m read fault text) is.2 line);
+    })) refl says
+not_written json flags writer from given m read info unwritten.TooLong told text known bits was_read asked is says =
+    let asking =
+    was_asked flags writer from given m read info known bits was_read (asked refl) is.accepted is.counted in
     let long : IsTooLong flags = record { asked = asking; longer = is.longer } in
-    said (TellsOfWriting json flags) status.TooLong told text long refl says.0
-not_written json flags writer given m read info (unwritten.Memory error) told text known bits asked is says =
-    said (TellsOfWriting json flags) status.OutOfMemory told text (says.1 refl) refl says.0
+    said (TellsOfWriting json flags) status.TooLong told text long refl says
 
-pub accepted_by : (m : Module) (read : ModuleInfo) (found : Option Unaccepted) →
-    found ≡ None → is_none found ≡ is_accepted m read → IsAccepted
-accepted_by m read found is accepts =
-    record { m = m; read = read; accepted = sym accepts ∙ ap is_none is }
+pub accepted_by : (from : JsonHolder) (m : Module) (read : ModuleInfo) (found : Option Unaccepted) →
+    WasRead from m read → found ≡ None → is_none found ≡ is_accepted m read → IsAccepted
+accepted_by from m read found was_read is accepts =
+    record { from = from; m = m; read = read; was_read = was_read; accepted = sym accepts ∙ ap is_none is }
 
 -- ---- what the writer did
 
 -- it stopped by an error: a refusal, since its sink has not failed, or for want of memory
-stopped : (json : List ℕ) (flags : ℕ) (writer : WriterFlags) (m : Module) (info : ModuleInfo)
+stopped : (json : List ℕ) (flags : ℕ) (writer : WriterFlags) (from : JsonHolder) (m : Module) (info : ModuleInfo)
     (refusal : Option Refusal) (e : Error) (told : Status) (text : List ℕ) →
     IsRefusal (annotates_types writer) m info 0 0 e →
-    (TellsOfModule e → TellsAnyRefusal m refusal text → IsRefused flags text) →
-    SaysOfError m refusal e told text → TellsOfWriting json flags told text
-stopped json flags writer m info refusal (error.Memory e) told text reason is says =
-    said_that (TellsOfWriting json flags) (TellsAnyRefusal m refusal) status.OutOfMemory told text (λ _. says.1 refl)
-    refl says.0
-stopped json flags writer m info refusal (error.FmtError sink.Failed) told text reason is says =
+    (TellsOfModule e → TellsAnyRefusal from m refusal text → IsRefused flags text) →
+    SaysOfError from m refusal e told text → TellsOfWriting json flags told text
+stopped json flags writer from m info refusal (error.Memory e) told text reason is says =
+    said_that (TellsOfWriting json flags) (TellsAnyRefusal from m refusal) status.OutOfMemory told text
+    (λ _. says.1 refl) refl says.0
+stopped json flags writer from m info refusal (error.FmtError sink.Failed) told text reason is says =
     let none : ⊥ = omega (arith, reason) in absurd none
-stopped json flags writer m info refusal (error.FmtError (sink.Memory e)) told text reason is says = absurd reason
-stopped json flags writer m info refusal (error.Custom e) told text reason is says =
-    said_that (TellsOfWriting json flags) (TellsAnyRefusal m refusal) status.Refused told text (is tt) refl says.0
-stopped json flags writer m info refusal (error.Unimplemented e) told text reason is says =
-    said_that (TellsOfWriting json flags) (TellsAnyRefusal m refusal) status.Refused told text (is tt) refl says.0
-stopped json flags writer m info refusal (error.UnsupportedRelationalFunction e) told text reason is says =
-    said_that (TellsOfWriting json flags) (TellsAnyRefusal m refusal) status.Refused told text (is tt) refl says.0
-stopped json flags writer m info refusal (error.Unsupported kind value) told text reason is says =
-    said_that (TellsOfWriting json flags) (TellsAnyRefusal m refusal) status.Refused told text (is tt) refl says.0
+stopped json flags writer from m info refusal (error.FmtError (sink.Memory e)) told text reason is says = absurd reason
+stopped json flags writer from m info refusal (error.Custom e) told text reason is says =
+    said_that (TellsOfWriting json flags) (TellsAnyRefusal from m refusal) status.Refused told text (is tt) refl says.0
+stopped json flags writer from m info refusal (error.Unimplemented e) told text reason is says =
+    said_that (TellsOfWriting json flags) (TellsAnyRefusal from m refusal) status.Refused told text (is tt) refl says.0
+stopped json flags writer from m info refusal (error.UnsupportedRelationalFunction e) told text reason is says =
+    said_that (TellsOfWriting json flags) (TellsAnyRefusal from m refusal) status.Refused told text (is tt) refl says.0
+stopped json flags writer from m info refusal (error.Unsupported kind value) told text reason is says =
+    said_that (TellsOfWriting json flags) (TellsAnyRefusal from m refusal) status.Refused told text (is tt) refl says.0
 
 pub at_most_seven : (flags : ℕ) → flags < 4 → flags ≤ 7
 at_most_seven flags less = omega arith
@@ -209,18 +229,19 @@ with_decimal_floats flags given m more decimal =
     subst (λ asked. IsAsAsked asked given m) (sym (le-leb 4 flags more)) decimal
 
 -- what the writer did when asked
-module _ (json : List ℕ) (flags : ℕ) (writer : WriterFlags) (given m : Module) (read info : ModuleInfo)
-    (content : List ℕ) (known : flags ≤ 7) (bits : bits_of writer ≡ flags % 4)
-    (asked : IsAsAsked (asks_decimal_floats flags) given m) (accepted : IsTrue (is_accepted given read))
+module _ (json : List ℕ) (flags : ℕ) (writer : WriterFlags) (from : JsonHolder) (given m : Module)
+    (read info : ModuleInfo) (content : List ℕ) (known : flags ≤ 7) (bits : bits_of writer ≡ flags % 4)
+    (was_read : WasRead from given read) (asked : IsAsAsked (asks_decimal_floats flags) given m)
+    (accepted : IsTrue (is_accepted given read))
     (counted : IsCounted m read info) where
   abbrev asking : WasAsked flags
-  asking = was_asked flags writer given m read info known bits asked accepted counted
+  asking = was_asked flags writer from given m read info known bits was_read asked accepted counted
 
   -- an error that tells of the module is a refusal, which is told beside it
   refusing : (e : Error) (refusal : Option Refusal) (text : List ℕ) →
       FaithfulWriting writer m info (Err e) [] content 0 0 →
       TellsBeside (annotates_types writer) m info (Err e) refusal → TellsOfModule e →
-      TellsAnyRefusal m refusal text → IsRefused flags text
+      TellsAnyRefusal from m refusal text → IsRefused flags text
   refusing e None text faithful beside tells line = absurd (beside tells)
   refusing e (Some refusal) text faithful beside tells line = record {
     asked = asking;
@@ -235,7 +256,7 @@ module _ (json : List ℕ) (flags : ℕ) (writer : WriterFlags) (given m : Modul
   pub wrote : (answer : Result Unit Error) (refusal : Option Refusal) (told : Status) (text : List ℕ) →
       FaithfulWriting writer m info answer [] content 0 0 → AppendsItsText m info writer answer [] content →
       TellsBeside (annotates_types writer) m info answer refusal → length content ≤ longest_text →
-      SaysOfWritten m answer refusal content told text → TellsOfWriting json flags told text
+      SaysOfWritten from m answer refusal content told text → TellsOfWriting json flags told text
   wrote (Ok tt) refusal told text faithful appends beside within is =
       let done : WasWritten flags text =
       record {
@@ -246,5 +267,5 @@ module _ (json : List ℕ) (flags : ℕ) (writer : WriterFlags) (given m : Modul
       } in
       subst (λ s. TellsOfWriting json flags s text) (sym is.0) done
   wrote (Err e) refusal told text faithful appends beside within says =
-      stopped json flags writer m info refusal e told text faithful.refusals
+      stopped json flags writer from m info refusal e told text faithful.refusals
       (refusing e refusal text faithful beside) says

@@ -1,9 +1,10 @@
 -- What a call from C answers: a status, and a text in the caller's memory.
 --
--- Throughout, m is a module, read is what is known of it, info is the same with the uses counted, and
--- json is the bytes that a call was given.
+-- Throughout, m is a module, read is what is known of it, info is the same with the uses counted,
+-- came is the info that came with it, if one did, from is what the JSON holds by which positions are
+-- told, and json is the bytes that a call was given.
 use Rattle.std.specs.Prelude.{◌≡◌, ◌<◌, ◌≤◌, ⊤, ℕ, ◌%◌, ◌++◌, ◌⊎◌, Bool, true, false, IsTrue}
-use Rattle.std.specs.Prelude.{List, [], Option, Some, length}
+use Rattle.std.specs.Prelude.{List, [], None, Option, Some, length}
 use Rattle.std.specs.Option.{IfSome}
 use Rattle.std.specs.Prelude.{drop, if◌then◌else◌, nat_le, Result, Ok, Err}
 use Rattle.naga_ir.specs.declared.module.Module.{Module}
@@ -15,7 +16,13 @@ use Rattle.naga_acceptance.specs.declared.faults.Unaccepted.{Unaccepted}
 use Rattle.module_semantics.specs.acceptance.Accepted.{is_accepted}
 use Rattle.module_positions.specs.Faults.{TellsFaultAt}
 use Rattle.module_answers.specs.Refusals.{TellsRefusalAt}
+use Rattle.module_answers.specs.Shaders.{IsInfoOf, TellsUntypedAt}
+use Rattle.module_answers.specs.Shaders as shaders
 use Rattle.module_answers.specs.WriteOutcomes.{TellsRefusal}
+use Rattle.module_answers.specs.declared.shaders.Unasked.{Unasked}
+use Rattle.module_answers.specs.declared.shaders.Unasked.TheVariants as unasked
+use Rattle.naga_inference.specs.declared.errors.Untyped.{Untyped}
+use Rattle.module_positions.specs.declared.positions.JsonHolder.{JsonHolder}
 use Rattle.module_positions.specs.declared.positions.JsonHolder.TheVariants as holder
 use Rattle.module_answers.specs.declared.within.NoOutcome.{NoOutcome}
 use Rattle.module_answers.specs.declared.within.NoOutcome.TheVariants as unwritten
@@ -70,15 +77,8 @@ status_of_error (error.Memory e) = status.OutOfMemory
 status_of_error _ = status.Refused
 
 -- the line of a refusal, if there is one
-abbrev pub TellsAnyRefusal : Module → Option Refusal → (text : List ℕ) → Type 0
-TellsAnyRefusal m told text = IfSome told (λ refusal. TellsRefusalAt holder.Member m refusal text)
-
--- the status of what the writer was not asked for, or stopped at
-abbrev pub status_of_unwritten : NoOutcome → Status
-status_of_unwritten (unwritten.TooDeep nested) = status.TooDeep
-status_of_unwritten (unwritten.NotAccepted fault) = status.NotAccepted
-status_of_unwritten unwritten.TooLong = status.TooLong
-status_of_unwritten (unwritten.Memory error) = status.OutOfMemory
+abbrev pub TellsAnyRefusal : JsonHolder → Module → Option Refusal → (text : List ℕ) → Type 0
+TellsAnyRefusal from m told text = IfSome told (λ refusal. TellsRefusalAt from m refusal text)
 
 -- how many bytes a text may have, and how deep a module may be nested
 abbrev pub longest_text : ℕ
@@ -96,16 +96,27 @@ IsAsAsked false given m = m ≡ given
 abbrev pub asks_decimal_floats : (flags : ℕ) → Bool
 asks_decimal_floats flags = nat_le 4 flags
 
+-- A module was read that is nested no deeper than it may be. What is known of it is the info that
+-- came with it, or if none did, that which the rules of types give. Where the JSON is the module
+-- itself, none came.
+pub record WasRead (from : JsonHolder) (m : Module) (read : ModuleInfo) : Type 0 where
+  pub nested : nested_past deepest_nesting m ≡ None
+  pub came : Option ModuleInfo
+  pub known : IsInfoOf m came read
+  pub bare : from ≡ holder.Module → came ≡ None
+
 -- The writer was asked under these flags for the text of m, which is the given module, or that with
 -- its floats made decimal. The given one is accepted.
 pub record WasAsked (flags : ℕ) : Type 0 where
   pub flags_are_known : flags ≤ 7
   pub writer : WriterFlags
   pub has_bits : bits_of writer ≡ flags % 4
+  pub from : JsonHolder
   pub given : Module
   pub m : Module
   pub is_as_asked : IsAsAsked (asks_decimal_floats flags) given m
   pub read : ModuleInfo
+  pub was_read : WasRead from given read
   pub info : ModuleInfo
   pub accepted : IsTrue (is_accepted given read)
   pub counted : IsCounted m read info
@@ -132,7 +143,7 @@ pub record IsRefused (flags : ℕ) (text : List ℕ) : Type 0 where
   pub faithful : FaithfulWriting asked.writer asked.m asked.info (Err error) [] beginning 0 0
   pub refusal : Refusal
   pub beside : TellsRefusal (annotates_types asked.writer) asked.m asked.info (Err error) refusal
-  pub line : TellsRefusalAt holder.Member asked.m refusal text
+  pub line : TellsRefusalAt asked.from asked.m refusal text
 
 -- A module was read of which this is nested too deep.
 pub record IsTooDeep : Type 0 where
@@ -142,53 +153,70 @@ pub record IsTooDeep : Type 0 where
 
 -- A module was read that is accepted.
 pub record IsAccepted : Type 0 where
+  pub from : JsonHolder
   pub m : Module
   pub read : ModuleInfo
+  pub was_read : WasRead from m read
   pub accepted : IsTrue (is_accepted m read)
 
 -- A module was read that is not accepted, for this fault, which is its first, and this line tells it.
 pub record IsNotAccepted (text : List ℕ) : Type 0 where
+  pub from : JsonHolder
   pub m : Module
   pub read : ModuleInfo
+  pub was_read : WasRead from m read
   pub fault : Unaccepted
   pub fails : IsFirstFault m read fault
-  pub line : TellsFaultAt holder.Member m read fault text
+  pub line : TellsFaultAt from m read fault text
 
--- of what is read: no module stands in the bytes, more than 127 lists and objects of them are open
--- at once, or memory was refused, and then there is no text
+-- A module was read without an info, and this line tells its first expression that has no type by
+-- the rules. So no info that follows them is accepted.
+pub record IsUntyped (text : List ℕ) : Type 0 where
+  pub from : JsonHolder
+  pub m : Module
+  pub came : Option ModuleInfo
+  pub untyped : Untyped
+  pub is : shaders.IsUntyped deepest_nesting m came untyped
+  pub line : TellsUntypedAt from m untyped text
+
+-- of what nests too deep: more than 127 lists and objects of the bytes are open at once, or the
+-- module that they hold is nested too deep
+abbrev pub TellsOfDepth : (json : List ℕ) → Type 0
+TellsOfDepth json = IsTrue (nest_too_deep json) ⊎ IsTooDeep
+
+-- of what is not asked for more: no module stands in the bytes, they nest too deep, its types are
+-- not known, or memory was refused, and then there is no text
 abbrev pub TellsOfReading : (json : List ℕ) → Status → (text : List ℕ) → Type 0
 TellsOfReading json status.NoModule text = ⊤
-TellsOfReading json status.TooDeep text = IsTrue (nest_too_deep json)
+TellsOfReading json status.TooDeep text = TellsOfDepth json
+TellsOfReading json status.NotAccepted text = IsUntyped text
 TellsOfReading json status.OutOfMemory text = text ≡ []
 TellsOfReading json _ text = ⊥
 
--- of what nests too deep: the bytes, or the module that they hold
-abbrev pub TellsOfDepth : (json : List ℕ) → Type 0
-TellsOfDepth json = IsTrue (nest_too_deep json) ⊎ IsTooDeep
+-- of a module that is not accepted
+abbrev pub TellsOfFault : (text : List ℕ) → Type 0
+TellsOfFault text = IsNotAccepted text ⊎ IsUntyped text
 
 -- of a module that is to be written
 abbrev pub TellsOfWriting : (json : List ℕ) (flags : ℕ) → Status → (text : List ℕ) → Type 0
 TellsOfWriting json flags status.Done text = WasWritten flags text
 TellsOfWriting json flags status.Refused text = IsRefused flags text
 TellsOfWriting json flags status.TooLong text = IsTooLong flags
-TellsOfWriting json flags status.TooDeep text = TellsOfDepth json
-TellsOfWriting json flags status.NotAccepted text = IsNotAccepted text
+TellsOfWriting json flags status.NotAccepted text = TellsOfFault text
 TellsOfWriting json flags status.UnknownFlag text = 8 ≤ flags
 TellsOfWriting json flags told text = TellsOfReading json told text
 
 -- of one that is only asked whether it is accepted: then there is no text
 abbrev pub TellsOfChecking : (json : List ℕ) → Status → (text : List ℕ) → Type 0
 TellsOfChecking json status.Done text = IsAccepted × (text ≡ [])
-TellsOfChecking json status.NotAccepted text = IsNotAccepted text
-TellsOfChecking json status.TooDeep text = TellsOfDepth json
+TellsOfChecking json status.NotAccepted text = TellsOfFault text
 TellsOfChecking json told text = TellsOfReading json told text
 
 -- of one whose layouts are asked for: it is refused where its items get no names
 abbrev pub TellsOfLayouts : (json : List ℕ) → Status → (text : List ℕ) → Type 0
 TellsOfLayouts json status.Done text = IsAccepted
 TellsOfLayouts json status.Refused text = IsAccepted
-TellsOfLayouts json status.NotAccepted text = IsNotAccepted text
-TellsOfLayouts json status.TooDeep text = TellsOfDepth json
+TellsOfLayouts json status.NotAccepted text = TellsOfFault text
 TellsOfLayouts json told text = TellsOfReading json told text
 
 -- ---- steps on the way
@@ -206,22 +234,30 @@ abbrev pub SaysThat : (Holds : List ℕ → Type 0) → (wanted told : Status) �
 SaysThat Holds wanted told text = ((told ≡ wanted) × Holds text) ⊎ LacksMemory told text
 
 -- what is told of an error of the writer, and of a refusal beside it
-abbrev pub SaysOfError : Module → Option Refusal → Error → Status → (text : List ℕ) → Type 0
-SaysOfError m refusal error told text =
-    SaysThat (TellsAnyRefusal m refusal) (status_of_error error) told text
+abbrev pub SaysOfError : JsonHolder → Module → Option Refusal → Error → Status →
+    (text : List ℕ) → Type 0
+SaysOfError from m refusal error told text =
+    SaysThat (TellsAnyRefusal from m refusal) (status_of_error error) told text
     × (status_of_error error ≡ status.OutOfMemory → text ≡ [])
 
+-- what is told where nothing more is asked of a module
+abbrev pub SaysOfUnasked : JsonHolder → Module → Unasked → Status → (text : List ℕ) → Type 0
+SaysOfUnasked from m (unasked.TooDeep nested) told text = Says status.TooDeep told text
+SaysOfUnasked from m (unasked.Untyped untyped) told text =
+    SaysThat (TellsUntypedAt from m untyped) status.NotAccepted told text
+SaysOfUnasked from m (unasked.Memory error) told text = LacksMemory told text
+
 -- what is told where the writer was not asked or was stopped
-abbrev pub SaysOfUnwritten : Module → ModuleInfo → NoOutcome → Status → (text : List ℕ) → Type 0
-SaysOfUnwritten m info (unwritten.NotAccepted fault) told text =
-    SaysThat (TellsFaultAt holder.Member m info fault) status.NotAccepted told text
-SaysOfUnwritten m info reason told text =
-    Says (status_of_unwritten reason) told text
-    × (status_of_unwritten reason ≡ status.OutOfMemory → text ≡ [])
+abbrev pub SaysOfUnwritten : JsonHolder → Module → ModuleInfo → NoOutcome → Status →
+    (text : List ℕ) → Type 0
+SaysOfUnwritten from m info (unwritten.NotAccepted fault) told text =
+    SaysThat (TellsFaultAt from m info fault) status.NotAccepted told text
+SaysOfUnwritten from m info unwritten.TooLong told text = Says status.TooLong told text
 
 -- what is told of the writer's answer, of a refusal beside it, and of what its sink holds
-abbrev pub SaysOfWritten : Module → Result Unit Error → Option Refusal → (content : List ℕ) →
-    Status → (text : List ℕ) → Type 0
-SaysOfWritten m (Ok _) refusal content told text =
+abbrev pub SaysOfWritten : JsonHolder → Module → Result Unit Error → Option Refusal →
+    (content : List ℕ) → Status → (text : List ℕ) → Type 0
+SaysOfWritten from m (Ok _) refusal content told text =
     (told ≡ status.Done) × (text ≡ content)
-SaysOfWritten m (Err error) refusal content told text = SaysOfError m refusal error told text
+SaysOfWritten from m (Err error) refusal content told text =
+    SaysOfError from m refusal error told text

@@ -1,25 +1,25 @@
 //! What becomes of a module, as a status and a text.
 
-ghost use Rattle.std.specs.Prelude.{◌≡◌, ◌<◌, ◌≤◌, ◌%◌, ℕ, IfErr, IfOk, List, string_bytes};
+ghost use Rattle.std.specs.Prelude.{◌≡◌, ◌<◌, ◌≤◌, ◌%◌, ℕ, IfErr, IfOk, IsTrue, List, None};
+ghost use Rattle.std.specs.Prelude.{string_bytes};
 ghost use Rattle.naga_back.specs.Flags.{bits_of};
 ghost use Rattle.module_positions.specs.Faults.{TellsFaultAt};
-ghost use Rattle.yorwethul_c.specs.Answers.{LacksMemory, Says, SaysOfError, SaysOfWritten};
-ghost use Rattle.yorwethul_c.specs.Answers.{SaysOfUnwritten, SaysThat, TellsAnyRefusal};
-ghost use Rattle.yorwethul_c.specs.Answers.{TellsOfChecking, TellsOfLayouts, TellsOfReading};
-ghost use Rattle.yorwethul_c.specs.Answers.{TellsOfWriting};
+ghost use Rattle.yorwethul_c.specs.Answers.{LacksMemory, Says, SaysOfError, SaysOfUnasked};
+ghost use Rattle.yorwethul_c.specs.Answers.{SaysOfUnwritten, SaysOfWritten, SaysThat};
+ghost use Rattle.yorwethul_c.specs.Answers.{TellsAnyRefusal, TellsOfChecking, TellsOfLayouts};
+ghost use Rattle.yorwethul_c.specs.Answers.{TellsOfReading, TellsOfWriting, WasRead};
 
 use crate::status::{Status, status_of};
 use bitflags::Flags;
 use module_answers::{
-    NoOutcome, WriteOutcome, check_nesting, layout_table, refusal_line, write_decimal_within,
-    write_within,
+    NoOutcome, Shader, Unasked, WriteOutcome, holder_of, info_within, layout_table, refusal_line,
+    untyped_line, write_decimal_within, write_within,
 };
-use module_limits::Limits;
 use module_positions::{JsonHolder, NESTS_TOO_DEEP, fault_line, nests_too_deep};
 use naga_acceptance::{Unaccepted, unaccepted};
 use naga_back::WriterFlags;
 use naga_ir::Module;
-use naga_json::{Known, ReadError, read_known};
+use naga_json::{Given, ReadError, read_given};
 use naga_wgsl_out::wgsl::Refusal;
 use naga_wgsl_shared::Error;
 use std::alloc::{AllocError, Global};
@@ -32,11 +32,6 @@ const LONGEST_TEXT: usize = 67_108_864;
 /// How deep operands, types and blocks may stand in one another, so that no call takes more of the
 /// stack than `docs/LIBRARY.md` says.
 const DEEPEST_NESTING: usize = 4_000;
-
-const LIMITS: Limits = Limits {
-    nesting: DEEPEST_NESTING,
-    text: LONGEST_TEXT,
-};
 
 /// The flag by which floats become decimal. Those below it are the writer's own.
 const DECIMAL_FLOATS: u32 = 4;
@@ -53,7 +48,7 @@ pub struct Answer {
     pub text: String,
 }
 
-/// Writes the module that the JSON holds with what is known of it.
+/// Writes the module that the JSON holds.
 #[tactic(auto, using(crate::proofs::Told::unread_written))]
 pub fn written(alloc: Global, json: &[u8], flags: u32) -> Answer
     ensures { TellsOfWriting json.now flags result.status (string_bytes result.text) }
@@ -61,8 +56,8 @@ pub fn written(alloc: Global, json: &[u8], flags: u32) -> Answer
     if flags > ALL_FLAGS {
         return told(alloc, Status::UnknownFlag, "a bit is set that no flag has");
     }
-    match known_in(alloc, json) {
-        Ok(mut known) => written_known(alloc, &mut known, flags),
+    match shader_in(alloc, json) {
+        Ok(mut shader) => written_shader(alloc, &mut shader, flags),
         Err(answer) => answer,
     }
 }
@@ -72,8 +67,8 @@ pub fn written(alloc: Global, json: &[u8], flags: u32) -> Answer
 pub fn checked(alloc: Global, json: &[u8]) -> Answer
     ensures { TellsOfChecking json.now result.status (string_bytes result.text) }
 {
-    match known_in(alloc, json) {
-        Ok(known) => checked_known(alloc, &known),
+    match shader_in(alloc, json) {
+        Ok(shader) => checked_shader(alloc, &shader),
         Err(answer) => answer,
     }
 }
@@ -83,22 +78,62 @@ pub fn checked(alloc: Global, json: &[u8]) -> Answer
 pub fn laid_out(alloc: Global, json: &[u8]) -> Answer
     ensures { TellsOfLayouts json.now result.status (string_bytes result.text) }
 {
-    match known_in(alloc, json) {
-        Ok(known) => laid_out_known(alloc, &known),
+    match shader_in(alloc, json) {
+        Ok(shader) => laid_out_shader(alloc, &shader),
         Err(answer) => answer,
     }
 }
 
-/// Reads the module, or tells why there is none.
-fn known_in(alloc: Global, json: &[u8]) -> Result<Known, Answer>
-    ensures { IfErr result (λ a. TellsOfReading json.now a.status (string_bytes a.text)) }
+/// Reads the module, and finds what is known of it where no info came with it; or tells why nothing
+/// more is asked of it.
+fn shader_in(alloc: Global, json: &[u8]) -> Result<Shader, Answer>
+    ensures read { IfOk result (λ shader. WasRead shader.holder shader.module shader.info) }
+    ensures unread { IfErr result
+        (λ a. TellsOfReading json.now a.status (string_bytes a.text)) }
 {
     let Ok(text) = std::str::from_utf8(json) else {
         return Err(told(alloc, Status::NoModule, "not UTF-8"));
     };
-    match read_known(alloc, text) {
-        Ok(known) => Ok(known),
+    match read_given(alloc, text) {
+        Ok(given) => shader_of(alloc, given),
         Err(error) => Err(unread(alloc, json, error)),
+    }
+}
+
+/// The module with what is known of it, or what is told where nothing more is asked of it.
+fn shader_of(alloc: Global, given: Given) -> Result<Shader, Answer>
+    requires bare { IsTrue given.is_bare → given.info ≡ None }
+    ensures read { IfOk result (λ shader. WasRead shader.holder shader.module shader.info) }
+    ensures unread { (json : List ℕ) → IfErr result
+        (λ a. TellsOfReading json a.status (string_bytes a.text)) }
+{
+    let Given {
+        module,
+        info: came,
+        is_bare,
+    } = given;
+    let holder = holder_of(is_bare);
+    match info_within(alloc, &module, came, DEEPEST_NESTING) {
+        Ok(info) => Ok(Shader {
+            module,
+            info,
+            holder,
+        }),
+        Err(unasked) => Err(not_asked(alloc, &module, unasked, holder)),
+    }
+}
+
+/// Tells why nothing more is asked of a module.
+fn not_asked(alloc: Global, module: &Module, unasked: Unasked, holder: JsonHolder) -> Answer
+    ensures { SaysOfUnasked holder «module».now unasked result.status (string_bytes result.text) }
+{
+    match unasked {
+        Unasked::TooDeep(nested) => told(alloc, Status::TooDeep, nested),
+        Unasked::Untyped(untyped) => {
+            let line = untyped_line(alloc, module, untyped, holder);
+            settled(alloc, Status::NotAccepted, line)
+        }
+        Unasked::Memory(_) => out_of_memory(alloc),
     }
 }
 
@@ -115,47 +150,50 @@ fn unread(alloc: Global, json: &[u8], error: ReadError) -> Answer
     }
 }
 
-fn written_known(alloc: Global, known: &mut Known, flags: u32) -> Answer
+fn written_shader(alloc: Global, shader: &mut Shader, flags: u32) -> Answer
     requires known { flags ≤ 7 }
+    requires read { WasRead shader.old.holder shader.old.module shader.old.info }
     ensures { (json : List ℕ) → TellsOfWriting json flags result.status (string_bytes result.text) }
 {
     if flags < DECIMAL_FLOATS {
-        written_as_given(alloc, known, flags)
+        written_as_given(alloc, shader, flags)
     } else {
-        written_with_decimals(alloc, known, flags)
+        written_with_decimals(alloc, shader, flags)
     }
 }
 
-fn written_as_given(alloc: Global, known: &mut Known, flags: u32) -> Answer
+fn written_as_given(alloc: Global, shader: &mut Shader, flags: u32) -> Answer
     requires known { flags < 4 }
+    requires read { WasRead shader.old.holder shader.old.module shader.old.info }
     ensures { (json : List ℕ) → TellsOfWriting json flags result.status (string_bytes result.text) }
 {
     match write_within(
         alloc,
-        &known.module,
-        &mut known.info,
+        &shader.module,
+        &mut shader.info,
         writer_flags(flags),
-        LIMITS,
+        LONGEST_TEXT,
     ) {
-        Ok(written) => told_written(alloc, &known.module, written),
-        Err(unwritten) => not_written(alloc, known, unwritten),
+        Ok(written) => told_written(alloc, shader, written),
+        Err(unwritten) => not_written(alloc, shader, unwritten),
     }
 }
 
-fn written_with_decimals(alloc: Global, known: &mut Known, flags: u32) -> Answer
+fn written_with_decimals(alloc: Global, shader: &mut Shader, flags: u32) -> Answer
     requires decimal { 4 ≤ flags }
     requires known { flags ≤ 7 }
+    requires read { WasRead shader.old.holder shader.old.module shader.old.info }
     ensures { (json : List ℕ) → TellsOfWriting json flags result.status (string_bytes result.text) }
 {
     match write_decimal_within(
         alloc,
-        &mut known.module,
-        &mut known.info,
+        &mut shader.module,
+        &mut shader.info,
         writer_flags(flags),
-        LIMITS,
+        LONGEST_TEXT,
     ) {
-        Ok(written) => told_written(alloc, &known.module, written),
-        Err(unwritten) => not_written(alloc, known, unwritten),
+        Ok(written) => told_written(alloc, shader, written),
+        Err(unwritten) => not_written(alloc, shader, unwritten),
     }
 }
 
@@ -166,8 +204,8 @@ fn writer_flags(flags: u32) -> WriterFlags
     WriterFlags::from_bits_retain(flags % DECIMAL_FLOATS)
 }
 
-fn told_written(alloc: Global, module: &Module, written: WriteOutcome<String>) -> Answer
-    ensures { SaysOfWritten «module».now written.answer written.refusal
+fn told_written(alloc: Global, shader: &Shader, written: WriteOutcome<String>) -> Answer
+    ensures { SaysOfWritten shader.now.holder shader.now.module written.answer written.refusal
         (string_bytes written.sink) result.status (string_bytes result.text) }
 {
     let WriteOutcome {
@@ -180,16 +218,17 @@ fn told_written(alloc: Global, module: &Module, written: WriteOutcome<String>) -
             status: Status::Done,
             text: sink,
         },
-        Err(error) => told_error(alloc, module, error, refusal),
+        Err(error) => told_error(alloc, shader, error, refusal),
     }
 }
 
-fn told_error(alloc: Global, module: &Module, error: Error, refusal: Option<Refusal>) -> Answer
-    ensures { SaysOfError «module».now refusal error result.status (string_bytes result.text) }
+fn told_error(alloc: Global, shader: &Shader, error: Error, refusal: Option<Refusal>) -> Answer
+    ensures { SaysOfError shader.now.holder shader.now.module refusal error result.status
+        (string_bytes result.text) }
 {
     match status_of(&error) {
         Status::OutOfMemory => out_of_memory(alloc),
-        status => told_refusal(alloc, module, status, error, refusal),
+        status => told_refusal(alloc, shader, status, error, refusal),
     }
 }
 
@@ -197,17 +236,17 @@ fn told_error(alloc: Global, module: &Module, error: Error, refusal: Option<Refu
 /// found.
 fn told_refusal(
     alloc: Global,
-    module: &Module,
+    shader: &Shader,
     status: Status,
     error: Error,
     refusal: Option<Refusal>,
 ) -> Answer
-    ensures { SaysThat (TellsAnyRefusal «module».now refusal) status result.status
-        (string_bytes result.text) }
+    ensures { SaysThat (TellsAnyRefusal shader.now.holder shader.now.module refusal) status
+        result.status (string_bytes result.text) }
 {
     match refusal {
         Some(refusal) => {
-            let text = refusal_line(alloc, module, refusal, JsonHolder::Member);
+            let text = refusal_line(alloc, &shader.module, refusal, shader.holder);
             settled(alloc, status, text)
         }
         None => told(alloc, status, error),
@@ -215,33 +254,22 @@ fn told_refusal(
 }
 
 /// Tells why the writer was not asked, or was stopped.
-fn not_written(alloc: Global, known: &Known, unwritten: NoOutcome) -> Answer
-    ensures { SaysOfUnwritten known.now.module known.now.info unwritten result.status
-        (string_bytes result.text) }
+fn not_written(alloc: Global, shader: &Shader, unwritten: NoOutcome) -> Answer
+    ensures { SaysOfUnwritten shader.now.holder shader.now.module shader.now.info unwritten
+        result.status (string_bytes result.text) }
 {
     match unwritten {
-        NoOutcome::TooDeep(nested) => told(alloc, Status::TooDeep, nested),
-        NoOutcome::NotAccepted(fault) => not_accepted(alloc, known, fault),
+        NoOutcome::NotAccepted(fault) => not_accepted(alloc, shader, fault),
         NoOutcome::TooLong => told(alloc, Status::TooLong, "text too long"),
-        NoOutcome::Memory(_) => out_of_memory(alloc),
     }
 }
 
-fn checked_known(alloc: Global, known: &Known) -> Answer
+fn checked_shader(alloc: Global, shader: &Shader) -> Answer
+    requires read { WasRead shader.now.holder shader.now.module shader.now.info }
     ensures { (json : List ℕ) → TellsOfChecking json result.status (string_bytes result.text) }
 {
-    match check_nesting(alloc, &known.module, DEEPEST_NESTING) {
-        Ok(()) => checked_flat(alloc, known),
-        Err(unwritten) => not_written(alloc, known, unwritten),
-    }
-}
-
-/// Says whether a module that is nested no deeper than it may be is accepted.
-fn checked_flat(alloc: Global, known: &Known) -> Answer
-    ensures { (json : List ℕ) → TellsOfChecking json result.status (string_bytes result.text) }
-{
-    match unaccepted(&known.module, &known.info) {
-        Some(fault) => not_accepted(alloc, known, fault),
+    match unaccepted(&shader.module, &shader.info) {
+        Some(fault) => not_accepted(alloc, shader, fault),
         None => Answer {
             status: Status::Done,
             text: String::new(alloc),
@@ -249,22 +277,13 @@ fn checked_flat(alloc: Global, known: &Known) -> Answer
     }
 }
 
-fn laid_out_known(alloc: Global, known: &Known) -> Answer
+fn laid_out_shader(alloc: Global, shader: &Shader) -> Answer
+    requires read { WasRead shader.now.holder shader.now.module shader.now.info }
     ensures { (json : List ℕ) → TellsOfLayouts json result.status (string_bytes result.text) }
 {
-    match check_nesting(alloc, &known.module, DEEPEST_NESTING) {
-        Ok(()) => laid_out_flat(alloc, known),
-        Err(unwritten) => not_written(alloc, known, unwritten),
-    }
-}
-
-/// Tells the layouts of one that is nested no deeper than it may be.
-fn laid_out_flat(alloc: Global, known: &Known) -> Answer
-    ensures { (json : List ℕ) → TellsOfLayouts json result.status (string_bytes result.text) }
-{
-    match unaccepted(&known.module, &known.info) {
-        Some(fault) => not_accepted(alloc, known, fault),
-        None => match layout_table(alloc, &known.module, &known.info) {
+    match unaccepted(&shader.module, &shader.info) {
+        Some(fault) => not_accepted(alloc, shader, fault),
+        None => match layout_table(alloc, &shader.module, &shader.info) {
             Ok(text) => Answer {
                 status: Status::Done,
                 text,
@@ -276,11 +295,12 @@ fn laid_out_flat(alloc: Global, known: &Known) -> Answer
 }
 
 /// Tells where and why the module is not accepted, and what was expected there.
-fn not_accepted(alloc: Global, known: &Known, fault: Unaccepted) -> Answer
-    ensures { SaysThat (TellsFaultAt JsonHolder.Member known.now.module known.now.info fault)
+fn not_accepted(alloc: Global, shader: &Shader, fault: Unaccepted) -> Answer
+    ensures { SaysThat
+        (TellsFaultAt shader.now.holder shader.now.module shader.now.info fault)
         Status.NotAccepted result.status (string_bytes result.text) }
 {
-    let text = fault_line(alloc, &known.module, &known.info, fault, JsonHolder::Member);
+    let text = fault_line(alloc, &shader.module, &shader.info, fault, shader.holder);
     settled(alloc, Status::NotAccepted, text)
 }
 

@@ -14,7 +14,7 @@ use crate::answers::{checked, laid_out, written};
 use crate::copying::hand_out;
 use std::alloc::Global;
 
-/// Writes the module that the JSON holds with what is known of it, at most `LONGEST_TEXT` bytes.
+/// Writes the module that the JSON holds, at most `LONGEST_TEXT` bytes.
 #[unsafe(no_mangle)]
 pub extern "C" fn yorwethul_write(
     alloc: Global,

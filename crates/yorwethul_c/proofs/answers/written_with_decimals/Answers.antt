@@ -6,30 +6,30 @@ use Rattle.module_answers.specs.declared.within.NoOutcome.TheVariants as unwritt
 use Rattle.module_semantics.specs.acceptance.Accepted.{is_accepted}
 use Rattle.naga_wgsl_out.specs.Checked.{IsCounted}
 use Rattle.decimal_floats.specs.Decimals.{IsDecimalModule}
-use Rattle.yorwethul_c.specs.Answers.{deepest_nesting, longest_text}
+use Rattle.yorwethul_c.specs.Answers.{longest_text}
 use Rattle.yorwethul_c.proofs.Told.{not_written, with_decimal_floats, wrote}
 use Rattle.yorwethul_c.proofs.answers.written_with_decimals.Goals as goal
 
 pub returns-in-Err : goal.returns-in-Err
 returns-in-Err c =
-    let given = c.args.known.now.module in
+    let given = c.args.shader.now.module in
     let m = c.write_decimal_within.new.«module» in
     let info = c.write_decimal_within.new.info in
     let writer = c.writer_flags.result in
     let is = subst
-    (λ r. IfErr r (IsUnwritten writer (record { nesting = deepest_nesting; text = longest_text }) given m
-    c.args.known.now.info info)) c.in-Err.is c.write_decimal_within.ensures.unwritten in
+    (λ r. IfErr r (IsUnwritten writer longest_text given m
+    c.args.shader.now.info info)) c.in-Err.is c.write_decimal_within.ensures.unwritten in
     let too_long = subst (λ r. IfErr r (λ e. e ≡ unwritten.TooLong → IsDecimalModule given m)) c.in-Err.is
     c.write_decimal_within.ensures.too_long in
-    λ json. not_written json c.args.flags writer given m c.args.known.now.info info _ _ _ c.requires.known
-    c.writer_flags.ensures (λ e. with_decimal_floats c.args.flags given m c.requires.decimal (too_long e)) is
-    c.not_written.ensures
+    λ json. not_written json c.args.flags writer c.args.shader.now.holder given m c.args.shader.now.info info _ _ _
+    c.requires.known c.writer_flags.ensures c.requires.read
+    (λ e. with_decimal_floats c.args.flags given m c.requires.decimal (too_long e)) is c.not_written.ensures
 
 pub returns-in-Ok : goal.returns-in-Ok
 returns-in-Ok c =
-    let given = c.args.known.now.module in
+    let given = c.args.shader.now.module in
     let m = c.write_decimal_within.new.«module» in
-    let read = c.args.known.now.info in
+    let read = c.args.shader.now.info in
     let info = c.write_decimal_within.new.info in
     let writer = c.writer_flags.result in
     let w = c.in-Ok.written in
@@ -43,7 +43,8 @@ returns-in-Ok c =
     c.in-Ok.is c.write_decimal_within.ensures.written in
     let within = subst (λ r. IfOk r (λ w. length (string_bytes w.sink) ≤ longest_text)) c.in-Ok.is
     c.write_decimal_within.ensures.within in
-    λ json. wrote json c.args.flags writer given m read info (string_bytes w.sink)
-    c.requires.known c.writer_flags.ensures (with_decimal_floats c.args.flags given m c.requires.decimal decimal)
+    λ json. wrote json c.args.flags writer c.args.shader.now.holder given m read info (string_bytes w.sink)
+    c.requires.known c.writer_flags.ensures c.requires.read
+    (with_decimal_floats c.args.flags given m c.requires.decimal decimal)
     accepted counted w.answer w.refusal _ _ answers.faithful answers.text answers.refusal within
     c.told_written.ensures

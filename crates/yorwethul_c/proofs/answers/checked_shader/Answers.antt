@@ -1,22 +1,22 @@
 use Rattle.std.proofs.Common.{refl, rules}
 use Rattle.module_positions.specs.Faults.{TellsFaultAt}
-use Rattle.module_positions.specs.declared.positions.JsonHolder.TheVariants as holder
 use Rattle.yorwethul_c.specs.Answers.{TellsOfChecking}
 use Rattle.yorwethul_c.specs.declared.status.Status.TheVariants as status
 use Rattle.yorwethul_c.proofs.Told.{accepted_by, faulty, said_that}
-use Rattle.yorwethul_c.proofs.answers.checked_flat.Goals as goal
+use Rattle.yorwethul_c.proofs.answers.checked_shader.Goals as goal
 
 pub returns-in-Some : goal.returns-in-Some
 returns-in-Some c =
+    let s = c.args.shader.now in
     λ json. said_that (TellsOfChecking json)
-    (TellsFaultAt holder.Member c.args.known.now.module c.args.known.now.info c.in-Some.fault) status.NotAccepted _ _
-    (faulty c.args.known.now.module c.args.known.now.info _ _ _ c.in-Some.is c.unaccepted.ensures.fault) refl
+    (TellsFaultAt s.holder s.module s.info c.in-Some.fault) status.NotAccepted _ _
+    (faulty s.holder s.module s.info _ _ _ c.requires.read c.in-Some.is c.unaccepted.ensures.fault) refl
     c.not_accepted.ensures
 
 pub returns-in-None : goal.returns-in-None
 returns-in-None c =
+    let s = c.args.shader.now in
     λ json. (
-      accepted_by c.args.known.now.module c.args.known.now.info _
-          c.in-None.is c.unaccepted.ensures.accepted,
+      accepted_by s.holder s.module s.info _ c.requires.read c.in-None.is c.unaccepted.ensures.accepted,
       search rules,
     )
