@@ -71,7 +71,7 @@ def questions():
     known = json.dumps({"module": {"types": types}, "info": {}})
     yield {"json": known, "call": "layout"}, ("done", "struct One: align 4, size 4\n    a: u32, offset 0, align 4, size 4\n")
     yield {"json": '{"module": {}, "info": {"functions": [[0]]}}', "call": "check"}, ("not accepted", None)
-    yield {"json": "{}"}, ("no module", "module: missing")
+    yield {"json": "{\"info\": {}}"}, ("no module", "module: missing")
     yield {"json": "[" * 200}, ("too deep", "lists and objects nest more than 127 deep")
 
 

@@ -1,7 +1,8 @@
 /* Yorwethul: WGSL from modules of naga's intermediate representation. docs/LIBRARY.md in Yorwethul's repository
  * tells more.
  *
- * The JSON is naga 30's own, {"module": .., "info": ..}, as docs/JSON.md there has it. Calls may be made from several
+ * The JSON is naga 30's own, {"module": .., "info": ..}, as docs/JSON.md there has it. The info may be left out or null,
+ * and the module may be all of the JSON: positions then begin without "module.". Calls may be made from several
  * threads at once. Nothing is kept between calls, and nothing has to be freed.
  *
  * A call takes up to 4 MiB of stack: 128 KiB, and up to 8 bytes for each byte of JSON. On a thread with less refuse

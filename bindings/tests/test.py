@@ -59,6 +59,10 @@ OWN_OPERAND = 'module.functions[0].expressions[1], in "double": '
 FLOAT_LITERAL = "float literal: module.functions[0].expressions[0], in statement 0, in "
 HALF = FLOAT_LITERAL + '"half"'
 
+# `double` of the runs without its info, and the same where the sum is an operand of itself.
+ALONE = json.dumps(json.loads((MODULES / "double.json").read_bytes())["module"]).encode()
+UNTYPED = ALONE.replace(b'"left": 0', b'"left": 1')
+
 # Calls: what is called with which flags, a module of the runs of `yorwethul` or bytes, the status, and the text or how it begins.
 CALLS = [
     ("write", [0], "double", DONE, DOUBLE_TEXT),
@@ -72,14 +76,24 @@ CALLS = [
     ("write", [EXPLICIT_TYPES | DECIMAL_FLOATS], BARRIER, DONE, "fn meet() {\n"),
     ("write", [PORTABLE], BARRIER, DONE, "enable subgroups;\n\nfn meet() {\n"),
     ("write", [0], "its_own_operand", NOT_ACCEPTED, OWN_OPERAND),
-    ("write", [0], b"{}", NO_MODULE, "module: missing"),
+    ("write", [0], b'{"info":{}}', NO_MODULE, "module: missing"),
+    ("write", [0], b'{"module":{},"info":7}', NO_MODULE, "info: no object"),
+    # modules alone: the JSON is the module, or the info is left out or null
+    ("write", [0], b"{}", DONE, ""),
+    ("write", [0], ALONE, DONE, DOUBLE_TEXT),
+    ("write", [ALL_FLAGS], b'{"module":' + ALONE + b"}", DONE, DOUBLE_TEXT),
+    ("write", [0], b'{"info":null,"module":' + ALONE + b"}", DONE, DOUBLE_TEXT),
+    ("check", [], ALONE, DONE, ""),
+    ("check", [], b'{"module":' + UNTYPED + b"}", NOT_ACCEPTED, OWN_OPERAND + "it has no type"),
+    ("write", [0], UNTYPED, NOT_ACCEPTED, OWN_OPERAND.removeprefix("module.") + "it has no type"),
+    ("layout", [], UNTYPED, NOT_ACCEPTED, OWN_OPERAND.removeprefix("module.") + "it has no type"),
     ("write", [0], b"[", NO_MODULE, "no JSON at line 1"),
     # too many lists in one another, of which the first stand in a string
     ("write", [0], b'["[[\\"", ' + b"[" * 128, TOO_DEEP, "lists and objects nest more than 127 deep"),
     ("check", [], "double", DONE, ""),
     ("check", [], "its_own_operand", NOT_ACCEPTED, OWN_OPERAND),
     ("layout", [], STRUCT, DONE, STRUCT_LAYOUT),
-    ("layout", [], b"{}", NO_MODULE, "module: missing"),
+    ("layout", [], b'{"info":{}}', NO_MODULE, "module: missing"),
 ]
 
 # What `hammer` is told: so many calls, on so many threads, so many lengths and changes of each file.
@@ -339,6 +353,17 @@ def test_lines(folder, _):
     must(told == (UNKNOWN_FLAG, "a bit is set that no flag has"), f"{told} of an unknown flag")
 
 
+def test_alone(folder, _):
+    """The examples without their infos are answered as with them: as a member, beside an info that is null, and as all of the JSON."""
+    library = Library(folder / "libyorwethul.so")
+    for example in EXAMPLES:
+        module = json.loads(example.read_bytes())["module"]
+        wanted = library.call("write", example.read_bytes(), ALL_FLAGS)
+        for alone in ({"module": module}, {"module": module, "info": None}, module):
+            told = library.call("write", json.dumps(alone).encode(), ALL_FLAGS)
+            must(told == wanted, f"{told} of {example.name} without its info, with it {wanted}")
+
+
 def in_function(answer):
     """The label of an answer as a text has it after the position, of labels without what Rust escapes in another way than JSON."""
     return ", in " + json.dumps(answer["function"], ensure_ascii=False) if "function" in answer else ""
@@ -531,6 +556,7 @@ def library_tests(is_whole):
     yield "programs in C, C++ and Python", test_programs, ["cc"]
     yield "each call", test_calls, []
     yield "the program's lines", test_lines, []
+    yield "the examples without their infos", test_alone, []
     yield "the cases of wgsl_cases", test_cases, []
     yield "the caller's memory", test_memory, []
     yield "depth", test_depth, []

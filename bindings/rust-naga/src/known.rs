@@ -1,17 +1,20 @@
-//! What Yorwethul is told: a module, and of its info the types of expressions.
+//! What Yorwethul is told: a module, and of its info, where one is given, the types of expressions.
 
 use naga::valid::{FunctionInfo, ModuleInfo};
 use naga::{Function, Module};
 use serde::ser::{Serialize, SerializeStruct, Serializer};
 
-/// `{"module": .., "info": ..}`.
-pub struct Known<'a>(pub &'a Module, pub &'a ModuleInfo);
+/// `{"module": .., "info": ..}`, or without an info `{"module": ..}`.
+pub struct Known<'a>(pub &'a Module, pub Option<&'a ModuleInfo>);
 
 impl Serialize for Known<'_> {
     fn serialize<S: Serializer>(&self, serializer: S) -> Result<S::Ok, S::Error> {
-        let mut known = serializer.serialize_struct("Known", 2)?;
-        known.serialize_field("module", self.0)?;
-        known.serialize_field("info", &Types(self.0, self.1))?;
+        let Known(module, info) = *self;
+        let mut known = serializer.serialize_struct("Known", 1 + usize::from(info.is_some()))?;
+        known.serialize_field("module", module)?;
+        if let Some(info) = info {
+            known.serialize_field("info", &Types(module, info))?;
+        }
         known.end()
     }
 }

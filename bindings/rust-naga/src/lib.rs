@@ -1,5 +1,5 @@
 //! WGSL from naga's own modules, by [Yorwethul](yorwethul)'s writer: [`write`] stands where
-//! `naga::back::wgsl::write_string` would.
+//! `naga::back::wgsl::write_string` would, and [`write_module`] needs no validator.
 //!
 //! ```no_run
 //! # fn shader() -> naga::Module { naga::Module::default() }
@@ -14,6 +14,15 @@
 //!
 //! With these two flags floats are written, and the text has what standard compilers ask for;
 //! with [`Flags::empty`] a literal of a float is refused.
+//!
+//! [`write_module`] takes the module alone, and the types of its expressions are found by it:
+//!
+//! ```no_run
+//! # let module = naga::Module::default();
+//! # use yorwethul_naga::Flags;
+//! let text = yorwethul_naga::write_module(&module, Flags::PORTABLE | Flags::DECIMAL_FLOATS)?;
+//! # Ok::<(), yorwethul_naga::Error>(())
+//! ```
 //!
 //! Module and info go to the writer as JSON, through naga's `serde` forms. All of the module is told,
 //! so that what Yorwethul doesn't know is refused and not lost; of the info only the types of
@@ -114,11 +123,19 @@ impl From<yorwethul::Error> for Error {
 /// Where the info is that of a module with fewer functions, entry points or expressions, as naga's own
 /// index into it does.
 pub fn write(module: &Module, info: &ModuleInfo, flags: Flags) -> Result<String, Error> {
-    let json = json(module, info)?;
+    written(&json(module, info)?, flags)
+}
+
+/// Writes a module as [`write`] does, with types of expressions that are found by the module.
+pub fn write_module(module: &Module, flags: Flags) -> Result<String, Error> {
+    written(&module_json(module)?, flags)
+}
+
+fn written(json: &str, flags: Flags) -> Result<String, Error> {
     Ok(if json.len() <= LONGEST_HERE {
-        yorwethul::write_json(&json, flags)?
+        yorwethul::write_json(json, flags)?
     } else {
-        yorwethul::write_json_on_thread(&json, flags)?
+        yorwethul::write_json_on_thread(json, flags)?
     })
 }
 
@@ -129,11 +146,19 @@ pub fn write(module: &Module, info: &ModuleInfo, flags: Flags) -> Result<String,
 ///
 /// As [`write`].
 pub fn layout(module: &Module, info: &ModuleInfo) -> Result<String, Error> {
-    let json = json(module, info)?;
+    laid_out(&json(module, info)?)
+}
+
+/// Tells the same of a module alone.
+pub fn layout_module(module: &Module) -> Result<String, Error> {
+    laid_out(&module_json(module)?)
+}
+
+fn laid_out(json: &str) -> Result<String, Error> {
     Ok(if json.len() <= LONGEST_HERE {
-        yorwethul::layout_json(&json)?
+        yorwethul::layout_json(json)?
     } else {
-        yorwethul::layout_json_on_thread(&json)?
+        yorwethul::layout_json_on_thread(json)?
     })
 }
 
@@ -143,5 +168,14 @@ pub fn layout(module: &Module, info: &ModuleInfo) -> Result<String, Error> {
 ///
 /// As [`write`].
 pub fn json(module: &Module, info: &ModuleInfo) -> Result<String, Error> {
-    text::to_json(&Known(module, info)).map_err(|error| Error::Untold(error.to_string()))
+    told(&Known(module, Some(info)))
+}
+
+/// A module alone as JSON, `{"module": ..}`.
+pub fn module_json(module: &Module) -> Result<String, Error> {
+    told(&Known(module, None))
+}
+
+fn told(known: &Known<'_>) -> Result<String, Error> {
+    text::to_json(known).map_err(|error| Error::Untold(error.to_string()))
 }

@@ -7,7 +7,7 @@ use naga::{
 };
 use naga::{LocalVariable, MathFunction, Module, PredeclaredType, Range, Scalar, Span, Statement};
 use naga::{StructMember, Type, TypeInner, UnaryOperator};
-use yorwethul_naga::{json, layout, write, Error, Flags};
+use yorwethul_naga::{json, layout, layout_module, module_json, write, write_module, Error, Flags};
 
 const SPAN: Span = Span::UNDEFINED;
 
@@ -76,6 +76,21 @@ fn a_module_is_written() {
     let explicit = text.replace("let sum =", "let sum: i32 =");
     assert_eq!(write(&module, &info, Flags::EXPLICIT_TYPES), Ok(explicit));
     let told = json(&module, &info).unwrap();
+    assert_eq!(yorwethul_naga::yorwethul::check_json(&told), Ok(()));
+}
+
+#[test]
+fn a_module_alone_is_written() {
+    let module = double();
+    let flags = Flags::EXPLICIT_TYPES;
+    assert_eq!(
+        write_module(&module, flags),
+        write(&module, &known(&module), flags)
+    );
+    assert_eq!(layout_module(&module).as_deref(), Ok(""));
+    let told = module_json(&module).unwrap();
+    assert!(told.starts_with("{\"module\":{"), "{told}");
+    assert!(!told.contains("\"info\""), "{told}");
     assert_eq!(yorwethul_naga::yorwethul::check_json(&told), Ok(()));
 }
 

@@ -1,23 +1,19 @@
 //! WGSL from modules of [naga]'s intermediate representation, by a writer that is proved faithful.
 //!
-//! [`write_json`] takes what `serde` writes of a module of naga 30 and of what its validator found
-//! out. Of the info only the types of expressions are needed:
+//! [`write_json`] takes what `serde` writes of a module of naga 30:
 //!
 //! ```
 //! use yorwethul::Flags;
 //!
 //! let json = r#"{
-//!     "module": {
-//!         "types": [{"inner": {"Scalar": {"kind": "Float", "width": 4}}}],
-//!         "functions": [{
-//!             "name": "half", "arguments": [{"name": "x", "ty": 0}], "result": {"ty": 0},
-//!             "expressions": [
-//!                 {"FunctionArgument": 0}, {"Literal": {"F32": 0.5}},
-//!                 {"Binary": {"op": "Multiply", "left": 0, "right": 1}}],
-//!             "body": [{"Emit": {"start": 2, "end": 3}}, {"Return": {"value": 2}}]
-//!         }]
-//!     },
-//!     "info": {"functions": [[0, 0, 0]]}
+//!     "types": [{"inner": {"Scalar": {"kind": "Float", "width": 4}}}],
+//!     "functions": [{
+//!         "name": "half", "arguments": [{"name": "x", "ty": 0}], "result": {"ty": 0},
+//!         "expressions": [
+//!             {"FunctionArgument": 0}, {"Literal": {"F32": 0.5}},
+//!             {"Binary": {"op": "Multiply", "left": 0, "right": 1}}],
+//!         "body": [{"Emit": {"start": 2, "end": 3}}, {"Return": {"value": 2}}]
+//!     }]
 //! }"#;
 //! let text = yorwethul::write_json(json, Flags::PORTABLE | Flags::DECIMAL_FLOATS)?;
 //! assert_eq!(text, "fn half(x: f32) -> f32 {\n    return (x * 0.5f);\n}\n\n");
@@ -28,7 +24,10 @@
 //! [`Flags::DECIMAL_FLOATS`] a literal of a float is refused, and without [`Flags::PORTABLE`] the text
 //! lacks what only standard compilers ask for.
 //!
-//! The crate `yorwethul-naga` takes a `naga::Module` with its `ModuleInfo`.
+//! The types of expressions are found by the module. Those that a validator found are used instead where
+//! they come with it, as `{"module": .., "info": ..}`: of the info the types of expressions are read.
+//!
+//! The crate `yorwethul-naga` takes a `naga::Module`, with its `ModuleInfo` or without.
 //!
 //! # What is proved
 //!
@@ -72,7 +71,10 @@ use alloc::string::String;
 use alloc::vec::Vec;
 use core::str::Chars;
 
-/// Writes the module that the JSON holds, `{"module": .., "info": ..}`, as WGSL.
+/// Writes the module that the JSON holds as WGSL.
+///
+/// The JSON is `{"module": .., "info": ..}`. The info may be left out or null, and the module may be
+/// all of the JSON; positions of errors then begin in it, without `module.`.
 ///
 /// Deep operands take much stack: see [`write_json_on_thread`].
 pub fn write_json(json: &str, flags: Flags) -> Result<String, Error> {
@@ -273,7 +275,7 @@ fn answer(status: u32, text: String) -> Result<String, Error> {
 /// The construct in front of its position, the position, which is empty where none is told, the label
 /// there, and why an operand there has no value.
 fn refused_at(text: &str) -> (String, String, Option<String>, Option<String>) {
-    let Some(at) = text.find(": module") else {
+    let Some(at) = position_in(text) else {
         return (text.into(), String::new(), None, None);
     };
     let construct = text[..at].into();
@@ -287,6 +289,28 @@ fn refused_at(text: &str) -> (String, String, Option<String>, Option<String>) {
             None => (construct, whole.into(), None, None),
         },
     }
+}
+
+/// What the position of a refusal begins with: the module, or where that is all of the JSON, one of
+/// its lists.
+const BEGINNINGS: [&str; 7] = [
+    "module",
+    "types[",
+    "constants[",
+    "overrides[",
+    "global_variables[",
+    "functions[",
+    "entry_points[",
+];
+
+/// Where the colon in front of a position stands, if there is a position.
+fn position_in(text: &str) -> Option<usize> {
+    let mut colons = text.match_indices(": ").map(|(at, _)| at);
+    colons.find(|at| {
+        BEGINNINGS
+            .iter()
+            .any(|beginning| text[at + 2..].starts_with(beginning))
+    })
 }
 
 /// The position of a fault, the label there, and the fault.

@@ -85,6 +85,11 @@ fn each_status_is_told() {
             "a: module.functions[0], in \"f\": no statement gives it",
             "refused: a: module.functions[0], in \"f\": no statement gives it",
         ),
+        (
+            1,
+            "a: functions[0], in \"f\": no statement gives it",
+            "refused: a: functions[0], in \"f\": no statement gives it",
+        ),
         (3, "module: missing", "no module: module: missing"),
         (3, "not UTF-8", "no module: not UTF-8"),
         (4, "a bit", "unknown answer of libyorwethul.a, status 4"),
@@ -117,6 +122,11 @@ fn a_position_is_apart_from_its_reason() {
     let error = told(sys::REFUSED, text).unwrap_err();
     assert_eq!(error.construct(), Some("Unsupported math function: Outer"));
     assert_eq!(error.position(), Some("module.functions[0].expressions[1]"));
+    for beginning in super::BEGINNINGS {
+        let error = told(sys::REFUSED, &alloc::format!("a: b: {beginning}0]")).unwrap_err();
+        assert_eq!(error.construct(), Some("a: b"));
+        assert_eq!(error.position(), Some(&*alloc::format!("{beginning}0]")));
+    }
 }
 
 #[test]

@@ -52,6 +52,35 @@ fn a_module_is_written() {
     assert_eq!(layout_json(DOUBLE).as_deref(), Ok(""));
 }
 
+/// The module of `DOUBLE` alone, as a member and as all of the JSON.
+fn alone() -> [String; 3] {
+    let (module, _) = DOUBLE.split_once(",\n    \"info\"").unwrap();
+    let (_, bare) = module.split_once("\"module\": ").unwrap();
+    [
+        format!("{module}}}"),
+        format!("{module}, \"info\": null}}"),
+        bare.into(),
+    ]
+}
+
+#[test]
+fn a_module_alone_is_written() {
+    for json in alone() {
+        assert_eq!(write_json(&json, Flags::empty()).as_deref(), Ok(TEXT));
+        assert_eq!(check_json(&json), Ok(()));
+        assert_eq!(layout_json(&json).as_deref(), Ok(""));
+        let odd = json.replace("\"left\": 0", "\"left\": 1");
+        let error = write_json(&odd, Flags::empty()).unwrap_err();
+        let position = error.position().unwrap();
+        assert!(
+            position.ends_with("functions[0].expressions[1]"),
+            "{position}"
+        );
+        assert_eq!(error.function(), Some("double"));
+        assert!(matches!(error, Error::NotAccepted { fault, .. } if fault == "it has no type"));
+    }
+}
+
 #[test]
 fn a_portable_text_has_what_compilers_ask_for() {
     let votes = r#"{
@@ -121,11 +150,23 @@ fn a_module_that_is_not_accepted_tells_the_position() {
 fn what_is_no_module_tells_why() {
     for (json, position, shown) in [
         ("", None, "no module: no JSON at line 1, column 0"),
-        ("{}", Some("module"), "no module: module: missing"),
+        (
+            r#"{"info": {}}"#,
+            Some("module"),
+            "no module: module: missing",
+        ),
+        (
+            r#"{"module": {}, "info": 7}"#,
+            Some("info"),
+            "no module: info: no object",
+        ),
         ("[]", None, "no module: no object"),
     ] {
         let error = write_json(json, Flags::empty()).unwrap_err();
-        assert_eq!((error.position(), error.to_string().as_str()), (position, shown));
+        assert_eq!(
+            (error.position(), error.to_string().as_str()),
+            (position, shown)
+        );
     }
     let odd = DOUBLE.replace("\"left\": 0", "\"left\": true");
     let error = write_json(&odd, Flags::empty()).unwrap_err();
