@@ -60,6 +60,7 @@ LAYERS = [
     ("what is asked", CODE, [
         ("naga_acceptance", "accepts, count"),
         ("naga_inference", "inferred infos"),
+        ("operand_levels", "deep operands"),
         ("fault_details", "what was expected"),
         ("naga_tables", "what has a form"),
         ("naga_scope", "scope, plans"),
@@ -68,6 +69,7 @@ LAYERS = [
         ("naga_wgsl_shared", "parts of texts, errors"),
         ("naga_wgsl_fns", "texts of functions"),
         ("naga_wgsl_out", "texts of modules"),
+        ("wrong_texts", "wrong texts, refused"),
     ]),
     ("answers", CODE, [
         ("module_positions", "where it is"),

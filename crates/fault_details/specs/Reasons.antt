@@ -418,12 +418,17 @@ ray_demands types special =
     (Then (OfSome (there list.Types types) special.ray_intersection)
     (OfSome (there list.Types types) special.ray_vertex_return))
 
+-- those of external textures, and then those of rays
+abbrev pub texture_demands : (types : ℕ) → SpecialTypes → Demands
+texture_demands types special =
+    Then (OfSome (there list.Types types) special.external_texture_params)
+    (Then (OfSome (there list.Types types) special.external_texture_transfer_function)
+    (ray_demands types special))
+
 abbrev pub special_demands : (types : ℕ) → SpecialTypes → Demands
 special_demands types special =
     Then (OfEach (there list.Types types) (values special.predeclared_types))
-    (Then (OfSome (there list.Types types) special.external_texture_params)
-    (Then (OfSome (there list.Types types) special.external_texture_transfer_function)
-    (ray_demands types special)))
+    (texture_demands types special)
 
 abbrev pub module_demands : Module → ModuleInfo → Fault → Demands
 module_demands m info fault.InfoSize = sizes_demands m info

@@ -11,7 +11,8 @@ ghost use Rattle.fault_details.specs.Reasons.{length_demands, name_demands, name
 ghost use Rattle.fault_details.specs.Reasons.{order_demands, own_name_demands, part_demands};
 ghost use Rattle.fault_details.specs.Reasons.{ray_demands, signature_demands, size_demands};
 ghost use Rattle.fault_details.specs.Reasons.{special_demands};
-ghost use Rattle.fault_details.specs.Reasons.{statement_name_demands, variables_demands};
+ghost use Rattle.fault_details.specs.Reasons.{statement_name_demands, texture_demands};
+ghost use Rattle.fault_details.specs.Reasons.{variables_demands};
 ghost use Rattle.fault_details.specs.Shown.{shown};
 
 use crate::reasons::{Reason, absent, not_before};
@@ -439,10 +440,16 @@ pub(crate) fn special_reason<'a>(module: &Module) -> Option<Reason<'a>>
 {
     let types = module.types.len();
     let special = &module.special_types;
-    let predeclared = predeclared_reason(types, &special.predeclared_types);
-    if predeclared.is_some() {
-        return predeclared;
+    match predeclared_reason(types, &special.predeclared_types) {
+        Some(reason) => Some(reason),
+        None => texture_reason(types, special),
     }
+}
+
+/// The first type of external textures that is not there, and else of rays.
+fn texture_reason<'a>(types: usize, special: &SpecialTypes) -> Option<Reason<'a>>
+    ensures { option_map shown result ≡ unmet [] (texture_demands types special.now) }
+{
     let params = absent_if(ListName::Types, types, special.external_texture_params);
     if params.is_some() {
         return params;

@@ -186,10 +186,11 @@ module _ (names : Names) (stem : List ℕ) where
         either (inl is) = ap taken is.1 ∙ first first_cases
         either (inr is) = ap taken is ∙ plain stem (digits_of n) (all_digits-digits_of n)
 
-  -- ---- no name is `_e` and a number
-  numbered_of_stem : is_word stem ≡ true → (n h : ℕ) → name_of_stem names stem n ≡ codes "_e" ++ decimal h → ⊥
+  -- ---- no name is `_e` and digits
+  numbered_of_stem : is_word stem ≡ true → (n d : ℕ) (ds : List ℕ) → list_all is_ascii_digit (d ∷ ds) ≡ true →
+      name_of_stem names stem n ≡ codes "_e" ++ (d ∷ ds) → ⊥
   unfolding is_text
-  numbered_of_stem word n h is = either (name_cases n)
+  numbered_of_stem word n d ds all is = either (name_cases n)
     where
       nothing : stem ≡ [] → ⊥
       nothing e = true≢false (sym word ∙ ap is_word e)
@@ -198,16 +199,11 @@ module _ (names : Names) (stem : List ℕ) where
           ⊎ (name_of_stem names stem n ≡ stem ++ 95 ∷ digits_of n) → ⊥
       either (inl first) = true≢false (sym numbered_ends ∙ ap (ends_by is_ascii_digit) (sym is ∙ first.1) ∙ first_ends)
         where
-          numbered_ends : ends_by is_ascii_digit (codes "_e" ++ decimal h) ≡ true
-          numbered_ends = ended (decimal h) (is_text-decimal h) (all_digits-decimal h)
-            where
-              ended : (ds : List ℕ) → is_text ds ≡ true → list_all is_ascii_digit ds ≡ true →
-                  ends_by is_ascii_digit (codes "_e" ++ ds) ≡ true
-              ended [] some all = absurd (cc)
-              ended (d ∷ ds) some all = ends_by-append is_ascii_digit (codes "_e") d ds
-                  ∙ ends_by-all is_ascii_digit (d ∷ ds) refl all
-      either (inr later) = nothing (split_last stem (digits_of n) [] (101 ∷ decimal h) (number_has_none n)
-          (digits_have_none (decimal h) (all_digits-decimal h)) (sym later ∙ is)).0
+          numbered_ends : ends_by is_ascii_digit (codes "_e" ++ (d ∷ ds)) ≡ true
+          numbered_ends =
+              ends_by-append is_ascii_digit (codes "_e") d ds ∙ ends_by-all is_ascii_digit (d ∷ ds) refl all
+      either (inr later) = nothing (split_last stem (digits_of n) [] (101 ∷ d ∷ ds) (number_has_none n)
+          (digits_have_none (d ∷ ds) all) (sym later ∙ is)).0
 
 -- ---- a name tells its stem and its number
 module _ (names : Names) (b c : List ℕ) (m n : ℕ) (b_ends : ends_separated b ≡ false)
@@ -414,13 +410,23 @@ plain_ends words all = record {
         either true e = absurd (apart ((bytes_decides q word).0 e))
         either false e = refl
 
--- no name is `_e` and a number after it
-pub name_after_not_numbered : (start : Names) (earlier : List (List ℕ)) (label : List ℕ) (h : ℕ) →
-    name_after start earlier label ≡ codes "_e" ++ decimal h → ⊥
-name_after_not_numbered start earlier label h is =
+-- no name is `_e` and digits after it, so none is `_e` and a number
+pub name_after_no_digits : (start : Names) (earlier : List (List ℕ)) (label : List ℕ) (d : ℕ) (ds : List ℕ) →
+    list_all is_ascii_digit (d ∷ ds) ≡ true → name_after start earlier label ≡ codes "_e" ++ (d ∷ ds) → ⊥
+name_after_no_digits start earlier label d ds all is =
     numbered_of_stem start (label_stem start label)
     (stem_is_word start.reserved_prefixes (chars label))
-    (labels_with_stem start earlier (label_stem start label)) h is
+    (labels_with_stem start earlier (label_stem start label)) d ds all is
+
+pub name_after_not_numbered : (start : Names) (earlier : List (List ℕ)) (label : List ℕ) (h : ℕ) →
+    name_after start earlier label ≡ codes "_e" ++ decimal h → ⊥
+unfolding is_text
+name_after_not_numbered start earlier label h is = by (decimal h) (is_text-decimal h) (all_digits-decimal h) is
+  where
+    by : (ds : List ℕ) → is_text ds ≡ true → list_all is_ascii_digit ds ≡ true →
+        name_after start earlier label ≡ codes "_e" ++ ds → ⊥
+    by [] some all is = absurd cc
+    by (d ∷ ds) some all is = name_after_no_digits start earlier label d ds all is
 
 -- ---- no name comes twice
 module _ (start : Names) where

@@ -3,8 +3,9 @@
 -- Throughout, t is the handle of a type ty, n and k are indexes of its members, i and j those of
 -- items; a and b are labels, items or members, and h is the handle of an expression.
 use Rattle.std.specs.Prelude.{◌≡◌, ℕ, ◌<◌, map, List, [], ◌∷◌, nat_eq, ◌++◌, take, true}
-use Rattle.std.specs.Prelude.{false, codes, decimal, slice_get, Some}
-use Rattle.std.specs.List.{starts_with}
+use Rattle.std.specs.Prelude.{false, codes, slice_get, Some}
+use Rattle.std.specs.List.{list_all, starts_with}
+use Rattle.std.specs.Char.{is_ascii_digit}
 use Rattle.std.specs.FinSet as set
 use Rattle.naga_keywords.specs.Plain.{is_identifier, HasPlainEnds}
 use Rattle.naga_keywords.specs.Words.{in_lower_case}
@@ -53,11 +54,12 @@ NamesAreNoCaselessKeywords =
     HasPlainEnds start.caseless_keywords →
     set.contains start.caseless_keywords (in_lower_case (name_after start earlier label)) ≡ false
 
--- no name is `_e` and a number after it
+-- no name is `_e` and digits after it, `_e05` as little as `_e5`
 abbrev pub NamesAreNotNumbered : Type 0
 NamesAreNotNumbered =
-    (start : Names) (earlier : List (List ℕ)) (label : List ℕ) (h : ℕ) →
-    name_after start earlier label ≡ codes "_e" ++ decimal h → ⊥
+    (start : Names) (earlier : List (List ℕ)) (label : List ℕ) (d : ℕ) (ds : List ℕ) →
+    list_all is_ascii_digit (d ∷ ds) ≡ true →
+    name_after start earlier label ≡ codes "_e" ++ (d ∷ ds) → ⊥
 
 -- labels at two indices have different names
 abbrev pub NamesDiffer : Type 0

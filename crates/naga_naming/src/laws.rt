@@ -41,7 +41,7 @@ pub fn words_of_wgsl_have_plain_ends()
         (set.from_list (map (λ word. word.now) BUILTIN_IDENTIFIERS.now)) }
 {}
 
-/// No name is `_e` and a number after it.
+/// No name is `_e` and digits after it, be they a number's or not: `_e05` as little as `_e5`.
 pub fn names_are_not_numbered()
     ensures { NamesAreNotNumbered }
 {}

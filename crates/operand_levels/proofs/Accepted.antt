@@ -1,0 +1,41 @@
+-- Whether a module is accepted doesn't depend on how far counts are raised.
+use Rattle.std.proofs.Common.{◌≡◌, true, List, [], ◌∷◌, refl, ap, inl, subst, sym}
+use Rattle.naga_ir.specs.declared.module.Module.{Module}
+use Rattle.naga_ir.specs.declared.types.Type_.{Type_}
+use Rattle.naga_info.specs.declared.info.ExpressionInfo.{ExpressionInfo}
+use Rattle.naga_info.specs.declared.info.ModuleInfo.{ModuleInfo}
+use Rattle.naga_info.specs.declared.info.TypeResolution.{TypeResolution}
+use Rattle.module_semantics.specs.acceptance.Accepted.{is_accepted}
+use Rattle.naga_inference.specs.Following.{HasSameType, IsSameType}
+use Rattle.naga_inference.specs.Passes.{AllLike}
+use Rattle.naga_inference.proofs.SameAcceptance.{accepted_still}
+use Rattle.operand_levels.specs.Raised.{AllRaised, AreRaised}
+
+module _ (types : List Type_) where
+  same_types : (old new : List ExpressionInfo) → AreRaised old new → AllLike (HasSameType types) new old
+  same_types [] [] are = tt
+  same_types [] (k ∷ ks) are = absurd are
+  same_types (k ∷ ks) [] are = absurd are
+  same_types (k ∷ ks) (r ∷ rs) are = (inl (ap (λ x. x.ty) are.0.rest), same_types ks rs are.1)
+
+  all_same_types : (old new : List (List ExpressionInfo)) → AllRaised old new →
+      AllLike (AllLike (HasSameType types)) new old
+  all_same_types [] [] are = tt
+  all_same_types [] (k ∷ ks) are = absurd are
+  all_same_types (k ∷ ks) [] are = absurd are
+  all_same_types (k ∷ ks) (r ∷ rs) are = (same_types k r are.0, all_same_types ks rs are.1)
+
+  same_own : (ks : List TypeResolution) → AllLike (IsSameType types) ks ks
+  same_own [] = tt
+  same_own (k ∷ ks) = (inl refl, same_own ks)
+
+pub still_accepted : (m : Module) (old new : ModuleInfo) →
+    new.const_expression_types ≡ old.const_expression_types →
+    AllRaised old.functions.items new.functions.items → AllRaised old.entry_points.items new.entry_points.items →
+    is_accepted m old ≡ true → is_accepted m new ≡ true
+still_accepted m old new types functions entry_points accepted =
+    accepted_still m new old
+    (subst (λ ks. AllLike (IsSameType m.types) ks.items old.const_expression_types.items) (sym types)
+    (same_own m.types old.const_expression_types.items))
+    (all_same_types m.types old.functions.items new.functions.items functions)
+    (all_same_types m.types old.entry_points.items new.entry_points.items entry_points) accepted

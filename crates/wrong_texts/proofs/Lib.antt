@@ -1,0 +1,13 @@
+pub mod Names
+pub mod Right
+pub mod Trees
+pub mod Unread
+pub mod Written
+pub mod Wrong
+pub mod BreakIfFirst
+pub mod ComponentOfNegation
+pub mod NamesAfterLoops
+pub mod PointerArguments
+pub mod SelectOperands
+pub mod SiblingNames
+pub mod SkippedNames

@@ -1,0 +1,9 @@
+pub mod BreakIfFirst
+pub mod ComponentOfNegation
+pub mod Modules
+pub mod NamesAfterLoops
+pub mod PointerArguments
+pub mod Promise
+pub mod SelectOperands
+pub mod SiblingNames
+pub mod SkippedNames
