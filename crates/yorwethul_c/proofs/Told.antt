@@ -31,7 +31,7 @@ use Rattle.module_positions.specs.declared.positions.JsonHolder.TheVariants as h
 use Rattle.module_answers.specs.Within.{IsUnwritten}
 use Rattle.module_answers.specs.declared.within.NoOutcome.{NoOutcome}
 use Rattle.module_answers.specs.declared.within.NoOutcome.TheVariants as unwritten
-use Rattle.yorwethul_c.specs.Answers.{IsAccepted, IsNotAccepted, IsRefused, IsTooLong}
+use Rattle.yorwethul_c.specs.Answers.{IsAccepted, IsRefused, IsTooLong}
 use Rattle.yorwethul_c.specs.Answers.{WasWritten, LacksMemory, Says, SaysOfError, SaysOfUnasked}
 use Rattle.yorwethul_c.specs.Answers.{SaysOfUnwritten, SaysOfWritten, SaysThat, TellsAnyRefusal}
 use Rattle.yorwethul_c.specs.Answers.{TellsOfChecking, TellsOfFault, TellsOfLayouts, WasRead}
@@ -202,8 +202,8 @@ stopped : (json : List ℕ) (flags : ℕ) (writer : WriterFlags) (from : JsonHol
     (TellsOfModule e → TellsAnyRefusal from m refusal text → IsRefused flags text) →
     SaysOfError from m refusal e told text → TellsOfWriting json flags told text
 stopped json flags writer from m info refusal (error.Memory e) told text reason is says =
-    said_that (TellsOfWriting json flags) (TellsAnyRefusal from m refusal) status.OutOfMemory told text (λ _. says.1 refl)
-    refl says.0
+    said_that (TellsOfWriting json flags) (TellsAnyRefusal from m refusal) status.OutOfMemory told text
+    (λ _. says.1 refl) refl says.0
 stopped json flags writer from m info refusal (error.FmtError sink.Failed) told text reason is says =
     let none : ⊥ = omega (arith, reason) in absurd none
 stopped json flags writer from m info refusal (error.FmtError (sink.Memory e)) told text reason is says = absurd reason
@@ -231,7 +231,8 @@ with_decimal_floats flags given m more decimal =
 -- what the writer did when asked
 module _ (json : List ℕ) (flags : ℕ) (writer : WriterFlags) (from : JsonHolder) (given m : Module)
     (read info : ModuleInfo) (content : List ℕ) (known : flags ≤ 7) (bits : bits_of writer ≡ flags % 4)
-    (was_read : WasRead from given read) (asked : IsAsAsked (asks_decimal_floats flags) given m) (accepted : IsTrue (is_accepted given read))
+    (was_read : WasRead from given read) (asked : IsAsAsked (asks_decimal_floats flags) given m)
+    (accepted : IsTrue (is_accepted given read))
     (counted : IsCounted m read info) where
   abbrev asking : WasAsked flags
   asking = was_asked flags writer from given m read info known bits was_read asked accepted counted

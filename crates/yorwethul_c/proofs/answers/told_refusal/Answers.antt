@@ -19,5 +19,6 @@ pub returns-in-None : goal.returns-in-None
 returns-in-None c =
     let from = c.args.shader.now.holder in
     let m = c.args.shader.now.module in
-    subst (λ r. SaysThat (TellsAnyRefusal from m r) c.args.status c.told.result.status (string_bytes c.told.result.text))
+    subst (λ r. SaysThat (TellsAnyRefusal from m r)
+    c.args.status c.told.result.status (string_bytes c.told.result.text))
     (sym c.in-None.is) (said_of_none from m c.args.status _ _ c.told.ensures)
