@@ -1,8 +1,8 @@
--- By which construct a statement is refused that has no form, and the first of a block, in the order
--- of the text.
+-- By which construct a statement is refused that has no form, and the first of a block, in the
+-- order of the text.
 --
--- Throughout, st is a statement, b is the rest of a block, cs are the further cases, n is the number
--- of a statement, and it is the construct by which one is refused.
+-- Throughout, st is a statement, b is the rest of a block, cs are the further cases, n is the
+-- number of a statement, and it is the construct by which one is refused.
 use Rattle.std.specs.Prelude.{◌≡◌, ℕ, ◌⊎◌, Bool, true, false, List, [], ◌∷◌, Option}
 use Rattle.std.specs.Prelude.{Some, None, slice_get}
 use Rattle.std.specs.Option.{is_some, option_or}

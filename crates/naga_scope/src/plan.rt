@@ -44,8 +44,8 @@ pub enum PlanError {
     /// The rules of scope don't hold in the function, by this fault.
     OutOfScope(ScopeFault),
     /// The statement with this number is the first without a form, where those in blocks are
-    /// counted too, each after the one that holds the block, from 0; it is refused by this construct.
-    /// A case is told by its `switch`.
+    /// counted too, each after the one that holds the block, from 0; it is refused by this
+    /// construct. A case is told by its `switch`.
     StatementWithoutForm(usize, Construct),
     /// The line writes the expression with this handle, which has no form.
     WithoutForm(Line, Handle<Expression>),
@@ -118,10 +118,10 @@ impl Plan {
     /// The namer names the labels that front ends gave to what the function emits, in the order of
     /// the text. Where there is no plan, it has named some first ones of them.
     ///
-    /// Beside the names it takes memory for a list of the statements, and four times more: one table
-    /// and its log serve the walk, are then set back to the function's start, and serve the text; two
-    /// others have the marks of what may be written out as a constant and the lowest expression
-    /// without a form that each is made of, and are given back as the list is.
+    /// Beside the names it takes memory for a list of the statements, and four times more: one
+    /// table and its log serve the walk, are then set back to the function's start, and serve the
+    /// text; two others have the marks of what may be written out as a constant and the lowest
+    /// expression without a form that each is made of, and are given back as the list is.
     pub fn of<'a>(
         alloc: Global,
         module: &'a Module,

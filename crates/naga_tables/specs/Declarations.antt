@@ -1,5 +1,5 @@
--- By which construct a declaration is refused, or a struct that can't keep the offsets of its members,
--- and what a search for the first of these finds.
+-- By which construct a declaration is refused, or a struct that can't keep the offsets of its
+-- members, and what a search for the first of these finds.
 --
 -- Throughout, m is a module, number is that of a function or an entry point, f is a function, p an
 -- entry point, b a binding, v a built-in value, ty is the handle of a type, h that of an
@@ -61,8 +61,8 @@ pub data IsUnsupportedHead (m : Module) (number : ℕ) (it : Construct) : Type 0
       IsFalse (stage_has_form p p.stage) → it ≡ construct.StageVariable →
       IsUnsupportedHead m number it
 
--- A declaration of the module is refused by this construct, or a struct can't keep the offsets of its
--- members for that reason.
+-- A declaration of the module is refused by this construct, or a struct can't keep the offsets of
+-- its members for that reason.
 pub data IsUnsupportedDeclaration (m : Module) (it : Construct) : Type 0 where
   OfType : (ty : ℕ) → IsDeclaredType m ty → type_refusal m (Handle ty) ≡ Some it →
       IsUnsupportedDeclaration m it
@@ -85,8 +85,8 @@ Each {X} xs HasForm = (i : ℕ) (x : X) → slice_get xs i ≡ Some x → HasFor
 abbrev pub EachBefore : {X : Type 0} → List X → (n : ℕ) → (HasForm : (i : ℕ) → X → Type 0) → Type 0
 EachBefore {X} xs n HasForm = (i : ℕ) (x : X) → i < n → slice_get xs i ≡ Some x → HasForm i x
 
--- What a search finds in a list: nothing where each item has a form, else what has none in the first
--- item without one, by that item's index.
+-- What a search finds in a list: nothing where each item has a form, else what has none in the
+-- first item without one, by that item's index.
 abbrev pub Finds : {X F : Type 0} → List X → (HasForm : (i : ℕ) → X → Type 0) →
     (IsUnsupportedItem : (i : ℕ) → X → F → Type 0) → Option F → Type 0
 Finds xs HasForm IsUnsupportedItem None = Each xs HasForm
@@ -183,7 +183,8 @@ pub data IsUnsupportedStruct (m : Module) (members : List StructMember) (it : Co
         IsUnsupportedStruct m members it
     OfArray : (ks : List Placed) (ty : ℕ) → FindsMember m members None →
         concerned_among m members ≡ Some ks → ((fault : Misplaced) → StandsAmong fault ks → ⊥) →
-        FindsStride m members (Some ty) → it ≡ construct.ArrayStride → IsUnsupportedStruct m members it
+        FindsStride m members (Some ty) → it ≡ construct.ArrayStride →
+        IsUnsupportedStruct m members it
 
 -- so it is with a struct that a text declares
 abbrev pub TypeHasForm : Module → (ty : ℕ) → Type_ → Type 0

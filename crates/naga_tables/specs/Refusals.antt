@@ -1,9 +1,10 @@
--- By which construct a type or an expression is refused that has no form. Nothing refuses one that has
--- a form: each of these is none exactly where the definition of its form says so (`proofs/Refusals`).
+-- By which construct a type or an expression is refused that has no form. Nothing refuses one that
+-- has a form: each of these is none exactly where the definition of its form says so
+-- (`proofs/Refusals`).
 --
--- Throughout, m is a module, r a type of an expression, s a scalar, it a construct, own tells by what
--- each of the module's own expressions is refused, e is an expression, known what is known of the types
--- of those of its function, and h the handle of one.
+-- Throughout, m is a module, r a type of an expression, s a scalar, it a construct, own tells by
+-- what each of the module's own expressions is refused, e is an expression, known what is known of
+-- the types of those of its function, and h the handle of one.
 use Rattle.std.specs.Prelude.{ℕ, zero, suc, Bool, true, false, List, [], ◌∷◌, Option, Some, None}
 use Rattle.std.specs.Prelude.{if◌then◌else◌, length, nat_lt, slice_get}
 use Rattle.std.specs.Option.{is_some, option_and_then, option_map_or, option_or}

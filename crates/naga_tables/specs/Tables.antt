@@ -1,9 +1,9 @@
 -- What is looked up of a module again and again while its text is decided and written.
 --
--- Throughout, m is a module, t are its tables, h is the handle of one of its types or of one of its
--- own expressions, c that of a constant, k a constant, e an expression, s are special types, it is
--- a type by itself, r a type of an expression, cells tell layouts or refusals, and kept are marks of
--- strides.
+-- Throughout, m is a module, t are its tables, h is the handle of one of its types or of one of
+-- its own expressions, c that of a constant, k a constant, e an expression, s are special types,
+-- it is a type by itself, r a type of an expression, cells tell layouts or refusals, and kept are
+-- marks of strides.
 use Rattle.std.specs.Prelude.{◌≡◌, ◌++◌, ◌&&◌, ℕ, Bool, true, false, List, Option, Some, None}
 use Rattle.std.specs.Prelude.{IsTrue, get_or, if◌then◌else◌, length, slice_get}
 use Rattle.std.specs.Option.{is_none, is_some, option_and_then, option_map, option_map_or}
@@ -34,9 +34,9 @@ use Rattle.naga_tables.specs.Marks.{GlobalsStandInOrder, is_marked}
 use Rattle.naga_tables.specs.Refusals.{global_refusal}
 
 -- The tables, with a cell for each of the module's own expressions or for each type: by what
--- expressions are refused, and by which they are written; which structs no text declares, which types name one,
--- which are spelled, how each is laid out, and whether the arrays that each is made of have the
--- stride that WGSL gives them.
+-- expressions are refused, and by which they are written; which structs no text declares, which
+-- types name one, which are spelled, how each is laid out, and whether the arrays that each is
+-- made of have the stride that WGSL gives them.
 pub record Tables : Type 0 where
   pub global_refusals : List (Option Construct)
   pub representatives : List ℕ

@@ -115,8 +115,8 @@ pub fn own_refusal(
     }
 }
 
-/// By what an expression is refused that has no form among the others of its function: by itself, or
-/// else for its offset.
+/// By what an expression is refused that has no form among the others of its function: by itself,
+/// or else for its offset.
 pub fn refused_expression(
     module: &Module,
     tables: &ModuleTables,
@@ -157,8 +157,8 @@ fn relational_refusal(fun: RelationalFunction) -> Option<Construct>
     }
 }
 
-/// Whether a sampling has a form. A gather is at level zero, told or not, and is not clamped. What is
-/// clamped is at level zero, and compares nothing.
+/// Whether a sampling has a form. A gather is at level zero, told or not, and is not clamped. What
+/// is clamped is at level zero, and compares nothing.
 pub fn sampling_has_form(
     gather: Option<SwizzleComponent>,
     level: SampleLevel,
@@ -179,8 +179,8 @@ pub fn sampling_has_form(
     }
 }
 
-/// By what a part with this number is refused: there are none, or it is a member of a struct that no
-/// text declares, which no text can name.
+/// By what a part with this number is refused: there are none, or it is a member of a struct that
+/// no text declares, which no text can name.
 fn part_refusal(
     module: &Module,
     tables: &ModuleTables,
@@ -193,7 +193,8 @@ fn part_refusal(
     requires named { HasNamesOf «module».now (names_in names.now) }
     requires known { AreKnownIn «module».now.types info.now }
     ensures { result ≡ unless (part_has_form «module».now info.now base index)
-        (unnamed_part (known_passes «module».now.types info.now (has_parts «module».now.types) base)) }
+        (unnamed_part
+        (known_passes «module».now.types info.now (has_parts «module».now.types) base)) }
 {
     if !known_has_parts(&module.types, info.expressions.as_slice(), base) {
         return Some(Construct::Index);
@@ -207,8 +208,8 @@ fn part_refusal(
     }
 }
 
-/// The type of which a part of an expression is taken, if that is one of the module: its own, or what
-/// it points to.
+/// The type of which a part of an expression is taken, if that is one of the module: its own, or
+/// what it points to.
 pub fn whole_known(
     types: &UniqueArena<Type_>,
     info: &FunctionInfo,
@@ -233,7 +234,8 @@ fn whole_of(types: &UniqueArena<Type_>, ty: &TypeResolution) -> Option<Handle<Ty
     }
 }
 
-/// Whether the part with this number of a type of the module is no member of a struct, or is written.
+/// Whether the part with this number of a type of the module is no member of a struct, or is
+/// written.
 fn part_has_form_at(
     module: &Module,
     tables: &ModuleTables,
@@ -306,7 +308,8 @@ pub(crate) fn literal_refusal(literal: Literal) -> Option<Construct>
     }
 }
 
-/// By what a conversion of this operand is refused: a scalar has no word, or nothing is converted so.
+/// By what a conversion of this operand is refused: a scalar has no word, or nothing is converted
+/// so.
 fn conversion_refusal(
     types: &UniqueArena<Type_>,
     info: &FunctionInfo,
@@ -340,8 +343,8 @@ fn converted_refusal(inner: &TypeInner, kind: ScalarKind, convert: Option<u8>) -
     }
 }
 
-/// By what the load of a cooperative matrix is refused: the scalars that the pointer points to have no
-/// word, or there are none.
+/// By what the load of a cooperative matrix is refused: the scalars that the pointer points to
+/// have no word, or there are none.
 fn load_refusal(
     types: &UniqueArena<Type_>,
     info: &FunctionInfo,
@@ -349,7 +352,8 @@ fn load_refusal(
 ) -> Option<Construct>
     requires known { AreKnownIn types.now info.now }
     ensures { (columns rows : CooperativeSize) (role : CooperativeRole) → result
-        ≡ unless (known_passes types.now info.now (loads_matrix types.now columns rows role) pointer)
+        ≡ unless
+        (known_passes types.now info.now (loads_matrix types.now columns rows role) pointer)
         (lacking (pointed_scalar types.now info.now pointer)) }
 {
     match info.expressions.get(pointer.index()) {

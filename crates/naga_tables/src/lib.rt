@@ -1,5 +1,5 @@
-//! What is looked up of a module again and again while its text is decided and written; and by which
-//! constructs its declarations, types and expressions are refused that have no form.
+//! What is looked up of a module again and again while its text is decided and written; and by
+//! which constructs its declarations, types and expressions are refused that have no form.
 #![tactic(auto)]
 
 pub mod declarations;

@@ -18,7 +18,8 @@ ghost use Rattle.naga_tables.specs.Refusals.{type_refusal, unspelled};
 ghost use Rattle.naga_tables.specs.Tables.{AreRepresentatives, AreTablesOf, ItemsStandInOrder};
 ghost use Rattle.naga_tables.specs.Tables.{MarksNaming, MarksTypeForms, MarksUndeclared};
 ghost use Rattle.naga_tables.specs.Tables.{TellsLayouts, TellsRefusals, TellsStrides};
-ghost use Rattle.naga_tables.specs.Tables.{is_marked_over, is_marked_type, refusal_at, representative_at};
+ghost use Rattle.naga_tables.specs.Tables.{is_marked_over, is_marked_type, refusal_at};
+ghost use Rattle.naga_tables.specs.Tables.{representative_at};
 ghost use Rattle.naga_tables.specs.Tables.{item_has_type_form, representative_over, type_form_over};
 ghost use Rattle.naga_tables.specs.Tables.{type_has_form_by_marks};
 ghost use Rattle.naga_tables.specs.Tables.{undeclared_handles, unnamed_initialiser, unnamed_value};
@@ -40,11 +41,11 @@ use std::alloc::{AllocError, Global};
 use std::marker::Model;
 use wgsl_layout::{Layout, Misplaced};
 
-/// What is asked of a module again and again while its text is decided and written: by what
-/// its own expressions are refused, and by which others they are written; which structs no text declares, which types
-/// name one, and which types have a form; how types are laid out, and whether arrays have the
-/// stride that WGSL gives them. Each is looked up in one step, where the module itself would be
-/// searched.
+/// What is asked of a module again and again while its text is decided and written: by what its
+/// own expressions are refused, and by which others they are written; which structs no text
+/// declares, which types name one, and which types have a form; how types are laid out, and
+/// whether arrays have the stride that WGSL gives them. Each is looked up in one step, where the
+/// module itself would be searched.
 #[derive(Debug, Drop)]
 pub struct ModuleTables {
     global_refusals: Vec<Option<Construct>>,
@@ -101,9 +102,9 @@ impl ModuleTables {
         })
     }
 
-    /// By what one of the module's own expressions is refused: by nothing where it is made of literals,
-    /// zero values, compositions, splats, overrides and constants that all have forms. One that is not
-    /// there is no constant.
+    /// By what one of the module's own expressions is refused: by nothing where it is made of
+    /// literals, zero values, compositions, splats, overrides and constants that all have forms.
+    /// One that is not there is no constant.
     pub fn refusal(&self, module: &Module, handle: Handle<Expression>) -> Option<Construct>
         requires tables { AreTablesOf «module».now self.now }
         ensures { result ≡ global_refusal «module».now handle }
@@ -132,8 +133,8 @@ impl ModuleTables {
         representative_in(&self.representatives, handle)
     }
 
-    /// Whether no text declares the struct with this handle: one of WGSL's own functions gives it, or
-    /// it is one of those of external textures. One that is not there is none of these.
+    /// Whether no text declares the struct with this handle: one of WGSL's own functions gives it,
+    /// or it is one of those of external textures. One that is not there is none of these.
     pub fn is_undeclared(&self, module: &Module, handle: Handle<Type_>) -> bool
         requires tables { AreTablesOf «module».now self.now }
         ensures { result ≡ is_undeclared «module».now.special_types handle }
@@ -141,8 +142,8 @@ impl ModuleTables {
         is_marked(&self.undeclared, handle)
     }
 
-    /// Whether the spelling of a type would name a struct that no text declares. That of one that is
-    /// not there would not.
+    /// Whether the spelling of a type would name a struct that no text declares. That of one that
+    /// is not there would not.
     pub fn names_undeclared(&self, module: &Module, ty: &TypeResolution) -> bool
         requires tables { AreTablesOf «module».now self.now }
         ensures { result ≡ names_undeclared «module».now ty.now }
@@ -166,8 +167,8 @@ impl ModuleTables {
         handle_refusal(&self.naming, &self.type_forms, module, ty)
     }
 
-    /// What a type is that no text can spell: it names a struct that no text declares, a scalar has no
-    /// word, or it has no form for another reason.
+    /// What a type is that no text can spell: it names a struct that no text declares, a scalar
+    /// has no word, or it has no form for another reason.
     pub fn unspelled(&self, module: &Module, ty: &TypeResolution) -> Construct
         requires tables { AreTablesOf «module».now self.now }
         ensures { result ≡ unspelled «module».now ty.now }
@@ -432,8 +433,8 @@ fn type_has_form_by_marks(marks: &[bool], ty: &TypeResolution) -> bool
     }
 }
 
-/// Whether a text can spell the type with this handle, by marks of those that name a struct which no
-/// text declares, and of those that WGSL spells.
+/// Whether a text can spell the type with this handle, by marks of those that name a struct which
+/// no text declares, and of those that WGSL spells.
 fn is_spellable_by(naming: &[bool], type_forms: &[bool], module: &Module, ty: Handle<Type_>) -> bool
     requires naming { MarksNaming «module».now naming.now }
     requires type_forms { MarksTypeForms «module».now type_forms.now }
@@ -476,7 +477,8 @@ fn handle_refusal(
     }
 }
 
-/// What a type is that no text can spell, by marks of those that name a struct which no text declares.
+/// What a type is that no text can spell, by marks of those that name a struct which no text
+/// declares.
 fn unspelled(naming: &[bool], module: &Module, ty: &TypeResolution) -> Construct
     requires naming { MarksNaming «module».now naming.now }
     ensures { result ≡ unspelled «module».now ty.now }

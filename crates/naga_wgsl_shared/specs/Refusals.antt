@@ -1,9 +1,9 @@
--- What an error says of an expression, a type or a declaration that is refused: it names the construct
--- for which it is, or tells want of memory for its text.
+-- What an error says of an expression, a type or a declaration that is refused: it names the
+-- construct for which it is, or tells want of memory for its text.
 --
 -- Throughout, m is a module, r a type of an expression, h the handle of one of the module's own
--- expressions, e an expression of a function, of which es are all and known is what is known of their
--- types, and number is that of a function or an entry point.
+-- expressions, e an expression of a function, of which es are all and known is what is known of
+-- their types, and number is that of a function or an entry point.
 use Rattle.std.specs.Prelude.{ℕ, List, codes}
 use Rattle.naga_info.specs.declared.info.ExpressionInfo.{ExpressionInfo}
 use Rattle.naga_info.specs.declared.info.TypeResolution.{TypeResolution}

@@ -40,7 +40,8 @@ returns-in-Some-unsupported_in_entry_points-clause-some c =
     let step = c.in-Some-unsupported_in_entry_points in
     (of_entry_points c.args.module.now c.in_default.ensures c.in_default-unsupported_in_constants.ensures
     c.in_default-unsupported_in_overrides.ensures
-    c.in_default-unsupported_in_variables.ensures c.in_default-unsupported_in_functions.ensures (step.index, step.construct)
+    c.in_default-unsupported_in_variables.ensures c.in_default-unsupported_in_functions.ensures
+    (step.index, step.construct)
     (subst (λ ps. FindsFirst ps (λ i. EntryPointHasForm) (λ i. i) (λ i. IsUnsupportedEntryPoint)
     (Some (step.index, step.construct))) c.deref.ensures.value step.ensures)).some
 
@@ -79,7 +80,8 @@ returns-in-Some-unsupported_in_entry_points-clause-stands c =
     let step = c.in-Some-unsupported_in_entry_points in
     (of_entry_points c.args.module.now c.in_default.ensures c.in_default-unsupported_in_constants.ensures
     c.in_default-unsupported_in_overrides.ensures
-    c.in_default-unsupported_in_variables.ensures c.in_default-unsupported_in_functions.ensures (step.index, step.construct)
+    c.in_default-unsupported_in_variables.ensures c.in_default-unsupported_in_functions.ensures
+    (step.index, step.construct)
     (subst (λ ps. FindsFirst ps (λ i. EntryPointHasForm) (λ i. i) (λ i. IsUnsupportedEntryPoint)
     (Some (step.index, step.construct))) c.deref.ensures.value step.ensures)).stands
 
@@ -118,7 +120,8 @@ returns-in-Some-unsupported_in_entry_points-clause-first c =
     let step = c.in-Some-unsupported_in_entry_points in
     (of_entry_points c.args.module.now c.in_default.ensures c.in_default-unsupported_in_constants.ensures
     c.in_default-unsupported_in_overrides.ensures
-    c.in_default-unsupported_in_variables.ensures c.in_default-unsupported_in_functions.ensures (step.index, step.construct)
+    c.in_default-unsupported_in_variables.ensures c.in_default-unsupported_in_functions.ensures
+    (step.index, step.construct)
     (subst (λ ps. FindsFirst ps (λ i. EntryPointHasForm) (λ i. i) (λ i. IsUnsupportedEntryPoint)
     (Some (step.index, step.construct))) c.deref.ensures.value step.ensures)).first
 

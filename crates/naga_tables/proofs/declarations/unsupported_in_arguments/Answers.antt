@@ -8,8 +8,13 @@ use Rattle.naga_tables.proofs.declarations.unsupported_in_arguments.Goals as goa
 pub returns-in-Some : goal.returns-in-Some
 returns-in-Some c =
     let here = slice_get_read c.args.arguments.now (length c.args.arguments.now) c.loop-argument.argument-index
-    c.argument-item.result refl c.loop-argument-test.true c.argument-item.is in
-    (c.loop-argument.argument-index, c.argument-item.result, here, c.loop-argument.invariant.formed, sym c.in-Some.ensures)
+    c.argument-item.result refl c.loop-argument-test.true c.argument-item.is in (
+      c.loop-argument.argument-index,
+      c.argument-item.result,
+      here,
+      c.loop-argument.invariant.formed,
+      sym c.in-Some.ensures,
+    )
 
 pub loop-argument-preserved : goal.loop-argument-preserved
 loop-argument-preserved c =

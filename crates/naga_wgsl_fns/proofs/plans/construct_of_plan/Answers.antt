@@ -14,5 +14,6 @@ returns-in-WithoutForm-clause-ok c =
     let lacks = subst (λ o. IsSomeAnd o (λ e. IsFalse (expression_has_form m known f.expressions e)))
     c.index-expression.ensures (subst (IsOfPlan m f known) c.in-WithoutForm.is c.requires.unsupported) in
     subst (λ error. IsConstructOf m f known error it) (sym c.in-WithoutForm.is)
-    (subst (λ o. IsSomeAnd o (λ e. expression_refusal m known f.expressions e ≡ Some it)) (sym c.index-expression.ensures)
+    (subst (λ o. IsSomeAnd o (λ e. expression_refusal m known f.expressions e ≡ Some it))
+    (sym c.index-expression.ensures)
     (c.refused_expression.ensures f.expressions lacks))
