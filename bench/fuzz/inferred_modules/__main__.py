@@ -180,9 +180,16 @@ def answers_in(program, knowns):
     lines = [
         line_of({**known, "plain": is_plain, "explicit_types": explicit})
         for known in knowns for is_plain, explicit in STYLES]
-    answers = answers_to(program, lines)
+    answers = [without_reason(answer) for answer in answers_to(program, lines)]
     count = len(STYLES)
     return [answers[first:first + count] for first in range(0, len(answers), count)]
+
+
+def without_reason(answer):
+    """The answer without the types that a fault names: one that can't be spelled is told by its handle, if that is known."""
+    if "not_accepted" in answer:
+        answer["not_accepted"].pop("reason", None)
+    return answer
 
 
 def line_of(known):
