@@ -44,7 +44,8 @@ abbrev pub determinant_type : TypeInner → Option TypeResolution
 determinant_type (inner.Matrix columns rows s) = Some (scalar_type s)
 determinant_type _ = None
 
--- a matrix with a row for each component of the first operand and a column for each of the second
+-- a matrix with a row for each component of the first operand and a column for each of the second,
+-- as in GLSL and SPIR-V; naga has them the other way round
 abbrev pub outer_type : TypeInner → (second : Option TypeInner) → Option TypeResolution
 outer_type (inner.Vector rows s) (Some (inner.Vector columns t)) =
     Some (Value (inner.Matrix columns rows s))

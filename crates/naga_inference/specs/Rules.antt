@@ -1,6 +1,6 @@
 -- Which types expressions have whose types acceptance leaves open: each by the types of its
 -- operands. The rules are those of naga's typifier (naga 27, `proc/typifier.rs`), and WGSL's where
--- its rule is not known.
+-- its rule is not known or gives a type to what WGSL does not have.
 --
 -- Throughout, m is a module, types are its types, known are the types of the expressions that stand
 -- together, by handle, e is one of these, r a type of an expression (l is that of a left operand),

@@ -41,7 +41,8 @@ pub enum InferenceError {
     /// The expression at this position is the first to which the rules give no type.
     Untyped(FaultPosition),
     /// The same, of an expression whose type is a special one of the module
-    /// ([`has_special_type`](crate::has_special_type)), which has none for it.
+    /// ([`has_special_type`](crate::has_special_type)): the module has none for it, or its operand has
+    /// no type for which there could be one.
     Undeclared(FaultPosition),
     /// All expressions have types, and with these the module is not accepted.
     Unaccepted(Unaccepted),

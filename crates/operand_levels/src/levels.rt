@@ -202,12 +202,13 @@ fn bind_in_entry_points(
 
 /// Raises the count of each expression that would stand deeper in a text than on the last level
 /// ([`MOST_LEVELS`]), so that a `let` binds it where it is emitted. What stands over it uses its name.
-/// So a sum of 300 terms gets four `let`s, and no text nests more brackets than compilers take.
+/// So a sum of 300 terms that is emitted gets four `let`s.
 ///
 /// It is called after [`count`](naga_acceptance::count), which makes counts anew, and before a module
 /// is written. A count that a `let` follows from anyway stays as it is, and so does that of an access,
-/// which no count binds: accesses in accesses may stand deeper. No count gets less, nothing else
-/// changes, and a module that was accepted before is accepted after.
+/// which no count binds: accesses in accesses may stand deeper, and so may constants that no `Emit`
+/// gives, and the module's own expressions. No count gets less, nothing else changes, and a module
+/// that was accepted before is accepted after.
 ///
 /// An `Err` says that memory was refused. Some counts are raised then, and a further call goes on.
 ///
