@@ -2,8 +2,8 @@
 -- they stand too deep.
 --
 -- Throughout, f is a function (fs are several), e an expression with the handle h (p is both), ks are what is
--- known of a function's expressions (kss of those of several functions), levels are those of the expressions that were gone through, by handle,
--- and uses is how often an expression is used.
+-- known of a function's expressions (kss of those of several functions), levels are those of the expressions
+-- that were gone through, by handle, and uses is how often an expression is used.
 use Rattle.std.specs.Prelude.{ℕ, Bool, ◌&&◌, ◌||◌, max, List, [], ◌∷◌, ◌++◌, map, get_or}
 use Rattle.std.specs.Prelude.{if◌then◌else◌, nat_eq, nat_le, nat_lt}
 use Rattle.std.specs.List.{enumerate_from}

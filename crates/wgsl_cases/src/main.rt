@@ -1,13 +1,13 @@
 //! Reads cases, one in each line of the input, and tells of each what becomes of its module.
 //!
 //! A line is a JSON object with the members `name`, `module` and `info`, of which the last may be left out: what is
-//! known of the module is found by the module alone then. Uses are counted, unless a member `counted` is `true`. After a line `== NAME` comes the text of the module, and after it, if
-//! the module is refused, a line `refused: WHY`; after a line `== NAME, with types` the same where
-//! each `let` states its type, if that differs. Where a member `positions` is `true`, a line `at:
-//! POSITION` comes after a refusal, the position being that in the JSON. Where a member `portable` is `true`, what
-//! is written for standard compilers comes after `== NAME, portable` and `== NAME, portable with
-//! types`. A module that is not accepted has the line `not accepted: WHERE: WHY: WHAT WAS WANTED`
-//! alone, of which the last part is absent where no more is told.
+//! known of the module is found by the module alone then. Uses are counted, unless a member `counted` is `true`.
+//! After a line `== NAME` comes the text of the module, and after it, if the module is refused, a line
+//! `refused: WHY`; after a line `== NAME, with types` the same where each `let` states its type, if that differs.
+//! Where a member `positions` is `true`, a line `at: POSITION` comes after a refusal, the position being that in the
+//! JSON. Where a member `portable` is `true`, what is written for standard compilers comes after `== NAME, portable`
+//! and `== NAME, portable with types`. A module that is not accepted has the line
+//! `not accepted: WHERE: WHY: WHAT WAS WANTED` alone, of which the last part is absent where no more is told.
 //!
 //! The folder `cases` has what `stdin` and `stdout` are made of.
 #![tactic(auto)]
