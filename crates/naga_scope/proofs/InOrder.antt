@@ -2,7 +2,7 @@
 -- the list of its statements, each by itself.
 use Rattle.std.proofs.Common.{◌≡◌, ℕ, ◌+◌, ◌<◌, ◌≤◌, Bool, true, false, ◌&&◌, ◌||◌, List, [], ◌∷◌}
 use Rattle.std.proofs.Common.{◌++◌, Option, refl, sym, ap, ◌∙◌, arith, append-nil, append_assoc}
-use Rattle.std.proofs.Common.{drop, length, Some, slice_get, slice_index_or, suc, zero}
+use Rattle.std.proofs.Common.{drop, length, slice_index_or}
 use Rattle.std.proofs.lemmas.List.{drop_all}
 use Rattle.std.proofs.Math.Bool.{and-true, and_assoc, or-false, or_assoc, or_comm}
 use Rattle.std.proofs.lemmas.List.Folds.{list_any-append}

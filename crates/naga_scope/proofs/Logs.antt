@@ -13,7 +13,7 @@ use Rattle.std.proofs.lemmas.Grind.{get_or-set_at}
 use Rattle.naga_scope.specs.Availabilities.{TextPoint, availability_of, emitted_availability}
 use Rattle.naga_scope.specs.Availabilities.{forgotten_cell, handles_of}
 use Rattle.naga_scope.specs.Log.{undo, forget, forget_if, forget_at, undone, forgotten, back_to}
-use Rattle.naga_scope.specs.Log.{forget_from, grows, Grown, Logged, Reverts, Extends, Same, Counted}
+use Rattle.naga_scope.specs.Log.{forget_from, grows, Grown, Logged, Reverts, Extends, Same}
 use Rattle.naga_scope.specs.declared.points.Change.{Change}
 use Rattle.naga_scope.specs.declared.points.Availability.{Availability}
 use Rattle.naga_scope.specs.declared.points.BoundName.{BoundName}

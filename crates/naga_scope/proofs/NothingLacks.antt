@@ -32,15 +32,12 @@ use Rattle.naga_scope.specs.declared.lines.Declared.TheVariants as declared_by
 use Rattle.naga_scope.specs.declared.lines.Line.TheVariants.{BreakIf, Local, Statement}
 use Rattle.naga_scope.specs.declared.plan.PlanError.TheVariants.{LetWithoutForm, StatementWithoutForm}
 use Rattle.naga_scope.specs.declared.plan.PlanError.TheVariants.{TypeWithoutForm, WithoutForm}
+use Rattle.naga_tables.proofs.UnsupportedDeclarations.{neither}
 use Rattle.shader_runs.specs.Program.{Function, binds}
 use Rattle.shader_runs.specs.Scope.{Handles, Naming, after, after_all, at_start, before_local, first_values_fit}
 use Rattle.shader_runs.specs.Scope.{fits, fits_all, fits_cases, named_by, named_by_all, usable_if}
 
 -- ---- what is none
-pub neither : {X : Type 0} (a b : Option X) → option_or a b ≡ None → (a ≡ None) × (b ≡ None)
-neither None b is = (refl, is)
-neither (Some x) b is = absurd cc
-
 scope_none : (r : Checked) → scope_lack r ≡ None → is_ok r ≡ true
 scope_none (Ok passed) is = refl
 scope_none (Err fault) is = absurd cc

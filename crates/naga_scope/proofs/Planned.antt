@@ -52,7 +52,8 @@ use Rattle.naga_scope.proofs.FormedStatements.{all_formed, first_is, lacks_form,
 use Rattle.naga_scope.proofs.FoundLacks.{BreakLack, LackAt, OwnLack, block_found, either_some}
 use Rattle.naga_scope.proofs.Lowest.{lowest_lacks, none_among, written_formed}
 use Rattle.module_semantics.proofs.Lists.{unmapped}
-use Rattle.naga_scope.proofs.NothingLacks.{block_none, locals_none, neither}
+use Rattle.naga_scope.proofs.NothingLacks.{block_none, locals_none}
+use Rattle.naga_tables.proofs.UnsupportedDeclarations.{neither}
 use Rattle.naga_scope.proofs.OwnFaults.{break_breaks, first_breaks, own_breaks}
 use Rattle.naga_scope.proofs.ScopeFaults.{is_scope_fault}
 use Rattle.naga_scope.proofs.SpelledTypes.{declared_found, let_lacks, spelled_formed}

@@ -1,20 +1,15 @@
 -- The shape of a body has as many statements as the body.
-use Rattle.std.proofs.Common.{◌≡◌, ℕ, suc, Bool, true, false, List, refl, ap, ap₂, sym, ◌∙◌}
+use Rattle.std.proofs.Common.{◌≡◌, ℕ, suc, Bool, true, false, refl, ap, ap₂, sym, ◌∙◌}
 use Rattle.std.proofs.Common.{◌+◌, length, length-append}
 use Rattle.module_semantics.specs.ExpressionOperators.{ExpressionContext, is_atomic_pointer}
-use Rattle.module_semantics.specs.ExpressionContexts.{declared, types_known}
-use Rattle.module_semantics.specs.FunctionShapes.{cases_shape, function_shape, statement_shape, statements_shape}
+use Rattle.module_semantics.specs.FunctionShapes.{cases_shape, statement_shape, statements_shape}
 use Rattle.module_semantics.specs.StatementShapes.{simple_shape, store_shape}
-use Rattle.naga_info.specs.declared.info.ExpressionInfo.{ExpressionInfo}
-use Rattle.naga_info.specs.declared.info.ModuleInfo.{ModuleInfo}
 use Rattle.naga_ir.specs.StatementTree.{SimpleStatement, store, StatementTree, simple, block, branch, switch}
 use Rattle.naga_ir.specs.StatementTree.{loop, BlockTree, no_statements, statement, CaseTrees, no_cases, case}
-use Rattle.naga_ir.specs.declared.module.Function as ir_function
-use Rattle.naga_ir.specs.declared.module.Module.{Module}
 use Rattle.naga_ir.specs.InOrder.{case_trees, trees_in, trees_inside}
 use Rattle.naga_scope.specs.ScopeFaults.{case_standing, inside, standing}
 use Rattle.shader_runs.specs.Program.{Function}
-use Rattle.shader_runs.specs.ScopeRules.{ScopeState, after_turn, start_state, following}
+use Rattle.shader_runs.specs.ScopeRules.{ScopeState, after_turn, following}
 
 module _ (f : Function) (a : ExpressionContext) where
   store_none : (to_atomic : Bool) (p v : ℕ) (at : ScopeState) → length (inside f at (store_shape to_atomic p v)) ≡ 0

@@ -9,6 +9,7 @@ use Rattle.std.proofs.Common.{Option, None, Some, ap, ap₂, refl, slice_get, sy
 use Rattle.std.specs.List.{list_all}
 use Rattle.std.specs.Option.{is_none, is_some, option_map_or, option_or}
 use Rattle.std.specs.Prelude.{IsFalse, if◌then◌else◌}
+use Rattle.std.proofs.Math.Bool.{and_comm}
 use Rattle.module_semantics.specs.ExpressionForms.{constant_has_form, expression_has_form}
 use Rattle.module_semantics.specs.ExpressionForms.{expression_has_own_form, global_has_form}
 use Rattle.module_semantics.specs.ExpressionForms.{global_has_form_over, global_has_form_within}
@@ -40,12 +41,6 @@ pub either_is : (one other : Option Construct) →
     is_none (option_or one other) ≡ (is_none one && is_none other)
 either_is None other = refl
 either_is (Some it) other = refl
-
-both_ways : (a b : Bool) → (a && b) ≡ (b && a)
-both_ways true true = refl
-both_ways true false = refl
-both_ways false true = refl
-both_ways false false = refl
 
 pub is_nothing : {X : Type 0} (o : Option X) → is_none o ≡ true → o ≡ None
 is_nothing None is = refl
@@ -82,7 +77,7 @@ module _ (m : Module) (own : ℕ → Option Construct) (has : ℕ → Bool)
   global_over (expression.Compose ty components) =
       either_is (first_refusal own components.items) (type_refusal m (Handle ty))
       ∙ ap₂ (λ a b. a && b) (first_is components.items) (unless_is (is_spellable m (Handle ty)) _)
-      ∙ both_ways (list_all has components.items) (is_spellable m (Handle ty))
+      ∙ and_comm (list_all has components.items) (is_spellable m (Handle ty))
   global_over (expression.Splat size value) = same value
   global_over _ = refl
 

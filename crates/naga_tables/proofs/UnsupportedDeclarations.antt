@@ -98,7 +98,7 @@ formed_binding (Some b) has =
     formed_unrefused (binding_refusal (Some b)) (binding_has_form b) (binding_is b) (has b refl)
 
 -- of two answers, where none is or where one is
-neither : {X : Type 0} (one other : Option X) → option_or one other ≡ None → (one ≡ None) × (other ≡ None)
+pub neither : {X : Type 0} (one other : Option X) → option_or one other ≡ None → (one ≡ None) × (other ≡ None)
 neither None other none = (refl, none)
 neither (Some x) other none = absurd cc
 
