@@ -94,6 +94,7 @@ fn add_entry_point(alloc: Global, entry_points: &mut Vec<EntryPoint>) -> Result<
         name: String::new(alloc),
         stage: ShaderStage::Vertex,
         workgroup_size: [0; 3],
+        workgroup_size_overrides: [None, None, None],
         function,
         mesh_info: None,
         task_payload: None,

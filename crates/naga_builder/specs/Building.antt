@@ -237,9 +237,15 @@ pub record AddsFunction (b : BuiltFunction) (old new : ModuleBuilder) : Type 0 w
   pub known : new.info.functions.items ≡ old.info.functions.items ++ b.known.items ∷ []
   pub rest : new.info ≡ record old.info { functions = new.info.functions }
 
--- nothing that a mesh, a task or a ray stage has beside its function
+-- nothing that a stage has beside its label, its size of workgroups and its function
 abbrev pub no_extras : StageExtras
-no_extras = record { mesh_info = None; task_payload = None; incoming_ray_payload = None }
+no_extras =
+    record {
+      mesh_info = None;
+      task_payload = None;
+      incoming_ray_payload = None;
+      workgroup_size_overrides = None ∷ None ∷ None ∷ [];
+    }
 
 -- An entry point is added, with what is known of its function. It has this label, stage, size of
 -- workgroups and function, and these parts of its stage.
@@ -251,6 +257,8 @@ pub record AddsEntryPoint (b : BuiltFunction) (label : List ℕ) (stage : Shader
   pub labelled : string_bytes entry_point_added.name ≡ label
   pub stage_is : entry_point_added.stage ≡ stage
   pub size : entry_point_added.workgroup_size ≡ workgroup_size
+  pub size_overrides :
+      entry_point_added.workgroup_size_overrides ≡ parts.workgroup_size_overrides
   pub function : entry_point_added.function ≡ function_of b
   pub mesh : entry_point_added.mesh_info ≡ parts.mesh_info
   pub task : entry_point_added.task_payload ≡ parts.task_payload

@@ -23,7 +23,7 @@ use naga_ir::{
 };
 use std::alloc::{AllocError, Global};
 
-/// What an entry point of a mesh, task or ray stage has beside its function.
+/// What an entry point of some stages has beside its label, its size of workgroups and its function.
 #[derive(Debug, Clone, Copy, PartialEq, Eq)]
 pub struct StageExtras {
     /// What a mesh stage has beside.
@@ -32,6 +32,8 @@ pub struct StageExtras {
     pub task_payload: Option<Handle<GlobalVariable>>,
     /// The global variable of the payload that came with the ray.
     pub incoming_ray_payload: Option<Handle<GlobalVariable>>,
+    /// The overrides that stand in place of the numbers of the workgroups' size.
+    pub workgroup_size_overrides: [Option<Handle<Override>>; 3],
 }
 
 impl StageExtras {
@@ -43,6 +45,7 @@ impl StageExtras {
             mesh_info: None,
             task_payload: None,
             incoming_ray_payload: None,
+            workgroup_size_overrides: [None, None, None],
         }
     }
 }
@@ -334,6 +337,7 @@ impl ModuleBuilder {
                 name,
                 stage,
                 workgroup_size,
+                workgroup_size_overrides: parts.workgroup_size_overrides,
                 function,
                 mesh_info: parts.mesh_info,
                 task_payload: parts.task_payload,

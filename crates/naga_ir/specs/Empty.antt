@@ -1,5 +1,5 @@
 -- Modules and functions that hold nothing.
-use Rattle.std.specs.Prelude.{◌≡◌, [], None}
+use Rattle.std.specs.Prelude.{◌≡◌, [], false, None}
 use Rattle.indexmap.specs.IndexMap.{IsEmpty}
 use Rattle.naga_ir.specs.declared.module.Function.{Function}
 use Rattle.naga_ir.specs.declared.module.Module.{Module}
@@ -32,3 +32,6 @@ pub record IsEmptyModule (m : Module) : Type 0 where
   pub no_global_expressions : m.global_expressions ≡ []
   pub no_functions : m.functions ≡ []
   pub no_entry_points : m.entry_points.items ≡ []
+  pub no_diagnostic_filters : m.diagnostic_filters ≡ []
+  pub no_diagnostic_filter_leaf : m.diagnostic_filter_leaf ≡ None
+  pub naga_names : m.keeps_digits ≡ false

@@ -27,7 +27,10 @@ pub mod unique_arena;
 
 pub use arena::{Arena, Handle, Item, ItemIndex};
 pub use binding::{Binding, BuiltIn, Interpolation, ResourceBinding, Sampling};
-pub use diagnostics::{FilterableTriggeringRule, Severity, StandardFilterableTriggeringRule};
+pub use diagnostics::{
+    DiagnosticFilter, DiagnosticFilterNode, FilterableTriggeringRule, Severity,
+    StandardFilterableTriggeringRule,
+};
 pub use expression::{
     CooperativeData, Expression, ImageQuery, Literal, SampleLevel, SwizzleComponent,
 };

@@ -2,6 +2,7 @@
 
 use crate::arena::{Arena, Handle, Item};
 use crate::binding::{Binding, ResourceBinding};
+use crate::diagnostics::DiagnosticFilterNode;
 use crate::expression::Expression;
 use crate::flags::MemoryDecorations;
 use crate::statement::Block;
@@ -197,6 +198,10 @@ pub struct EntryPoint {
     pub stage: ShaderStage,
     /// How many invocations a workgroup has along each axis, in a compute, task or mesh stage.
     pub workgroup_size: [u32; 3],
+    /// The overrides whose values stand in place of these numbers, along each axis that has one:
+    /// `@workgroup_size(W, 4, 1)`. naga has expressions there; one that is no override by itself is
+    /// the initialiser of an override without a name.
+    pub workgroup_size_overrides: [Option<Handle<Override>>; 3],
     /// What it does.
     pub function: Function,
     /// What a mesh stage has beside.
@@ -244,6 +249,13 @@ pub struct Module {
     pub functions: Arena<Function>,
     /// Its entry points.
     pub entry_points: Vec<EntryPoint>,
+    /// Filters of diagnostics. Each stands after its parent.
+    pub diagnostic_filters: Arena<DiagnosticFilterNode>,
+    /// The last of the filters that hold in the whole module, if there is one: it, its parent, and so on.
+    pub diagnostic_filter_leaf: Option<Handle<DiagnosticFilterNode>>,
+    /// Whether a name keeps the digits that its label ends in, as `pass2` does, where no other name
+    /// can be the same. naga has no such field, and writes `pass2_`.
+    pub keeps_digits: bool,
 }
 
 impl Module {
@@ -269,6 +281,9 @@ impl Module {
             global_expressions: Arena::new(alloc),
             functions: Arena::new(alloc),
             entry_points: Vec::new(alloc),
+            diagnostic_filters: Arena::new(alloc),
+            diagnostic_filter_leaf: None,
+            keeps_digits: false,
         }
     }
 }

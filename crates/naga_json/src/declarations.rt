@@ -154,6 +154,7 @@ impl FromJson for EntryPoint {
             name: member(alloc, payload, "name")?,
             stage: member(alloc, payload, "stage")?,
             workgroup_size: member(alloc, payload, "workgroup_size")?,
+            workgroup_size_overrides: [None, None, None],
             function: member(alloc, payload, "function")?,
             mesh_info: member(alloc, payload, "mesh_info")?,
             task_payload: member(alloc, payload, "task_payload")?,

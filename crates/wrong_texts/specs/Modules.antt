@@ -4,7 +4,7 @@
 -- Throughout, r is what modules have beside what is told of them, v a vector, and x, y and z are
 -- its items.
 use Rattle.std.specs.Prelude.{ℕ, ◌+◌, ◌<◌, ◌^◌, List, [], ◌∷◌, map, length, codes, Vec, IsUtf8}
-use Rattle.std.specs.Prelude.{Option, None, Some, pos, refl}
+use Rattle.std.specs.Prelude.{false, Option, None, Some, pos, refl}
 use Rattle.std.specs.Global.{Global}
 use Rattle.std.specs.Option.{option_map}
 use Rattle.std.specs.declared.string.String.{String}
@@ -184,6 +184,9 @@ module_of r types f =
       global_expressions = [];
       functions = f ∷ [];
       entry_points = none r.module_.entry_points;
+      diagnostic_filters = [];
+      diagnostic_filter_leaf = None;
+      keeps_digits = false;
     }
 
 -- an expression is used so often, and has the type with this handle
