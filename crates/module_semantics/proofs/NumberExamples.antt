@@ -1,6 +1,6 @@
 -- What the tests of Numbers answer where acceptance asks them, by examples: a number beside the
 -- first that its type has not, and a pattern of four letters beside one of three.
-use Rattle.std.proofs.Common.{◌≡◌, ℕ, ◌^◌, ◌-◌, pos, negsuc, true, false, List, [], ◌∷◌, Option}
+use Rattle.std.proofs.Common.{◌≡◌, ℕ, ◌^◌, ◌-◌, pos, negsuc, Bool, true, false, List, [], ◌∷◌, Option}
 use Rattle.std.proofs.Common.{Some, None, refl, arith, length, Vec, Global}
 use Rattle.naga_ir.specs.StatementTree.{CaseTrees, no_cases, case, no_statements}
 use Rattle.naga_ir.specs.declared.binding.Binding.{Binding}
