@@ -250,15 +250,20 @@ function_in_range m callees f =
     (list_all (local_in_range (length m.types) (length f.expressions)) f.local_variables &&
     (expressions_in_range m f && block_in_range callees (length f.expressions) f.body)))
 
+-- The overrides that set a workgroup's size lie in the overrides. Nothing is asked of their types,
+-- nor of a stage that has no workgroups.
+abbrev pub size_overrides_fit : Module → EntryPoint → Bool
+size_overrides_fit m p = list_all (is_below (length m.overrides)) p.workgroup_size_overrides
+
 -- an entry point may call each function; the variables that it names beside lie in the globals, and
--- its workgroup's sizes have 32 bits
+-- what sets its workgroup's size in the overrides; and the sizes have 32 bits
 abbrev pub entry_point_in_range : Module → EntryPoint → Bool
 entry_point_in_range m p =
     is_below (length m.global_variables) (option_map (λ k. k.output_variable) p.mesh_info) &&
     (is_below (length m.global_variables) p.task_payload &&
     (is_below (length m.global_variables) p.incoming_ray_payload &&
-    (workgroup_fits_32_bits p.workgroup_size &&
-    function_in_range m (length m.functions) p.function)))
+    (size_overrides_fit m p && (workgroup_fits_32_bits p &&
+    function_in_range m (length m.functions) p.function))))
 
 -- ---- modules
 
