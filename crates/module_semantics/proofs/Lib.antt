@@ -13,6 +13,7 @@ pub mod FunctionNumbers
 pub mod StatementRanges
 pub mod InterfaceExamples
 mod LayoutExamples
+mod NamedItemExamples
 mod RangeExamples
 pub mod DeclarationForms
 pub mod Layouts
