@@ -30,7 +30,7 @@ use Rattle.naga_spelling.specs.Spelling.{length_within, size_within}
 use Rattle.naga_acceptance.specs.Faults.{ConstantFails, EntryPointFails, EntryPositionFails, FaultIs}
 use Rattle.naga_acceptance.specs.Faults.{FunctionFails, FunctionPositionFails, GlobalExpressionFails}
 use Rattle.naga_acceptance.specs.Faults.{GlobalFails, ItemFails, ModuleFails, OverrideFails, TypeFails}
-use Rattle.naga_acceptance.specs.Faults.{entry_names_fit, known_of, names_there}
+use Rattle.naga_acceptance.specs.Faults.{entry_names_fit, known_of}
 use Rattle.naga_acceptance.specs.TextOrder.{case_values_fit_32_bits, is_in_range, own_in_range, text_order}
 use Rattle.naga_acceptance.specs.declared.faults.Fault.{Fault}
 use Rattle.naga_acceptance.specs.declared.faults.Fault.TheVariants as fault
@@ -39,6 +39,7 @@ use Rattle.naga_acceptance.specs.declared.faults.FunctionPosition.TheVariants as
 use Rattle.naga_acceptance.specs.declared.faults.FaultPosition.{FaultPosition}
 use Rattle.naga_acceptance.specs.declared.faults.FaultPosition.TheVariants as item
 use Rattle.module_semantics.proofs.Lists.{list_all_at}
+use Rattle.module_semantics.specs.acceptance.NamedItems.{names_there}
 use Rattle.module_semantics.specs.acceptance.Numbers.{fits_16_bits, resource_fits_32_bits}
 use Rattle.module_semantics.specs.acceptance.Numbers.{signature_fits_32_bits, type_fits_32_bits}
 use Rattle.module_semantics.specs.acceptance.Numbers.{workgroup_fits_32_bits}
@@ -50,12 +51,12 @@ use Rattle.module_semantics.specs.TypeParts.{inner_at}
 use Rattle.fault_details.specs.Demands.{Demands, OfEach, are_met, there, unmet}
 use Rattle.fault_details.specs.Reasons.{entry_point_demands, expression_demands, function_demands}
 use Rattle.fault_details.specs.Reasons.{global_demands, initialiser_demands, item_demands, length_demands}
-use Rattle.fault_details.specs.Reasons.{declared_demands, made_demands, module_demands, name_demands, part_demands}
+use Rattle.fault_details.specs.Reasons.{declared_demands, made_demands, module_demands, part_demands}
 use Rattle.fault_details.specs.Reasons.{reason_at, simple_name_demands, size_demands, statement_demands}
 use Rattle.fault_details.specs.Reasons.{statement_name_demands, variables_demands, whole_demands}
 use Rattle.fault_details.specs.WithReason.{AreNumbered, AreOfTheirTypes, HasItsNumbers, IsOfNames}
-use Rattle.fault_details.specs.WithReason.{NameFaultsHaveReasons, case_numbers_fit, own_numbers_fit}
-use Rattle.fault_details.specs.declared.words.ListName.TheVariants as list
+use Rattle.fault_details.specs.WithReason.{NameFaultsHaveReasons, case_numbers_fit}
+use Rattle.module_semantics.specs.declared.named.ListName.TheVariants as list
 use Rattle.fault_details.proofs.Reasoning.{both, placed_told, some_then, told, turned, unfit_told}
 
 -- ---- numbers, which are of their types
@@ -85,12 +86,6 @@ module _ (m : Module) where
   length_same overrides (inner.Array base length stride) = size_same overrides length
   length_same overrides (inner.BindingArray base length) = size_same overrides length
   length_same overrides _ = refl
-
-  name_same : (arguments locals : ℕ) (e : Expression) → own_numbers_fit e ≡ true →
-      names_there m arguments locals e ≡ Met (name_demands m arguments locals e)
-  name_same arguments locals (expression.AccessIndex base index) fit = fit
-  name_same arguments locals (expression.Swizzle size vector pattern) fit = fit
-  name_same arguments locals _ fit = refl
 
   initialiser_same : (here : ℕ) (e : Expression) → initialiser_before m here e ≡ Met (initialiser_demands m here e)
   initialiser_same here (expression.Constant h) = refl
@@ -156,8 +151,7 @@ module _ (m : Module) (f : Function) (known : List TypeResolution) (callees : �
   expression_told h fault.Names of fails =
       unfit_told m.types (names_there m (length f.arguments.items) (length f.local_variables))
       (expression_demands m (Some f) known fault.Names h) (slice_get f.expressions h)
-      (λ e at. name_same m (length f.arguments.items) (length f.local_variables) e
-      (list_all_at own_numbers_fit f.expressions h e fit.expressions at)) fails
+      (λ e at. refl) fails
   expression_told h fault.Numeral of fails = absurd of
   expression_told h fault.KnownType of fails = absurd of
   expression_told h fault.OtherType of fails = absurd of
@@ -256,7 +250,7 @@ module _ (m : Module) (info : ModuleInfo) (fit : AreOfTheirTypes m) (numbered : 
   global_told h fault.Names of fails =
       unfit_told m.types (names_there m 0 0)
       (expression_demands m None info.const_expression_types.items fault.Names h) (slice_get m.global_expressions h)
-      (λ e at. name_same m 0 0 e (list_all_at own_numbers_fit m.global_expressions h e fit.expressions at)) fails
+      (λ e at. refl) fails
   global_told h fault.LaterInitialiser of fails =
       unfit_told m.types (initialiser_before m h)
       (expression_demands m None info.const_expression_types.items fault.LaterInitialiser h)

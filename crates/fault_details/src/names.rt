@@ -16,7 +16,8 @@ ghost use Rattle.fault_details.specs.Reasons.{variables_demands};
 ghost use Rattle.fault_details.specs.Shown.{shown};
 
 use crate::reasons::{Reason, absent, not_before};
-use crate::words::ListName;
+use module_semantics::ListName;
+use module_semantics::named::{count_of, named_item};
 use indexmap::IndexMap;
 use naga_info::TypeResolution;
 use naga_ir::{
@@ -168,41 +169,9 @@ fn name_reason<'a>(
     ensures { option_map shown result
         ≡ unmet «module».now.types (name_demands «module».now arguments locals expression.now) }
 {
-    match expression {
-        Expression::Constant(handle) => {
-            absent(ListName::Constants, module.constants.len(), handle.index())
-        }
-        Expression::Override(handle) => {
-            absent(ListName::Overrides, module.overrides.len(), handle.index())
-        }
-        Expression::ZeroValue(ty)
-        | Expression::Compose { ty, .. }
-        | Expression::AtomicResult { ty, .. }
-        | Expression::WorkGroupUniformLoadResult { ty }
-        | Expression::SubgroupOperationResult { ty } => {
-            absent(ListName::Types, module.types.len(), ty.index())
-        }
-        Expression::FunctionArgument(number) => {
-            absent(ListName::Arguments, arguments, *number as usize)
-        }
-        Expression::GlobalVariable(handle) => {
-            absent(
-                ListName::GlobalVariables,
-                module.global_variables.len(),
-                handle.index(),
-            )
-        }
-        Expression::LocalVariable(handle) => {
-            absent(ListName::LocalVariables, locals, handle.index())
-        }
-        Expression::CallResult(function) => {
-            absent(
-                ListName::Functions,
-                module.functions.len(),
-                function.index(),
-            )
-        }
-        _ => None,
+    match named_item(expression) {
+        Some((list, index)) => absent(list, count_of(module, arguments, locals, list), index),
+        None => None,
     }
 }
 

@@ -14,6 +14,7 @@ pub mod StatementRanges
 pub mod InterfaceExamples
 mod LayoutExamples
 pub mod EntryPointRanges
+mod NamedItemExamples
 mod RangeExamples
 pub mod DeclarationForms
 pub mod Layouts
