@@ -138,7 +138,7 @@ numbered_is_bad keeps d ds all =
     ∙ or-true (not (has_plain_end (codes "_e" ++ d ∷ ds))))
 
 -- and no others, where digits are kept
-kept_by_front : (front ds : List ℕ) → list_all is_ascii_digit ds ≡ true → ends_in_digit front ≡ false →
+pub kept_by_front : (front ds : List ℕ) → list_all is_ascii_digit ds ≡ true → ends_in_digit front ≡ false →
     (not (has_plain_end (front ++ ds)) || is_numbered (front ++ ds)) ≡
     (ends_separated front || bytes_eq front (codes "_e"))
 kept_by_front front ds all none =
