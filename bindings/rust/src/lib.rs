@@ -21,8 +21,8 @@
 //! ```
 //!
 //! [`Flags::default`] is what shaders want as they come from naga. Without [`Flags::DECIMAL_FLOATS`] a
-//! literal of a float is refused, and without [`Flags::PORTABLE`] the text lacks what only standard
-//! compilers ask for.
+//! literal of a float is refused, and a name that ends in a digit gets a `_`; without
+//! [`Flags::PORTABLE`] the text lacks what only standard compilers ask for.
 //!
 //! The types of expressions are found by the module. Those that a validator found are used instead where
 //! they come with it, as `{"module": .., "info": ..}`: of the info the types of expressions are read.

@@ -66,7 +66,7 @@ use Rattle.decimal_floats.specs.Decimals.{IsDecimalModule}
 use Rattle.decimal_floats.proofs.Literals.{decimal_scalar, decimal_within}
 use Rattle.decimal_floats.proofs.Lists.{all_kept, all_same, and_kept, paired_same, numbered_kept}
 use Rattle.decimal_floats.proofs.Lists.{numbered_same, seen_same}
-use Rattle.decimal_floats.proofs.DecimalItems.{along}
+use Rattle.decimal_floats.proofs.DecimalItems.{along, same_entry_points, same_expressions, same_functions}
 
 -- a fact in the midst of others
 kept_fourth : (a b c x y d : Bool) → (x ≡ true → y ≡ true) →
@@ -100,7 +100,10 @@ kept_third false b x y c f h = h
 kept_third true false x y c f h = h
 kept_third true true x y c f h = and_kept x c y c f (λ r. r) h
 
-module _ (m new : Module) (all : IsDecimalModule m new) where
+module _ (m new : Module)
+    (expressions : AllZip IsDecimalExpression m.global_expressions new.global_expressions)
+    (functions : AllZip IsDecimalFunction m.functions new.functions)
+    (entry_points : AllZip IsDecimalEntryPoint m.entry_points.items new.entry_points.items) where
   abbrev es : List Expression
   es = new.global_expressions
 
@@ -110,17 +113,14 @@ module _ (m new : Module) (all : IsDecimalModule m new) where
   abbrev ps : List EntryPoint
   ps = new.entry_points.items
 
-  abbrev expressions : AllZip IsDecimalExpression m.global_expressions es
-  expressions = all.expressions
-
-  abbrev functions : AllZip IsDecimalFunction m.functions fs
-  functions = all.functions
-
-  abbrev entry_points : AllZip IsDecimalEntryPoint m.entry_points.items ps
-  entry_points = all.entry_points
-
+  -- and names may keep their digits, or not
   abbrev n : Module
-  n = record m { global_expressions = es; functions = fs; entry_points = new.entry_points }
+  n = record m {
+    global_expressions = es;
+    functions = fs;
+    entry_points = new.entry_points;
+    keeps_digits = new.keeps_digits;
+  }
 
   function_count : length fs ≡ length m.functions
   function_count = AllZip-long IsDecimalFunction m.functions fs functions
@@ -448,5 +448,13 @@ module _ (m new : Module) (all : IsDecimalModule m new) where
 pub decimal_is_accepted : (old new : Module) → IsDecimalModule old new → (info : ModuleInfo) →
     is_accepted old info ≡ true → is_accepted new info ≡ true
 decimal_is_accepted old new r info h =
-    subst (λ (k : Module). is_accepted k info ≡ true) (sym r.rest)
-    (all_kept_of old new r info h)
+    subst (λ (k : Module). is_accepted k info ≡ true)
+    (sym (ap (λ (k : Module). record k { keeps_digits = new.keeps_digits }) r.rest))
+    (all_kept_of old new r.expressions r.functions r.entry_points info h)
+
+-- a module that is accepted is accepted whether its names keep their digits or not
+pub keeping_is_accepted : (m : Module) (keeps : Bool) (info : ModuleInfo) →
+    is_accepted m info ≡ true → is_accepted (record m { keeps_digits = keeps }) info ≡ true
+keeping_is_accepted m keeps info h =
+    all_kept_of m (record m { keeps_digits = keeps }) (same_expressions m.global_expressions)
+    (same_functions m.functions) (same_entry_points m.entry_points.items) info h

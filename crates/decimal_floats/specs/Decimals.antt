@@ -3,7 +3,7 @@
 --
 -- Throughout, of two literals, expressions, functions, entry points or modules the first is as it
 -- was before, and the second as it is afterwards.
-use Rattle.std.specs.Prelude.{◌≡◌, ◌⊎◌, IsTrue}
+use Rattle.std.specs.Prelude.{◌≡◌, ◌⊎◌, IsTrue, true}
 use Rattle.std.specs.List.{AllZip}
 use Rattle.naga_ir.specs.declared.expression.Expression.{Expression}
 use Rattle.naga_ir.specs.declared.expression.Expression.TheVariants as expression
@@ -43,3 +43,7 @@ pub record IsDecimalModule (old new : Module) : Type 0 where
     functions = new.functions;
     entry_points = new.entry_points;
   }
+
+-- the module, where names keep the digits that their labels end in
+abbrev pub keeping_digits : Module → Module
+keeping_digits m = record m { keeps_digits = true }

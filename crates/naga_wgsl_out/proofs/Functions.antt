@@ -254,7 +254,7 @@ entry_points_have_keys m keys = by (nat_lt (2 ^ 16) (length m.entry_points.items
     by : (b : Bool) → nat_lt (2 ^ 16) (length m.entry_points.items) ≡ b →
         length m.entry_points.items ≤ 2 ^ 16
     by true lt =
-        absurd (keys (run_out_unfit wgsl_names m (inl (ltb-true (2 ^ 16) (length m.entry_points.items) lt))))
+        absurd (keys (run_out_unfit (wgsl_names m) m (inl (ltb-true (2 ^ 16) (length m.entry_points.items) lt))))
     by false is =
         let past = ltb-false (2 ^ 16) (length m.entry_points.items) is in omega (arith, past)
 

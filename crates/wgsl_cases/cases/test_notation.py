@@ -78,7 +78,11 @@ REFUSED = [
     (FUNCTION + "  gives portable\n    a\n",
      "2: portable alone: what is written otherwise is not told"),
     (FUNCTION + "  refused: why\n  gives portable\n    a\n",
-     "2: a module that is not written has no portable text"),
+     "2: a module that is not written has no text portable"),
+    (FUNCTION + "  gives with digits\n    a\n",
+     "2: with digits alone: what is written otherwise is not told"),
+    (FUNCTION + "  refused: why\n  gives with digits\n    a\n",
+     "2: a module that is not written has no text with digits"),
     (FUNCTION + "  gives with type\n    a\n", "5: `gives` begins no line of a module"),
     (FUNCTION + "  not accepted\n", "5: `not` begins no line of a module"),
     # edits

@@ -3,7 +3,7 @@ use Rattle.std.proofs.Common.{◌≡◌, ◌≤◌, ◌∙◌, ℕ, List, [], Er
 use Rattle.std.proofs.Common.{Result, Some, ap, inl, inr, is_none, length, refl, subst, sym, arith}
 use Rattle.std.specs.Prelude.{Bool, true, false}
 use Rattle.std.proofs.lemmas.Bool.{le-leb, lt-leb}
-use Rattle.decimal_floats.specs.Decimals.{IsDecimalModule}
+use Rattle.decimal_floats.specs.Decimals.{IsDecimalModule, keeping_digits}
 use Rattle.std.specs.Prelude.{◌<◌, ◌%◌, IfSome, IsTrue}
 use Rattle.naga_ir.specs.declared.module.Module.{Module}
 use Rattle.naga_info.specs.declared.info.ModuleInfo.{ModuleInfo}
@@ -223,7 +223,7 @@ at_most_seven flags less = omega arith
 pub as_given : (flags : ℕ) (m : Module) → flags < 4 → IsAsAsked (asks_decimal_floats flags) m m
 as_given flags m less = subst (λ asked. IsAsAsked asked m m) (sym (lt-leb 4 flags less)) refl
 
-pub with_decimal_floats : (flags : ℕ) (given m : Module) → 4 ≤ flags → IsDecimalModule given m →
+pub with_decimal_floats : (flags : ℕ) (given m : Module) → 4 ≤ flags → IsDecimalModule (keeping_digits given) m →
     IsAsAsked (asks_decimal_floats flags) given m
 with_decimal_floats flags given m more decimal =
     subst (λ asked. IsAsAsked asked given m) (sym (le-leb 4 flags more)) decimal

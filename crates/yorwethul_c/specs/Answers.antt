@@ -35,7 +35,7 @@ use Rattle.naga_refusals.specs.declared.error.Error.TheVariants as error
 use Rattle.naga_wgsl_out.specs.Checked.{IsCounted}
 use Rattle.naga_wgsl_out.specs.Headline.{FaithfulWriting}
 use Rattle.naga_wgsl_out.specs.declared.unwritable.Refusal.{Refusal}
-use Rattle.decimal_floats.specs.Decimals.{IsDecimalModule}
+use Rattle.decimal_floats.specs.Decimals.{IsDecimalModule, keeping_digits}
 use Rattle.module_positions.specs.JsonNesting.{nest_too_deep}
 use Rattle.yorwethul_c.specs.declared.status.Status.{Status}
 use Rattle.yorwethul_c.specs.declared.status.Status.TheVariants as status
@@ -87,10 +87,11 @@ longest_text = 67108864
 abbrev pub deepest_nesting : ℕ
 deepest_nesting = 4000
 
--- Of the flags in yorwethul.h the two lowest bits are the writer's own. The next one asks that the
--- floats of a module are made decimal before it is written; else it is written as it is given.
+-- Of the flags in yorwethul.h the two lowest bits are the writer's own. The next one asks that names
+-- keep their digits and the floats of a module are made decimal before it is written; else it is
+-- written as it is given.
 abbrev pub IsAsAsked : (are_decimal : Bool) → (given m : Module) → Type 0
-IsAsAsked true given m = IsDecimalModule given m
+IsAsAsked true given m = IsDecimalModule (keeping_digits given) m
 IsAsAsked false given m = m ≡ given
 
 abbrev pub asks_decimal_floats : (flags : ℕ) → Bool
@@ -105,8 +106,8 @@ pub record WasRead (from : JsonHolder) (m : Module) (read : ModuleInfo) : Type 0
   pub known : IsInfoOf m came read
   pub bare : from ≡ holder.Module → came ≡ None
 
--- The writer was asked under these flags for the text of m, which is the given module, or that with
--- its floats made decimal. The given one is accepted.
+-- The writer was asked under these flags for the text of m, which is the given module, or that where
+-- names keep their digits and floats are decimal. The given one is accepted.
 pub record WasAsked (flags : ℕ) : Type 0 where
   pub flags_are_known : flags ≤ 7
   pub writer : WriterFlags

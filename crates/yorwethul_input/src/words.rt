@@ -105,9 +105,10 @@ or false, and the next two, numbers, hold in place of the options of these names
 before the next line is read, by one line, an object with the same id and with one of the members
 text, refused, not_accepted and error.
 
-Literals of floats are written by the digits that Rust's formatting gives, and the text has what
-standard compilers ask for, as enable subgroups. With --plain neither is so, as by the library
-without flags: a literal of a float that the module holds as its bits is then refused.
+Literals of floats are written by the digits that Rust's formatting gives, names may end in digits,
+as pass2, and the text has what standard compilers ask for, as enable subgroups. With --plain none
+of this is so, as by the library without flags: a literal of a float that the module holds as its
+bits is then refused, and pass2 is written pass2_.
 
 With --layout each struct that the text declares has a line, and so has each of its members, with
 its offset and what WGSL gives to its type, in bytes, or why the member can't stay where it is.

@@ -27,7 +27,7 @@ def told(names, ty):
 
 def struct(module, layouts, names, h):
     ty = module.types[h]
-    members = zip(layouts.sizes(ty), member_names([label for label, _ in ty[1]]), ty[1])
+    members = zip(layouts.sizes(ty), member_names([label for label, _ in ty[1]], module.keeps_digits), ty[1])
     return names.types[h], [
         (size, meant(module.bindings.get((ty, number))), name, told(names, member))
         for number, (size, name, (_, member)) in enumerate(members)]

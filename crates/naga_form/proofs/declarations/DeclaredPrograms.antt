@@ -236,7 +236,7 @@ module _ (m : Module) (info : ModuleInfo) (accepted : IsTrue (is_accepted m info
           members = map (member_form names type_words m h) (enumerate_from 0 (members_of t.inner));
         })
     struct_is h t at declared = record {
-      name = item_is_identifier m (key.Type_ h, _) (type_stands wgsl_names m h t at);
+      name = item_is_identifier m (key.Type_ h, _) (type_stands (wgsl_names m) m h t at);
       members = each_form IsMember (member_form names type_words m h) (members_of t.inner) member_is;
     }
       where
@@ -264,7 +264,7 @@ module _ (m : Module) (info : ModuleInfo) (accepted : IsTrue (is_accepted m info
     constants_are =
         each_kept IsNamedConstant (constant_form names type_words m) m.constants
         (λ c k at. kept_if IsNamedConstant (is_some k.name) _ (λ named. record {
-          name = item_is_identifier m (key.Constant c, _) (constant_stands wgsl_names m c k at);
+          name = item_is_identifier m (key.Constant c, _) (constant_stands (wgsl_names m) m c k at);
           type = declared_type k.ty (IsDeclaredType.OfConstant c k at named);
           value = formed_global k.init
               (declarations.initialisers k.init (IsInitialiser.OfConstant c k at named));
@@ -280,7 +280,7 @@ module _ (m : Module) (info : ModuleInfo) (accepted : IsTrue (is_accepted m info
           attributes = id_attributes_are k.id
               (and_parts (is_below (length m.global_expressions) k.init) _ one.1).1;
           id = id_is k.id;
-          name = item_is_identifier m (key.Override o, _) (override_stands wgsl_names m o k at);
+          name = item_is_identifier m (key.Override o, _) (override_stands (wgsl_names m) m o k at);
           type = declared_type k.ty (IsDeclaredType.OfOverride o k at);
           value = value_is k.init (λ handle is. IsInitialiser.OfOverride o k handle at is);
         }
@@ -301,7 +301,7 @@ module _ (m : Module) (info : ModuleInfo) (accepted : IsTrue (is_accepted m info
               (and_parts (is_below (length m.global_expressions) k.init) _ one.1).1;
           binding = global_binding_is k;
           space = space_is k.space;
-          name = item_is_identifier m (key.GlobalVariable v, _) (global_stands wgsl_names m v k at);
+          name = item_is_identifier m (key.GlobalVariable v, _) (global_stands (wgsl_names m) m v k at);
           type = declared_type k.ty (IsDeclaredType.OfVariable v k at);
           value = value_is k.init (λ handle is. IsInitialiser.OfVariable v k handle at is);
         }

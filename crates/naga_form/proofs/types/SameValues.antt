@@ -162,13 +162,13 @@ module _ (m : Module) where
   there (x ∷ xs) zero lt = (x, refl)
   there (x ∷ xs) (suc i) lt = there xs i (omega (arith, lt))
 
-  type_item : (h : ℕ) → h < length m.types → (label : List ℕ) × Stands (labelled_items wgsl_names m)
+  type_item : (h : ℕ) → h < length m.types → (label : List ℕ) × Stands (labelled_items (wgsl_names m) m)
       (key.Type_ h, label)
-  type_item h lt = let k = there m.types h lt in (_, type_stands wgsl_names m h k.0 k.1)
+  type_item h lt = let k = there m.types h lt in (_, type_stands (wgsl_names m) m h k.0 k.1)
 
-  override_item : (o : ℕ) → o < length m.overrides → (label : List ℕ) × Stands (labelled_items wgsl_names m)
+  override_item : (o : ℕ) → o < length m.overrides → (label : List ℕ) × Stands (labelled_items (wgsl_names m) m)
       (key.Override o, label)
-  override_item o lt = let k = there m.overrides o lt in (_, override_stands wgsl_names m o k.0 k.1)
+  override_item o lt = let k = there m.overrides o lt in (_, override_stands (wgsl_names m) m o k.0 k.1)
 
   struct_identifier : (h : ℕ) → h < length m.types → IsIdentifier ((type_names m).struct_name h)
   struct_identifier h lt = let a = type_item h lt in
@@ -182,11 +182,11 @@ module _ (m : Module) where
   -- and constants and variables
   pub constant_identifier : (c : ℕ) → c < length m.constants → IsIdentifier (constant_name (module_names m) c)
   constant_identifier c lt = let k = there m.constants c lt in
-      item_is_identifier m (key.Constant c, _) (constant_stands wgsl_names m c k.0 k.1)
+      item_is_identifier m (key.Constant c, _) (constant_stands (wgsl_names m) m c k.0 k.1)
 
   pub global_identifier : (v : ℕ) → v < length m.global_variables → IsIdentifier (global_name (module_names m) v)
   global_identifier v lt = let k = there m.global_variables v lt in
-      item_is_identifier m (key.GlobalVariable v, _) (global_stands wgsl_names m v k.0 k.1)
+      item_is_identifier m (key.GlobalVariable v, _) (global_stands (wgsl_names m) m v k.0 k.1)
 
 module _ (m : Module) (types : TypesAreFit m) where
   size_is : (n : ArraySize) → LengthIsCounted n → size_within (length m.overrides) n ≡ true →
