@@ -174,10 +174,12 @@ module _ (m : Module) where
   struct_identifier h lt = let a = type_item h lt in
       subst IsIdentifier (sym (or_nothing (module_names m (key.Type_ h)))) (item_is_identifier m (key.Type_ h, a.0) a.1)
 
+  pub override_is_identifier : (o : ℕ) → o < length m.overrides → IsIdentifier (override_name (module_names m) o)
+  override_is_identifier o lt = let a = override_item o lt in item_is_identifier m (key.Override o, a.0) a.1
+
   pub override_identifier : (o : ℕ) → o < length m.overrides → IsIdentifier ((type_names m).override_name o)
-  override_identifier o lt = let a = override_item o lt in
-      subst IsIdentifier (sym (or_nothing (module_names m (key.Override o))))
-      (item_is_identifier m (key.Override o, a.0) a.1)
+  override_identifier o lt =
+      subst IsIdentifier (sym (or_nothing (module_names m (key.Override o)))) (override_is_identifier o lt)
 
   -- and constants and variables
   pub constant_identifier : (c : ℕ) → c < length m.constants → IsIdentifier (constant_name (module_names m) c)
