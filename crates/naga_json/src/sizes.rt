@@ -90,11 +90,7 @@ fn size_override(
         return Ok(None);
     };
     let found = override_of(alloc, expression, module);
-    Ok(Some(in_member(
-        alloc,
-        MEMBER,
-        in_item(alloc, axis, found),
-    )?))
+    Ok(Some(in_member(alloc, MEMBER, in_item(alloc, axis, found))?))
 }
 
 /// An override that has the expression's value: the one that the expression is, or a new one.
@@ -107,12 +103,14 @@ fn override_of(
         return Ok(found);
     }
     match size_type(expression, module)? {
-        Some(ty) => Ok(module.overrides.append(Override {
-            name: None,
-            id: None,
-            ty,
-            init: Some(expression),
-        })?),
+        Some(ty) => Ok(
+            module.overrides.append(Override {
+                name: None,
+                id: None,
+                ty,
+                init: Some(expression),
+            })?,
+        ),
         None => Err(ReadError::at(alloc, Problem::Unsupported)),
     }
 }
@@ -142,10 +140,12 @@ fn size_type(
             Ok(Some(module.constants[constant].ty))
         }
         Expression::Literal(literal) if matches!(literal, Literal::U32(_) | Literal::I32(_)) => {
-            Ok(Some(module.types.insert(Type_ {
-                name: None,
-                inner: TypeInner::Scalar(literal.scalar()),
-            })?))
+            Ok(Some(
+                module.types.insert(Type_ {
+                    name: None,
+                    inner: TypeInner::Scalar(literal.scalar()),
+                })?,
+            ))
         }
         _ => Ok(None),
     }
