@@ -89,6 +89,7 @@ use Rattle.naga_form.proofs.statements.AcceptedFunctions.{known_there, of_number
 use Rattle.naga_form.proofs.declarations.Attributes.{coherent_is_read, id_is_read, member_read}
 use Rattle.naga_form.proofs.declarations.Attributes.{passing_read, resource_is_read, stage_is_read}
 use Rattle.naga_form.proofs.declarations.Attributes.{volatile_is_read}
+use Rattle.naga_form.proofs.declarations.Attributes.{three_sizes}
 use Rattle.naga_form.proofs.Facts.{from_start, further}
 use Rattle.naga_form.proofs.types.Layouts.{keeps_layouts}
 use Rattle.naga_form.proofs.declarations.GlobalValues.{values_alike}

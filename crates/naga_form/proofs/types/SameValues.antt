@@ -48,6 +48,7 @@ use Rattle.naga_ir.specs.declared.image.ImageClass.TheVariants as class
 use Rattle.naga_ir.specs.declared.image.ImageDimension.{ImageDimension}
 use Rattle.module_semantics.specs.acceptance.InfoSizes.{type_is_fit, resolution_is_fit}
 use Rattle.module_semantics.specs.Names.{TypesAreDistinguished, constant_name, global_name}
+use Rattle.module_semantics.specs.Names.{override_name}
 use Rattle.module_semantics.specs.Names.{module_names, name_in, wgsl_names}
 use Rattle.module_semantics.specs.Types.{type_of_values, word_of_values, values_of, scalar_values}
 use Rattle.module_semantics.specs.Types.{type_names, spelled_resolution}
