@@ -41,6 +41,7 @@ use Rattle.module_semantics.specs.acceptance.OperandDemands.{operand_is, operand
 use Rattle.module_semantics.specs.acceptance.Ranges.{all_below, all_by_handle, block_in_range}
 use Rattle.module_semantics.specs.acceptance.Ranges.{constant_in_range, declarations_in_range}
 use Rattle.module_semantics.specs.acceptance.Ranges.{entry_point_in_range, expression_in_range}
+use Rattle.module_semantics.specs.acceptance.Ranges.{size_overrides_fit}
 use Rattle.module_semantics.specs.acceptance.Ranges.{expressions_in_range, function_in_range}
 use Rattle.module_semantics.specs.acceptance.Ranges.{global_expression_in_range, global_in_range}
 use Rattle.module_semantics.specs.acceptance.Ranges.{initialiser_before, is_below, local_in_range}
@@ -75,14 +76,6 @@ kept_fourth false b c x y d f h = h
 kept_fourth true false c x y d f h = h
 kept_fourth true true false x y d f h = h
 kept_fourth true true true x y d f h = and_kept x d y d f (λ r. r) h
-
-kept_fifth : (a b c d x y : Bool) → (x ≡ true → y ≡ true) →
-    (a && (b && (c && (d && x)))) ≡ true → (a && (b && (c && (d && y)))) ≡ true
-kept_fifth false b c d x y f h = h
-kept_fifth true false c d x y f h = h
-kept_fifth true true false d x y f h = h
-kept_fifth true true true false x y f h = h
-kept_fifth true true true true x y f h = f h
 
 kept_sixth : (a b c d e x y : Bool) → (x ≡ true → y ≡ true) →
     (a && (b && (c && (d && (e && x))))) ≡ true →
@@ -197,11 +190,12 @@ module _ (m new : Module)
   entry_point_kept p q r h =
       let count = length m.global_variables in
       subst (λ (k : EntryPoint). entry_point_in_range n k ≡ true) (sym r.rest)
-      (kept_fifth
+      (kept_sixth
       (is_below count (option_map (λ k. k.output_variable) p.mesh_info))
       (is_below count p.task_payload)
       (is_below count p.incoming_ray_payload)
-      (workgroup_fits_32_bits p.workgroup_size)
+      (size_overrides_fit m p)
+      (workgroup_fits_32_bits p)
       (function_in_range m (length m.functions) p.function)
       (function_in_range n (length fs) q.function)
       (λ in_range. function_kept (length fs) p.function q.function r.function

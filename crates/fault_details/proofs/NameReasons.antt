@@ -47,13 +47,14 @@ use Rattle.module_semantics.specs.acceptance.Ranges.{all_below, constant_in_rang
 use Rattle.module_semantics.specs.acceptance.Ranges.{initialiser_before, is_below, local_in_range}
 use Rattle.module_semantics.specs.acceptance.Ranges.{named_in_range, numbers_in_range}
 use Rattle.module_semantics.specs.acceptance.Ranges.{override_in_range, parts_before, signature_types_fit}
+use Rattle.module_semantics.specs.acceptance.Ranges.{size_overrides_fit}
 use Rattle.module_semantics.specs.TypeParts.{inner_at}
 use Rattle.fault_details.specs.Demands.{Demands, OfEach, are_met, there, unmet}
 use Rattle.fault_details.specs.Reasons.{entry_point_demands, expression_demands, function_demands}
 use Rattle.fault_details.specs.Reasons.{global_demands, initialiser_demands, item_demands, length_demands}
 use Rattle.fault_details.specs.Reasons.{declared_demands, made_demands, module_demands, part_demands}
 use Rattle.fault_details.specs.Reasons.{reason_at, simple_name_demands, size_demands, statement_demands}
-use Rattle.fault_details.specs.Reasons.{statement_name_demands, variables_demands, whole_demands}
+use Rattle.fault_details.specs.Reasons.{stage_demands, statement_name_demands, whole_demands}
 use Rattle.fault_details.specs.WithReason.{AreNumbered, AreOfTheirTypes, HasItsNumbers, IsOfNames}
 use Rattle.fault_details.specs.WithReason.{NameFaultsHaveReasons, case_numbers_fit}
 use Rattle.module_semantics.specs.declared.named.ListName.TheVariants as list
@@ -268,20 +269,20 @@ module _ (m : Module) (info : ModuleInfo) (fit : AreOfTheirTypes m) (numbered : 
       (slice_get m.functions h) f at (part_of_told m f (known_of info.functions.items h) h
       (fit.functions h f at) (numbered.functions h f at) position kind of fails)
 
-  -- the variables that an entry point names, without its workgroup's sizes
-  variables_told : (p : EntryPoint) → workgroup_fits_32_bits p.workgroup_size ≡ true → entry_names_fit m p ≡ false →
-      IsSome (unmet m.types (variables_demands (length m.global_variables) p))
-  variables_told p sizes fails =
-      told m.types (variables_demands (length m.global_variables) p)
-      (sym (both refl (both refl (without_last (is_below (length m.global_variables) p.incoming_ray_payload)
-      (workgroup_fits_32_bits p.workgroup_size) sizes))) ∙ fails)
+  -- what an entry point names beside its function, without the numbers of its workgroup's size
+  stage_told : (p : EntryPoint) → workgroup_fits_32_bits p ≡ true → entry_names_fit m p ≡ false →
+      IsSome (unmet m.types (stage_demands (length m.global_variables) (length m.overrides) p))
+  stage_told p sizes fails =
+      told m.types (stage_demands (length m.global_variables) (length m.overrides) p)
+      (sym (both refl (both refl (both refl (without_last (size_overrides_fit m p)
+      (workgroup_fits_32_bits p) sizes)))) ∙ fails)
 
   entry_told : (p : EntryPoint) (known : List TypeResolution) →
-      IsTrue (workgroup_fits_32_bits p.workgroup_size) × HasItsNumbers p.function →
+      IsTrue (workgroup_fits_32_bits p) × HasItsNumbers p.function →
       length (text_order p.function.body) ≤ 2 ^ 64 → (position : FunctionPosition) (kind : Fault) → IsOfNames kind →
       EntryPositionFails m p known position kind →
       IsSome (unmet m.types (entry_point_demands m p known kind position))
-  entry_told p known within few part.Whole fault.Names of fails = variables_told p within.0 fails
+  entry_told p known within few part.Whole fault.Names of fails = stage_told p within.0 fails
   entry_told p known within few (part.Local h) fault.Names of fails =
       part_of_told m p.function known (length m.functions) within.1 few (part.Local h) fault.Names of fails
   entry_told p known within few (part.Expression h) fault.Names of fails =

@@ -370,18 +370,19 @@ function_demands m callees f known kind (part.Expression h) =
 function_demands m callees f known kind (part.Statement n) =
     OfSome (statement_demands m callees f known kind) (slice_get (text_order f.body) n)
 
--- the variables that an entry point names
-abbrev pub variables_demands : (variables : ℕ) → EntryPoint → Demands
-variables_demands variables p =
+-- the variables that an entry point names, and the overrides that set its workgroup's size
+abbrev pub stage_demands : (variables overrides : ℕ) → EntryPoint → Demands
+stage_demands variables overrides p =
     Then (OfSome (there list.GlobalVariables variables)
     (option_map (λ k. k.output_variable) p.mesh_info))
     (Then (OfSome (there list.GlobalVariables variables) p.task_payload)
-    (OfSome (there list.GlobalVariables variables) p.incoming_ray_payload))
+    (Then (OfSome (there list.GlobalVariables variables) p.incoming_ray_payload)
+    (OfEach (OfSome (there list.Overrides overrides)) p.workgroup_size_overrides)))
 
 abbrev pub entry_point_demands :
     Module → EntryPoint → (known : List TypeResolution) → Fault → FunctionPosition → Demands
 entry_point_demands m p known fault.Names part.Whole =
-    variables_demands (length m.global_variables) p
+    stage_demands (length m.global_variables) (length m.overrides) p
 entry_point_demands m p known kind position =
     function_demands m (length m.functions) p.function known kind position
 

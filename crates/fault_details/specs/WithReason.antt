@@ -72,7 +72,7 @@ pub record AreOfTheirTypes (m : Module) : Type 0 where
       IsTrue (list_all (λ k. option_map_or resource_fits_32_bits k.binding true) m.global_variables)
   pub functions : (h : ℕ) (f : Function) → slice_get m.functions h ≡ Some f → HasItsNumbers f
   pub entry_points : (h : ℕ) (p : EntryPoint) → slice_get m.entry_points.items h ≡ Some p
-      → IsTrue (workgroup_fits_32_bits p.workgroup_size) × HasItsNumbers p.function
+      → IsTrue (workgroup_fits_32_bits p) × HasItsNumbers p.function
 
 -- A fault of what is named is told with its reason.
 abbrev pub NameFaultsHaveReasons : Type 0

@@ -57,6 +57,7 @@ use Rattle.module_semantics.specs.acceptance.NamedItems.{names_there}
 use Rattle.module_semantics.specs.acceptance.Numbers.{fits_32_bits, pattern_is_whole, workgroup_fits_32_bits}
 use Rattle.module_semantics.specs.acceptance.Ranges.{all_below, block_in_range, constant_in_range}
 use Rattle.module_semantics.specs.acceptance.Ranges.{declarations_in_range, entry_point_in_range}
+use Rattle.module_semantics.specs.acceptance.Ranges.{size_overrides_fit}
 use Rattle.module_semantics.specs.acceptance.Ranges.{expression_in_range, expressions_in_range}
 use Rattle.module_semantics.specs.acceptance.Ranges.{function_in_range, global_expression_in_range}
 use Rattle.module_semantics.specs.acceptance.Ranges.{global_in_range, initialiser_before}
@@ -311,11 +312,12 @@ module _ (m : Module) (info : ModuleInfo) where
       (function_in_range m) (function_range_fault m) m.functions
       (λ h f here. function_range m h f (known_of info.functions.items h))))
 
-  entry_regroup : (a b c d e : Bool) → (a && (b && (c && d))) && e ≡ a && (b && (c && (d && e)))
-  entry_regroup true true true d e = refl
-  entry_regroup true true false d e = refl
-  entry_regroup true false c d e = refl
-  entry_regroup false b c d e = refl
+  entry_regroup : (a b c d e f : Bool) → (a && (b && (c && (d && e)))) && f ≡ a && (b && (c && (d && (e && f))))
+  entry_regroup true true true true e f = refl
+  entry_regroup true true true false e f = refl
+  entry_regroup true true false d e f = refl
+  entry_regroup true false c d e f = refl
+  entry_regroup false b c d e f = refl
 
   entry_range : (p : EntryPoint) (known : List TypeResolution) →
       Finds (entry_point_range_fault m p) (entry_point_in_range m p)
@@ -324,7 +326,7 @@ module _ (m : Module) (info : ModuleInfo) where
       finds_same (entry_regroup (is_below (length m.global_variables) (option_map (λ k. k.output_variable) p.mesh_info))
       (is_below (length m.global_variables) p.task_payload)
       (is_below (length m.global_variables) p.incoming_ray_payload)
-      (workgroup_fits_32_bits p.workgroup_size) (function_in_range m (length m.functions) p.function))
+      (size_overrides_fit m p) (workgroup_fits_32_bits p) (function_in_range m (length m.functions) p.function))
       (finds_unless (entry_names_fit m p) (part.Whole, fault.Names) (λ fails. fails)
       (λ _. finds_weaker (function_range_fault m (length m.functions) p.function)
       (λ found fails. entry_part p known found.0 found.1 fails)

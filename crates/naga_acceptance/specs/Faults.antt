@@ -44,7 +44,7 @@ use Rattle.module_semantics.specs.acceptance.Ranges.{numbers_in_range, own_numbe
 use Rattle.module_semantics.specs.acceptance.Ranges.{override_in_range}
 use Rattle.module_semantics.specs.acceptance.Ranges.{parts_before}
 use Rattle.module_semantics.specs.acceptance.Ranges.{resolution_fits, signature_fits}
-use Rattle.module_semantics.specs.acceptance.Ranges.{special_types_fit}
+use Rattle.module_semantics.specs.acceptance.Ranges.{size_overrides_fit, special_types_fit}
 
 -- ---- items
 
@@ -63,14 +63,14 @@ counts_fit m info =
     (length m.entry_points.items == length info.entry_points.items &&
     length m.global_expressions == length info.const_expression_types.items)
 
--- the variables that an entry point names lie in the globals, and its workgroup's sizes have 32
--- bits
+-- the variables that an entry point names lie in the globals, the overrides that set its
+-- workgroup's size in the overrides, and the sizes have 32 bits
 abbrev pub entry_names_fit : Module → EntryPoint → Bool
 entry_names_fit m p =
     is_below (length m.global_variables) (option_map (λ k. k.output_variable) p.mesh_info) &&
     (is_below (length m.global_variables) p.task_payload &&
     (is_below (length m.global_variables) p.incoming_ray_payload &&
-    workgroup_fits_32_bits p.workgroup_size))
+    (size_overrides_fit m p && workgroup_fits_32_bits p)))
 
 -- ---- functions
 

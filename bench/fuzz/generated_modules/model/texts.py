@@ -90,7 +90,7 @@ def space_text(word, access):
 
 def stage_text(p, names):
     """The attributes of a stage, in a line."""
-    sizes = "@workgroup_size({}, {}, {}) ".format(*p.size)
+    sizes = "@workgroup_size({}, {}, {}) ".format(*p.sizes(names))
     mesh, task, ray = (None if number is None else names.variables[number] for number in (p.mesh, p.task, p.ray))
     payload = f"@payload({task}) " if task is not None else ""
     incoming = f"@incoming_payload({ray}) "

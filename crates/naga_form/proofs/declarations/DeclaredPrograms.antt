@@ -60,7 +60,7 @@ use Rattle.wgsl_text.specs.Tables.{access_words}
 use Rattle.wgsl_text.specs.Types.{IsType}
 use Rattle.wgsl_text.specs.Words.{IsIdentifier, stands_in}
 use Rattle.wgsl_words.specs.Words.{space_access_word, space_word}
-use Rattle.naga_form.proofs.statements.AcceptedFunctions.{entry_point_is_in_range}
+use Rattle.naga_form.proofs.statements.AcceptedFunctions.{entry_point_parts}
 use Rattle.naga_form.proofs.declarations.AcceptedGroups.{numbers_at, types_are_fit}
 use Rattle.naga_form.proofs.declarations.Attributes.{global_attributes_are, id_attributes_are}
 use Rattle.naga_form.proofs.declarations.Attributes.{id_is, global_is as global_binding_is}
@@ -73,7 +73,7 @@ use Rattle.naga_form.proofs.names.MemberNames.{member_is_word}
 use Rattle.naga_form.proofs.names.Names.{item_is_identifier}
 use Rattle.naga_form.proofs.operators.Operators.{HasFormAt}
 use Rattle.naga_form.proofs.types.SameValues.{TypesAreFit, constant_identifier, global_identifier}
-use Rattle.naga_form.proofs.types.SameValues.{override_identifier, tree_is}
+use Rattle.naga_form.proofs.types.SameValues.{override_identifier, override_is_identifier, tree_is}
 use Rattle.naga_form.proofs.types.TypeTrees.{storage_is}
 use Rattle.naga_form.proofs.statements.WrittenFunctions.{entry_point_at}
 use Rattle.naga_form.proofs.declarations.OwnExpressions.{declared_in_range, global_names_in_range}
@@ -318,16 +318,11 @@ module _ (m : Module) (info : ModuleInfo) (accepted : IsTrue (is_accepted m info
       IsAttributes (stage_attributes names p p.stage) ×
       (is_stage (stage_attributes names p p.stage) ≡ true)
   stage_formed j p at has =
-      let count = length m.global_variables in
-      let one = and_parts (is_below count (option_map (λ k. k.output_variable) p.mesh_info)) _
-      (entry_point_is_in_range m info accepted j p at) in
-      let two = and_parts (is_below count p.task_payload) _ one.1 in
-      let three = and_parts (is_below count p.incoming_ray_payload) _ two.1 in
-      let four = and_parts (workgroup_fits_32_bits p.workgroup_size)
-      (function_in_range m (length m.functions) p.function) three.1 in
-      let sizes = three_sizes p.workgroup_size four.0 in (
-        stage_attributes_are names p sizes.x sizes.y sizes.z sizes.are count (global_identifier m)
-            one.0 two.0 three.0 sizes.fit p.stage,
+      let fits = entry_point_parts m info accepted j p at in
+      let sizes = three_sizes names p.workgroup_size p.workgroup_size_overrides fits.sizes in (
+        stage_attributes_are names p sizes.x sizes.y sizes.z sizes.are (length m.global_variables)
+            (global_identifier m) fits.output fits.payload fits.incoming
+            (sizes.fit (length m.overrides) (override_is_identifier m) fits.overrides) p.stage,
         stage_is names p sizes.x sizes.y sizes.z sizes.are p.stage has,
       )
 

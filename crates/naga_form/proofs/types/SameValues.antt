@@ -48,6 +48,7 @@ use Rattle.naga_ir.specs.declared.image.ImageClass.TheVariants as class
 use Rattle.naga_ir.specs.declared.image.ImageDimension.{ImageDimension}
 use Rattle.module_semantics.specs.acceptance.InfoSizes.{type_is_fit, resolution_is_fit}
 use Rattle.module_semantics.specs.Names.{TypesAreDistinguished, constant_name, global_name}
+use Rattle.module_semantics.specs.Names.{override_name}
 use Rattle.module_semantics.specs.Names.{module_names, name_in, wgsl_names}
 use Rattle.module_semantics.specs.Types.{type_of_values, word_of_values, values_of, scalar_values}
 use Rattle.module_semantics.specs.Types.{type_names, spelled_resolution}
@@ -174,10 +175,12 @@ module _ (m : Module) where
   struct_identifier h lt = let a = type_item h lt in
       subst IsIdentifier (sym (or_nothing (module_names m (key.Type_ h)))) (item_is_identifier m (key.Type_ h, a.0) a.1)
 
+  pub override_is_identifier : (o : ℕ) → o < length m.overrides → IsIdentifier (override_name (module_names m) o)
+  override_is_identifier o lt = let a = override_item o lt in item_is_identifier m (key.Override o, a.0) a.1
+
   pub override_identifier : (o : ℕ) → o < length m.overrides → IsIdentifier ((type_names m).override_name o)
-  override_identifier o lt = let a = override_item o lt in
-      subst IsIdentifier (sym (or_nothing (module_names m (key.Override o))))
-      (item_is_identifier m (key.Override o, a.0) a.1)
+  override_identifier o lt =
+      subst IsIdentifier (sym (or_nothing (module_names m (key.Override o)))) (override_is_identifier o lt)
 
   -- and constants and variables
   pub constant_identifier : (c : ℕ) → c < length m.constants → IsIdentifier (constant_name (module_names m) c)
