@@ -21,8 +21,8 @@ returns-in-Err c =
     c.args.shader.now.info info)) c.in-Err.is c.write_decimal_within.ensures.unwritten in
     let too_long = subst (λ r. IfErr r (λ e. e ≡ unwritten.TooLong → IsDecimalModule given m)) c.in-Err.is
     c.write_decimal_within.ensures.too_long in
-    λ json. not_written json c.args.flags writer c.args.shader.now.holder given m c.args.shader.now.info info _ _ _
-    c.requires.known c.writer_flags.ensures c.requires.read
+    λ json was_read. not_written json c.args.flags writer c.args.shader.now.holder given m c.args.shader.now.info info _ _ _
+    c.requires.known c.writer_flags.ensures was_read
     (λ e. with_decimal_floats c.args.flags given m c.requires.decimal (too_long e)) is c.not_written.ensures
 
 pub returns-in-Ok : goal.returns-in-Ok
@@ -43,8 +43,8 @@ returns-in-Ok c =
     c.in-Ok.is c.write_decimal_within.ensures.written in
     let within = subst (λ r. IfOk r (λ w. length (string_bytes w.sink) ≤ longest_text)) c.in-Ok.is
     c.write_decimal_within.ensures.within in
-    λ json. wrote json c.args.flags writer c.args.shader.now.holder given m read info (string_bytes w.sink)
-    c.requires.known c.writer_flags.ensures c.requires.read
+    λ json was_read. wrote json c.args.flags writer c.args.shader.now.holder given m read info (string_bytes w.sink)
+    c.requires.known c.writer_flags.ensures was_read
     (with_decimal_floats c.args.flags given m c.requires.decimal decimal)
     accepted counted w.answer w.refusal _ _ answers.faithful answers.text answers.refusal within
     c.told_written.ensures

@@ -1,0 +1,8 @@
+pub mod Cutting
+pub mod Floats
+pub mod Neighbours
+pub mod Rounded
+pub mod Search
+pub mod Sizes
+pub mod Steps
+pub mod Units
