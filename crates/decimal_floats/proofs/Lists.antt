@@ -122,6 +122,14 @@ module _ {X : Type 0} (p : X → Bool) where
   both : (a b : Bool) → a ≡ true → b ≡ true → (a && b) ≡ true
   both a b x y = λ i. x i && y i
 
+  first : (a b : Bool) → (a && b) ≡ true → a ≡ true
+  first true b h = refl
+  first false b h = h
+
+  second : (a b : Bool) → (a && b) ≡ true → b ≡ true
+  second true b h = h
+  second false b h = absurd (true≢false (sym h))
+
   pub all_more : (xs : List X) (i : ℕ) (y : X) → i < length xs → list_all p (take i xs) ≡ true → p y ≡ true →
       list_all p (take (i + 1) (set xs i y)) ≡ true
   all_more xs i y lt h k = rw add-one (by xs i lt h)
@@ -133,14 +141,6 @@ module _ {X : Type 0} (p : X → Bool) where
       by (x ∷ xs) (suc i) lt h =
           both (p x) (list_all p (take (suc i) (set xs i y))) (first (p x) (list_all p (take i xs)) h)
           (by xs i (omega (arith, lt)) (second (p x) (list_all p (take i xs)) h))
-
-      first : (a b : Bool) → (a && b) ≡ true → a ≡ true
-      first true b h = refl
-      first false b h = h
-
-      second : (a b : Bool) → (a && b) ≡ true → b ≡ true
-      second true b h = h
-      second false b h = absurd (true≢false (sym h))
 
   pub all_done : (xs : List X) (i : ℕ) → length xs ≤ i → list_all p (take i xs) ≡ true → list_all p xs ≡ true
   all_done xs i le h = ap (list_all p) (sym (take_all i xs le)) ∙ h

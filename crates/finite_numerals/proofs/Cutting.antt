@@ -1,15 +1,10 @@
 -- Bits past those of an infinity: the infinity is nearest then.
-use Rattle.std.proofs.Common.{◌≡◌, ℕ, zero, suc, ◌+◌, ◌-◌, ◌*◌, ◌%◌, ◌^◌, ◌<◌, ◌≤◌, min, refl, sym, ap, ◌∙◌, arith, inl, inr, subst}
-use Rattle.std.specs.Prelude.{◌≢◌}
-use Rattle.std.specs.Int.{abs_diff}
-use lib.Ieee.Nearest.{closest}
+use Rattle.std.proofs.Common.{◌≡◌, ℕ, zero, suc, ◌+◌, ◌-◌, ◌*◌, ◌^◌, ◌<◌, ◌≤◌, min, refl, sym, arith, inl, inr, subst}
 use native.Mathlib.Nat.{eq-zero-or-pos, min-eq_left, min-eq_right, mul-le-mul_right, mul-lt-mul_of_pos_right}
 use Rattle.finite_numerals.specs.Nearest.{IsNearest, infinity, leading, low, units}
 use Rattle.finite_numerals.specs.declared.precision.Precision.{Precision}
-use Rattle.finite_numerals.specs.declared.precision.Precision.TheVariants.{Half, Single, Double}
-use Rattle.finite_numerals.proofs.Neighbours.{IsBetween, between, no_nearer}
-use Rattle.finite_numerals.proofs.Rounded.{dropped, rounded}
-use Rattle.finite_numerals.proofs.Units.{grows, mono, strict}
+use Rattle.finite_numerals.proofs.Neighbours.{IsBetween, no_nearer}
+use Rattle.finite_numerals.proofs.Units.{mono, strict}
 
 module _ (p : Precision) (num den bits : ℕ) (some : 0 < leading p) (D : 0 < den)
     (b : IsBetween (leading p) (num * 2 ^ low p) den bits) where

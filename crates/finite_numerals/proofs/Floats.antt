@@ -1,9 +1,9 @@
 -- The bits of a float that is rounded, with its sign.
-use Rattle.std.proofs.Common.{◌≡◌, ℕ, suc, ◌+◌, ◌-◌, ◌*◌, ◌/◌, ◌%◌, ◌^◌, ◌<◌, ◌≤◌, min, refl, sym, ap, ◌∙◌, arith, inl, inr, subst}
+use Rattle.std.proofs.Common.{◌≡◌, ℕ, ◌+◌, ◌-◌, ◌*◌, ◌/◌, ◌%◌, ◌^◌, ◌<◌, ◌≤◌, refl, sym, ap, ◌∙◌, arith, inl, inr, subst}
 use Rattle.std.proofs.Common.{Bool, true, false, cond}
 use Rattle.std.proofs.lemmas.Bool.{true≢false}
 use Rattle.std.specs.Prelude.{T, not}
-use lib.Ieee.{Float, Format, binary32, binary64, nan, inf, fin, prec, low, hid, ones, top, up, down, size, round, neg, of_bits, to_bits, is_nan}
+use lib.Ieee.{Float, Format, nan, inf, fin, prec, low, hid, ones, top, round, neg, of_bits, to_bits, is_nan}
 use lib.Ieee.Bits.{to_bits-of_bits}
 use lib.Ieee.Exact.{HasValue}
 use lib.Ieee.Fits.{round_is}

@@ -1,4 +1,5 @@
 pub mod Cutting
+mod Examples
 pub mod Floats
 pub mod Neighbours
 pub mod Rounded

@@ -1,8 +1,7 @@
 -- A rounded number lies between the points half way to its neighbours, and so no other is nearer.
-use Rattle.std.proofs.Common.{◌≡◌, ℕ, zero, suc, ◌+◌, ◌-◌, ◌*◌, ◌/◌, ◌%◌, ◌^◌, ◌<◌, ◌≤◌, refl, sym, ap, ◌∙◌, arith, inl, inr, subst}
+use Rattle.std.proofs.Common.{◌≡◌, ℕ, zero, suc, ◌+◌, ◌-◌, ◌*◌, ◌%◌, ◌^◌, ◌<◌, ◌≤◌, refl, ap, ◌∙◌, arith, inl, inr}
 use Rattle.std.specs.Prelude.{◌≢◌}
 use Rattle.std.specs.Int.{abs_diff}
-use lib.Pow.{pow_pos}
 use native.Mathlib.Nat.{eq-zero-or-pos, mul-le-mul_right, mul-lt-mul_of_pos_right, pow-suc, zero-mul}
 use Rattle.finite_numerals.specs.Nearest.{units}
 use Rattle.finite_numerals.proofs.Rounded.{IsRounded}

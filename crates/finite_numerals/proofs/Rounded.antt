@@ -5,7 +5,7 @@ use Rattle.std.proofs.Common.{add-zero}
 use Prim.Native.Nat.{compare, Ordering}
 use lib.Dec.{T, compare_is_eq, eqb, eqb→eq, eqb_refl, is_le, leb→le, nleb→lt}
 use lib.Ieee.{nearest, size}
-use lib.Ieee.Digits.{size-lt, size_reaches}
+use lib.Ieee.Digits.{size_reaches}
 use lib.Ieee.Fits.{kept-lt}
 use lib.Ieee.Nearest.{closest}
 use lib.Pow.{pow-add, pow_pos}

@@ -1,5 +1,5 @@
 -- The least digits that reach a float denote it.
-use Rattle.std.proofs.Common.{◌≡◌, ℕ, zero, suc, ◌+◌, ◌-◌, ◌*◌, ◌/◌, ◌%◌, ◌^◌, ◌<◌, ◌≤◌, refl, sym, ap, ◌∙◌, arith, inl, inr, subst}
+use Rattle.std.proofs.Common.{◌≡◌, ℕ, zero, suc, ◌+◌, ◌-◌, ◌*◌, ◌^◌, ◌<◌, ◌≤◌, refl, sym, ap, ◌∙◌, arith, inl, inr, subst}
 use Rattle.std.proofs.Common.{Bool, true, false, cond, not, ◌&&◌, ◌||◌, ◌==◌, nat_lt, ℤ, pos, negsuc, ◌-ℤ◌}
 use Rattle.std.specs.Prelude.{IsTrue}
 use Rattle.std.specs.Int.{abs_diff}
@@ -7,14 +7,13 @@ use Rattle.std.proofs.lemmas.Bool.{eqb-true, lt-ltb}
 use Rattle.std.proofs.lemmas.Int.{ints}
 use lib.Dec.{lit<}
 use lib.Pow.{pow_pos}
-use native.Mathlib.Nat.{div-lt_iff_lt-mul, eq-zero-or-pos, mul-le-mul_left, mul-le-mul_right, mul-lt-mul_of_pos_right, mul-pos, zero-mul}
-use Rattle.decimal_numerals.specs.declared.decimal.Decimal.{Decimal}
+use native.Mathlib.Nat.{eq-zero-or-pos, mul-le-mul_right, mul-lt-mul_of_pos_right, mul-pos, zero-mul}
 use Rattle.decimal_numerals.specs.Denoted.{is_in_range}
 use Rattle.finite_numerals.specs.Nearest.{denoted_by, infinity, leading, low, sign_bit, tens_down, tens_up, units}
-use Rattle.finite_numerals.specs.Search.{AreLeastDigits, places, power_of_ten, steps, unsigned}
+use Rattle.finite_numerals.specs.Search.{AreLeastDigits, places, power_of_ten, unsigned}
 use Rattle.finite_numerals.specs.declared.precision.Precision.{Precision}
 use Rattle.finite_numerals.specs.declared.precision.Precision.TheVariants.{Half, Single, Double}
-use Rattle.finite_numerals.proofs.Sizes.{denoted_is, down_pos, nearest_size, size_at, size_of}
+use Rattle.finite_numerals.proofs.Sizes.{denoted_is, down_pos, nearest_size, size_at}
 use Rattle.finite_numerals.proofs.Steps.{IsStep, is_step, most, tens}
 use Rattle.finite_numerals.proofs.Units.{IsSplit, mono, split, step_is, strict, units_at}
 

@@ -1,8 +1,8 @@
 -- The bits that a numeral denotes are those of the nearest float.
-use Rattle.std.proofs.Common.{◌≡◌, ℕ, suc, ◌+◌, ◌*◌, ◌^◌, ◌<◌, ◌≤◌, min, refl, sym, ap, ◌∙◌, arith, subst, ℤ, pos, negsuc}
-use Rattle.std.proofs.Common.{Bool, true, false, cond}
+use Rattle.std.proofs.Common.{◌≡◌, ℕ, suc, ◌+◌, ◌*◌, ◌^◌, ◌<◌, min, refl, sym, ap, ◌∙◌, arith, ℤ, pos, negsuc}
+use Rattle.std.proofs.Common.{Bool, cond}
 use Rattle.std.proofs.Math.Nat.{min_comm}
-use Rattle.std.specs.Float.{Format, binary32, binary64}
+use Rattle.std.specs.Float.{binary32, binary64}
 use lib.Dec.{lit<}
 use lib.Ieee.Nearest.{closest}
 use native.Mathlib.Nat.{mul-one, one-le-pow}

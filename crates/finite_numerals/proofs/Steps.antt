@@ -1,14 +1,14 @@
 -- Powers of ten between two floats: the next float is two of them above at least, and 256 at most.
 -- That of each exponent is computed.
-use Rattle.std.proofs.Common.{◌≡◌, ℕ, zero, suc, ◌+◌, ◌-◌, ◌*◌, ◌/◌, ◌^◌, ◌<◌, ◌≤◌, refl, sym, ap, ◌∙◌, arith, inl, inr, subst}
+use Rattle.std.proofs.Common.{◌≡◌, ℕ, zero, suc, ◌+◌, ◌*◌, ◌/◌, ◌^◌, ◌<◌, ◌≤◌, refl, sym, ap, ◌∙◌, arith, inl, inr, subst}
 use Rattle.std.proofs.Common.{Bool, true, false, ◌&&◌, ℤ, pos, negsuc, ◌-ℤ◌}
 use Rattle.std.specs.Prelude.{nat_le}
 use Rattle.std.proofs.lemmas.Int.{ints}
 use Rattle.std.proofs.lemmas.Bool.{leb-true}
 use lib.Pow.{pow-add}
 use native.Mathlib.Nat.{eq-or-lt_of_le, le_of_mul-le-mul_right, mul-le-mul_right, mul-one, one-le-pow}
-use Rattle.finite_numerals.specs.Nearest.{infinity, leading, low, tens_down, tens_up}
-use Rattle.finite_numerals.specs.Search.{places, power_of_ten, steps}
+use Rattle.finite_numerals.specs.Nearest.{low, tens_down, tens_up}
+use Rattle.finite_numerals.specs.Search.{places}
 use Rattle.finite_numerals.specs.declared.precision.Precision.{Precision}
 use Rattle.finite_numerals.specs.declared.precision.Precision.TheVariants.{Half, Single, Double}
 

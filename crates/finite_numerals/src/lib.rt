@@ -9,6 +9,8 @@
 mod finite;
 mod laws;
 mod precision;
+#[cfg(test)]
+mod tests;
 
 pub use finite::{double_numeral, half_numeral, single_numeral};
 pub use laws::numerals_denote_the_nearest;

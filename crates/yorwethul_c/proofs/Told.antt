@@ -26,6 +26,7 @@ use Rattle.module_answers.specs.Shaders.{IsInfoOf, TellsUnasked, TellsUntypedAt,
 use Rattle.module_answers.specs.declared.shaders.Shader.{Shader}
 use Rattle.module_limits.specs.Nesting.{nested_past}
 use Rattle.naga_json.specs.declared.modules.Given.{Given}
+use Rattle.module_answers.specs.Wants.{IsDecimalUnlessWanting}
 use Rattle.module_answers.specs.WriteOutcomes.{TellsBeside}
 use Rattle.module_answers.specs.declared.shaders.Unasked.{Unasked}
 use Rattle.module_answers.specs.declared.shaders.Unasked.TheVariants as unasked
@@ -237,6 +238,9 @@ at_most_seven flags less = omega arith
 pub as_given : (flags : ℕ) (m : Module) → flags < 4 → IsAsAsked (asks_decimal_floats flags) m m
 as_given flags m less = subst (λ asked. IsAsAsked asked m m) (sym (lt-leb 4 flags less)) refl
 
+pub not_decimal : (flags : ℕ) {X : Type 0} → flags < 4 → IsTrue (asks_decimal_floats flags) → X
+not_decimal flags less asked = (let false_is : false ≡ true = sym (lt-leb 4 flags less) ∙ asked in absurd cc)
+
 pub with_decimal_floats : (flags : ℕ) (given m : Module) → 4 ≤ flags → IsDecimalModule given m →
     IsAsAsked (asks_decimal_floats flags) given m
 with_decimal_floats flags given m more decimal =
@@ -268,18 +272,19 @@ module _ (json : List ℕ) (flags : ℕ) (writer : WriterFlags) (from : JsonHold
   }
 
   pub wrote : (answer : Result Unit Error) (refusal : Option Refusal) (told : Status) (text : List ℕ) →
-      FaithfulWriting writer m info answer [] content 0 0 → AppendsItsText m info writer answer [] content →
+      (IsTrue (asks_decimal_floats flags) → IsDecimalUnlessWanting answer m) → FaithfulWriting writer m info answer [] content 0 0 → AppendsItsText m info writer answer [] content →
       TellsBeside (annotates_types writer) m info answer refusal → length content ≤ longest_text →
       SaysOfWritten from m answer refusal content told text → TellsOfWriting json flags told text
-  wrote (Ok tt) refusal told text faithful appends beside within is =
+  wrote (Ok tt) refusal told text complete faithful appends beside within is =
       let done : WasWritten json flags text =
       record {
         asked = asking;
         faithful = subst (λ now. FaithfulWriting writer m info (Ok tt) [] now 0 0) (sym is.1) faithful;
         text_is = is.1 ∙ appends;
+        complete = complete;
         is_within = subst (λ t. length t ≤ longest_text) (sym is.1) within;
       } in
       subst (λ s. TellsOfWriting json flags s text) (sym is.0) done
-  wrote (Err e) refusal told text faithful appends beside within says =
+  wrote (Err e) refusal told text complete faithful appends beside within says =
       stopped json flags writer from m info refusal e told text faithful.refusals
       (refusing e refusal text faithful beside) says

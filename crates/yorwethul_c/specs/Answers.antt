@@ -36,7 +36,7 @@ use Rattle.naga_json.specs.declared.modules.Given.{Given}
 use Rattle.naga_wgsl_out.specs.Headline.{FaithfulWriting}
 use Rattle.naga_wgsl_out.specs.Within.{IsPastBound}
 use Rattle.naga_wgsl_out.specs.declared.unwritable.Refusal.{Refusal}
-use Rattle.decimal_floats.specs.Decimals.{IsDecimalModule}
+use Rattle.decimal_floats.specs.Decimals.{IsDecimalModule, IsDecimalThroughout}
 use Rattle.module_positions.specs.JsonNesting.{nest_too_deep}
 use Rattle.yorwethul_c.specs.declared.status.Status.{Status}
 use Rattle.yorwethul_c.specs.declared.status.Status.TheVariants as status
@@ -129,11 +129,13 @@ pub record WasAsked (json : List ℕ) (flags : ℕ) : Type 0 where
   pub accepted : IsTrue (is_accepted given read)
   pub counted : IsCounted m read info
 
--- The text is that of an accepted module, written as asked, and faithfully.
+-- The text is that of an accepted module, written as asked, and faithfully. Where decimal floats are
+-- asked for, each finite one has a numeral.
 pub record WasWritten (json : List ℕ) (flags : ℕ) (text : List ℕ) : Type 0 where
   pub asked : WasAsked json flags
   pub faithful : FaithfulWriting asked.writer asked.m asked.info (Ok tt) [] text 0 0
   pub text_is : text ≡ printed_program (written_program asked.m asked.info asked.writer)
+  pub complete : IsTrue (asks_decimal_floats flags) → IsDecimalThroughout asked.m
   pub is_within : length text ≤ longest_text
 
 -- The text of an accepted module, written as asked, would be longer than it may be; and of one that is

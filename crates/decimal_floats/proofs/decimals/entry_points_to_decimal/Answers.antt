@@ -27,7 +27,7 @@ loop-entry_point-preserved c =
           c.loop-entry_point-test.true c.entry_point-item.is c.function_to_decimal.ensures.decimal;
       complete = all_more entry_point_is_decimal points at
           (record (get_or points at c.entry_point-item.result) { function = c.function_to_decimal.new.function }) within
-          c.loop-entry_point.invariant.complete c.function_to_decimal.ensures.complete;
+          c.loop-entry_point.invariant.complete c.in_ok-function_to_decimal.ensures.complete;
     }
 
 pub returns-clause-complete : goal.returns-clause-complete

@@ -1,5 +1,5 @@
-use Rattle.std.proofs.Common.{◌<◌, ◌∙◌, arith, length, length-set, refl, sym}
-use Rattle.std.proofs.lemmas.Option.{slice_get_within}
+use Rattle.std.proofs.Common.{◌≡◌, ◌+◌, ◌<◌, ◌∙◌, ℕ, arith, length, length-set, refl, set, subst, sym, take, true}
+use Rattle.std.specs.List.{list_all}
 use Rattle.decimal_floats.specs.Decimals.{expression_is_decimal}
 use Rattle.decimal_floats.proofs.DecimalItems.{expression_set, same_expressions}
 use Rattle.decimal_floats.proofs.Lists.{all_done, all_more}
@@ -26,9 +26,12 @@ loop-index-preserved c =
       decimal = expression_set c.args.expressions.now c.loop-index.expressions c.from_index.result
           c.get_mut.result.now c.expression_to_decimal.new.expression c.loop-index.invariant.decimal
           c.get_mut.ensures.item c.expression_to_decimal.ensures.decimal;
-      complete = all_more expression_is_decimal c.loop-index.expressions c.loop-index.index
+      complete = subst
+          (λ (i : ℕ). list_all expression_is_decimal (take (c.loop-index.index + 1)
+          (set c.loop-index.expressions i c.expression_to_decimal.new.expression)) ≡ true) (sym c.from_index.ensures)
+          (all_more expression_is_decimal c.loop-index.expressions c.loop-index.index
           c.expression_to_decimal.new.expression within c.loop-index.invariant.complete
-          c.expression_to_decimal.ensures.complete;
+          c.in_ok-expression_to_decimal.ensures.complete);
       count = length-set c.loop-index.expressions c.from_index.result
           c.expression_to_decimal.new.expression ∙ c.loop-index.invariant.count;
     }

@@ -16,32 +16,32 @@ on_ok (Ok x) then holds = then holds
 on_ok (Err e) then holds = tt
 
 -- memory was refused in the module's own expressions, or in its functions
-pub returns-in_err-expressions_to_decimal : goal.returns-in_err-expressions_to_decimal
-returns-in_err-expressions_to_decimal c =
+pub returns-in_err-expressions_to_decimal-clause-decimal : goal.returns-in_err-expressions_to_decimal-clause-decimal
+returns-in_err-expressions_to_decimal-clause-decimal c =
     let old = c.args.«module».now in
-    let new : Module = record old { global_expressions = c.expressions_to_decimal.new.expressions } in
-    let decimal : IsDecimalModule old new = record {
+    record {
       expressions = c.expressions_to_decimal.ensures.decimal;
       functions = same_functions old.functions;
       entry_points = same_entry_points old.entry_points.items;
       rest = refl;
-    } in
-    record { decimal = decimal; complete = tt; accepted = decimal_is_accepted old new decimal }
+    }
 
-pub returns-in_err-functions_to_decimal : goal.returns-in_err-functions_to_decimal
-returns-in_err-functions_to_decimal c =
-    let old = c.args.«module».now in
-    let new : Module = record old {
-      global_expressions = c.expressions_to_decimal.new.expressions;
-      functions = c.functions_to_decimal.new.functions;
-    } in
-    let decimal : IsDecimalModule old new = record {
+pub returns-in_err-expressions_to_decimal-clause-accepted : goal.returns-in_err-expressions_to_decimal-clause-accepted
+returns-in_err-expressions_to_decimal-clause-accepted c =
+    decimal_is_accepted _ _ (returns-in_err-expressions_to_decimal-clause-decimal c)
+
+pub returns-in_err-functions_to_decimal-clause-decimal : goal.returns-in_err-functions_to_decimal-clause-decimal
+returns-in_err-functions_to_decimal-clause-decimal c =
+    record {
       expressions = c.expressions_to_decimal.ensures.decimal;
       functions = c.functions_to_decimal.ensures.decimal;
-      entry_points = same_entry_points old.entry_points.items;
+      entry_points = same_entry_points c.args.«module».now.entry_points.items;
       rest = refl;
-    } in
-    record { decimal = decimal; complete = tt; accepted = decimal_is_accepted old new decimal }
+    }
+
+pub returns-in_err-functions_to_decimal-clause-accepted : goal.returns-in_err-functions_to_decimal-clause-accepted
+returns-in_err-functions_to_decimal-clause-accepted c =
+    decimal_is_accepted _ _ (returns-in_err-functions_to_decimal-clause-decimal c)
 
 pub returns : goal.returns
 returns c =

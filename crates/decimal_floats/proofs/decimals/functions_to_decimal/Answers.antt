@@ -1,5 +1,5 @@
-use Rattle.std.proofs.Common.{◌<◌, ◌∙◌, arith, length, length-set, refl, sym}
-use Rattle.std.proofs.lemmas.Option.{slice_get_within}
+use Rattle.std.proofs.Common.{◌≡◌, ◌+◌, ◌<◌, ◌∙◌, ℕ, arith, length, length-set, refl, set, subst, sym, take, true}
+use Rattle.std.specs.List.{list_all}
 use Rattle.decimal_floats.specs.Decimals.{function_is_decimal}
 use Rattle.decimal_floats.proofs.DecimalItems.{function_set, same_functions}
 use Rattle.decimal_floats.proofs.Lists.{all_done, all_more}
@@ -26,9 +26,12 @@ loop-index-preserved c =
       decimal = function_set c.args.functions.now c.loop-index.functions c.from_index.result
           c.get_mut.result.now c.function_to_decimal.new.function c.loop-index.invariant.decimal
           c.get_mut.ensures.item c.function_to_decimal.ensures.decimal;
-      complete = all_more function_is_decimal c.loop-index.functions c.loop-index.index
+      complete = subst
+          (λ (i : ℕ). list_all function_is_decimal (take (c.loop-index.index + 1)
+          (set c.loop-index.functions i c.function_to_decimal.new.function)) ≡ true) (sym c.from_index.ensures)
+          (all_more function_is_decimal c.loop-index.functions c.loop-index.index
           c.function_to_decimal.new.function within c.loop-index.invariant.complete
-          c.function_to_decimal.ensures.complete;
+          c.in_ok-function_to_decimal.ensures.complete);
       count = length-set c.loop-index.functions c.from_index.result
           c.function_to_decimal.new.function ∙ c.loop-index.invariant.count;
     }

@@ -5,7 +5,7 @@ use Rattle.module_answers.specs.WriteOutcomes.{AnswersWriting}
 use Rattle.module_semantics.specs.acceptance.Accepted.{is_accepted}
 use Rattle.naga_wgsl_out.specs.Checked.{IsCounted}
 use Rattle.yorwethul_c.specs.Answers.{longest_text}
-use Rattle.yorwethul_c.proofs.Told.{as_given, at_most_seven, not_written, wrote}
+use Rattle.yorwethul_c.proofs.Told.{as_given, at_most_seven, not_decimal, not_written, wrote}
 use Rattle.yorwethul_c.proofs.answers.written_as_given.Goals as goal
 
 pub returns-in-Err : goal.returns-in-Err
@@ -40,4 +40,4 @@ returns-in-Ok c =
     λ json was_read. wrote json c.args.flags writer c.args.shader.now.holder given m read info (string_bytes w.sink)
     (at_most_seven c.args.flags c.requires.known) c.writer_flags.ensures was_read
     (as_given c.args.flags given c.requires.known) accepted counted w.answer w.refusal _ _
-    answers.faithful answers.text answers.refusal within c.told_written.ensures
+    (not_decimal c.args.flags c.requires.known) answers.faithful answers.text answers.refusal within c.told_written.ensures

@@ -1,7 +1,6 @@
 use Rattle.std.proofs.Common.{◌≡◌, ℤ, rules, sym, subst, to_z-of_z, to_z, of_z, w64, ◌∙◌}
-use Rattle.std.specs.Prelude.{IsTrue, if◌then◌else◌, ◌+◌, ◌≤◌, ◌^◌}
-use Rattle.decimal_numerals.specs.Denoted.{is_in_range}
-use Rattle.finite_numerals.specs.Nearest.{denoted_by, sign_bit}
+use Rattle.std.specs.Prelude.{◌≤◌, ◌^◌}
+use Rattle.finite_numerals.specs.Nearest.{denoted_by}
 use Rattle.finite_numerals.specs.Search.{unsigned}
 use Rattle.finite_numerals.proofs.Search.{in_range, most_reach, signed_denote}
 use Rattle.finite_numerals.proofs.precision.Precision.numeral_of.Goals as goal
