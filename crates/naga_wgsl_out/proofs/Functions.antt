@@ -289,7 +289,7 @@ at_enumerated n (x ∷ fs) (suc i) f lt is =
 -- the answer of a call that ends with an error
 writes_err : {m : Module} {info : ModuleInfo} {flags : WriterFlags} {content now : List ℕ}
     {failed failures : ℕ} (r : Result Unit Error) {error : Error} → IsErrAnd r (λ e. e ≡ error) →
-    (StoppedWithin content failed (spaced_module m info flags) now failures error
+    (StoppedAmong m info flags content failed now failures error
     ⊎ MetNoPlan m info flags content failed now failures error) →
     WritesFunctions m info flags r content failed now failures
 writes_err (Ok x) is w = absurd is
@@ -539,11 +539,11 @@ module _ (m : Module) (info : ModuleInfo) (flags : WriterFlags) (n : ℕ) (conte
       named : IsNamedPlan (annotates_types flags) m info n next planned
       named = named_plan m (annotates_types flags) info n old next planned lt before plan names
 
-      by : (r : Result Unit Error) → Appends r content failed (spaced_function_at m info flags n) now failures →
-          WritesNext m info flags n next r content failed now failures
-
       has : HasPlan (annotates_types flags) m info n
       has = record { planned = planned; plan = plan; nameable = none_full m n next lt named.namer_is }
+
+      by : (r : Result Unit Error) → Appends r content failed (spaced_function_at m info flags n) now failures →
+          WritesNext m info flags n next r content failed now failures
       by (Ok x) wrote = record { wrote = wrote; planned = has; named = named.namer_is }
       by (Err e) stopped = inl (record { stopped = stopped; planned = inr has })
 
