@@ -29,6 +29,7 @@ LAYERS = [
     ]),
     ("words", CODE, [
         ("float_numerals", "floats in decimal"),
+        ("finite_numerals", "one for each"),
         ("naga_keywords", "sets of words"),
         ("wgsl_words", "words for values"),
     ]),

@@ -105,6 +105,11 @@ pub record NothingIsRefused (explicit : Bool) (m : Module) (info : ModuleInfo) :
   pub nameable : NamerIsFull m → ⊥
   pub keys : KeyIsOutOfRange m → ⊥
 
+-- No text of the module begins: a declaration has no form or a struct can't keep the offsets of its
+-- members, or its items can't all be named.
+abbrev pub NeverBegins : Module → Type 0
+NeverBegins m = (DeclarationsHaveForms m → ⊥) ⊎ (ItemsAreFull m ⊎ KeyIsOutOfRange m)
+
 -- an error has its reason, and where there is none no reason stands in the module
 abbrev pub RefusesOnlyFor : Result Unit Error → (explicit : Bool) → Module → ModuleInfo →
     (before now : ℕ) → Type 0
