@@ -1,5 +1,6 @@
 #!/usr/bin/env python3
-"""first.py LIBRARY FILE [explicit] [portable] [floats]: prints the text of a module, by these flags.
+"""first.py LIBRARY FILE [names] [explicit] [portable] [floats]: prints the text of a module, by these flags, or which
+identifier of that text stands for which item of the module.
 
 LIBRARY is a libyorwethul.so, whose calls are made.
 """
@@ -16,15 +17,23 @@ class Yorwethul:
     def __init__(self, library):
         self.calls = ctypes.CDLL(library)
         text = [ctypes.c_char_p, ctypes.c_size_t, ctypes.POINTER(ctypes.c_size_t)]
-        self.calls.yorwethul_write.argtypes = [ctypes.c_char_p, ctypes.c_size_t, ctypes.c_uint32, *text]
-        self.calls.yorwethul_write.restype = ctypes.c_uint32
+        for call in (self.calls.yorwethul_write, self.calls.yorwethul_names):
+            call.argtypes = [ctypes.c_char_p, ctypes.c_size_t, ctypes.c_uint32, *text]
+            call.restype = ctypes.c_uint32
 
     def write(self, json, flags=0):
         """The status and the text of a module, whose JSON is given as bytes."""
+        return self.told(self.calls.yorwethul_write, json, flags)
+
+    def names(self, json, flags=0):
+        """The status, and which identifier of that text stands for which item of the module, as JSON."""
+        return self.told(self.calls.yorwethul_names, json, flags)
+
+    def told(self, call, json, flags):
         needed = ctypes.c_size_t(len(json) + 256)
         while True:
             out = ctypes.create_string_buffer(needed.value or 1)
-            status = self.calls.yorwethul_write(json, len(json), flags, out, len(out), needed)
+            status = call(json, len(json), flags, out, len(out), needed)
             if needed.value <= len(out):
                 return status, out.raw[:needed.value].decode()
 
@@ -39,11 +48,13 @@ def main():
         stop(__doc__.strip())
     library, file, *words = sys.argv[1:]
     for word in words:
-        if word not in FLAGS:
+        if word not in FLAGS and word != "names":
             stop(f"unknown word {word}")
     flags = sum(number for word, number in FLAGS.items() if word in words)
     try:
-        status, text = Yorwethul(library).write(Path(file).read_bytes(), flags)
+        library = Yorwethul(library)
+        call = library.names if "names" in words else library.write
+        status, text = call(Path(file).read_bytes(), flags)
     except OSError as error:
         stop(error)
     (sys.stdout if status == DONE else sys.stderr).write(text if status == DONE else f"{text} (status {status})\n")
