@@ -5,6 +5,7 @@ ghost use Rattle.module_semantics.specs.Names.{module_names};
 ghost use Rattle.naga_wgsl_out.specs.ModuleRefusals.{IsNamesRefusal};
 ghost use Rattle.name_maps.specs.NameMaps.{map_text, name_map};
 ghost use Rattle.serde_json.specs.View.{view};
+ghost use Rattle.module_answers.specs.StandardNames.{named_as};
 
 use naga_ir::Module;
 use naga_wgsl_out::wgsl::names_of;
@@ -40,11 +41,13 @@ pub fn names_text(alloc: Global, module: &Module) -> Result<String, Error>
     Ok(text)
 }
 
-/// Has the names of the module be those of its standard text, which keep the digits of their labels,
-/// or those of its plain text, which don't. Where names alone are asked for, it is here that this
-/// is set, as [`write_decimal`](crate::write_decimal) does where a standard text is written.
+/// Where a standard text is meant, lets the names of the module be those of it, which keep the digits
+/// of their labels; else leaves the module as it is. Where names alone are asked for, this is set
+/// here and nowhere else.
 pub fn name_as_standard(module: &mut Module, is_standard: bool)
-    ensures { «module».new ≡ record «module».old { keeps_digits = is_standard } }
+    ensures { «module».new ≡ named_as is_standard «module».old }
 {
-    module.keeps_digits = is_standard;
+    if is_standard {
+        module.keeps_digits = true;
+    }
 }

@@ -5,6 +5,7 @@ use Rattle.std.specs.Prelude.{◌≡◌, ◌≤◌, ℕ, IsTrue, List}
 use Rattle.naga_ir.specs.declared.module.Module.{Module}
 use Rattle.naga_info.specs.declared.info.ModuleInfo.{ModuleInfo}
 use Rattle.module_positions.specs.declared.positions.JsonHolder.{JsonHolder}
+use Rattle.module_answers.specs.StandardNames.{named_as}
 use Rattle.module_semantics.specs.Names.{module_names}
 use Rattle.module_semantics.specs.acceptance.Accepted.{is_accepted}
 use Rattle.name_maps.specs.NameMaps.{map_text}
@@ -15,7 +16,7 @@ use Rattle.yorwethul_c.specs.declared.status.Status.TheVariants as status
 
 -- the module as it is named under these flags: as for a standard text where floats are decimal
 abbrev pub named_under : (flags : ℕ) → Module → Module
-named_under flags m = record m { keeps_digits = asks_decimal_floats flags }
+named_under flags m = named_as (asks_decimal_floats flags) m
 
 -- The text has the names of an accepted module's items, as its text under these flags has them.
 pub record AreNamed (flags : ℕ) (text : List ℕ) : Type 0 where
