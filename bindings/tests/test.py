@@ -440,9 +440,6 @@ def test_lines(folder, _):
         must(told == wanted, f"{told} of {line[:200]}, by the program {wanted}")
         checked = library.call("check", line)
         must(checked == (wanted if wanted[0] in (NOT_ACCEPTED, NO_MODULE, TOO_DEEP) else (DONE, "")), f"check: {checked} of {line[:200]}")
-        if "names" in answer:
-            status, names = library.call("names", line, flags_of_line(line))
-            must(status == DONE and json.loads(names) == answer["names"], f"names: {status} {names} of {line[:200]}")
     told = library.call("write", b"{}", ALL_FLAGS + 1)
     must(told == (UNKNOWN_FLAG, "a bit is set that no flag has"), f"{told} of an unknown flag")
 

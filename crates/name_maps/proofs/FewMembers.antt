@@ -3,7 +3,7 @@
 -- Throughout, m is a module whose structs are not too long, its are the types that are left with their
 -- handles, and h is the handle of a type t.
 use Rattle.std.proofs.Common.{◌≡◌, ◌+◌, ◌<◌, ◌≤◌, ◌∙◌, ◌^◌, ℕ, zero, suc, List, [], ◌∷◌, Some, ap, arith}
-use Rattle.std.proofs.Common.{length, refl, slice_get, subst}
+use Rattle.std.proofs.Common.{length, refl, slice_get, subst, sym}
 use Rattle.std.specs.Prelude.{Bool, true, false, nat_lt}
 use Rattle.std.specs.List.{All, enumerate_from}
 use Rattle.std.proofs.lemmas.Bool.{ltb-false, ltb-true}
@@ -42,6 +42,9 @@ module _ (m : Module) (few : HasLongStruct m → ⊥) where
 
   pub all_have_few : HaveFew (enumerate_from 0 m.types)
   all_have_few = record { each = from 0 m.types one_has_few }
+
+pub few_as : (its ps : List (ℕ × Type_)) → its ≡ ps → HaveFew ps → HaveFew its
+few_as its ps is few = subst HaveFew (sym is) few
 
 pub few_here : (its left : List (ℕ × Type_)) (p : ℕ × Type_) → its ≡ p ∷ left → HaveFew its →
     length (members_of p.1.inner) ≤ 2 ^ 32
