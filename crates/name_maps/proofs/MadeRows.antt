@@ -5,6 +5,7 @@
 -- all rows are to be.
 use Rattle.std.proofs.Common.{◌≡◌, ◌∙◌, List, [], ◌∷◌, ◌++◌, Option, Some, None, ap, map, refl, sym}
 use Rattle.std.specs.List.{cons_option, filter_map}
+use Rattle.std.specs.Option.{option_map}
 use Rattle.serde_json.specs.Data.{Data, array}
 use Rattle.serde_json.specs.View.{items_of, view}
 use Rattle.serde_json.specs.declared.value.Value.{Value}
@@ -40,6 +41,12 @@ module _ {P : Type 0} (one : P → Data) where
       (sym (none_more (map view before)) ∙ (ap (rows_after before) (sym none) ∙ so_far))
 
 -- ---- some items have one
+-- what has no value has no row
+pub no_row : {X Y : Type 0} (row : X → Y) (o : Option X) → ((x : X) → o ≡ Some x → ⊥) →
+    option_map row o ≡ None
+no_row row None none = refl
+no_row row (Some x) none = absurd (none x refl)
+
 module _ {P : Type 0} (one : P → Option Data) where
   abbrev pub picked_after : List Value → List P → List Data
   picked_after before its = map view before ++ filter_map one its

@@ -198,6 +198,6 @@ module _ (m : Module) (names : NameMap) (has : HasNamesOf m names) where
   same_text = ap compact_text same_map
 
 -- where each key of an item fits, no list is too long
-pub few_keys : {start : Names} (m : Module) → (SomeKeyIsFull (labelled_items start m) → ⊥) →
+pub few_keys : (start : Names) (m : Module) → (SomeKeyIsFull (labelled_items start m) → ⊥) →
     KeysRunOut m → ⊥
-few_keys {start} m fit long = fit (run_out_unfit start m long)
+few_keys start m fit long = fit (run_out_unfit start m long)

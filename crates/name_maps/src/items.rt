@@ -111,7 +111,7 @@ pub fn override_rows(
 }
 
 /// The structs that a text declares, each with its members.
-#[tactic(auto, using(crate::proofs::FewMembers::all_have_few, crate::proofs::FewMembers::few_here, crate::proofs::FewMembers::few_left, crate::proofs::MadeRows::picks, crate::proofs::MadeRows::skips, crate::proofs::MadeRows::all_picked))]
+#[tactic(auto, using(crate::proofs::MadeRows::all_picked))]
 pub fn struct_rows(
     alloc: Global,
     module: &Module,

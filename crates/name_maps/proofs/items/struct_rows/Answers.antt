@@ -1,7 +1,9 @@
-use Rattle.std.proofs.Common.{◌∙◌}
+use Rattle.std.proofs.Common.{◌∙◌, ap, sym}
+use Rattle.std.specs.Option.{option_map}
 use Rattle.naga_naming.specs.Keys.{names_in}
-use Rattle.name_maps.proofs.FewMembers.{all_have_few, few_as, few_here}
-use Rattle.name_maps.proofs.MadeRows.{picked_after}
+use Rattle.serde_json.specs.View.{view}
+use Rattle.name_maps.proofs.FewMembers.{all_have_few, few_as, few_here, few_left}
+use Rattle.name_maps.proofs.MadeRows.{no_row, picked_after, picks, skips}
 use Rattle.name_maps.specs.NameMaps.{declared_struct}
 use Rattle.name_maps.proofs.items.struct_rows.Goals as goal
 
@@ -18,3 +20,18 @@ declared_struct-requires c =
     record {
       counted = few_here _ _ _ c.in-Some.ensures.steps c.loop-handle.invariant.1;
     }
+
+pub loop-handle-preserved-in-Continue-branch-3 : goal.loop-handle-preserved-in-Continue-branch-3
+loop-handle-preserved-in-Continue-branch-3 c =
+    let one = declared_struct (names_in c.args.names.now) c.args.«module».now.special_types in
+    (picks one _ _ c.in-Some-2.row _ _ _ _ c.in_ok-push.ensures.items
+    (sym c.in_ok-row.ensures ∙ ap (option_map view) c.in-Some-2.is)
+    c.in-Some.ensures.steps c.loop-handle.invariant.0,
+    few_left _ _ _ c.in-Some.ensures.steps c.loop-handle.invariant.1)
+
+pub loop-handle-preserved : goal.loop-handle-preserved
+loop-handle-preserved c =
+    let one = declared_struct (names_in c.args.names.now) c.args.«module».now.special_types in
+    (skips one _ _ _ _ _ (sym c.in_ok-row.ensures ∙ no_row view _ c.in_default.not-Some)
+    c.in-Some.ensures.steps c.loop-handle.invariant.0,
+    few_left _ _ _ c.in-Some.ensures.steps c.loop-handle.invariant.1)
