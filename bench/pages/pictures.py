@@ -78,6 +78,7 @@ LAYERS = [
     ("answers", CODE, [
         ("module_positions", "where it is"),
         ("layout_texts", "layouts as text"),
+        ("name_maps", "names as JSON"),
         ("module_answers", "texts, refusals"),
         ("sample_modules", "modules by name"),
     ]),

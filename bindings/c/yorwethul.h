@@ -21,7 +21,7 @@ extern "C" {
 
 /* what a call gives */
 enum yorwethul_status {
-    YORWETHUL_DONE = 0,          /* out has what was asked for: WGSL, layouts, or nothing of yorwethul_check */
+    YORWETHUL_DONE = 0,          /* out has what was asked for: WGSL, layouts, names, or nothing of yorwethul_check */
     YORWETHUL_REFUSED = 1,       /* it is accepted, and refused, by the construct, its position and the label of
                                     the function there, quoted as Rust does:
                                     float literal: module.functions[0].expressions[3], in statement 1, in "half" */
@@ -53,6 +53,12 @@ uint32_t yorwethul_check(const uint8_t *json, size_t json_length,
                          uint8_t *out, size_t out_length, size_t *needed);
 uint32_t yorwethul_layout(const uint8_t *json, size_t json_length,
                           uint8_t *out, size_t out_length, size_t *needed);
+
+/* Which identifier of the text that the module has under these flags stands for which item of it: one line of JSON,
+ * {"constants": [..], "entry_points": [..], "functions": [..], "globals": [..], "overrides": [..], "structs": [..]},
+ * each item with its "label" in the module, or null, and its "identifier" in the text. */
+uint32_t yorwethul_names(const uint8_t *json, size_t json_length, uint32_t flags,
+                         uint8_t *out, size_t out_length, size_t *needed);
 
 /* a million times the first number, a thousand times the second, and the third */
 uint32_t yorwethul_version(void);

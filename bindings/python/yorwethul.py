@@ -20,11 +20,13 @@ import ctypes
 import ctypes.util
 import enum
 import functools
+import json as json_texts
 import os
 import sys
 from pathlib import Path
+from typing import Any
 
-__all__ = ["Error", "Flags", "Library", "Status", "check", "layout", "write"]
+__all__ = ["Error", "Flags", "Library", "Status", "check", "layout", "names", "write"]
 
 
 class Status(enum.IntEnum):
@@ -69,7 +71,8 @@ class Library:
     def __init__(self, path: str | os.PathLike[str] | None = None) -> None:
         self._calls = ctypes.CDLL(os.fspath(path) if path else find_library())
         text = [ctypes.c_void_p, ctypes.c_size_t, ctypes.POINTER(ctypes.c_size_t)]
-        for name, flags in (("write", [ctypes.c_uint32]), ("check", []), ("layout", [])):
+        flags_alone = [ctypes.c_uint32]
+        for name, flags in (("write", flags_alone), ("check", []), ("layout", []), ("names", flags_alone)):
             call = getattr(self._calls, f"yorwethul_{name}")
             call.argtypes = [ctypes.c_char_p, ctypes.c_size_t, *flags, *text]
             call.restype = ctypes.c_uint32
@@ -85,6 +88,11 @@ class Library:
     def layout(self, json: str | bytes) -> str:
         """A line for each struct and each member: where it stands in memory."""
         return self._call("layout", json)
+
+    def names(self, json: str | bytes, flags: Flags | int = Flags.DEFAULT) -> dict[str, list[dict[str, Any]]]:
+        """Which identifier of the text by these flags stands for which item: for each kind of item a list, of which each
+        has the `label` in the module, or None, and the `identifier` in the text."""
+        return json_texts.loads(self._call("names", json, int(flags)))
 
     def _call(self, name: str, json: str | bytes, *flags: int) -> str:
         data = json.encode() if isinstance(json, str) else json
@@ -132,6 +140,11 @@ def layout(json: str | bytes) -> str:
     return _library().layout(json)
 
 
+def names(json: str | bytes, flags: Flags | int = Flags.DEFAULT) -> dict[str, list[dict[str, Any]]]:
+    """As Library.names."""
+    return _library().names(json, flags)
+
+
 def main(words: list[str] | None = None) -> int:
     """Prints a text, and gives the status of a process: 0, 1 where there is no text, 2 where something can't be read or written."""
     parser = argparse.ArgumentParser(prog="yorwethul", description="Prints the WGSL text of a module that is read from JSON.")
@@ -142,6 +155,7 @@ def main(words: list[str] | None = None) -> int:
     what = parser.add_mutually_exclusive_group()
     what.add_argument("--check", action="store_true", help="say only whether the module is accepted")
     what.add_argument("--layout", action="store_true", help="print where the members of structs stand")
+    what.add_argument("--names", action="store_true", help="print which identifier stands for which item, as JSON")
     asked = parser.parse_args(words)
     flags = Flags(0) if asked.plain else Flags.DEFAULT
     if asked.explicit_types:
@@ -152,6 +166,8 @@ def main(words: list[str] | None = None) -> int:
         if asked.check:
             library.check(json)
             text = ""
+        elif asked.names:
+            text = json_texts.dumps(library.names(json, flags), ensure_ascii=False) + "\n"
         else:
             text = library.layout(json) if asked.layout else library.write(json, flags)
         sys.stdout.buffer.write(text.encode())

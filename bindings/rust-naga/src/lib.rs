@@ -179,6 +179,29 @@ fn laid_out(json: &str) -> Result<String, Error> {
     })
 }
 
+/// Tells which identifier of the text that the module has under these flags stands for which item of it, as
+/// JSON in one line ([`yorwethul::names_json`]), on a thread of its own where [`write`] takes one.
+///
+/// # Panics
+///
+/// As [`write`].
+pub fn names(module: &Module, info: &ModuleInfo, flags: Flags) -> Result<String, Error> {
+    named(&json(module, info)?, flags)
+}
+
+/// Tells the same of a module alone.
+pub fn names_module(module: &Module, flags: Flags) -> Result<String, Error> {
+    named(&module_json(module)?, flags)
+}
+
+fn named(json: &str, flags: Flags) -> Result<String, Error> {
+    Ok(if json.len() <= LONGEST_HERE {
+        yorwethul::names_json(json, flags)?
+    } else {
+        yorwethul::names_json_on_thread(json, flags)?
+    })
+}
+
 /// Module and info as JSON, for Yorwethul's other calls or its program.
 ///
 /// # Panics

@@ -7,8 +7,8 @@ use naga::{
 };
 use naga::{LocalVariable, MathFunction, Module, PredeclaredType, Range, Scalar, Span, Statement};
 use naga::{StructMember, Type, TypeInner, UnaryOperator};
-use yorwethul_naga::{json, layout, layout_module, module_json, write, write_module};
-use yorwethul_naga::{Construct, Error, Flags, Item};
+use yorwethul_naga::{json, layout, layout_module, module_json, names, names_module};
+use yorwethul_naga::{write, write_module, Construct, Error, Flags, Item};
 
 const SPAN: Span = Span::UNDEFINED;
 
@@ -89,6 +89,9 @@ fn a_module_alone_is_written() {
         write(&module, &known(&module), flags)
     );
     assert_eq!(layout_module(&module).as_deref(), Ok(""));
+    let named = names(&module, &known(&module), flags).unwrap();
+    assert!(named.contains("{\"handle\":0,\"identifier\":\"double\",\"label\":\"double\"}"));
+    assert_eq!(names_module(&module, flags), Ok(named));
     let told = module_json(&module).unwrap();
     assert!(told.starts_with("{\"module\":{"), "{told}");
     assert!(!told.contains("\"info\""), "{told}");

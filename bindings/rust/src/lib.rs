@@ -41,8 +41,8 @@
 //! A call takes some 128 KiB of stack, up to 8 bytes more for each byte of the JSON where operands
 //! stand deep in one another, and never more than [`STACK`]: a module that is nested deeper than
 //! 4,000 levels is [`Error::TooDeep`]. For JSON of whatever origin call [`write_json_on_thread`],
-//! [`check_json_on_thread`] or [`layout_json_on_thread`], or call on a thread that has
-//! [`stack_size`] bytes.
+//! [`check_json_on_thread`], [`layout_json_on_thread`] or [`names_json_on_thread`], or call on a thread
+//! that has [`stack_size`] bytes.
 //!
 //! # Without std
 //!
@@ -177,6 +177,38 @@ pub fn layout_json(json: &str) -> Result<String, Error> {
     })
 }
 
+/// Tells which identifier of the text that the module has under these flags stands for which item of it,
+/// as JSON in one line. It asks whether the module is accepted, and not whether it has a text.
+///
+/// Each entry point, override, global variable, struct with its members, function and labelled constant
+/// has its label in the module and its identifier in the text.
+///
+/// Deep operands take much stack: see [`names_json_on_thread`].
+///
+/// ```
+/// use yorwethul::Flags;
+///
+/// let json = r#"{"module": {"functions": [{"name": "fn"}]}}"#;
+/// let names = yorwethul::names_json(json, Flags::PORTABLE | Flags::DECIMAL_FLOATS)?;
+/// assert!(names.contains(r#""functions":[{"handle":0,"identifier":"fn_","label":"fn"}]"#));
+/// # Ok::<(), yorwethul::Error>(())
+/// ```
+pub fn names_json(json: &str, flags: Flags) -> Result<String, Error> {
+    text_of(json.len(), |out, needed| {
+        // SAFETY: as in `write_json`.
+        unsafe {
+            sys::yorwethul_names(
+                json.as_ptr(),
+                json.len(),
+                flags.bits(),
+                out.as_mut_ptr(),
+                out.len(),
+                needed,
+            )
+        }
+    })
+}
+
 /// [`write_json`] on a thread of its own, whose stack is enough for the JSON.
 #[cfg(feature = "std")]
 pub fn write_json_on_thread(json: &str, flags: Flags) -> Result<String, Error> {
@@ -193,6 +225,12 @@ pub fn check_json_on_thread(json: &str) -> Result<(), Error> {
 #[cfg(feature = "std")]
 pub fn layout_json_on_thread(json: &str) -> Result<String, Error> {
     on_thread(json, || layout_json(json))
+}
+
+/// [`names_json`] on a thread of its own, whose stack is enough for the JSON.
+#[cfg(feature = "std")]
+pub fn names_json_on_thread(json: &str, flags: Flags) -> Result<String, Error> {
+    on_thread(json, || names_json(json, flags))
 }
 
 /// What a call with this JSON gives, on a thread of its own, whose stack is enough for it.

@@ -37,10 +37,10 @@ const LONGEST_TEXT: usize = 67_108_864;
 const DEEPEST_NESTING: usize = 4_000;
 
 /// The flag by which floats become decimal. Those below it are the writer's own.
-const DECIMAL_FLOATS: u32 = 4;
+pub(crate) const DECIMAL_FLOATS: u32 = 4;
 
 /// All flags.
-const ALL_FLAGS: u32 = 7;
+pub(crate) const ALL_FLAGS: u32 = 7;
 
 /// A status with its text: what was asked for, or why it is not there.
 #[derive(Drop)]
@@ -89,7 +89,7 @@ pub fn laid_out(alloc: Global, json: &[u8]) -> Answer
 
 /// Reads the module, and finds what is known of it where no info came with it; or tells why nothing
 /// more is asked of it.
-fn shader_in(alloc: Global, json: &[u8]) -> Result<Shader, Answer>
+pub(crate) fn shader_in(alloc: Global, json: &[u8]) -> Result<Shader, Answer>
     ensures read { IfOk result
         (λ shader. WasRead json.now shader.holder shader.module shader.info) }
     ensures unread { IfErr result
@@ -306,7 +306,7 @@ fn laid_out_shader(alloc: Global, shader: &Shader) -> Answer
 }
 
 /// Tells where and why the module is not accepted, and what was expected there.
-fn not_accepted(alloc: Global, shader: &Shader, fault: Unaccepted) -> Answer
+pub(crate) fn not_accepted(alloc: Global, shader: &Shader, fault: Unaccepted) -> Answer
     ensures { SaysThat
         (TellsFaultAt shader.now.holder shader.now.module shader.now.info fault)
         Status.NotAccepted result.status (string_bytes result.text) }
@@ -316,7 +316,7 @@ fn not_accepted(alloc: Global, shader: &Shader, fault: Unaccepted) -> Answer
 }
 
 /// A status with what is told of it.
-fn told(alloc: Global, status: Status, text: impl Display + Drop) -> Answer
+pub(crate) fn told(alloc: Global, status: Status, text: impl Display + Drop) -> Answer
     ensures { Says status result.status (string_bytes result.text) }
 {
     let text = format!(in alloc; "{text}");
@@ -335,7 +335,7 @@ fn settled(alloc: Global, status: Status, text: Result<String, AllocError>) -> A
     }
 }
 
-fn out_of_memory(alloc: Global) -> Answer
+pub(crate) fn out_of_memory(alloc: Global) -> Answer
     ensures { LacksMemory result.status (string_bytes result.text) }
 {
     Answer {
