@@ -26,11 +26,11 @@ unread_named json flags status.UnknownFlag text tells = absurd tells
 unread_named json flags status.TooLong text tells = absurd tells
 
 -- an accepted module, of which the names are told as they are under these flags
-pub named_by : (flags : ℕ) (from : JsonHolder) (m named : Module) (read : ModuleInfo)
-    (found : Option Unaccepted) (text : List ℕ) → flags ≤ 7 → WasRead from m read →
+pub named_by : (json : List ℕ) (flags : ℕ) (from : JsonHolder) (m named : Module) (read : ModuleInfo)
+    (found : Option Unaccepted) (text : List ℕ) → flags ≤ 7 → WasRead json from m read →
     found ≡ None → is_none found ≡ is_accepted m read → named ≡ named_under flags m →
-    text ≡ map_text named (module_names named) → AreNamed flags text
-named_by flags from m named read found text known was_read is accepts under told = record {
+    text ≡ map_text named (module_names named) → AreNamed json flags text
+named_by json flags from m named read found text known was_read is accepts under told = record {
   flags_are_known = known;
   from = from;
   m = m;
