@@ -18,7 +18,8 @@ pub returns-in-Ok : goal.returns-in-Ok
 returns-in-Ok c =
     let s = c.args.shader.now in
     λ json was_read. named_by json c.args.flags s.holder s.module c.name_as_standard.new.«module» s.info _ _
-    c.requires.known was_read c.in-None.is c.unaccepted.ensures.accepted c.name_as_standard.ensures ?
+    c.requires.known was_read c.in-None.is c.unaccepted.ensures.accepted c.name_as_standard.ensures
+    c.in-Ok.ensures.text
 
 pub returns-in-Err : goal.returns-in-Err
 returns-in-Err c =
