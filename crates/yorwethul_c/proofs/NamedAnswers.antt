@@ -1,6 +1,5 @@
 -- What is told where a module's names are asked for, from what its steps say.
 use Rattle.std.proofs.Common.{◌≡◌, ◌≤◌, ◌∙◌, ℕ, List, None, Option, ap, inr, is_none, sym}
-use Rattle.std.specs.Prelude.{Bool}
 use Rattle.naga_acceptance.specs.declared.faults.Unaccepted.{Unaccepted}
 use Rattle.naga_info.specs.declared.info.ModuleInfo.{ModuleInfo}
 use Rattle.naga_ir.specs.declared.module.Module.{Module}
@@ -8,7 +7,7 @@ use Rattle.module_positions.specs.declared.positions.JsonHolder.{JsonHolder}
 use Rattle.module_semantics.specs.Names.{module_names}
 use Rattle.module_semantics.specs.acceptance.Accepted.{is_accepted}
 use Rattle.name_maps.specs.NameMaps.{map_text}
-use Rattle.yorwethul_c.specs.Answers.{TellsOfReading, WasRead, asks_decimal_floats}
+use Rattle.yorwethul_c.specs.Answers.{TellsOfReading, WasRead}
 use Rattle.yorwethul_c.specs.NamedItems.{AreNamed, TellsOfNames, named_under}
 use Rattle.yorwethul_c.specs.declared.status.Status.{Status}
 use Rattle.yorwethul_c.specs.declared.status.Status.TheVariants as status
