@@ -12,6 +12,8 @@ from pathlib import Path
 
 COLUMNS, README_COLUMNS, PARAGRAPH_LINES = 120, 100, 6
 ENTRY = re.compile(r"(\s*)([-*]|\d+\.) ")
+# where a link leads, which a reader does not see
+LINK = re.compile(r"(\])\([^)\s]*\)")
 
 
 def blocks(text):
@@ -54,8 +56,9 @@ def main(words):
             if is_prose and check:
                 if max(map(len, lines)) > columns:
                     faults.append(f"{page}:{number}: a line of more than {columns} columns")
-                if len(laid_out) > PARAGRAPH_LINES:
-                    faults.append(f"{page}:{number}: a paragraph of {len(laid_out)} lines, more than {PARAGRAPH_LINES}")
+                shown = wrapped([LINK.sub(r"\1", line) for line in laid_out], columns)
+                if len(shown) > PARAGRAPH_LINES:
+                    faults.append(f"{page}:{number}: a paragraph of {len(shown)} lines, more than {PARAGRAPH_LINES}")
             made += laid_out
             number += len(lines)
         if not check:
