@@ -1,5 +1,9 @@
 //! Functions, and what modules declare.
 
+ghost use Rattle.std.specs.Prelude.{IfOk, OnOk};
+ghost use Rattle.naga_json.specs.Diagnostics.{HasFilters};
+
+use crate::diagnostics::{expect_filters, expect_no_own_filters};
 use crate::error::{JsonKind, Problem, ReadError};
 use crate::let_be;
 use crate::shape::{
@@ -324,7 +328,7 @@ impl FromJson for SpecialTypes {
     }
 }
 
-/// The members of [`Function`].
+/// The members of [`Function`], and the leaf of its filters, which is looked at with the module's.
 const FUNCTION_MEMBERS: &[&str] = &[
     "name",
     "result",
@@ -333,11 +337,12 @@ const FUNCTION_MEMBERS: &[&str] = &[
     "expressions",
     "named_expressions",
     "body",
+    "diagnostic_filter_leaf",
 ];
 
 impl FromJson for Function {
     fn from_json(alloc: Global, value: &Value) -> Result<Function, ReadError> {
-        expect_members_beside(alloc, value, FUNCTION_MEMBERS, let_be::OF_FUNCTION)?;
+        expect_members(alloc, value, FUNCTION_MEMBERS)?;
         let mut function = Function::new(alloc);
         fill_function(alloc, value, &mut function)?;
         Ok(function)
@@ -374,10 +379,14 @@ const MODULE_MEMBERS: &[&str] = &[
     "global_expressions",
     "functions",
     "entry_points",
+    "diagnostic_filters",
+    "diagnostic_filter_leaf",
 ];
 
 impl FromJson for Module {
-    fn from_json(alloc: Global, value: &Value) -> Result<Module, ReadError> {
+    fn from_json(alloc: Global, value: &Value) -> Result<Module, ReadError>
+        ensures { IfOk result (λ m. HasFilters m.diagnostic_filters m.diagnostic_filter_leaf) }
+    {
         expect_members_beside(alloc, value, MODULE_MEMBERS, let_be::OF_MODULE)?;
         let mut module = Module::new(alloc);
         fill_module(alloc, value, &mut module)?;
@@ -385,7 +394,10 @@ impl FromJson for Module {
     }
 }
 
-fn fill_module(alloc: Global, value: &Value, module: &mut Module) -> Result<(), ReadError> {
+fn fill_module(alloc: Global, value: &Value, module: &mut Module) -> Result<(), ReadError>
+    ensures { OnOk result
+        (HasFilters «module».new.diagnostic_filters «module».new.diagnostic_filter_leaf) }
+{
     fill(alloc, value, "types", &mut module.types)?;
     fill(alloc, value, "special_types", &mut module.special_types)?;
     fill(alloc, value, "constants", &mut module.constants)?;
@@ -403,5 +415,27 @@ fn fill_module(alloc: Global, value: &Value, module: &mut Module) -> Result<(), 
         &mut module.global_expressions,
     )?;
     fill(alloc, value, "functions", &mut module.functions)?;
-    fill(alloc, value, "entry_points", &mut module.entry_points)
+    fill(alloc, value, "entry_points", &mut module.entry_points)?;
+    fill_filters(alloc, value, module)
+}
+
+/// Reads the filters of diagnostics, which hold in the whole module.
+fn fill_filters(alloc: Global, value: &Value, module: &mut Module) -> Result<(), ReadError>
+    ensures { OnOk result
+        (HasFilters «module».new.diagnostic_filters «module».new.diagnostic_filter_leaf) }
+{
+    fill(
+        alloc,
+        value,
+        "diagnostic_filters",
+        &mut module.diagnostic_filters,
+    )?;
+    fill(
+        alloc,
+        value,
+        "diagnostic_filter_leaf",
+        &mut module.diagnostic_filter_leaf,
+    )?;
+    expect_filters(alloc, module)?;
+    expect_no_own_filters(alloc, value, module)
 }

@@ -9,7 +9,8 @@
 //! - Nothing is lost. A member that is not read is refused by its name, unless nothing that a shader
 //!   does hangs on it, as on comments: `let_be.rt` lists those. An early depth test, and a
 //!   workgroup's size that an override sets, are refused unless null: they have no place in a
-//!   [`naga_ir::Module`]. Of an info only some members are read, and the others let be.
+//!   [`naga_ir::Module`]. Nor have filters of diagnostics that hold in one function alone: those of
+//!   the module are read. Of an info only some members are read, and the others let be.
 //! - An enum is the name of a variant, or an object whose one member is the variant's payload, as
 //!   `"Break"` and `{"Load": {"pointer": 2}}`. The payload of a variant that has none is null:
 //!   `{"Break": null}`.
@@ -39,6 +40,7 @@
 
 mod bindings;
 mod declarations;
+mod diagnostics;
 mod error;
 mod expressions;
 mod infos;

@@ -1,6 +1,7 @@
 //! What is read: from a text, or from JSON that a caller parsed who wants more of it.
 
 ghost use Rattle.std.specs.Prelude.{◌≡◌, IfOk, IsTrue, None};
+ghost use Rattle.naga_json.specs.Diagnostics.{HasFilters};
 
 use crate::error::ReadError;
 use crate::shape::{FromJson, is_object, member};
@@ -14,7 +15,10 @@ use std::alloc::Global;
 /// nothing, here and in the functions below: [`ReadError::OutOfMemory`] where memory is
 /// refused, [`ReadError::NoJson`] where the text is no JSON or nests more than 127 deep, and
 /// [`ReadError::Misfit`] where the JSON is no module, or says what the module here would lose.
-pub fn read_module(alloc: Global, text: &str) -> Result<Module, ReadError> {
+pub fn read_module(alloc: Global, text: &str) -> Result<Module, ReadError>
+    ensures filters { IfOk result
+        (λ m. HasFilters m.diagnostic_filters m.diagnostic_filter_leaf) }
+{
     let mut scratch = Scratch::new(alloc);
     let value = parse(alloc, text, &mut scratch)?;
     module_of(alloc, &value)
@@ -69,7 +73,10 @@ pub fn read_given(alloc: Global, text: &str) -> Result<Given, ReadError>
 
 /// Reads a module from JSON that was parsed before. It fails as [`read_module`] does, but there is
 /// always JSON. Its blocks may nest 64 deep, more than those of any text.
-pub fn module_of(alloc: Global, value: &Value) -> Result<Module, ReadError> {
+pub fn module_of(alloc: Global, value: &Value) -> Result<Module, ReadError>
+    ensures filters { IfOk result
+        (λ m. HasFilters m.diagnostic_filters m.diagnostic_filter_leaf) }
+{
     Module::from_json(alloc, value)
 }
 

@@ -1,6 +1,8 @@
 //! The shapes of JSON that values of Rust's types have: numbers, lists, objects, and enums whose
 //! variant is a text or the only member of an object.
 
+ghost use Rattle.std.specs.Prelude.{◌≡◌, IfOk};
+
 use crate::error::{JsonKind, Problem, ReadError, told_name};
 use json::Value;
 use naga_ir::{Arena, Item, ItemIndex};
@@ -39,7 +41,9 @@ pub(crate) fn in_member<T>(
     alloc: Global,
     name: &str,
     read: Result<T, ReadError>,
-) -> Result<T, ReadError> {
+) -> Result<T, ReadError>
+    ensures { IfOk result (λ value. read ≡ Ok value) }
+{
     match read {
         Ok(value) => Ok(value),
         Err(error) => Err(error.within(alloc, name)),
@@ -51,7 +55,9 @@ pub(crate) fn in_item<T>(
     alloc: Global,
     index: usize,
     read: Result<T, ReadError>,
-) -> Result<T, ReadError> {
+) -> Result<T, ReadError>
+    ensures { IfOk result (λ value. read ≡ Ok value) }
+{
     match read {
         Ok(value) => Ok(value),
         Err(error) => match format!(in alloc; "[{index}]") {
