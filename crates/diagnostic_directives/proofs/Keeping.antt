@@ -62,12 +62,12 @@ module _ (met : List DiagnosticFilter) (old : Found) (f : DiagnosticFilter) (tel
       ap (λ b. unless_overruled b f (in_force met)) (sym was_met ∙ unmet) in
       record {
         lines =
-          ap joined_backwards lines ∙ joined_backwards-push old.lines.items line
-          ∙ ap (λ bytes. bytes ++ joined_backwards old.lines.items) is
-          ∙ ap (λ more. directive f ++ more) tells.lines
-          ∙ ap (flat_map directive) (sym same);
+            ap joined_backwards lines ∙ joined_backwards-push old.lines.items line
+            ∙ ap (λ bytes. bytes ++ joined_backwards old.lines.items) is
+            ∙ ap (λ more. directive f ++ more) tells.lines
+            ∙ ap (flat_map directive) (sym same);
         rules = λ name. rules name
-          ∙ or_found (bytes_eq (rule_name f.triggering_rule) name) _ _ (tells.rules name);
+            ∙ or_found (bytes_eq (rule_name f.triggering_rule) name) _ _ (tells.rules name);
         named = subst HaveNames (sym same) (All-cons _ f (in_force met) named tells.named);
       }
     where

@@ -1,3 +1,4 @@
 mod Chains
+mod DirectiveExamples
 mod Keeping
 mod Walking

@@ -22,7 +22,7 @@ use std::alloc::Global;
 /// the leaf. Where no filter holds the text is empty. [`DirectiveError::RuleName`] comes where a rule
 /// has no name, and [`DirectiveError::Sink`] for want of memory alone. It is for any module: a chain
 /// of filters ends where a parent does not stand before its filter.
-pub fn directives(alloc: Global, module: &Module) -> Result<String, DirectiveError>
+pub fn module_directives(alloc: Global, module: &Module) -> Result<String, DirectiveError>
     ensures text { IfOk result (λ text. string_bytes text ≡ module_directives «module».now) }
     ensures named { OnOk result (HaveNames (filters_in_force «module».now)) }
     ensures error { IfErr result (HasNoDirectives «module».now) }
@@ -32,7 +32,7 @@ pub fn directives(alloc: Global, module: &Module) -> Result<String, DirectiveErr
     Ok(text)
 }
 
-/// Writes what [`directives`] gives to the sink. It fails as that does, and then the sink is as it was;
+/// Writes what [`module_directives`] gives to the sink. It fails as that does, and then the sink is as it was;
 /// where the sink fails, a beginning of the directives may stand in it.
 pub fn write_directives<W: TextSink>(
     alloc: Global,
@@ -45,7 +45,7 @@ pub fn write_directives<W: TextSink>(
     ensures error { IfErr result (Unwritten «module».now (W.text sink.old) (W.text sink.new)
         (W.failures sink.old) (W.failures sink.new)) }
 {
-    let text = directives(alloc, module)?;
+    let text = module_directives(alloc, module)?;
     sink.write_str(text.as_str())?;
     Ok(())
 }

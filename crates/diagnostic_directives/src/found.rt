@@ -11,7 +11,7 @@ ghost use Rattle.diagnostic_directives.specs.Found.{NotAdded, Tells, joined_back
 use crate::error::DirectiveError;
 use crate::names::has_name;
 use naga_ir::{DiagnosticFilter, DiagnosticFilterNode, Handle, ItemIndex, Module, Severity};
-use naga_words::DisplayWgslIdent;
+use naga_words::diagnostics::DisplayWgslIdent;
 use std::alloc::{AllocError, Global};
 use std::collections::BTreeSet;
 

@@ -2,7 +2,7 @@
 //! line: `diagnostic(off, derivative_uniformity);`.
 //!
 //! ```text
-//! let mut text = directives(alloc, &module)?; // "diagnostic(off, derivative_uniformity);\n\n"
+//! let mut text = module_directives(alloc, &module)?; // "diagnostic(off, derivative_uniformity);\n\n"
 //! text.push_str(write_checked(alloc, &module, &mut info, WriterFlags::PORTABLE)?.as_str())?;
 //! ```
 //!
@@ -15,5 +15,5 @@ mod error;
 mod found;
 mod names;
 
-pub use directives::{directives, write_directives};
+pub use directives::{module_directives, write_directives};
 pub use error::DirectiveError;

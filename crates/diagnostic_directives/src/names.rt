@@ -7,7 +7,7 @@ ghost use Rattle.naga_keywords.specs.Plain.{is_identifier_char};
 ghost use Rattle.diagnostic_directives.specs.Names.{has_name, is_name};
 
 use naga_ir::FilterableTriggeringRule;
-use naga_keywords::reserved_words;
+use naga_keywords::by_bytes::reserved_words;
 use std::alloc::Global;
 
 /// Whether the rule's name is one of the standard, an identifier, or for a tool's rule two of them.

@@ -1,6 +1,7 @@
 -- What is told of a module that is not written.
-use Rattle.std.proofs.Common.{◌≡◌, ℕ, ◌<◌, List, [], Result, length, refl, subst, sym}
-use Rattle.std.specs.Prelude.{Bool, Err, IsTrue, None, Ok, Option, Some}
+use Rattle.std.proofs.Common.{◌≡◌, ℕ, ◌<◌, List, ◌++◌, Result, ap, arith, length, length-append, subst, sym}
+use Rattle.std.specs.Prelude.{Bool, Err, IsTrue, None, Ok, OnErr, OnOk, Option, Some}
+use Rattle.naga_spelling.specs.Sink.{IsAfter}
 use Rattle.naga_ir.specs.declared.module.Module.{Module}
 use Rattle.naga_info.specs.declared.info.ModuleInfo.{ModuleInfo}
 use Rattle.naga_back.specs.Flags.{annotates_types}
@@ -12,16 +13,35 @@ use Rattle.naga_wgsl_out.specs.Checked.{IsCounted}
 use Rattle.naga_wgsl_out.specs.declared.unwritable.Refusal.{Refusal}
 use Rattle.naga_wgsl_out.specs.Within.{unfailed}
 use Rattle.naga_wgsl_out.proofs.Bounded.{appends_unfailed, faithful_unfailed, leaves_unfailed}
-use Rattle.naga_wgsl_out.proofs.Bounded.{matches_unfailed, whole_is_longer}
+use Rattle.naga_wgsl_out.proofs.Bounded.{matches_unfailed}
 use Rattle.naga_wgsl_out.proofs.Faithful.{leaves_beginning}
+use Rattle.naga_wgsl_out.specs.Writing.{written_text}
+use Rattle.module_answers.specs.Opening.{opening}
 use Rattle.module_answers.specs.Within.{IsTooLong}
 use Rattle.module_answers.specs.WriteOutcomes.{AnswersWriting, TellsBeside}
 
--- a sink that began empty tells that the text of one is too long
+-- where more stands in a sink than it may, the whole text after what it held is too long
+longer_after : (bound : ℕ) (answer : Result Unit Error) (content text now : List ℕ) →
+    OnOk answer (now ≡ content ++ text) → OnErr answer (IsAfter content text now) →
+    bound < length now → bound < length (content ++ text)
+longer_after bound (Ok x) content text now appends following past =
+    subst (λ bytes. bound < length bytes) appends past
+longer_after bound (Err e) content text now appends following past =
+    omega (
+      arith,
+      past,
+      ap length following.2,
+      ap length following.3,
+      length-append content text,
+      length-append content following.0,
+      length-append following.0 following.1,
+    )
+
+-- a sink that began with what stands in front of the text tells that both are too long
 pub is_too_long : (flags : WriterFlags) (bound : ℕ) (given m : Module) (old new : ModuleInfo)
     (answer : Result Unit Error) (told : Option Refusal) (beginning : List ℕ) (failures : ℕ) →
     IsTrue (is_accepted given old) → IsCounted m old new →
-    AnswersWriting flags m new answer told [] beginning 0 failures →
+    AnswersWriting flags m new answer told (opening flags given) beginning 0 failures →
     bound < length beginning → IsTooLong flags bound given m old new
 is_too_long flags bound given m old new answer told beginning failures accepted counted written passed = record {
   accepted = accepted;
@@ -32,8 +52,8 @@ is_too_long flags bound given m old new answer told beginning failures accepted 
   failures = failures;
   written = written;
   passed = passed;
-  longer = whole_is_longer flags m new bound answer [] beginning refl written.text
-      (leaves_beginning flags m new answer [] beginning 0 failures written.leaves) passed;
+  longer = longer_after bound answer (opening flags given) (written_text m new flags) beginning written.text
+      (leaves_beginning flags m new answer (opening flags given) beginning 0 failures written.leaves) passed;
 }
 
 -- a refusal is told beside such an answer too: none where it told of the sink
@@ -52,25 +72,26 @@ beside_unfailed explicit m info (Err (error.Unsupported kind value)) told beside
 
 -- what is so of an answer is so of one whose sink has not failed
 answers_unfailed : (flags : WriterFlags) (m : Module) (info : ModuleInfo) (answer : Result Unit Error)
-    (told : Option Refusal) (text : List ℕ) (failures : ℕ) →
-    AnswersWriting flags m info answer told [] text 0 failures →
-    AnswersWriting flags m info (unfailed answer) told [] text 0 0
-answers_unfailed flags m info answer told text failures written = record {
-  faithful = faithful_unfailed flags m info [] text 0 failures answer written.faithful;
-  matches = matches_unfailed flags m info [] text answer written.matches;
-  text = appends_unfailed flags m info [] text answer written.text;
-  leaves = leaves_unfailed flags m info [] text 0 failures answer written.leaves;
+    (told : Option Refusal) (content text : List ℕ) (failures : ℕ) →
+    AnswersWriting flags m info answer told content text 0 failures →
+    AnswersWriting flags m info (unfailed answer) told content text 0 0
+answers_unfailed flags m info answer told content text failures written = record {
+  faithful = faithful_unfailed flags m info content text 0 failures answer written.faithful;
+  matches = matches_unfailed flags m info content text answer written.matches;
+  text = appends_unfailed flags m info content text answer written.text;
+  leaves = leaves_unfailed flags m info content text 0 failures answer written.leaves;
   refusal = beside_unfailed (annotates_types flags) m info answer told written.refusal;
 }
 
 -- what is so of what was written is so of what is kept of it
 pub as_kept : (flags : WriterFlags) (m : Module) (info : ModuleInfo) (answer kept_answer : Result Unit Error)
-    (told kept_told : Option Refusal) (text kept_text : List ℕ) (failures : ℕ) →
+    (told kept_told : Option Refusal) (content text kept_text : List ℕ) (failures : ℕ) →
     kept_answer ≡ unfailed answer → kept_told ≡ told → kept_text ≡ text →
-    AnswersWriting flags m info answer told [] text 0 failures →
-    AnswersWriting flags m info kept_answer kept_told [] kept_text 0 0
-as_kept flags m info answer kept_answer told kept_told text kept_text failures same_answer same_told same_text written =
-    subst (λ a. AnswersWriting flags m info a kept_told [] kept_text 0 0) (sym same_answer)
-    (subst (λ r. AnswersWriting flags m info (unfailed answer) r [] kept_text 0 0) (sym same_told)
-    (subst (λ t. AnswersWriting flags m info (unfailed answer) told [] t 0 0) (sym same_text)
-    (answers_unfailed flags m info answer told text failures written)))
+    AnswersWriting flags m info answer told content text 0 failures →
+    AnswersWriting flags m info kept_answer kept_told content kept_text 0 0
+as_kept flags m info answer kept_answer told kept_told content text kept_text failures same_answer same_told same_text
+    written =
+    subst (λ a. AnswersWriting flags m info a kept_told content kept_text 0 0) (sym same_answer)
+    (subst (λ r. AnswersWriting flags m info (unfailed answer) r content kept_text 0 0) (sym same_told)
+    (subst (λ t. AnswersWriting flags m info (unfailed answer) told content t 0 0) (sym same_text)
+    (answers_unfailed flags m info answer told content text failures written)))

@@ -2,4 +2,5 @@ pub mod Wants
 pub mod WriteOutcomes
 pub mod Refusals
 pub mod Shaders
+pub mod Opening
 pub mod Within

@@ -3,12 +3,14 @@
 #![tactic(auto)]
 
 mod layouts;
+mod opening;
 mod refusals;
 mod shaders;
 mod within;
 mod writing;
 
 pub use layouts::layout_table;
+pub use opening::{UNNAMED_RULE, filter_position, rule_name_line};
 pub use refusals::refusal_line;
 pub use shaders::{Shader, Unasked, holder_of, info_within, untyped_line};
 pub use within::{NoOutcome, write_decimal_within, write_within};

@@ -9,12 +9,14 @@ use Rattle.std.specs.Option.{IfSome}
 use Rattle.std.specs.Prelude.{drop, if◌then◌else◌, nat_le, Result, Ok, Err}
 use Rattle.naga_ir.specs.declared.module.Module.{Module}
 use Rattle.naga_info.specs.declared.info.ModuleInfo.{ModuleInfo}
-use Rattle.naga_back.specs.Flags.{annotates_types, bits_of}
+use Rattle.diagnostic_directives.specs.Directives.{LacksName}
+use Rattle.naga_back.specs.Flags.{annotates_types, bits_of, is_portable}
 use Rattle.naga_back.specs.declared.flags.WriterFlags.{WriterFlags}
 use Rattle.naga_acceptance.specs.FirstFaults.{IsFirstFault}
 use Rattle.naga_acceptance.specs.declared.faults.Unaccepted.{Unaccepted}
 use Rattle.module_semantics.specs.acceptance.Accepted.{is_accepted}
 use Rattle.module_positions.specs.Faults.{TellsFaultAt}
+use Rattle.module_answers.specs.Opening.{OpensWithNames, TellsRuleAt, opening}
 use Rattle.module_answers.specs.Refusals.{TellsRefusalAt}
 use Rattle.module_answers.specs.Shaders.{IsInfoOf, TellsUntypedAt}
 use Rattle.module_answers.specs.Shaders as shaders
@@ -121,18 +123,29 @@ pub record WasAsked (flags : ℕ) : Type 0 where
   pub accepted : IsTrue (is_accepted given read)
   pub counted : IsCounted m read info
 
--- The text is that of an accepted module, written as asked, and faithfully.
+-- what stands in front of the text that was asked for
+abbrev pub asked_opening : {flags : ℕ} → WasAsked flags → List ℕ
+asked_opening asked = opening asked.writer asked.given
+
+-- The text is that of an accepted module, written as asked, and faithfully, after what stands in front
+-- of it.
 pub record WasWritten (flags : ℕ) (text : List ℕ) : Type 0 where
   pub asked : WasAsked flags
-  pub faithful : FaithfulWriting asked.writer asked.m asked.info (Ok tt) [] text 0 0
-  pub text_is : text ≡ printed_program (written_program asked.m asked.info asked.writer)
+  pub named : OpensWithNames asked.writer asked.given
+  pub faithful :
+      FaithfulWriting asked.writer asked.m asked.info (Ok tt) (asked_opening asked) text 0 0
+  pub text_is :
+      text ≡ asked_opening asked
+      ++ printed_program (written_program asked.m asked.info asked.writer)
   pub is_within : length text ≤ longest_text
 
--- The text of an accepted module, written as asked, would be longer than it may be.
+-- The text of an accepted module, written as asked, would be longer than it may be, with what stands
+-- in front of it.
 pub record IsTooLong (flags : ℕ) : Type 0 where
   pub asked : WasAsked flags
   pub longer :
-      longest_text < length (printed_program (written_program asked.m asked.info asked.writer))
+      longest_text < length (asked_opening asked
+      ++ printed_program (written_program asked.m asked.info asked.writer))
 
 -- The writer refused an accepted module, for a listed construct that stands there and is the first,
 -- and this line tells it with its position.
@@ -140,10 +153,27 @@ pub record IsRefused (flags : ℕ) (text : List ℕ) : Type 0 where
   pub asked : WasAsked flags
   pub error : Error
   pub beginning : List ℕ
-  pub faithful : FaithfulWriting asked.writer asked.m asked.info (Err error) [] beginning 0 0
+  pub faithful :
+      FaithfulWriting asked.writer asked.m asked.info (Err error) (asked_opening asked) beginning 0 0
   pub refusal : Refusal
   pub beside : TellsRefusal (annotates_types asked.writer) asked.m asked.info (Err error) refusal
   pub line : TellsRefusalAt asked.from asked.m refusal text
+
+-- An accepted module was read whose text is to begin with directives. The rule of a filter of diagnostics that
+-- is in force has no name, and this line tells it with its position.
+pub record LacksRuleName (flags : ℕ) (text : List ℕ) : Type 0 where
+  pub flags_are_known : flags ≤ 7
+  pub writer : WriterFlags
+  pub has_bits : bits_of writer ≡ flags % 4
+  pub portable : IsTrue (is_portable writer)
+  pub from : JsonHolder
+  pub m : Module
+  pub read : ModuleInfo
+  pub was_read : WasRead from m read
+  pub accepted : IsTrue (is_accepted m read)
+  pub filter : ℕ
+  pub lacks : LacksName m filter
+  pub line : TellsRuleAt from filter text
 
 -- A module was read of which this is nested too deep.
 pub record IsTooDeep : Type 0 where
@@ -197,10 +227,14 @@ TellsOfReading json _ text = ⊥
 abbrev pub TellsOfFault : (text : List ℕ) → Type 0
 TellsOfFault text = IsNotAccepted text ⊎ IsUntyped text
 
+-- of a module that is refused
+abbrev pub TellsOfRefusing : (flags : ℕ) → (text : List ℕ) → Type 0
+TellsOfRefusing flags text = IsRefused flags text ⊎ LacksRuleName flags text
+
 -- of a module that is to be written
 abbrev pub TellsOfWriting : (json : List ℕ) (flags : ℕ) → Status → (text : List ℕ) → Type 0
 TellsOfWriting json flags status.Done text = WasWritten flags text
-TellsOfWriting json flags status.Refused text = IsRefused flags text
+TellsOfWriting json flags status.Refused text = TellsOfRefusing flags text
 TellsOfWriting json flags status.TooLong text = IsTooLong flags
 TellsOfWriting json flags status.NotAccepted text = TellsOfFault text
 TellsOfWriting json flags status.UnknownFlag text = 8 ≤ flags
@@ -253,6 +287,9 @@ abbrev pub SaysOfUnwritten : JsonHolder → Module → ModuleInfo → NoOutcome 
 SaysOfUnwritten from m info (unwritten.NotAccepted fault) told text =
     SaysThat (TellsFaultAt from m info fault) status.NotAccepted told text
 SaysOfUnwritten from m info unwritten.TooLong told text = Says status.TooLong told text
+SaysOfUnwritten from m info (unwritten.RuleName h) told text =
+    SaysThat (TellsRuleAt from h) status.Refused told text
+SaysOfUnwritten from m info (unwritten.Memory error) told text = LacksMemory told text
 
 -- what is told of the writer's answer, of a refusal beside it, and of what its sink holds
 abbrev pub SaysOfWritten : JsonHolder → Module → Result Unit Error → Option Refusal →

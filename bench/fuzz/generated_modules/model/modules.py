@@ -157,7 +157,8 @@ class Module:
     """Types with their labels; the special ones, each with what gives it, its size and its scalar, or none where its
     handle is nowhere; what members are bound to, by their struct and number; where members stand, and how long their
     struct is, by their struct; constants, overrides and variables; functions and entry points; and the module's own
-    expressions, which stand together as those of a function do.
+    expressions, which stand together as those of a function do. Filters of diagnostics, and the number of the last one
+    that holds in it, or none.
 
     A type may stand there again, under another label: most of a module names the first one."""
 
@@ -166,6 +167,7 @@ class Module:
         self.special, self.bindings, self.placements = [], {}, {}
         self.own, self.constants, self.overrides, self.variables = Function(None, self), [], [], []
         self.functions, self.entry_points = [], []
+        self.filters, self.leaf = [], None
 
     def bodies(self):
         """Functions, and after them entry points."""
