@@ -18,4 +18,4 @@ StandAfterParents nodes = All (λ p. StandsAfterParent p.0 p.1) (enumerate_from 
 -- on to one without a parent.
 pub record HasFilters (nodes : List DiagnosticFilterNode) (leaf : Option ℕ) : Type 0 where
   pub parents : StandAfterParents nodes
-  pub leaf_is_there : IfSome leaf (λ leaf. leaf < length nodes)
+  pub last : IfSome leaf (λ leaf. leaf < length nodes)
