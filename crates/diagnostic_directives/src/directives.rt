@@ -39,7 +39,8 @@ pub fn write_directives<W: TextSink>(
     module: &Module,
     sink: &mut W,
 ) -> Result<(), DirectiveError>
-    ensures text { OnOk result (W.text sink.new ≡ W.text sink.old ++ module_directives «module».now) }
+    ensures text { OnOk result
+        (W.text sink.new ≡ W.text sink.old ++ module_directives «module».now) }
     ensures failures { OnOk result (W.failures sink.new ≡ W.failures sink.old) }
     ensures named { OnOk result (HaveNames (filters_in_force «module».now)) }
     ensures error { IfErr result (Unwritten «module».now (W.text sink.old) (W.text sink.new)

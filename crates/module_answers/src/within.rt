@@ -73,8 +73,8 @@ pub fn write_within(
     }
 }
 
-/// Does with a module what [`write_decimal`](crate::write_decimal) does, and begins and cuts its text as [`write_within`] does.
-/// One that is not accepted, or gets no directives, is left as it is.
+/// Does with a module what [`write_decimal`](crate::write_decimal) does, and begins and cuts its text
+/// as [`write_within`] does. One that is not accepted, or gets no directives, is left as it is.
 pub fn write_decimal_within(
     alloc: Global,
     module: &mut Module,
