@@ -45,7 +45,7 @@ enum yorwethul_status {
 
 /* Each call gives a status. *needed is how many bytes its text has: what was asked for, or why it is not there, in
  * UTF-8, with no 0 after it. If out_length is enough for it, the text stands at the front of out. Else out is as it
- * was: call again with *needed bytes. No pointer may be null, not even with a length of 0, and out and needed lie
+ * was: call again with *needed bytes. json and out may be null with a length of 0, needed may not. out and needed lie
  * over nothing else. */
 uint32_t yorwethul_write(const uint8_t *json, size_t json_length, uint32_t flags,
                          uint8_t *out, size_t out_length, size_t *needed);
@@ -56,6 +56,13 @@ uint32_t yorwethul_layout(const uint8_t *json, size_t json_length,
 
 /* a million times the first number, a thousand times the second, and the third */
 uint32_t yorwethul_version(void);
+
+/* A status in words, as "not accepted", or "unknown status". The text is nobody's to free. */
+const char *yorwethul_status_name(uint32_t status);
+
+/* the limits of the library, where that is another than the header's */
+size_t yorwethul_longest_text(void);
+size_t yorwethul_deepest_nesting(void);
 
 #ifdef __cplusplus
 }

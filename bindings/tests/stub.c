@@ -44,3 +44,9 @@ uint32_t yorwethul_layout(const uint8_t *json, size_t json_length, uint8_t *out,
 }
 
 uint32_t yorwethul_version(void) { return YORWETHUL_VERSION; }
+
+const char *yorwethul_status_name(uint32_t status) { return status ? "stub" : "done"; }
+
+size_t yorwethul_longest_text(void) { return YORWETHUL_LONGEST_TEXT; }
+
+size_t yorwethul_deepest_nesting(void) { return YORWETHUL_DEEPEST_NESTING; }

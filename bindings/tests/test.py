@@ -26,7 +26,9 @@ from pathlib import Path
 HERE = Path(__file__).resolve().parent
 BINDINGS = HERE.parent
 TOP = BINDINGS.parent
-sys.path.append(str(TOP / "crates/yorwethul/nested_modules"))
+sys.path += [str(TOP / "crates/yorwethul/nested_modules"), str(BINDINGS / "python")]
+sys.dont_write_bytecode = True
+import yorwethul  # noqa: E402
 from modules import KINDS, doubled, levels, nested  # noqa: E402
 
 CRATES = TOP / "crates"
@@ -161,16 +163,16 @@ def test_header(room):
         if is_there(compiler):
             language = standard[:-2]
             run(compiler, f"-x{language}", f"-std={standard}", *WARNINGS, "-Werror", "-fsyntax-only", BINDINGS / "c/yorwethul.h")
-    run("cc", *WARNINGS, "-std=c11", "-c", BINDINGS / "c/heap.c", "-o", room / "heap.o")
+    for file in ("heap", "calls"):
+        run("cc", *WARNINGS, "-std=c11", "-c", BINDINGS / f"c/{file}.c", "-o", room / f"{file}.o")
 
 
 def test_stubs(room):
-    """The programs to copy, by the stub: a text, one that is longer than the first guess, an error, each flag, and wrong calls."""
+    """The programs to copy, by the stub: a text, one longer than the first guess, an error, each flag, and wrong calls."""
     stub = make_stub(room)
     programs = [[compile_c(room, stub / "libyorwethul.a")]]
     if is_there("c++"):
         programs.append([compile_cpp(room, stub / "libyorwethul.a")])
-    programs.append([sys.executable, BINDINGS / "python/first.py", stub / "libyorwethul.so"])
     for program in programs:
         for order, text, status in (("0 1 abc", "abc", 0), ("0 200 abc", "abc" * 200, 0), ("0 0 ", "", 0), ("2 1 wrong", "", 1), ("", "", 1)):
             told = run(*program, write(room / "order", order), wanted=status)
@@ -183,9 +185,37 @@ def test_stubs(room):
             must(run(*program, *words, wanted=2) == "", f"{program} gives a text by {words}")
         with open("/dev/full", "w") as full:
             status = subprocess.run([*program, order], stdout=full, stderr=subprocess.DEVNULL).returncode
-        # Python ends by itself then, with a status of its own
-        must(status == 2 or (status and program[0] == sys.executable), f"{program}: status {status} on a full disk")
-    run(sys.executable, BINDINGS / "python/first.py", wanted=2)
+        must(status == 2, f"{program}: status {status} on a full disk")
+
+
+def test_python(room):
+    """The module for Python, by the stub: its calls, its error, and what it does as a program."""
+    stub = make_stub(room) / "libyorwethul.so"
+    library = yorwethul.Library(stub)
+    for flags in range(ALL_FLAGS + 1):
+        must(library.write("0 1 abc", flags) == "abc" * (1 + flags), f"the flags {flags} are not asked for")
+    must(library.write(b"0 200 abc") == "abc" * (200 + yorwethul.Flags.DEFAULT), "a long text is not whole")
+    must(library.layout("0 2 x") == "xx" and library.check("0 1 x") is None, "another call is made")
+    for order, status, shown in (("2 1 wrong", NOT_ACCEPTED, "not accepted: wrong"), ("5 0 ", OUT_OF_MEMORY, "out of memory"), ("9 1 odd", 9, "status 9: odd")):
+        try:
+            told = library.layout(order)
+        except yorwethul.Error as error:
+            told = (error.status, str(error))
+        must(told == (status, shown), f"{told!r} of {order!r}")
+    program = [sys.executable, "-m", "yorwethul"]
+    environment = {**os.environ, "PYTHONPATH": str(BINDINGS / "python"), "YORWETHUL_LIBRARY": str(stub), "PYTHONDONTWRITEBYTECODE": "1"}
+    order = write(room / "order", "0 1 abc")
+    for words, flags in (([], 6), (["--plain"], 0), (["--explicit-types"], 7), (["--plain", "--explicit-types"], 1)):
+        told = run(*program, *words, order, env=environment)
+        must(told == "abc" * (1 + flags), f"python -m yorwethul {words}: {told!r}")
+    must(run(*program, "--check", order, env=environment) == "", "--check prints a text")
+    must(run(*program, "-", env=environment, input="0 1 a", wanted=0) == "a" * 7, "the standard input is not read")
+    run(*program, write(room / "wrong", "2 1 wrong"), env=environment, wanted=1)
+    for words in ([], ["--library", room / "nothing.so", order], [room / "missing"], [room], ["--odd", order], ["--check", "--layout", order]):
+        run(*program, *words, env=environment, wanted=2)
+    with open("/dev/full", "w") as full:
+        status = subprocess.run([*program, order], stdout=full, stderr=subprocess.DEVNULL, env=environment).returncode
+    must(status == 2, f"python -m yorwethul: status {status} on a full disk")
 
 
 def make_stub(room):
@@ -274,18 +304,18 @@ def test_names(folder, _):
     """Only the calls can be seen in the archive."""
     if not find("nm"):
         raise Skipped("no nm")
-    wanted = {"yorwethul_write", "yorwethul_check", "yorwethul_layout", "yorwethul_version"}
+    header = (folder / "yorwethul.h").read_text()
+    wanted = set(re.findall(r"(?m)^\w[^(/]*?(yorwethul_\w+)\(", header))
     told = run("nm", "-g", "--defined-only", folder / "libyorwethul.a")
     seen = {line.split()[-1] for line in lines_of(told) if " " in line}
     must(seen == wanted, f"the archive shows {sorted(seen ^ wanted)}")
 
 
 def test_programs(folder, room):
-    """The programs to copy print of the examples what the program yorwethul prints, and with --plain."""
+    """The programs to copy, and Python's, print of the examples what the program yorwethul prints, and with --plain."""
     programs = [[compile_c(room, folder / "libyorwethul.a")]]
     if is_there("c++"):
         programs.append([compile_cpp(room, folder / "libyorwethul.a")])
-    programs.append([sys.executable, BINDINGS / "python/first.py", folder / "libyorwethul.so"])
     if is_there("cmake"):
         run("cmake", "-S", BINDINGS / "c", "-B", room / "cmake", f"-Dyorwethul_DIR={folder}")
         run("cmake", "--build", room / "cmake")
@@ -299,6 +329,9 @@ def test_programs(folder, room):
             for program in programs:
                 told = run(*program, example, *words, wanted=status)
                 must(told == text, f"{program} with the words {words}: another text of {example.name}")
+            python = [sys.executable, BINDINGS / "python/yorwethul.py", "--library", folder / "libyorwethul.so"]
+            told = run(*python, example, *(["--plain"] if is_plain else []), wanted=status)
+            must(told == text, f"python, plain {is_plain}: another text of {example.name}")
 
 
 def printed_examples(is_plain):
@@ -323,6 +356,23 @@ def test_calls(folder, _):
         must(told == (DONE, text) and library.needed == len(DOUBLE_TEXT), f"{told} with room for {room} bytes")
     version = library.calls.yorwethul_version()
     must(version == 1_000, f"version {version}")
+    test_own_calls(library.calls)
+
+
+def test_own_calls(calls):
+    """What is not proved but C: null pointers with a length of 0, names of statuses, limits."""
+    needed = ctypes.c_size_t(77)
+    for name, flags in (("write", [0]), ("check", []), ("layout", [])):
+        call = getattr(calls, f"yorwethul_{name}")
+        told = call(None, ctypes.c_size_t(0), *map(ctypes.c_uint32, flags), None, ctypes.c_size_t(0), ctypes.byref(needed))
+        must((told, needed.value) == (NO_MODULE, len("no JSON at line 1, column 0")), f"{name} of nothing: {told}, {needed.value}")
+    calls.yorwethul_status_name.restype = ctypes.c_char_p
+    names = [calls.yorwethul_status_name(ctypes.c_uint32(status)).decode() for status in range(len(yorwethul.Status) + 1)]
+    must(names == [*(it.name.lower().replace("_", " ") for it in yorwethul.Status), "unknown status"], f"names of statuses: {names}")
+    for name, number in (("longest_text", 67_108_864), ("deepest_nesting", DEEPEST_NESTING)):
+        limit = getattr(calls, f"yorwethul_{name}")
+        limit.restype = ctypes.c_size_t
+        must(limit() == number, f"{name}: {limit()}")
 
 
 def test_lines(folder, _):
@@ -547,6 +597,7 @@ def tests(folder, is_whole):
     yield "header, exports and bindings agree", test_agreement, [], ()
     yield "the header compiles", test_header, ["cc"], ()
     yield "programs by the stub", test_stubs, ["cc", "ar"], ()
+    yield "the module for Python by the stub", test_python, ["cc", "ar"], ()
     yield "the Rust crate by the stub", test_rust_stub, ["cc", "ar", "cargo", "rustc"], ()
     yield from ((name, test, needs, (folder,)) for name, test, needs in library_tests(is_whole))
 

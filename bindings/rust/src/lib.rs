@@ -15,14 +15,14 @@
 //!         "body": [{"Emit": {"start": 2, "end": 3}}, {"Return": {"value": 2}}]
 //!     }]
 //! }"#;
-//! let text = yorwethul::write_json(json, Flags::PORTABLE | Flags::DECIMAL_FLOATS)?;
+//! let text = yorwethul::write_json(json, Flags::default())?;
 //! assert_eq!(text, "fn half(x: f32) -> f32 {\n    return (x * 0.5f);\n}\n\n");
 //! # Ok::<(), yorwethul::Error>(())
 //! ```
 //!
-//! With these two flags shaders are written as they come from naga. Without
-//! [`Flags::DECIMAL_FLOATS`] a literal of a float is refused, and without [`Flags::PORTABLE`] the text
-//! lacks what only standard compilers ask for.
+//! [`Flags::default`] is what shaders want as they come from naga. Without [`Flags::DECIMAL_FLOATS`] a
+//! literal of a float is refused, and without [`Flags::PORTABLE`] the text lacks what only standard
+//! compilers ask for.
 //!
 //! The types of expressions are found by the module. Those that a validator found are used instead where
 //! they come with it, as `{"module": .., "info": ..}`: of the info the types of expressions are read.
@@ -58,17 +58,22 @@ extern crate alloc;
 #[cfg(feature = "std")]
 extern crate std;
 
+mod construct;
 mod error;
 mod flags;
+mod position;
 mod sys;
 #[cfg(test)]
 mod tests;
 
-pub use error::Error;
+pub use construct::Construct;
+pub use error::{Error, WriteError};
 pub use flags::Flags;
+pub use position::{Item, Part, Position};
 
 use alloc::string::String;
 use alloc::vec::Vec;
+use core::fmt;
 use core::str::Chars;
 
 /// Writes the module that the JSON holds as WGSL.
@@ -93,6 +98,24 @@ pub fn write_json(json: &str, flags: Flags) -> Result<String, Error> {
             )
         }
     })
+}
+
+/// [`write_json`] into what takes text, as a `String` or a formatter does. Where there is no text, nothing is put into it.
+///
+/// ```
+/// use yorwethul::{Flags, WriteError};
+/// let mut text = String::from("// made by a tool\n");
+/// yorwethul::write_json_to(r#"{"functions": [{"name": "f"}]}"#, Flags::default(), &mut text)?;
+/// assert_eq!(text, "// made by a tool\nfn f() {\n}\n\n");
+/// # Ok::<(), WriteError>(())
+/// ```
+pub fn write_json_to(
+    json: &str,
+    flags: Flags,
+    out: &mut impl fmt::Write,
+) -> Result<(), WriteError> {
+    out.write_str(&write_json(json, flags)?)?;
+    Ok(())
 }
 
 /// Says whether the module that the JSON holds is accepted: `Ok`, or [`Error::NotAccepted`].
