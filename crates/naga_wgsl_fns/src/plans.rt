@@ -17,13 +17,13 @@ ghost use Rattle.naga_wgsl_fns.specs.PlanRefusals.{IsOfPlan, IsPlanRefusal};
 ghost use Rattle.naga_wgsl_fns.specs.Unplanned.{IsToldOfUnplanned, IsUnplanned, TellsUnplanned};
 ghost use Rattle.naga_wgsl_fns.specs.Unplanned.{function_position};
 
-use naga_back::{FunctionType, WriterFlags, annotates_types};
+use naga_back::{FunctionType, WriterFlags};
 use naga_info::{FunctionInfo, ModuleInfo, TypeResolution};
 use naga_ir::{Function, Module};
 use naga_names::namer::Namer;
 use naga_naming::{NameKey, NamerError};
 use naga_refusals::{Construct, Error};
-use naga_scope::{FunctionRefusalPosition, Plan, PlanError, function_of};
+use naga_scope::{FunctionRefusalPosition, KnownModule, Plan, PlanError, function_of};
 use naga_tables::{ModuleTables, refused_expression};
 use std::alloc::{AllocError, Global};
 use std::collections::HashMap;
@@ -120,16 +120,15 @@ pub fn plan_or_refusal<'a>(
     ensures begun { OnErr result (HasBegunLabels namer.old
         (labels_named_in «module».now (function_number «module».now ty.now)) namer.new) }
 {
-    match Plan::of(
+    let known = KnownModule {
         alloc,
-        module,
+        shader: module,
         info,
-        *ty,
         tables,
         names,
-        annotates_types(flags),
-        namer,
-    ) {
+        flags,
+    };
+    match Plan::of(&known, *ty, namer) {
         Ok(plan) => Ok(plan),
         Err(error) => {
             let part = function_position(&error);

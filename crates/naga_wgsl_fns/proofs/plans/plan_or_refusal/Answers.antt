@@ -2,13 +2,19 @@ use Rattle.std.proofs.Common.{length, subst}
 use Rattle.std.specs.Prelude.{IfOk}
 use Rattle.module_semantics.specs.FunctionNumbers.{function_number}
 use Rattle.module_semantics.specs.Written.{OfFunctionAt}
+use Rattle.naga_back.specs.Flags.{annotates_types}
 use Rattle.naga_form.proofs.declarations.AcceptedGroups.{fits_in_range, known_is_fit}
 use Rattle.naga_scope.proofs.Planned.{of_the_ok}
-use Rattle.naga_scope.specs.Plans.{IsPlanOf}
 use Rattle.naga_wgsl_fns.proofs.PlanRefusals.{is_of_plan}
 use Rattle.naga_wgsl_fns.specs.PlanRefusals.{IsConstructOf}
-use Rattle.naga_wgsl_fns.specs.Unplanned.{IsRefusedFor}
 use Rattle.naga_wgsl_fns.proofs.plans.plan_or_refusal.Goals as goal
+
+pub of-requires-clause-known : goal.of-requires-clause-known
+of-requires-clause-known c = record {
+  accepted = c.requires.accepted;
+  named = c.requires.names;
+  tables = c.requires.tables;
+}
 
 pub construct_of_plan-requires-clause-known : goal.construct_of_plan-requires-clause-known
 construct_of_plan-requires-clause-known c =
@@ -20,26 +26,17 @@ construct_of_plan-requires-clause-known c =
 
 pub construct_of_plan-requires-clause-unsupported : goal.construct_of_plan-requires-clause-unsupported
 construct_of_plan-requires-clause-unsupported c =
-    is_of_plan c.annotates_types.result c.args.«module».now c.args.info.now c.requires.accepted
+    is_of_plan (annotates_types c.args.flags) c.args.«module».now c.args.info.now c.requires.accepted
     (function_number c.args.«module».now c.args.ty.now) c.function_of.result.0.now
     c.function_of.ensures.function c.function_of.result.1.now c.function_of.ensures.known
     _ c.in-Err.error c.in-Err.ensures.err
-
-pub returns-in-Ok-clause-ok : goal.returns-in-Ok-clause-ok
-returns-in-Ok-clause-ok c =
-    subst (λ explicit. IsPlanOf explicit c.args.«module».now c.args.info.now
-    (function_number c.args.«module».now c.args.ty.now) c.in-Ok.plan)
-    c.annotates_types.ensures c.in-Ok.ensures.ok
 
 pub returns-in-Ok-construct_of_plan-clause-err : goal.returns-in-Ok-construct_of_plan-clause-err
 returns-in-Ok-construct_of_plan-clause-err c =
     let m = c.args.«module».now in
     let info = c.args.info.now in
     let number = function_number m c.args.ty.now in
-    subst (λ explicit. IsRefusedFor explicit m info number c.args.namer.now c.in-Ok-construct_of_plan.construct
-    c.function_position-part.result)
-    c.annotates_types.ensures
-    (record {
+    record {
       error = c.in-Err.error;
       refused = c.in-Err.ensures.err;
       first = c.in-Err.ensures.first;
@@ -51,4 +48,4 @@ returns-in-Ok-construct_of_plan-clause-err c =
           c.function_of.ensures.known
           c.construct_of_plan.result c.construct_of_plan.ensures.ok);
       part = c.function_position-part.ensures;
-    })
+    }
