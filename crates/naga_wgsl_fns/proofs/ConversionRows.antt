@@ -68,7 +68,7 @@ target_fits overrides types _ to kind convert is = absurd cc
 module _ (f : FunctionText) (operand : ℕ) (kind : ScalarKind) (convert : Option ℕ)
     (from to : TypeInner) (known : type_known (context f) operand ≡ Some from)
     (target : conversion_target from kind convert ≡ Some to)
-    (formed : has_type_form f.shader.now.types (Value to) ≡ true) where
+    (formed : has_type_form f.known.shader.now.types (Value to) ≡ true) where
   abbrev tree : TypeSpecifier
   tree = (tree_there (type_names_of f) (Value to) formed).0
 
@@ -114,11 +114,11 @@ cast_else f bits ty is = sym (ap (λ b. if b then bitcast_text f ty else resolut
 -- ---- what an expression is made of that is a conversion
 pub own_conversion : (f : FunctionText) (table : List Availability) {handle : ℕ} {e : ir.Expression}
     {operand : ℕ} {kind : ScalarKind} {convert : Option ℕ} → CanWrite f → IsInText f handle →
-    expression_has_own_form f.shader.now f.info.now (As operand kind convert) ≡ true →
+    expression_has_own_form f.known.shader.now f.info.now (As operand kind convert) ≡ true →
     slice_get (expressions f) handle ≡ Some e → e ≡ As operand kind convert →
     made_text f table (conversion_callee f operand kind convert) handle ≡ own_text f table handle
 own_conversion f table {handle} {e} {operand} {kind} {convert} can within may here is =
-    let c = conversion f.shader.now f.module_info.now f.info.now operand kind convert may in
+    let c = conversion f.known.shader.now f.known.info.now f.info.now operand kind convert may in
     let called =
     conversion_is (context f) (type_names_of f) operand kind convert c.from c.to c.tree c.known
     c.target c.is in

@@ -81,7 +81,7 @@ module _ (f : FunctionText) (columns rows : CooperativeSize) (role : Cooperative
     (place : CooperativeData) (s : Scalar)
     (known : scalar_pointed (context f) place.pointer ≡ Some s)
     (formed :
-    has_type_form f.shader.now.types (Value (inner.CooperativeMatrix columns rows s role)) ≡ true)
+    has_type_form f.known.shader.now.types (Value (inner.CooperativeMatrix columns rows s role)) ≡ true)
   where
     abbrev it : TypeInner
     it = inner.CooperativeMatrix columns rows s role
@@ -126,12 +126,12 @@ pub own_matrix_load : (f : FunctionText) (table : List Availability) {handle : �
     {e : ir.Expression}
     {columns rows : CooperativeSize} {role : CooperativeRole} {place : CooperativeData} →
     CanWrite f → IsInText f handle →
-    expression_has_own_form f.shader.now f.info.now (CooperativeLoad columns rows role place) ≡ true →
+    expression_has_own_form f.known.shader.now f.info.now (CooperativeLoad columns rows role place) ≡ true →
     slice_get (expressions f) handle ≡ Some e → e ≡ CooperativeLoad columns rows role place →
     made_text f table (matrix_callee f columns rows role place) handle ≡ own_text f table handle
 own_matrix_load f table {handle} {e} {columns} {rows} {role} {place} can within may here is =
     let c =
-    loaded_matrix f.shader.now f.module_info.now f.info.now columns rows role place may in
+    loaded_matrix f.known.shader.now f.known.info.now f.info.now columns rows role place may in
     let called =
     matrix_is (context f) (type_names_of f) columns rows role place c.scalar c.tree c.known c.is in
     let op = load_called (context f) columns rows role place in

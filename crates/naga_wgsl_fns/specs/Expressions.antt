@@ -81,18 +81,18 @@ address_text f local = printed_expression (AddressOf (Name ((naming f).names.loc
 -- a pointer to a variable of the module
 unfoldable pub global_address_text : FunctionText → (variable : ℕ) → List ℕ
 global_address_text f variable =
-    printed_expression (AddressOf (Name (global_name (module_names f.shader.now) variable)))
+    printed_expression (AddressOf (Name (global_name (module_names f.known.shader.now) variable)))
 
 -- such a variable as a value, and as a reference where its handle has no name
 unfoldable pub global_value_text : FunctionText → (variable : ℕ) → List ℕ
 global_value_text f variable =
-    if is_handle_variable f.shader.now variable then name_of_global f variable
+    if is_handle_variable f.known.shader.now variable then name_of_global f variable
     else global_address_text f variable
 
 unfoldable pub global_reference_text : FunctionText → (table : List Availability) →
     (handle variable : ℕ) → List ℕ
 global_reference_text f table handle variable =
-    if is_handle_variable f.shader.now variable then pointed_text f table handle
+    if is_handle_variable f.known.shader.now variable then pointed_text f table handle
     else name_of_global f variable
 
 -- the operands of the expression with this handle
@@ -231,7 +231,7 @@ is_of_components types it = is_vector it
 -- the expression with this handle has such a type
 abbrev pub has_components : FunctionText → ℕ → Bool
 has_components f handle =
-    option_map_or (is_of_components f.shader.now.types) (type_known (context f) handle) false
+    option_map_or (is_of_components f.known.shader.now.types) (type_known (context f) handle) false
 
 -- an index, in brackets
 unfoldable pub index_text : FunctionText → (table : List Availability) → (index : ℕ) → List ℕ
@@ -260,13 +260,13 @@ struct_at types h =
 -- the struct of which a part of the expression with this handle is taken, if it is one
 abbrev pub struct_known : FunctionText → (base : ℕ) → Option ℕ
 struct_known f base =
-    option_and_then (struct_at f.shader.now.types)
-    (whole_known f.shader.now.types f.info.now base)
+    option_and_then (struct_at f.known.shader.now.types)
+    (whole_known f.known.shader.now.types f.info.now base)
 
 -- its member with this number, by the name
 unfoldable pub named_member_text : FunctionText → (h index : ℕ) → List ℕ
 named_member_text f h index =
-    word_text (name_in (module_names f.shader.now) (key.StructMember h index))
+    word_text (name_in (module_names f.known.shader.now) (key.StructMember h index))
 
 -- a component by its letter, where it has one, else the part with this number
 abbrev pub selector_of : (letter : Option (List ℕ)) → (index : ℕ) → Selector

@@ -33,7 +33,7 @@ impl FunctionText<'_> {
     )
         requires can { CanWrite self.now }
         requires handle { IsInText self.now handle }
-        requires formed { IsTrue (expression_has_own_form self.now.shader.now self.now.info.now
+        requires formed { IsTrue (expression_has_own_form self.now.known.shader.now self.now.info.now
             (As operand kind convert)) }
         ensures { Writes W.text W.failures out.old out.new
             (made_text self.now scope.now.table (conversion_callee self.now operand kind convert)
@@ -54,7 +54,7 @@ impl FunctionText<'_> {
         out: &mut Output<'_, W>,
     )
         requires can { CanWrite self.now }
-        requires formed { IsTrue (expression_has_own_form self.now.shader.now self.now.info.now
+        requires formed { IsTrue (expression_has_own_form self.now.known.shader.now self.now.info.now
             (As operand kind convert)) }
         ensures { Writes W.text W.failures out.old out.new
             (callee_text self.now operand kind convert) }
@@ -73,9 +73,9 @@ impl FunctionText<'_> {
         out: &mut Output<'_, W>,
     )
         requires can { CanWrite self.now }
-        requires formed { IsTrue (has_type_form self.now.shader.now.types target.now) }
-        requires fits { IsTrue (resolution_fits (length self.now.shader.now.overrides)
-            (length self.now.shader.now.types) target.now) }
+        requires formed { IsTrue (has_type_form self.now.known.shader.now.types target.now) }
+        requires fits { IsTrue (resolution_fits (length self.now.known.shader.now.overrides)
+            (length self.now.known.shader.now.types) target.now) }
         ensures { Writes W.text W.failures out.old out.new
             (cast_text self.now keeps_bits target.now) }
     {
@@ -89,9 +89,9 @@ impl FunctionText<'_> {
     #[tactic(auto, using(naga_words::proofs::Writing::writes_then, crate::proofs::ConversionRows::bitcast_row))]
     fn write_bitcast<W: TextSink>(&self, target: &TypeResolution, out: &mut Output<'_, W>)
         requires can { CanWrite self.now }
-        requires formed { IsTrue (has_type_form self.now.shader.now.types target.now) }
-        requires fits { IsTrue (resolution_fits (length self.now.shader.now.overrides)
-            (length self.now.shader.now.types) target.now) }
+        requires formed { IsTrue (has_type_form self.now.known.shader.now.types target.now) }
+        requires fits { IsTrue (resolution_fits (length self.now.known.shader.now.overrides)
+            (length self.now.known.shader.now.types) target.now) }
         ensures { Writes W.text W.failures out.old out.new (bitcast_text self.now target.now) }
     {
         out.put("bitcast<");

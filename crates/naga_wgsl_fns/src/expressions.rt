@@ -60,7 +60,7 @@ impl FunctionText<'_> {
         ensures { Writes W.text W.failures out.old out.new (own_text self.now scope.now.table handle) }
     {
         match &self.function.expressions[handle] {
-            Expression::Literal(literal) => write_literal(self.alloc, *literal, out),
+            Expression::Literal(literal) => write_literal(self.known.alloc, *literal, out),
             Expression::Constant(constant) => self.write_constant(*constant, out),
             Expression::Override(item) => self.of_module().write_override_name(*item, out),
             Expression::ZeroValue(ty) => self.write_made(scope, handle, *ty, out),
@@ -232,7 +232,7 @@ impl FunctionText<'_> {
     )
         requires can { CanWrite self.now }
         requires handle { IsInText self.now handle }
-        requires formed { IsTrue (has_type_form self.now.shader.now.types (resolution.Handle ty)) }
+        requires formed { IsTrue (has_type_form self.now.known.shader.now.types (resolution.Handle ty)) }
         ensures { Writes W.text W.failures out.old out.new
             (made_text self.now scope.now.table (made_type self.now ty) handle) }
     {

@@ -106,7 +106,7 @@ impl FunctionText<'_> {
         requires image { IsInText self.now image }
         ensures { result ≡ zero_is_whole (source self.now) image }
     {
-        is_portable(self.flags) && self.has_depths(image)
+        is_portable(self.known.flags) && self.has_depths(image)
     }
 
     /// A further operand, if there is one.
@@ -157,7 +157,7 @@ impl FunctionText<'_> {
         ensures { Writes W.text W.failures out.old out.new (offset_text self.now offset) }
     {
         if let Some(offset) = offset {
-            self.write_next_operand(&Scope::without_names(self.alloc), false, offset, out);
+            self.write_next_operand(&Scope::without_names(self.known.alloc), false, offset, out);
         }
     }
 }

@@ -58,10 +58,10 @@ impl FunctionText<'_> {
     }
 
     fn is_atomic(&self, ty: Handle<Type_>) -> bool
-        requires { ty < length self.now.shader.now.types }
-        ensures { result ≡ is_atomic_at self.now.shader.now.types ty }
+        requires { ty < length self.now.known.shader.now.types }
+        ensures { result ≡ is_atomic_at self.now.known.shader.now.types ty }
     {
-        matches!(&self.shader.types[ty].inner, TypeInner::Atomic(_))
+        matches!(&self.known.shader.types[ty].inner, TypeInner::Atomic(_))
     }
 
     /// A cooperative matrix from memory: the operands of the expression with this handle after the word
@@ -79,7 +79,7 @@ impl FunctionText<'_> {
     )
         requires can { CanWrite self.now }
         requires handle { IsInText self.now handle }
-        requires formed { IsTrue (expression_has_own_form self.now.shader.now self.now.info.now
+        requires formed { IsTrue (expression_has_own_form self.now.known.shader.now self.now.info.now
             (CooperativeLoad columns rows role memory)) }
         ensures { Writes W.text W.failures out.old out.new
             (made_text self.now scope.now.table (matrix_callee self.now columns rows role memory)
@@ -100,7 +100,7 @@ impl FunctionText<'_> {
         out: &mut Output<'_, W>,
     )
         requires can { CanWrite self.now }
-        requires formed { IsTrue (expression_has_own_form self.now.shader.now self.now.info.now
+        requires formed { IsTrue (expression_has_own_form self.now.known.shader.now self.now.info.now
             (CooperativeLoad columns rows role memory)) }
         ensures { Writes W.text W.failures out.old out.new
             (matrix_callee_text self.now columns rows role memory) }
@@ -123,7 +123,7 @@ impl FunctionText<'_> {
         requires scalar { IsTrue (is_some (scalar_pointed (context self.now) pointer)) }
         ensures { scalar_pointed (context self.now) pointer ≡ Some result }
     {
-        match pointee_scalar(&self.shader.types, self.type_of(pointer)) {
+        match pointee_scalar(&self.known.shader.types, self.type_of(pointer)) {
             Some(scalar) => scalar,
             None => unreachable!(),
         }
@@ -133,9 +133,9 @@ impl FunctionText<'_> {
     #[tactic(auto, using(naga_words::proofs::Writing::writes_then, crate::proofs::LoadRows::taking_row))]
     fn write_taking<W: TextSink>(&self, word: &str, ty: &TypeResolution, out: &mut Output<'_, W>)
         requires can { CanWrite self.now }
-        requires formed { IsTrue (has_type_form self.now.shader.now.types ty.now) }
-        requires fits { IsTrue (resolution_fits (length self.now.shader.now.overrides)
-            (length self.now.shader.now.types) ty.now) }
+        requires formed { IsTrue (has_type_form self.now.known.shader.now.types ty.now) }
+        requires fits { IsTrue (resolution_fits (length self.now.known.shader.now.overrides)
+            (length self.now.known.shader.now.types) ty.now) }
         ensures { Writes W.text W.failures out.old out.new (taking_text self.now word.now ty.now) }
     {
         out.put(word);

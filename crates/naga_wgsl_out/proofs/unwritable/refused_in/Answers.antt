@@ -9,11 +9,11 @@ use Rattle.naga_wgsl_out.proofs.unwritable.refused_in.Goals as goal
 
 pub returns-in-Ok : goal.returns-in-Ok
 returns-in-Ok c =
-    let m = c.args.«module».now in
+    let m = c.args.known.now.shader.now in
     let number = function_number m c.args.ty.now in
     let within = number_within m c.args.ty.now c.requires.there in
     let plan =
-    named_plan m (annotates_types c.args.flags) c.args.info.now number c.args.namer.now
+    named_plan m (annotates_types c.args.known.now.flags) c.args.known.now.info.now number c.args.namer.now
     c.plan_or_refusal.new.namer c.in-Ok.plan within c.requires.namer c.in-Ok.ensures.ok
     c.in-Ok.ensures.named in
     record {
@@ -27,11 +27,11 @@ returns-in-Ok c =
 
 pub returns-in-Err : goal.returns-in-Err
 returns-in-Err c =
-    let m = c.args.«module».now in
-    let info = c.args.info.now in
+    let m = c.args.known.now.shader.now in
+    let info = c.args.known.now.info.now in
     let number = function_number m c.args.ty.now in
     let here = element (all_functions m) number (number_within m c.args.ty.now c.requires.there) in
-    let known = known_at m info c.requires.accepted number here.0 here.1 in
-    found_in (annotates_types c.args.flags) m info c.requires.accepted number here.0 here.1 known.0 known.1
+    let known = known_at m info c.requires.known.accepted number here.0 here.1 in
+    found_in (annotates_types c.args.known.now.flags) m info c.requires.known.accepted number here.0 here.1 known.0 known.1
     c.args.namer.now c.requires.namer c.args.ty.now refl c.plan_or_refusal.new.namer c.refusal_of.result
     c.in-Err.unplanned c.refusal_of.ensures c.in-Err.ensures.err
