@@ -7,9 +7,6 @@ use Rattle.naga_form.specs.Expressions.{ValueForm, ReferenceForm, is_handle_vari
 use Rattle.module_semantics.specs.ExpressionOperators.{is_atomic_pointer, type_known}
 use Rattle.module_semantics.specs.ExpressionOperators.{type_with}
 use Rattle.module_semantics.specs.OperatorTable.{AtomicLoad, run_word}
-use Rattle.naga_ir.specs.declared.expression.CooperativeData.{CooperativeData}
-use Rattle.naga_ir.specs.declared.types.CooperativeRole.{CooperativeRole}
-use Rattle.naga_ir.specs.declared.types.CooperativeSize.{CooperativeSize}
 use Rattle.module_semantics.specs.ExpressionShapes.{part_selector}
 use Rattle.naga_ir.specs.declared.operators.BinaryOperator.{BinaryOperator}
 use Rattle.naga_ir.specs.declared.types.Type_.{Type_}
@@ -37,7 +34,6 @@ use Rattle.wgsl_text.specs.Types.{Named, TypeSpecifier}
 use Rattle.wgsl_text.specs.Reading.{printed_type}
 use Rattle.naga_form.specs.Expressions.{operator_type}
 use Rattle.naga_info.specs.declared.info.TypeResolution.{TypeResolution}
-use Rattle.naga_ir.specs.declared.types.ScalarKind.{ScalarKind}
 use Rattle.naga_wgsl_fns.specs.Types.{resolution_text}
 use Rattle.naga_form.specs.Expressions.{PlainForm, as_value, as_reference, value_forms}
 use Rattle.naga_form.specs.Expressions.{plain_form, unnamed_form}
@@ -150,17 +146,13 @@ load_text f table pointer =
 abbrev pub is_atomic_at : List Type_ → (ty : ℕ) → Bool
 is_atomic_at types ty = option_map_or is_atomic (type_with types ty) false
 
--- what the load of a cooperative matrix is called by: its word with the matrix's type
-abbrev pub matrix_callee : FunctionText → (columns rows : CooperativeSize) → CooperativeRole →
-    CooperativeData → TypeSpecifier
-matrix_callee f columns rows role place =
-    unwrap_or
-    (operator_type (context f) (type_names_of f)
-    (expression.CooperativeLoad columns rows role place)) (Named [])
+-- what an expression is called by whose operator has a type: a conversion by the type of its value, or
+-- `bitcast` to that, and the load of a cooperative matrix by its word with the matrix's type
+abbrev pub typed_callee : FunctionText → ir.Expression → TypeSpecifier
+typed_callee f e = unwrap_or (operator_type (context f) (type_names_of f) e) (Named [])
 
-unfoldable pub matrix_callee_text : FunctionText → (columns rows : CooperativeSize) →
-    CooperativeRole → CooperativeData → List ℕ
-matrix_callee_text f columns rows role place = printed_type (matrix_callee f columns rows role place)
+unfoldable pub callee_text : FunctionText → ir.Expression → List ℕ
+callee_text f e = printed_type (typed_callee f e)
 
 -- the word that loads a matrix, and a word that takes a type with that
 abbrev pub load_word : (row_major : Bool) → List ℕ
@@ -169,17 +161,6 @@ load_word true = codes "coopLoadT"
 
 unfoldable pub taking_text : FunctionText → (word : List ℕ) → TypeResolution → List ℕ
 taking_text f word ty = word ++ (codes "<" ++ (resolution_text f ty ++ codes ">"))
-
--- what a conversion is called by: the type of its value, or `bitcast` to that
-abbrev pub conversion_callee : FunctionText → (operand : ℕ) → ScalarKind → (convert : Option ℕ) →
-    TypeSpecifier
-conversion_callee f operand kind convert =
-    unwrap_or
-    (operator_type (context f) (type_names_of f) (expression.As operand kind convert)) (Named [])
-
-unfoldable pub callee_text : FunctionText → (operand : ℕ) → ScalarKind → (convert : Option ℕ) →
-    List ℕ
-callee_text f operand kind convert = printed_type (conversion_callee f operand kind convert)
 
 unfoldable pub bitcast_text : FunctionText → TypeResolution → List ℕ
 bitcast_text f ty = codes "bitcast<" ++ (resolution_text f ty ++ codes ">")

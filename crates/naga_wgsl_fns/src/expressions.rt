@@ -86,14 +86,22 @@ impl FunctionText<'_> {
                 expr,
                 kind,
                 convert,
-            } => self.write_conversion(scope, handle, *expr, *kind, *convert, out),
+            } => {
+                self.write_cast_callee(*expr, *kind, *convert, out);
+                out.put("(");
+                self.write_operands(scope, handle, out);
+            }
             Expression::ImageSample { .. } => self.write_sampling(scope, handle, out),
             Expression::CooperativeLoad {
                 columns,
                 rows,
                 role,
                 data_,
-            } => self.write_matrix_load(scope, handle, *columns, *rows, *role, *data_, out),
+            } => {
+                self.write_matrix_callee(*columns, *rows, *role, *data_, out);
+                out.put("(");
+                self.write_operands(scope, handle, out);
+            }
             // Without a word, it is the result of a statement where its name is not in scope. The
             // rules of scope keep that from being written.
             expression => match called_str(expression) {

@@ -8,8 +8,8 @@ ghost use Rattle.module_semantics.specs.ExpressionForms.{expression_has_own_form
 ghost use Rattle.module_semantics.specs.acceptance.Ranges.{resolution_fits};
 ghost use Rattle.naga_form.specs.Expressions.{scalar_pointed};
 ghost use Rattle.naga_ir.specs.declared.expression.Expression.TheVariants.{CooperativeLoad, Load};
-ghost use Rattle.naga_wgsl_fns.specs.Expressions.{is_atomic_at, load_text, load_word, made_text};
-ghost use Rattle.naga_wgsl_fns.specs.Expressions.{matrix_callee, matrix_callee_text, taking_text};
+ghost use Rattle.naga_wgsl_fns.specs.Expressions.{callee_text, is_atomic_at, load_text, load_word};
+ghost use Rattle.naga_wgsl_fns.specs.Expressions.{taking_text};
 ghost use Rattle.naga_wgsl_fns.specs.FunctionText.{CanWrite, IsInText, context};
 ghost use Rattle.naga_words.specs.Output.{Writes};
 
@@ -64,34 +64,8 @@ impl FunctionText<'_> {
         matches!(&self.known.shader.types[ty].inner, TypeInner::Atomic(_))
     }
 
-    /// A cooperative matrix from memory: the operands of the expression with this handle after the word
-    /// that loads a matrix of the type.
-    #[cycle(expression)]
-    pub(crate) fn write_matrix_load<W: TextSink>(
-        &self,
-        scope: &Scope,
-        handle: Handle<Expression>,
-        columns: CooperativeSize,
-        rows: CooperativeSize,
-        role: CooperativeRole,
-        memory: CooperativeData,
-        out: &mut Output<'_, W>,
-    )
-        requires can { CanWrite self.now }
-        requires handle { IsInText self.now handle }
-        requires formed { IsTrue (expression_has_own_form self.now.known.shader.now self.now.info.now
-            (CooperativeLoad columns rows role memory)) }
-        ensures { Writes W.text W.failures out.old out.new
-            (made_text self.now scope.now.table (matrix_callee self.now columns rows role memory)
-            handle) }
-    {
-        self.write_matrix_callee(columns, rows, role, memory, out);
-        out.put("(");
-        self.write_operands(scope, handle, out);
-    }
-
-    /// The word that loads a matrix, with the type of that.
-    fn write_matrix_callee<W: TextSink>(
+    /// The word that loads a cooperative matrix, with the type of that.
+    pub(crate) fn write_matrix_callee<W: TextSink>(
         &self,
         columns: CooperativeSize,
         rows: CooperativeSize,
@@ -103,7 +77,7 @@ impl FunctionText<'_> {
         requires formed { IsTrue (expression_has_own_form self.now.known.shader.now self.now.info.now
             (CooperativeLoad columns rows role memory)) }
         ensures { Writes W.text W.failures out.old out.new
-            (matrix_callee_text self.now columns rows role memory) }
+            (callee_text self.now (CooperativeLoad columns rows role memory)) }
     {
         let scalar = self.pointed_scalar(memory.pointer);
         let matrix = TypeResolution::Value(TypeInner::CooperativeMatrix {

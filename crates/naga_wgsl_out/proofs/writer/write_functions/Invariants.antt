@@ -14,5 +14,6 @@ invariant-loop-index-2 g l =
     (content : List ℕ) (failed : ℕ) →
     IsUpTo l.known.shader.now l.known.info.now l.known.flags (length l.known.shader.now.functions) content failed
     l.initial.namer (g.W.TextSink.text l.initial.out) (g.W.TextSink.failures l.initial.out) →
-    IsUpTo l.known.shader.now l.known.info.now l.known.flags (length l.known.shader.now.functions + l.index) content failed
+    IsUpTo l.known.shader.now l.known.info.now l.known.flags
+    (length l.known.shader.now.functions + l.index) content failed
     l.namer (g.W.TextSink.text l.out) (g.W.TextSink.failures l.out)

@@ -5,7 +5,7 @@ use Rattle.naga_info.specs.declared.info.TypeResolution.TheVariants.{Value}
 use Rattle.naga_words.proofs.Writing.{writes_as}
 use Rattle.naga_wgsl_fns.proofs.ConversionRows.{callee_row, target_fits}
 use Rattle.naga_wgsl_fns.proofs.Preconditions.{converted_is}
-use Rattle.naga_wgsl_fns.proofs.functions.FunctionText.write_callee.Goals as goal
+use Rattle.naga_wgsl_fns.proofs.functions.FunctionText.write_cast_callee.Goals as goal
 
 -- src/conversions.rt:48:5
 pub write_cast-requires-clause-formed : goal.write_cast-requires-clause-formed
