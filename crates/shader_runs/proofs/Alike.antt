@@ -1,4 +1,5 @@
 -- Two runs that make the same events and stand in a relation wherever they pause.
+-- Serves 12 contracts, `initialisers_are_alike` among them.
 use Rattle.std.proofs.Common.{◌≡◌, ℕ, zero, suc, Bool, true, false, List, Option, Some, None, refl}
 use Rattle.std.proofs.Common.{sym, subst, cond, option_map, option_and_then}
 use Rattle.shader_runs.proofs.Common.{Place, Value, truth_in, place_in, Event, Stop, Mistyped, Outcome, Done, Continued}

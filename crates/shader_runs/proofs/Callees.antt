@@ -1,5 +1,6 @@
 -- The run of a call hangs on what its callees do, and not on which are told as its callees; and
 -- what its statements do doesn't hang on which body they stand in.
+-- Serves 5 contracts, `initialisers_are_alike` among them.
 --
 -- Throughout, c is the call and n bounds the turns of loops, h is a handle and o is of an
 -- expression or of a handle, hs and xs are handles, kept are the kept values and t the events so

@@ -1,4 +1,5 @@
 -- Calls, by the functions of a module in their order.
+-- Serves 5 contracts, `initialisers_are_alike` among them.
 use Rattle.std.proofs.Common.{◌≡◌, ◌≢◌, ℕ, suc, ◌+◌, ◌<◌, ◌≤◌, min, Bool, true, false, cond, nat_eq}
 use Rattle.std.proofs.Common.{List, [], ◌∷◌, take, length, Option, Some, None, slice_get, refl, sym}
 use Rattle.std.proofs.Common.{ap, ◌∙◌, subst, add-zero, zero-add, arith, eqb-true, map, option_map}

@@ -1,4 +1,5 @@
 -- The check of scope, its facts apart and with the freshness of each name that is given.
+-- Serves 8 contracts, `runs_are_not_stuck` among them.
 use Rattle.std.proofs.Common.{◌≢◌, ℕ, Bool, true, false, List, [], ◌∷◌, Option, Some, None}
 use Rattle.std.specs.Prelude.{IsTrue}
 use Rattle.shader_runs.proofs.Common.{Bytes, Expression, Statement, Emit, Store, Block, If, Switch, Loop, Return, Barrier}

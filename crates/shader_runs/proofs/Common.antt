@@ -1,5 +1,6 @@
 -- The words in which both runs are spoken of, passed on from one place: programs, texts, their runs,
 -- what is in scope, what is written, and the premises. Declares nothing.
+-- Serves 17 contracts, `binds_as_meant` among them.
 pub use Rattle.shader_runs.specs.Value.{AtOrigin, BooleanType, Bytes, ElementAt, GlobalOrigin, IndexWord, IntegerType}
 pub use Rattle.shader_runs.specs.Value.{LocalOrigin, MemberNamed, Opaque, OtherType, Part, PartTypes, PartWord, Place, Pointer}
 pub use Rattle.shader_runs.specs.Value.{PointerType, Selector, ShortCircuit, ShortCircuitAnd, ShortCircuitOr, Spelled, Step}

@@ -1,4 +1,5 @@
 -- The worked constants, by computing, and the premises on them.
+-- Serves `constant_rows_hold`.
 use Rattle.std.proofs.Common.{◌≡◌, ◌≢◌, ℕ, zero, suc, ◌-◌, ◌<◌, [], ◌∷◌, Some, slice_get, refl}
 use Rattle.std.proofs.Common.{subst, arith}
 use Rattle.shader_runs.proofs.Common.{ConstantTree, InitialiserFits, OperatesOutside}

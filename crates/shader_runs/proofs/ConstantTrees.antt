@@ -1,4 +1,5 @@
 -- Trees over constants alone: the types of their values, and what their text gives.
+-- Serves 11 contracts, `constants_are_computed` among them.
 use Rattle.std.proofs.Common.{◌≡◌, ℕ, Bool, true, false, cond, List, [], ◌∷◌, Option, Some, None}
 use Rattle.std.proofs.Common.{refl, ap, ap₂, ◌∙◌, option_map}
 use Rattle.std.specs.Prelude.{IsTrue, option_and_then}

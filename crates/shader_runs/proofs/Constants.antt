@@ -1,5 +1,6 @@
 -- The named constants that a module computes have the values of their initialisers, and those of
 -- its text have the same.
+-- Serves 6 contracts, `constants_are_computed` among them.
 use Rattle.std.proofs.Common.{inl, inr, ◌≡◌, ◌≢◌, ℕ, zero, suc, ◌+◌, ◌-◌, ◌<◌, ◌≤◌, false, cond}
 use Rattle.std.proofs.Common.{List, [], ◌∷◌, ◌++◌, map, drop, length, Option, Some, None, unwrap_or}
 use Rattle.std.proofs.Common.{slice_get, ◌||◌, refl, sym, ap, ap₂, ◌∙◌, subst, arith}

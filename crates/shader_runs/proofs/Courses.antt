@@ -1,5 +1,6 @@
 -- A process with the turns of its loops laid out, its run in which each answer has the type that is
 -- wanted, and what this run asks for.
+-- Serves `has_typed_world`.
 use Rattle.std.proofs.Common.{◌≡◌, ℕ, zero, suc, ◌<◌, ◌≤◌, Bool, true, false}
 use Rattle.std.proofs.Common.{nat_eq, List, ◌∷◌, length, Option, Some, None, refl, ap, ◌∙◌, arith}
 use Rattle.std.proofs.lemmas.Bool.{eq-eqb, ne_eqb}

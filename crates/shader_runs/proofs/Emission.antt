@@ -1,4 +1,5 @@
 -- An `Emit` and the lines that are written for it.
+-- Serves 8 contracts, `runs_are_not_stuck` among them.
 use Rattle.std.proofs.Common.{◌≡◌, ◌≢◌, ℕ, Bool, true, false, cond, nat_eq, List, [], ◌∷◌, Option}
 use Rattle.std.proofs.Common.{Some, None, refl, sym, ap, ◌∙◌, subst, true≢false, eqb-true}
 use Rattle.std.proofs.Common.{option_map}

@@ -1,4 +1,5 @@
 -- What a text's expression gives where it makes no event, by its parts.
+-- Serves 12 contracts, `constants_are_computed` among them.
 use Rattle.std.proofs.Common.{◌≡◌, ℕ, Bool, true, false, cond, List, [], ◌∷◌, Option, Some, None}
 use Rattle.std.proofs.Common.{refl, sym, ap, ◌∙◌, true≢false, ℤ, option_map, subst}
 use Rattle.std.specs.Prelude.{option_and_then, IsTrue}

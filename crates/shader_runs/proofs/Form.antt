@@ -1,4 +1,5 @@
 -- What is written for a handle in scope gives the value that the module uses for it, with no event.
+-- Serves 11 contracts, `constants_are_computed` among them.
 use Rattle.std.proofs.Common.{◌≡◌, ℕ, zero, suc, ◌<◌, ◌≤◌, true, nat_lt, Bool, List, [], ◌∷◌, ◌++◌}
 use Rattle.std.proofs.Common.{length, Option, Some, None, slice_get, refl, sym, ap, ◌∙◌, subst}
 use Rattle.std.proofs.Common.{true≢false, arith, ltb-true}

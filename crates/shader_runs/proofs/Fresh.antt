@@ -1,4 +1,5 @@
 -- Each name that is given is new where it is given.
+-- Serves 5 contracts, `runs_are_not_stuck` among them.
 use Rattle.std.proofs.Common.{◌≡◌, ⊎_elim, ℕ, suc, ◌<◌, ◌≤◌, Bool, true, false, cond, not, List, []}
 use Rattle.std.proofs.Common.{◌∷◌, Option, Some, None, ◌&&◌, ◌||◌, sym, ap, ◌∙◌, true≢false, arith}
 use Rattle.std.specs.Prelude.{IsTrue}

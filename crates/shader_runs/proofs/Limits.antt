@@ -1,5 +1,6 @@
 -- With more turns a course asks for what it asks with fewer, and what it asks beyond stands after
 -- all events that it makes with fewer.
+-- Serves `has_typed_world`.
 use Rattle.std.proofs.Common.{◌≡◌, ℕ, zero, suc, ◌<◌, ◌≤◌, ◌⊎◌, inl, inr, List, ◌∷◌, length}
 use Rattle.std.proofs.Common.{refl, sym, ap, ◌∙◌, subst, arith}
 use Rattle.shader_runs.proofs.Common.{PartTypes, ValueType, Value, Event, entries, Stop, OutOfTurns, ReachedOrHalted, Gives}

@@ -1,5 +1,6 @@
 -- What a statement's lines leave after them: whether there is a `continue`, how many `let`s, and
 -- the names in scope.
+-- Serves `resolves_as_meant`.
 use Rattle.std.proofs.Common.{◌≡◌, ℕ, suc, Bool, true, false, cond, ◌||◌, List, [], ◌∷◌, ◌++◌}
 use Rattle.std.proofs.Common.{Option, Some, None, refl, sym, ap, ◌∙◌}
 use Rattle.shader_runs.proofs.Common.{Bytes, bind, Statement, Emit, Block, If, Switch, Loop, Continue, Barrier, Act}

@@ -1,5 +1,6 @@
 -- What is known of the names in scope at a point of a function, and how it is kept from one point
 -- to the next.
+-- Serves `resolves_as_meant`.
 use Rattle.std.proofs.Common.{◌≡◌, ◌≢◌, ⊎_elim, ℕ, zero, suc, ◌+◌, ◌<◌, ◌≤◌, Bool, true, false}
 use Rattle.std.proofs.Common.{cond, ◌&&◌, List, [], ◌∷◌, map, take, length, Option, Some, None}
 use Rattle.std.proofs.Common.{refl, sym, ap, subst, ◌∙◌, true≢false, arith, nat_eq}

@@ -1,4 +1,5 @@
 -- The names that a function's text starts with.
+-- Serves 7 contracts, `constants_are_computed` among them.
 use Rattle.std.proofs.Common.{◌≡◌, ◌≢◌, ℕ, zero, suc, ◌+◌, ◌<◌, ◌≤◌, List, [], ◌∷◌, ◌++◌, take}
 use Rattle.std.proofs.Common.{false, length, Option, Some, None, ◌||◌, slice_get, refl, sym, ap}
 use Rattle.std.proofs.Common.{◌∙◌, true≢false, arith, map}

@@ -1,4 +1,5 @@
 -- The run of one function of a module that fits after its callees, and so the run of each where all fit.
+-- Serves 5 contracts, `initialisers_are_alike` among them.
 --
 -- Throughout, f is the function and g its number, others and later stand after it in the module and in
 -- the text, uncalled and between stand between it and its callees there.

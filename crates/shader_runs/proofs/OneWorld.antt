@@ -1,6 +1,7 @@
 -- One world for all pasts, all starts and all bounds on loop turns: it goes through the history from
 -- the newest entry back, and answers as the first run would want it that asks here and began with
 -- that entry, after what stood before it.
+-- Serves `has_typed_world`.
 use Rattle.std.proofs.Common.{◌≡◌, ℕ, suc, ◌+◌, ◌<◌, ◌≤◌, ◌⊎◌, inl, inr, List, [], ◌∷◌, length}
 use Rattle.std.proofs.Common.{Option, Some, None, refl, sym, ap, ◌∙◌, subst, arith}
 use Rattle.std.specs.Prelude.{IsTrue, false}

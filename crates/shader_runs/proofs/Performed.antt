@@ -1,4 +1,5 @@
 -- The module's run is its process, performed.
+-- Serves `has_typed_world`.
 use Rattle.std.proofs.Common.{◌≡◌, ℕ, zero, suc, Bool, true, false, cond, nat_eq, List, [], ◌∷◌}
 use Rattle.std.proofs.Common.{length, Option, Some, None, refl, ap, ap₂, ◌∙◌, option_and_then}
 use Rattle.std.proofs.Common.{option_map}

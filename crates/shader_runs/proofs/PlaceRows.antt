@@ -1,4 +1,5 @@
 -- The worked places, by computing.
+-- Serves `place_rows_hold`.
 use Rattle.std.proofs.Common.{refl}
 use Rattle.shader_runs.specs.PlaceRows.{PlaceRowsHold}
 

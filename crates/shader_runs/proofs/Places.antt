@@ -1,5 +1,6 @@
 -- What stands after a point of the text is what is written for what stands after the point of the
 -- module.
+-- Serves `ends_are_reached` and `points_agree`.
 use Rattle.std.proofs.Common.{◌≡◌, ℕ, zero, suc, ◌+◌, ◌-◌, ◌≤◌, Bool, true, false, cond, List, []}
 use Rattle.std.proofs.Common.{◌∷◌, ◌++◌, length, refl, ap, ap₂, ◌∙◌, arith, true≢false}
 use Rattle.std.proofs.lemmas.Bool.{or_parts}

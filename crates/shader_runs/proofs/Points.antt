@@ -1,4 +1,5 @@
 -- The two facts at each point.
+-- Serves `points_agree`.
 use Rattle.std.proofs.Common.{◌≡◌, ℕ, ◌<◌, ◌≤◌, List, [], ◌∷◌, ◌++◌, length, sym, ap, ◌∙◌, subst}
 use Rattle.std.proofs.Common.{arith}
 use Rattle.shader_runs.proofs.Common.{PartTypes, Meaning, Environment, expression_of, handle_type, Module, Call}

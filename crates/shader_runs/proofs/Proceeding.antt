@@ -1,4 +1,5 @@
 -- How far a run gets: an outcome that is not stuck, and with what values.
+-- Serves `runs_are_not_stuck`.
 use Rattle.std.proofs.Common.{◌≡◌, ℕ, zero, suc, Bool, true, false, cond, nat_eq, List, Option}
 use Rattle.std.proofs.Common.{Some, None, refl, sym, ap, ◌∙◌, subst, eqb-true}
 use Rattle.std.specs.Prelude.{IsTrue, ℤ}

@@ -1,5 +1,6 @@
 -- A module's run as a process: what it asks for and tells, apart from any world and any bound on
 -- loop turns.
+-- Serves `has_typed_world`, `statement_rows_hold` and `variable_rows_hold`.
 use Rattle.std.proofs.Common.{ℕ, zero, suc, Bool, true, false, nat_eq, List, [], ◌∷◌, length}
 use Rattle.std.proofs.Common.{Option, Some, None, option_and_then}
 use Rattle.shader_runs.proofs.Common.{Bytes, PartTypes, ValueType, has_type, Value, Truth, truth_in, integer_in, place_in}

@@ -1,4 +1,5 @@
 -- No run of a module is stuck: at each point of it, each handle in scope has a value of its type.
+-- Serves `runs_are_not_stuck`.
 use Rattle.std.proofs.Common.{◌≡◌, ℕ, suc, min, Bool, true, false, cond, nat_eq, List, [], ◌∷◌}
 use Rattle.std.proofs.Common.{length, Option, Some, None, ◌||◌, refl, sym, ap, ◌∙◌, subst}
 use Rattle.std.proofs.Common.{true≢false, arith, eq-eqb, option_map}

@@ -1,4 +1,5 @@
 -- A rank of finitely many numbers, made small: how many of them have a smaller one.
+-- Serves 6 contracts, `constants_are_computed` among them.
 use Rattle.std.proofs.Common.{◌≡◌, ℕ, zero, suc, ◌<◌, ◌≤◌, Bool, true, false, cond, nat_eq, nat_lt}
 use Rattle.std.proofs.Common.{refl, subst, arith, eqb-true, ltb-true, ltb-false}
 use Rattle.std.proofs.lemmas.Bool.{eqb-false}

@@ -1,4 +1,5 @@
 -- What relates the module's kept values and the text's names, at each point of both runs.
+-- Serves 12 contracts, `constants_are_computed` among them.
 use Rattle.std.proofs.Common.{◌≡◌, ◌≢◌, ℕ, ◌<◌, Bool, true, false, cond, List, [], ◌∷◌, length}
 use Rattle.std.proofs.Common.{Option, Some, None, slice_get, refl, sym, ap, ◌∙◌, option_map}
 use Rattle.std.specs.Prelude.{IsTrue}

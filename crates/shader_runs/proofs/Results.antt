@@ -1,4 +1,5 @@
 -- No call misses a result, where functions return what they promise.
+-- Serves `results_are_returned`.
 use Rattle.std.proofs.Common.{◌≡◌, ℕ, zero, suc, Bool, true, false, not, cond, nat_eq, List, []}
 use Rattle.std.proofs.Common.{◌∷◌, length, Option, Some, None, ◌&&◌, ◌||◌, refl, sym, ap, ◌∙◌}
 use Rattle.std.proofs.Common.{subst, true≢false, option_and_then}

@@ -1,4 +1,5 @@
 -- The worked functions, by computing, and the premises of the law for one of them.
+-- Serves `constant_rows_hold` and `rows_hold`.
 use Rattle.std.proofs.Common.{◌≡◌, ℕ, zero, suc, ◌+◌, ◌<◌, List, [], ◌∷◌, Some, slice_get, refl}
 use Rattle.std.proofs.Common.{sym, ap, subst, arith}
 use Rattle.std.specs.Prelude.{codes}

@@ -1,4 +1,5 @@
 -- The scope only grows, and the text holds a `continue` and a case value where the module does.
+-- Serves 8 contracts, `runs_are_not_stuck` among them.
 use Rattle.std.proofs.Common.{Option, ◌≡◌, ℕ, Bool, true, false, List, [], ◌∷◌, ◌++◌, Some, None}
 use Rattle.std.proofs.Common.{◌||◌, refl, sym, ap, ap₂, ◌∙◌}
 use Rattle.std.proofs.Math.Bool.{or-false}

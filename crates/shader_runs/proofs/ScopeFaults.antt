@@ -1,4 +1,5 @@
 -- Where the rules of scope fail in a function, the check finds the first statement that breaks one.
+-- Serves `scope_faults_are_found`.
 use Rattle.std.proofs.Common.{◌≡◌, ◌⊎◌, inl, inr, ⊎_elim, ℕ, zero, suc, ◌+◌, ◌<◌, Bool, true, false}
 use Rattle.std.proofs.Common.{not, List, [], ◌∷◌, Option, Some, None, ◌&&◌, ◌||◌, refl, sym, subst}
 use Rattle.std.proofs.Common.{true≢false, arith}

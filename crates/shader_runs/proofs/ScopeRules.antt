@@ -1,5 +1,6 @@
 -- The check of scope decides the rules of scope: at each point the availabilities of handles say
 -- what the rules do.
+-- Serves `runs_are_not_stuck`, `scope_check_is_the_rules` and `scope_faults_are_found`.
 use Rattle.std.proofs.Common.{◌≡◌, ◌⊎◌, inl, inr, ⊎_elim, ℕ, zero, suc, ◌<◌, ◌≤◌, Bool, true, false}
 use Rattle.std.proofs.Common.{cond, not, List, [], ◌∷◌, length, Option, Some, None, ◌&&◌, ◌||◌}
 use Rattle.std.proofs.Common.{refl, sym, ap, ◌∙◌, subst, true≢false, arith, ltb-true}

@@ -1,5 +1,6 @@
 -- A text's run with more turns is the run with fewer turns, or that one ran out of turns after as
 -- many events.
+-- Serves `has_typed_world`, `statement_rows_hold` and `variable_rows_hold`.
 use Rattle.std.proofs.Common.{◌≡◌, ℕ, zero, suc, ◌+◌, ◌<◌, ◌≤◌, ◌⊎◌, inl, inr, Bool, true, false}
 use Rattle.std.proofs.Common.{cond, nat_eq, List, [], ◌∷◌, length, Option, Some, None, refl, sym}
 use Rattle.std.proofs.Common.{ap, ◌∙◌, subst, arith, option_map}

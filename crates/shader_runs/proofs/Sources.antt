@@ -1,5 +1,6 @@
 -- Where the names in scope come from: each is its handle's own, or one that a front end gave
 -- before.
+-- Serves 6 contracts, `resolves_as_meant` among them.
 use Rattle.std.proofs.Common.{◌≡◌, ◌⊎◌, inl, inr, ⊎_elim, ℕ, suc, ◌<◌, ◌≤◌, Bool, true, false, cond}
 use Rattle.std.proofs.Common.{List, [], ◌∷◌, Option, Some, None, refl, sym, subst, arith}
 use Rattle.shader_runs.proofs.Common.{Bytes, update, Statement, Emit, Block, If, Switch, Loop, Act, Statements, end, then}

@@ -1,4 +1,5 @@
 -- Constant trees have their values from the start.
+-- Serves 7 contracts, `runs_are_not_stuck` among them.
 use Rattle.std.proofs.Common.{◌≡◌, ◌⊎◌, inl, inr, ℕ, zero, suc, ◌<◌, Bool, true, false, List, []}
 use Rattle.std.proofs.Common.{◌∷◌, length, Option, Some, None, ◌&&◌, ◌||◌, refl, sym, ap, ap₂, ◌∙◌}
 use Rattle.std.proofs.Common.{true≢false, arith}

@@ -1,5 +1,6 @@
 -- The worked functions for kinds of statements, by computing; the loop without an end by induction
 -- on the bound.
+-- Serves `statement_rows_hold` and `variable_rows_hold`.
 use Rattle.std.proofs.Common.{◌≡◌, ℕ, true, false, List, refl, ap, arith}
 use Rattle.std.specs.Prelude.{IsTrue, ◌∷◌, get_or, codes}
 use Rattle.shader_runs.proofs.Common.{Value, AtOrigin, LocalOrigin, ShortCircuitAnd, ShortCircuitOr, Event, Read}

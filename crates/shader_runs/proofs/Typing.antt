@@ -1,4 +1,5 @@
 -- A module whose operators are typed consistently has a typed meaning.
+-- Serves `has_typed_meaning` and `has_typed_world`.
 use Rattle.std.proofs.Common.{◌≡◌, ◌≢◌, ◌⊎◌, inl, inr, ℕ, zero, suc, ◌+◌, ◌<◌, pos, Bool, true}
 use Rattle.std.proofs.Common.{false, cond, nat_eq, List, [], ◌∷◌, ◌++◌, length, Option, Some, None}
 use Rattle.std.proofs.Common.{◌&&◌, slice_get, refl, sym, ap, ap₂, ◌∙◌, subst, true≢false, arith}

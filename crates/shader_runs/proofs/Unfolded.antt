@@ -1,5 +1,6 @@
 -- A case that falls through does what a case does in which its statements and those of the next one
 -- stand as two blocks. So a module runs as one in which no case falls through.
+-- Serves `naga_form`.
 --
 -- Throughout, c is a call and n bounds the turns of loops, s is a statement, b and ss are several
 -- and cs are cases, x is a case value or a selector, kept are the kept values and t the events so

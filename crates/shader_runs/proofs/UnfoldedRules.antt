@@ -1,5 +1,6 @@
 -- What is asked of a function holds of it with its cases unfolded, so that none falls through: the
 -- rules of scope, what is regular, and what is well-formed. Only an empty case falls through there.
+-- Serves `naga_form`.
 --
 -- Throughout, f is a function and fs are several, st is a statement, b and ss are several and cs
 -- are cases, h is a handle and hs are several, gs are the handles that were given, at is a point, e

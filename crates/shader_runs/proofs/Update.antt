@@ -1,4 +1,5 @@
 -- Facts on words, on maps with another entry, and on tests.
+-- Serves 12 contracts, `constants_are_computed` among them.
 use Rattle.std.proofs.Common.{◌≡◌, ◌≢◌, ℕ, suc, Bool, true, false, cond, nat_eq, List, [], ◌∷◌}
 use Rattle.std.proofs.Common.{length, ◌&&◌, refl, sym, ap, ap₂, ◌∙◌, subst, true≢false, eqb-true}
 use Rattle.std.proofs.Common.{eq-eqb}

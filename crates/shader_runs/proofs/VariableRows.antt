@@ -1,4 +1,5 @@
 -- The worked variable that is held, by computing.
+-- Serves `variable_rows_hold`.
 use Rattle.std.proofs.Common.{ℕ, zero, suc, refl, arith}
 use Rattle.shader_runs.proofs.Common.{expression_of, handle_type, LeafFits}
 use Rattle.shader_runs.specs.WorkedModules.{module_of}
