@@ -1,4 +1,5 @@
 -- The items of a module have forms where all that it declares has, and so have its initialisers.
+-- Serves `naga_form`.
 use Rattle.naga_ir.specs.declared.module.Module.{Module}
 use Rattle.module_semantics.specs.DeclarationForms.{DeclarationsHaveForms, IsDeclaredType, IsInitialiser}
 use Rattle.module_semantics.specs.DeclarationForms.{ItemsHaveForms, OtherInitialisersHaveForms}

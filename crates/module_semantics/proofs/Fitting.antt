@@ -1,4 +1,5 @@
 -- Loops that find out whether each item of a list fits.
+-- Serves `naga_acceptance` and `naga_wgsl_out`.
 use Rattle.std.proofs.Common.{◌≡◌, ℕ, ◌+◌, ◌<◌, Bool, ◌&&◌, List, [], ◌∷◌, length, refl, ap}
 use Rattle.std.proofs.Common.{slice_index_or, slice_get, Some}
 use Rattle.std.specs.List.{list_all, enumerate_from}

@@ -1,5 +1,6 @@
 -- Whether a `let` binds the expression at a handle by its uses is about that expression and its
 -- uses alone.
+-- Serves `naga_scope`.
 use Rattle.std.proofs.Common.{◌≡◌, ℕ, zero, suc, ◌+◌, false, List, [], ◌∷◌, map, get_or, Some, sym}
 use Rattle.std.proofs.Common.{ap, ◌∙◌, add-zero, zero-add, arith}
 use Rattle.std.specs.Prelude.{slice_get}

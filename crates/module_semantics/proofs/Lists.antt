@@ -1,4 +1,5 @@
 -- Lists whose items all pass a test, what stands in two lists in a row, and an item that there may be.
+-- Serves 9 crates.
 use Rattle.std.proofs.Common.{◌≡◌, ℕ, zero, suc, ◌+◌, Bool, true, List, [], ◌∷◌, refl, sym, ap, ◌∙◌}
 use Rattle.std.proofs.Common.{Option, Some, None, slice_get, arith, ◌++◌, ◌⊎◌, inl, inr}
 use Rattle.std.specs.List.{list_all, enumerate_from}

@@ -1,4 +1,5 @@
 -- The order of numbers as a test.
+-- Serves `naga_acceptance`.
 use Rattle.std.proofs.Common.{◌≡◌, ℕ, nat_lt, Bool, true, false, refl, arith}
 use Rattle.std.proofs.lemmas.Bool.{lt-ltb, ltb-true}
 

@@ -1,4 +1,5 @@
 -- Of operations any two of which agree, one operator over operands of types alike has one type.
+-- Serves `naga_acceptance` and `naga_form`.
 use Rattle.std.proofs.Common.{◌≡◌, ℕ, suc, zero, true, ◌&&◌, List, [], ◌∷◌, refl, sym, ap, ◌∙◌}
 use Rattle.std.proofs.Common.{Some, slice_get}
 use Rattle.std.specs.Prelude.{if◌then◌else◌}

@@ -1,4 +1,5 @@
 -- The operators that expressions apply by themselves take no type.
+-- Serves `naga_form`.
 use Rattle.std.proofs.Common.{◌≡◌, true, Some, refl, ap, ◌∙◌, sym}
 use Rattle.std.specs.Option.{option_map_or}
 use Rattle.naga_ir.specs.declared.expression.Expression.{Expression}

@@ -1,4 +1,5 @@
 -- The shapes of what expressions apply: what holds of them all.
+-- Serves `naga_form`.
 use Rattle.std.proofs.Common.{◌≡◌, ℕ, List, [], ◌∷◌, Some, refl}
 use Rattle.naga_ir.specs.declared.operators.BinaryOperator.TheVariants.{LogicalAnd, LogicalOr}
 use Rattle.module_semantics.specs.OperatorTable.{Operator as TableOperator, BinarySign, run_word}

@@ -1,5 +1,6 @@
 -- What is computed of expressions level by level, over what is computed of those before them: enough
 -- levels give the same.
+-- Serves `naga_tables` and `naga_wgsl_shared`.
 --
 -- Throughout, es are the expressions, over computes what it is of one from what it is of others, within
 -- is what is computed at most so many levels deep, none is what it is without a level, and where there

@@ -13,10 +13,7 @@
 use Rattle.std.specs.Prelude.{◌≡◌, ℕ, List, map, not, false, Option, Some, None}
 use Rattle.std.specs.Prelude.{IsTrue, IsFalse, if◌then◌else◌, slice_get}
 use Rattle.std.specs.Option.{option_and_then, option_map_or}
-use Rattle.naga_ir.specs.declared.module.Module.{Module}
-use Rattle.naga_ir.specs.declared.types.StructMember.{StructMember}
-use Rattle.naga_ir.specs.declared.types.Type_.{Type_}
-use Rattle.naga_ir.specs.declared.types.TypeInner.{TypeInner}
+use Rattle.module_semantics.specs.IR.{Module, StructMember, TypeInner, Type_}
 use Rattle.naga_ir.specs.declared.types.TypeInner.TheVariants as inner
 use Rattle.naga_layout.specs.Types.{Rule, arrays_are_kept, layout_at, placed_members, user_rule}
 use Rattle.naga_naming.specs.Reset.{members_of}

@@ -6,8 +6,7 @@
 -- No expression has the handle 9.
 use Rattle.std.proofs.Common.{◌≡◌, ℕ, Bool, true, false, List, [], ◌∷◌, Option, None, Some, refl, arith, Vec, Global}
 use Rattle.module_semantics.specs.AlikeTypes.{handle_key}
-use Rattle.module_semantics.proofs.ModuleShapeExamples.{one}
-use Rattle.module_semantics.proofs.PlaceExamples.{none_of}
+use Rattle.module_semantics.proofs.examples.Vectors.{none_of, one}
 use Rattle.naga_info.specs.declared.info.ModuleInfo.{ModuleInfo}
 use Rattle.naga_ir.specs.StatementTree.{StatementTree, simple, ray_query, store, block, branch, switch, loop}
 use Rattle.naga_ir.specs.StatementTree.{BlockTree, no_statements, statement, CaseTrees, no_cases, case}
