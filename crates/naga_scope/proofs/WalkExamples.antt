@@ -7,21 +7,14 @@
 use Rattle.std.proofs.Common.{◌≡◌, ℕ, Bool, true, false, List, [], ◌∷◌, Option, None, Some, refl, arith, Vec, Global}
 use Rattle.module_semantics.specs.AlikeTypes.{handle_key}
 use Rattle.module_semantics.proofs.examples.Vectors.{none_of, one}
-use Rattle.naga_info.specs.declared.info.ModuleInfo.{ModuleInfo}
-use Rattle.naga_ir.specs.StatementTree.{StatementTree, simple, ray_query, store, block, branch, switch, loop}
-use Rattle.naga_ir.specs.StatementTree.{BlockTree, no_statements, statement, CaseTrees, no_cases, case}
+use Rattle.module_semantics.specs.IR.{BlockTree, CaseTrees, Function, FunctionArgument, FunctionResult, LocalVariable}
+use Rattle.module_semantics.specs.IR.{Module, ModuleInfo, StatementTree, TypeInner, Type_, block, branch, case, loop}
+use Rattle.module_semantics.specs.IR.{no_cases, no_statements, ray_query, simple, statement, store, switch}
 use Rattle.naga_ir.specs.declared.expression.Expression.TheVariants as expression
 use Rattle.naga_ir.specs.declared.expression.Literal.TheVariants as literal
-use Rattle.naga_ir.specs.declared.module.Function.{Function}
-use Rattle.naga_ir.specs.declared.module.FunctionArgument.{FunctionArgument}
-use Rattle.naga_ir.specs.declared.module.FunctionResult.{FunctionResult}
-use Rattle.naga_ir.specs.declared.module.LocalVariable.{LocalVariable}
-use Rattle.naga_ir.specs.declared.module.Module.{Module}
 use Rattle.naga_ir.specs.declared.statement.SwitchValue.TheVariants as switch_value
 use Rattle.naga_ir.specs.declared.types.ScalarKind.TheVariants as kind
-use Rattle.naga_ir.specs.declared.types.TypeInner.{TypeInner}
 use Rattle.naga_ir.specs.declared.types.TypeInner.TheVariants.{Scalar}
-use Rattle.naga_ir.specs.declared.types.Type_.{Type_}
 use Rattle.naga_scope.specs.FirstLack.{first_lack}
 use Rattle.naga_scope.specs.Lines.{break_at, number_after}
 use Rattle.naga_scope.specs.declared.lines.Declared.TheVariants as by

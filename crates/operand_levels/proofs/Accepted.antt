@@ -1,10 +1,6 @@
 -- Whether a module is accepted doesn't depend on how far counts are raised.
 use Rattle.std.proofs.Common.{◌≡◌, true, List, [], ◌∷◌, refl, ap, inl, subst, sym}
-use Rattle.naga_ir.specs.declared.module.Module.{Module}
-use Rattle.naga_ir.specs.declared.types.Type_.{Type_}
-use Rattle.naga_info.specs.declared.info.ExpressionInfo.{ExpressionInfo}
-use Rattle.naga_info.specs.declared.info.ModuleInfo.{ModuleInfo}
-use Rattle.naga_info.specs.declared.info.TypeResolution.{TypeResolution}
+use Rattle.module_semantics.specs.IR.{ExpressionInfo, Module, ModuleInfo, TypeResolution, Type_}
 use Rattle.module_semantics.specs.acceptance.Accepted.{is_accepted}
 use Rattle.naga_inference.specs.Following.{HasSameType, IsSameType}
 use Rattle.naga_inference.specs.Passes.{AllLike}
